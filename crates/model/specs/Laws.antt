@@ -1,0 +1,136 @@
+-- The laws of a run.
+use Rattle.std.specs.Prelude.{ℕ, Bool, true, false, ◌≡◌, ◌≢◌, ◌<◌, List, ◌∷◌, ◌++◌, length, Some, None, IsSome, option_map, ◌⊎◌, ◌↔◌, ◌+◌, ◌*◌, ◌≤◌}
+use Rattle.model.specs.declared.steps.Step.{Step}
+use Rattle.model.specs.declared.steps.Step.TheVariants.{Cond, Start, Skip, Sync}
+use Rattle.model.specs.declared.steps.Ready.{Ready}
+use Rattle.model.specs.declared.steps.StepFault.{StepFault}
+use Rattle.model.specs.State.{State}
+use Rattle.model.specs.Access.{Params}
+use Rattle.model.specs.Conflict.{Conflict, conflicts, IsLeastDatum, least_datum}
+use Rattle.model.specs.Condition.{means}
+use Rattle.model.specs.Outcome.{BodyMeaning}
+use Rattle.model.specs.Schedule.{level_of, Schedule, params_of, has_edge, condition_of}
+use Rattle.model.specs.Built.{IsBuilt}
+use Rattle.model.specs.Lawful.{ended, started, May, IsLawful, begun, IsComplete, NoneRuns, runs}
+use Rattle.model.specs.Faults.{IsFirstFault}
+use Rattle.model.specs.Ready.{IsReady, OnlyFinish, step_of}
+use Rattle.model.specs.Widths.{IsSingle, IsWide}
+use Rattle.model.specs.RunState.{RunState, started_system, asked_of, answer_of}
+use Rattle.model.specs.Meaning.{Interleaved, serial, interleaved}
+use Rattle.model.specs.Causes.{serial_cause, interleaved_cause}
+use Rattle.model.specs.Ambiguity.{Settled, Before}
+use Rattle.model.specs.Shape.{IsStateOf, IsRunStateOf, BodiesKeepWithin}
+use Rattle.model.specs.Agreement.{AreRuns, Agrees, after_runs}
+
+-- ---- order
+
+-- no two systems that run together conflict
+abbrev pub NoneConflict : Type 0
+NoneConflict = (s : Schedule) (h : List Step) (m n : ℕ) → IsLawful s h → runs h m ≡ true → runs h n ≡ true → m ≢ n →
+    Conflict (params_of s m) (params_of s n) → ⊥
+
+-- the end of a system stands before what an edge leads to
+abbrev pub EdgesKept : Type 0
+EdgesKept = (s : Schedule) (later h : List Step) (m n : ℕ) (step : Step) → IsLawful s (later ++ step ∷ h) →
+    (step ≡ Start n) ⊎ (step ≡ Skip n) → has_edge s m n ≡ true → ended h m ≡ true
+
+-- every system of a level ends before its sync point, every one of a higher level starts or is skipped after it, and
+-- none runs at it
+abbrev pub SyncsKept : Type 0
+SyncsKept = (s : Schedule) (later h : List Step) (k n : ℕ) → IsLawful s (later ++ Sync k ∷ h) →
+    (n < length s.systems → level_of s n ≡ k → ended h n ≡ true)
+    × (k < level_of s n → begun h n ≡ false)
+    × (runs h n ≡ true → ⊥)
+
+-- the order of starts is topological: where a system is before another and both start, it starts first
+abbrev pub OrderIsTopological : Type 0
+OrderIsTopological = (s : Schedule) (later h : List Step) (m n : ℕ) → IsLawful s (later ++ Start n ∷ h) →
+    Before s m n → started (later ++ Start n ∷ h) m ≡ true → started h m ≡ true
+
+-- ---- one thread
+
+-- the run state of a complete list, interleaved, is that of one thread, and the one is defined exactly where the other is
+abbrev pub InterleavedIsSerial : Type 0
+InterleavedIsSerial = (s : Schedule) (bodies : List BodyMeaning) (start : State) (h : List Step) → IsLawful s h → IsComplete s h →
+    option_map (λ w. w.run) (interleaved s bodies start h) ≡ serial s bodies start h
+
+-- what a start shows and a condition is asked about is the same, interleaved and serial
+abbrev pub SameIsShown : Type 0
+SameIsShown = (s : Schedule) (bodies : List BodyMeaning) (start : State) (h : List Step) (w : Interleaved) (run : RunState) → IsLawful s h →
+    interleaved s bodies start h ≡ Some w → serial s bodies start h ≡ Some run →
+    ((n : ℕ) → May s h (Start n) → started_system s n w.run ≡ started_system s n run)
+    × ((c : ℕ) (answer : Bool) → May s h (Cond c answer) → asked_of s c w.run ≡ asked_of s c run)
+
+-- ---- agreement
+
+-- under the same bodies any two lists of as many runs of a settled schedule, from states that agree, leave states that agree
+abbrev pub RunsAgree : Type 0
+RunsAgree = (widths : ℕ → ℕ) (s : Schedule) (bodies : List BodyMeaning) (v w : State) (hs gs : List (List Step)) (v' w' : State) →
+    IsBuilt s → Settled s → BodiesKeepWithin widths s bodies →
+    IsStateOf widths s v → IsStateOf widths s w → Agrees s v w → length hs ≡ length gs →
+    AreRuns s bodies v hs → AreRuns s bodies w gs →
+    after_runs s bodies v hs ≡ Some v' → after_runs s bodies w gs ≡ Some w' → Agrees s v' w'
+
+-- ---- continuation
+
+-- a lawful list that isn't complete has a next step
+abbrev pub ListsGoOn : Type 0
+ListsGoOn = (s : Schedule) (h : List Step) → IsBuilt s → IsLawful s h → (IsComplete s h → ⊥) → (step : Step) × May s h step
+
+-- a lawful list is no longer than its conditions, twice its systems and its sync points
+abbrev pub ListsEnd : Type 0
+ListsEnd = (s : Schedule) (h : List Step) → IsLawful s h → length h ≤ length s.conditions + 2 * length s.systems + s.syncs
+
+-- where nothing runs and nothing is ready the list is complete
+abbrev pub ListsComplete : Type 0
+ListsComplete = (s : Schedule) (h : List Step) → IsBuilt s → IsLawful s h → NoneRuns h → IsReady s h None → IsComplete s h
+
+-- what is ready is accepted, and where nothing is ready no step but a finish is
+abbrev pub ReadyIsAccepted : Type 0
+ReadyIsAccepted = (s : Schedule) (h : List Step) → IsBuilt s → IsLawful s h →
+    ((r : Ready) (answer : Bool) → IsReady s h (Some r) → May s h (step_of r answer))
+    × (IsReady s h None → OnlyFinish s h)
+
+-- ---- faults
+
+-- a step that may not come has a fault that is told, one that may has none, and no step has two
+abbrev pub FaultsAreExact : Type 0
+FaultsAreExact = (s : Schedule) (h : List Step) (step : Step) → IsLawful s h →
+    (May s h step ⊎ ((fault : StepFault) × IsFirstFault s h step fault))
+    × ((fault : StepFault) → IsFirstFault s h step fault → May s h step → ⊥)
+    × ((fault other : StepFault) → IsFirstFault s h step fault → IsFirstFault s h step other → fault ≡ other)
+
+-- ---- the single-threaded list
+
+-- each front of the single-threaded list is a list in which at most one system runs
+abbrev pub SingleIsWide : Type 0
+SingleIsWide = (s : Schedule) (h : List Step) → IsBuilt s → IsSingle s h → IsWide 1 s h
+
+-- ---- shape
+
+-- a run keeps the shape of a state, interleaved and serial
+abbrev pub InterleavedKeepsShape : Type 0
+InterleavedKeepsShape = (widths : ℕ → ℕ) (s : Schedule) (bodies : List BodyMeaning) (start : State) (h : List Step) (w : Interleaved) →
+    BodiesKeepWithin widths s bodies → IsStateOf widths s start → IsLawful s h →
+    interleaved s bodies start h ≡ Some w → IsRunStateOf widths s w.run
+
+abbrev pub SerialKeepsShape : Type 0
+SerialKeepsShape = (widths : ℕ → ℕ) (s : Schedule) (bodies : List BodyMeaning) (start : State) (h : List Step) (run : RunState) →
+    BodiesKeepWithin widths s bodies → IsStateOf widths s start → IsLawful s h →
+    serial s bodies start h ≡ Some run → IsRunStateOf widths s run
+
+-- ---- conflict, conditions, causes
+
+-- the computed test of a conflict is true exactly where there is one, and the computed datum is the least
+abbrev pub ConflictsAreTested : Type 0
+ConflictsAreTested = (a b : Params) → ((conflicts a b ≡ true) ↔ Conflict a b) × IsLeastDatum a b (least_datum a b)
+
+-- a condition's answer depends only on what it is asked about
+abbrev pub AnswersAreAsked : Type 0
+AnswersAreAsked = (s : Schedule) (c : ℕ) (run : RunState) → answer_of s c run ≡ means (condition_of s c) (asked_of s c run)
+
+-- a serial meaning lacks exactly where it meets a cause; so does an interleaved one of a lawful list
+abbrev pub CausesAreExact : Type 0
+CausesAreExact = (s : Schedule) (bodies : List BodyMeaning) (start : State) (h : List Step) →
+    ((serial s bodies start h ≡ None) ↔ IsSome (serial_cause s bodies start h))
+    × (IsLawful s h → (interleaved s bodies start h ≡ None) ↔ IsSome (interleaved_cause s bodies start h))

@@ -1,0 +1,48 @@
+-- Queries: which sets of kinds they match, and which kinds they touch and write. A set of kinds is a test on kinds.
+use Rattle.std.specs.Prelude.{ℕ, Bool, true, not, List, Option, Some, None}
+use Rattle.std.specs.List.{list_any, list_all}
+use Rattle.model.specs.Lists.{is_number}
+
+-- a term of a query: the id of the row's entity, a component fetched, or a filter
+pub data Term : Type 0 where
+  Entity : Term
+  Read Mut Opt With Without Added Changed : ℕ → Term
+
+-- whether a term admits a set of kinds
+abbrev pub admits : (ℕ → Bool) → Term → Bool
+admits kinds Entity = true
+admits kinds (Opt k) = true
+admits kinds (Without k) = not (kinds k)
+admits kinds (Read k) = kinds k
+admits kinds (Mut k) = kinds k
+admits kinds (With k) = kinds k
+admits kinds (Added k) = kinds k
+admits kinds (Changed k) = kinds k
+
+-- a set of kinds matches a query where it holds every required kind and no excluded one
+abbrev pub matches : List Term → (ℕ → Bool) → Bool
+matches query kinds = list_all (admits kinds) query
+
+-- the kind that a term touches
+abbrev pub touched : Term → Option ℕ
+touched Entity = None
+touched (With k) = None
+touched (Without k) = None
+touched (Read k) = Some k
+touched (Mut k) = Some k
+touched (Opt k) = Some k
+touched (Added k) = Some k
+touched (Changed k) = Some k
+
+-- the kind that a term writes
+abbrev pub written : Term → Option ℕ
+written (Mut k) = Some k
+written _ = None
+
+-- whether a query touches a kind
+abbrev pub touches : List Term → ℕ → Bool
+touches query kind = list_any (λ t. is_number kind (touched t)) query
+
+-- whether a query writes a kind
+abbrev pub writes : List Term → ℕ → Bool
+writes query kind = list_any (λ t. is_number kind (written t)) query
