@@ -1,0 +1,5 @@
+pub mod Bodies
+pub mod Moves
+pub mod Accesses
+pub mod Commands
+pub mod Conditions

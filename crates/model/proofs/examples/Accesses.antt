@@ -1,0 +1,51 @@
+-- Which accesses conflict: filters that exclude one another, an optional read, shared writes, and the least datum.
+use Rattle.std.proofs.Common.{◌≡◌, Bool, true, false, List, [], ◌∷◌, Option, Some, None, refl}
+use Rattle.model.specs.Query.{Term}
+use Rattle.model.specs.Query.Term.{Entity, Mut, Read, Opt, With, Without, Added}
+use Rattle.model.specs.Access.{Params, no_params}
+use Rattle.model.specs.Conflict.{conflicts, least_datum}
+use Rattle.model.specs.Conflict.Datum.{OfKind, OfResource, OfEvent}
+use Rattle.model.proofs.examples.Bodies.{position, health, score, frozen, round, total, hit, asks}
+
+abbrev one : List Term → Params
+one query = asks (query ∷ [])
+
+-- a kind that one requires and the other excludes keeps two writers apart
+apart_by_filters : conflicts (one (Mut position ∷ With frozen ∷ [])) (one (Mut position ∷ Without frozen ∷ [])) ≡ false
+apart_by_filters = refl
+
+-- two writers of one kind
+shared_write : least_datum (one (Mut position ∷ [])) (one (Mut position ∷ [])) ≡ Some (OfKind position)
+shared_write = refl
+
+-- two readers
+shared_read : conflicts (one (Read position ∷ [])) (one (Read position ∷ Opt health ∷ [])) ≡ false
+shared_read = refl
+
+-- an optional read doesn't require its kind, so it keeps nobody apart
+optional_read : least_datum (one (Mut health ∷ Opt frozen ∷ [])) (one (Mut health ∷ Without frozen ∷ [])) ≡ Some (OfKind health)
+optional_read = refl
+
+-- the id and a filter by presence touch nothing
+ids_and_filters : conflicts (one (Entity ∷ With position ∷ [])) (one (Mut position ∷ [])) ≡ false
+ids_and_filters = refl
+
+-- a filter by change touches its kind
+change_filter : least_datum (one (Added position ∷ [])) (one (Mut position ∷ [])) ≡ Some (OfKind position)
+change_filter = refl
+
+-- the least kind is told, whatever the order of the terms
+least_kind : least_datum (one (Mut score ∷ Mut health ∷ [])) (one (Read score ∷ Opt health ∷ [])) ≡ Some (OfKind health)
+least_kind = refl
+
+-- resources come before event kinds
+resources_first : least_datum (record no_params { res_mut = total ∷ round ∷ []; writes = hit ∷ [] }) (record no_params { res = total ∷ []; reads = hit ∷ [] })
+    ≡ Some (OfResource total)
+resources_first = refl
+
+-- two readers of an event kind, and a reader beside a writer
+event_readers : conflicts (record no_params { reads = hit ∷ [] }) (record no_params { reads = hit ∷ [] }) ≡ false
+event_readers = refl
+
+event_writer : least_datum (record no_params { reads = hit ∷ [] }) (record no_params { writes = hit ∷ [] }) ≡ Some (OfEvent hit)
+event_writer = refl
