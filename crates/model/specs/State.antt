@@ -1,6 +1,7 @@
 -- The whole state of an engine, as plain data: to be equal in the whole state is equality. It is made of the parts that
 -- layers own: the world, the event queues, the memories, the count of commands passed over.
 use Rattle.std.specs.Prelude.{ℕ, ◌^◌, ℤ, pos, Bool, true, false, List, []}
+pub use Rattle.model.specs.declared.entities.Entity.{Entity}
 
 -- ---- limits
 
@@ -31,11 +32,6 @@ abbrev pub register_count : ℕ
 register_count = 8
 
 -- ---- the world
-
--- an id: an index with a generation
-pub record Entity : Type 0 where
-  pub index : ℕ
-  pub generation : ℕ
 
 -- the value of a component, and when it was added and last changed
 pub record Cell : Type 0 where

@@ -45,9 +45,13 @@ run_list = Start 0 ∷ Finish 0 ∷ Sync 0 ∷ []
 abbrev at : ℤ → ℤ → ℕ → ℕ → State
 at x y changed clock = record {
   world = record {
-    slots = record { generation = 1; status = Living; row =
-        record { kind = position; cell = record { words = x ∷ y ∷ []; added = 1; changed = changed } }
-        ∷ record { kind = velocity; cell = record { words = pos 1 ∷ negsuc 1 ∷ []; added = 1; changed = 1 } } ∷ [] } ∷ [];
+    slots = record {
+      generation = 1;
+      status = Living;
+      row =
+          record { kind = position; cell = record { words = x ∷ y ∷ []; added = 1; changed = changed } }
+          ∷ record { kind = velocity; cell = record { words = pos 1 ∷ negsuc 1 ∷ []; added = 1; changed = 1 } } ∷ [];
+    } ∷ [];
     resources = start.world.resources;
     clock = clock;
   };

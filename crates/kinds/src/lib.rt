@@ -1,0 +1,5 @@
+// The kinds of components. No other crate lists them.
+#![tactic(auto)]
+
+pub mod kind;
+pub mod res;
