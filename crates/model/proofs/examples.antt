@@ -3,3 +3,5 @@ pub mod Moves
 pub mod Accesses
 pub mod Commands
 pub mod Conditions
+pub mod Filters
+pub mod Lawful

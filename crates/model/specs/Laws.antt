@@ -1,5 +1,5 @@
 -- The laws of a run.
-use Rattle.std.specs.Prelude.{ℕ, Bool, true, false, ◌≡◌, ◌≢◌, ◌<◌, List, ◌∷◌, ◌++◌, length, Some, None, IsSome, option_map, ◌⊎◌, ◌↔◌, ◌+◌, ◌*◌, ◌≤◌}
+use Rattle.std.specs.Prelude.{ℕ, Bool, true, false, ◌≡◌, ◌≢◌, ◌<◌, List, ◌∷◌, ◌++◌, length, Some, None, IsSome, MatchOption, option_map, ◌⊎◌, ◌↔◌, ◌+◌, ◌*◌, ◌≤◌}
 use Rattle.model.specs.declared.steps.Step.{Step}
 use Rattle.model.specs.declared.steps.Step.TheVariants.{Cond, Start, Skip, Sync}
 use Rattle.model.specs.declared.steps.Ready.{Ready}
@@ -13,6 +13,7 @@ use Rattle.model.specs.Schedule.{level_of, Schedule, params_of, has_edge, condit
 use Rattle.model.specs.Built.{IsBuilt}
 use Rattle.model.specs.Lawful.{ended, started, May, IsLawful, begun, IsComplete, NoneRuns, runs}
 use Rattle.model.specs.Faults.{IsFirstFault}
+use Rattle.model.specs.Judged.{fault_of, is_lawful, is_complete}
 use Rattle.model.specs.Ready.{IsReady, OnlyFinish, step_of}
 use Rattle.model.specs.Widths.{IsSingle, IsWide}
 use Rattle.model.specs.RunState.{RunState, started_system, asked_of, answer_of}
@@ -99,6 +100,15 @@ FaultsAreExact = (s : Schedule) (h : List Step) (step : Step) → IsLawful s h �
     (May s h step ⊎ ((fault : StepFault) × IsFirstFault s h step fault))
     × ((fault : StepFault) → IsFirstFault s h step fault → May s h step → ⊥)
     × ((fault other : StepFault) → IsFirstFault s h step fault → IsFirstFault s h step other → fault ≡ other)
+
+-- the computed fault of a step is the one that is told, and where none is computed the step may come
+abbrev pub FaultsAreComputed : Type 0
+FaultsAreComputed = (s : Schedule) (h : List Step) (step : Step) → IsLawful s h →
+    MatchOption (fault_of s h step) (May s h step) (λ fault. IsFirstFault s h step fault)
+
+-- a list that passes the computed tests is lawful, and complete
+abbrev pub ListsAreComputed : Type 0
+ListsAreComputed = (s : Schedule) (h : List Step) → (is_lawful s h ≡ true → IsLawful s h) × (is_complete s h ≡ true → IsComplete s h)
 
 -- ---- the single-threaded list
 

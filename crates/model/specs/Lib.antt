@@ -25,3 +25,4 @@ pub mod Shape
 pub mod Agreement
 pub mod Loaded
 pub mod Laws
+pub mod Judged

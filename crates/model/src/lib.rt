@@ -3,3 +3,49 @@
 
 pub mod entities;
 pub mod steps;
+
+ghost use Rattle.model.specs.Laws.{NoneConflict, EdgesKept, SyncsKept, OrderIsTopological};
+
+/// The order of lawful lists: systems that run together don't conflict, what an edge leads from has ended before what it
+/// leads to begins, sync points stand between the levels, and a system that is before another starts first.
+pub fn lists_are_in_order()
+    ensures apart { NoneConflict }
+    ensures edges { EdgesKept }
+    ensures syncs { SyncsKept }
+    ensures order { OrderIsTopological }
+{}
+
+ghost use Rattle.model.specs.Laws.{ListsGoOn, ListsEnd, ListsComplete, ReadyIsAccepted};
+
+/// Lawful lists go on until they are complete, and end: what is ready is accepted, and where nothing is ready and nothing
+/// runs the list is complete.
+pub fn lists_go_on()
+    ensures next { ListsGoOn }
+    ensures bound { ListsEnd }
+    ensures complete { ListsComplete }
+    ensures ready { ReadyIsAccepted }
+{}
+
+ghost use Rattle.model.specs.Laws.{FaultsAreExact, FaultsAreComputed, ListsAreComputed};
+
+/// A step that may not come has a fault that is told, one that may has none, and no step has two. The fault can be computed.
+pub fn faults_are_exact()
+    ensures exact { FaultsAreExact }
+    ensures computed { FaultsAreComputed }
+    ensures lists { ListsAreComputed }
+{}
+
+ghost use Rattle.model.specs.Laws.{SingleIsWide};
+
+/// Each front of the single-threaded list is a list in which at most one system runs.
+pub fn single_is_wide()
+    ensures { SingleIsWide }
+{}
+
+ghost use Rattle.model.specs.Laws.{SameIsShown, InterleavedIsSerial};
+
+/// What a start shows and a condition is asked about is the same, interleaved and on one thread, and a complete list leaves the same run state.
+pub fn interleaved_is_serial()
+    ensures shown { SameIsShown }
+    ensures equal { InterleavedIsSerial }
+{}

@@ -25,7 +25,7 @@ living generation row = record { generation = generation; status = Living; row =
 abbrev vacant : ℕ → Slot
 vacant generation = record { generation = generation; status = Vacant; row = [] }
 
-abbrev granting : ℕ → Params
+abbrev pub granting : ℕ → Params
 granting n = record no_params { spawns = Some n }
 
 abbrev alone : Params → Schedule
@@ -53,6 +53,29 @@ spawn_and_despawn : option_map seen (runs_from (alone (granting 1)) (issues spaw
     ≡ Some (vacant 4 ∷ [], 0)
 unfolding computed
 spawn_and_despawn = refl
+
+-- ---- a second spawn of an id does nothing
+
+abbrev spawns_twice : Shown → List Command
+spawns_twice shown = Spawn (first_granted shown) ∷ Insert (first_granted shown) score (pos 7 ∷ []) ∷ Spawn (first_granted shown) ∷ []
+
+spawned_once : option_map seen (serially (alone (granting 1)) (issues spawns_twice (granting 1) ∷ []) (loaded (alone (granting 1)) [] zeros) one_run)
+    ≡ Some (living 1 (new_component 4 score (pos 7 ∷ []) ∷ []) ∷ [], 0)
+unfolding computed
+spawned_once = refl
+
+-- ---- a component that is inserted again keeps the tick of its adding
+
+abbrev finds_health : Params
+finds_health = record (asks ((Entity ∷ Read health ∷ []) ∷ [])) { spawns = Some 0 }
+
+abbrev rescores : Shown → List Command
+rescores shown = map (λ e. Insert e score (pos 3 ∷ [])) (entities_of shown)
+
+inserted_again : option_map seen (runs_from (alone finds_health) (issues rescores finds_health ∷ []) (loaded (alone finds_health) ((given health (pos 1 ∷ []) ∷ []) ∷ []) zeros) (one_run ∷ one_run ∷ []))
+    ≡ Some (living 1 (new_component 1 health (pos 1 ∷ []) ∷ record { kind = score; cell = record { words = pos 3 ∷ []; added = 4; changed = 7 } } ∷ []) ∷ [], 0)
+unfolding computed
+inserted_again = refl
 
 -- ---- two ids granted and one spawned, with a component: the other one comes back
 
@@ -127,10 +150,10 @@ crossed_serially = refl
 
 -- ---- a sync point between two levels: what a system with commands spawned is seen by the system after it
 
-abbrev spawner : Params
+abbrev pub spawner : Params
 spawner = granting 1
 
-abbrev counter : Params
+abbrev pub counter : Params
 counter = record (asks ((With score ∷ []) ∷ [])) { res_mut = total ∷ [] }
 
 -- a body that adds to its resource how many rows its query shows
@@ -141,7 +164,7 @@ abbrev counting : List BodyMeaning
 counting = issues spawns_one spawner ∷ counts ∷ []
 
 -- the second system stands at level 1
-abbrev deferring : Schedule
+abbrev pub deferring : Schedule
 deferring = record {
   systems = system spawner ∷ record { params = counter; predecessors = 0 ∷ []; level = 1 } ∷ [];
   conditions = [];
@@ -154,7 +177,7 @@ unfolding computed
 seen_after_sync = refl
 
 -- the same order where it ignores what is deferred: one level
-abbrev ignoring : Schedule
+abbrev pub ignoring : Schedule
 ignoring = plain (system spawner ∷ system_after (0 ∷ []) counter ∷ []) (0 ∷ 1 ∷ [])
 
 not_seen_before_sync : option_map (λ (w : State). value_of w.world.resources total) (serially ignoring counting (loaded ignoring [] zeros) (Start 0 ∷ Finish 0 ∷ Start 1 ∷ Finish 1 ∷ Sync 0 ∷ [])) ≡ Some (pos 0)

@@ -31,7 +31,7 @@ turns = record no_params { res_mut = round ∷ [] }
 
 -- ---- a set of three systems that a condition of Round skips; a fourth one after the first of them
 
-abbrev guarded : Schedule
+abbrev pub guarded : Schedule
 guarded = record {
   systems = system no_params ∷ system no_params ∷ system no_params ∷ system_after (0 ∷ []) (record no_params { res_mut = total ∷ [] }) ∷ [];
   conditions = condition (ResourceEquals round (pos 9)) (0 ∷ 1 ∷ 2 ∷ []) ∷ [];
