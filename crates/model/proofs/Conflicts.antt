@@ -71,9 +71,21 @@ holds_from_writes q kinds kind m h =
 
 -- a conflict at a datum is one from the other side
 conflict_at_swap : (a b : Params) (d : Datum) → ConflictAt a b d → ConflictAt b a d
-conflict_at_swap a b (OfKind kind) c = (c.1, c.0, c.3, c.2, record {
-  kinds = (c.4).kinds; first_matches = (c.4).second_matches; second_matches = (c.4).first_matches; holds = (c.4).holds;
-  first_touches = (c.4).second_touches; second_touches = (c.4).first_touches; one_writes = or_swap (writes c.0 kind) (writes c.1 kind) (c.4).one_writes })
+conflict_at_swap a b (OfKind kind) c = (
+  c.1,
+  c.0,
+  c.3,
+  c.2,
+  record {
+    kinds = (c.4).kinds;
+    first_matches = (c.4).second_matches;
+    second_matches = (c.4).first_matches;
+    holds = (c.4).holds;
+    first_touches = (c.4).second_touches;
+    second_touches = (c.4).first_touches;
+    one_writes = or_swap (writes c.0 kind) (writes c.1 kind) (c.4).one_writes;
+  },
+)
 conflict_at_swap a b (OfResource n) c = record { first_names = c.second_names; second_names = c.first_names; one_writes = or_swap (has n a.res_mut) (has n b.res_mut) c.one_writes }
 conflict_at_swap a b (OfEvent k) c = record { first_names = c.second_names; second_names = c.first_names; one_writes = or_swap (has k a.writes) (has k b.writes) c.one_writes }
 
@@ -88,9 +100,24 @@ apart_swap a b h c = h (conflict_swap b a c)
 -- one writes what the other's query touches
 pub seen_conflict : (a b : Params) (kinds : ℕ → Bool) (kind : ℕ) (r : List Term) → WritesIn a.queries kinds kind → IsIn r b.queries →
     matches r kinds ≡ true → touches r kind ≡ true → Conflict a b
-seen_conflict a b kinds kind r w i m t = (OfKind kind, (w.query, r, w.is_in, i, record {
-  kinds = kinds; first_matches = w.admitted; second_matches = m; holds = holds_from_writes w.query kinds kind w.admitted w.wrote;
-  first_touches = touches_from_writes w.query kind w.wrote; second_touches = t; one_writes = or_left (writes w.query kind) (writes r kind) w.wrote }))
+seen_conflict a b kinds kind r w i m t = (
+  OfKind kind,
+  (
+    w.query,
+    r,
+    w.is_in,
+    i,
+    record {
+      kinds = kinds;
+      first_matches = w.admitted;
+      second_matches = m;
+      holds = holds_from_writes w.query kinds kind w.admitted w.wrote;
+      first_touches = touches_from_writes w.query kind w.wrote;
+      second_touches = t;
+      one_writes = or_left (writes w.query kind) (writes r kind) w.wrote;
+    },
+  ),
+)
 
 -- both write one kind of one entity
 pub writers_conflict : (a b : Params) (kinds : ℕ → Bool) (kind : ℕ) → WritesIn a.queries kinds kind → WritesIn b.queries kinds kind → Conflict a b
@@ -98,13 +125,25 @@ writers_conflict a b kinds kind w v = seen_conflict a b kinds kind v.query w v.i
 
 -- one writes a resource that the other names
 pub resource_conflict : (a b : Params) (n : ℕ) → has n a.res_mut ≡ true → names_resource b n ≡ true → Conflict a b
-resource_conflict a b n h r = (OfResource n, record {
-  first_names = or_right (has n a.res) (has n a.res_mut) h; second_names = r; one_writes = or_left (has n a.res_mut) (has n b.res_mut) h })
+resource_conflict a b n h r = (
+  OfResource n,
+  record {
+    first_names = or_right (has n a.res) (has n a.res_mut) h;
+    second_names = r;
+    one_writes = or_left (has n a.res_mut) (has n b.res_mut) h;
+  },
+)
 
 -- one writes an event kind that the other names
 pub event_conflict : (a b : Params) (k : ℕ) → has k a.writes ≡ true → names_event b k ≡ true → Conflict a b
-event_conflict a b k h r = (OfEvent k, record {
-  first_names = or_right (has k a.reads) (has k a.writes) h; second_names = r; one_writes = or_left (has k a.writes) (has k b.writes) h })
+event_conflict a b k h r = (
+  OfEvent k,
+  record {
+    first_names = or_right (has k a.reads) (has k a.writes) h;
+    second_names = r;
+    one_writes = or_left (has k a.writes) (has k b.writes) h;
+  },
+)
 
 -- ---- apart: components
 

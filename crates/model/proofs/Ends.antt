@@ -44,16 +44,19 @@ count_kept f g kept (suc n) = go (f n) (g n) (kept n) (count_kept f g kept n)
 pub count_more : (f g : ℕ → Bool) → IsKept f g → (m : ℕ) → f m ≡ false → g m ≡ true → (n : ℕ) → m < n → count_below f n < count_below g n
 count_more f g kept m fresh set zero l = omega arith
 count_more f g kept m fresh set (suc n) l = elim (cases_order m n) [
-      inl q ↦ here (f n) (g n) (subst (λ k. f k ≡ false) q fresh) (subst (λ k. g k ≡ true) q set) (count_kept f g kept n)
-    | inr other ↦ elim other [
-          inl below ↦ there (f n) (g n) (kept n) (count_more f g kept m fresh set n below)
-        | inr above ↦ omega arith ] ]
+  | inl q ↦ here (f n) (g n) (subst (λ k. f k ≡ false) q fresh) (subst (λ k. g k ≡ true) q set) (count_kept f g kept n)
+  | inr other ↦ elim other [
+    | inl below ↦ there (f n) (g n) (kept n) (count_more f g kept m fresh set n below)
+    | inr above ↦ omega arith
+  ]
+]
   where
     here : (b c : Bool) → b ≡ false → c ≡ true → count_below f n ≤ count_below g n →
         cond b (suc (count_below f n)) (count_below f n) < cond c (suc (count_below g n)) (count_below g n)
     here true c p q k = absurd (true≢false p)
     here false true p q k = omega arith
     here false false p q k = absurd (true≢false (sym q))
+
     there : (b c : Bool) → (b ≡ true → c ≡ true) → count_below f n < count_below g n →
         cond b (suc (count_below f n)) (count_below f n) < cond c (suc (count_below g n)) (count_below g n)
     there true true k l = omega arith
@@ -131,8 +134,13 @@ length_flags s (Sync k ∷ h) lawful = let step : Step = Sync k in fourth_grows 
 
 -- the flags are no more than conditions, twice the systems, sync points
 pub flags_at_most : (s : Schedule) (h : List Step) → flags s h ≤ length s.conditions + 2 * length s.systems + s.syncs
-flags_at_most s h = omega (arith, count_at_most (was_asked h) (length s.conditions), count_at_most (begun h) (length s.systems),
-    count_at_most (finished h) (length s.systems), count_at_most (synced h) s.syncs)
+flags_at_most s h = omega (
+  arith,
+  count_at_most (was_asked h) (length s.conditions),
+  count_at_most (begun h) (length s.systems),
+  count_at_most (finished h) (length s.systems),
+  count_at_most (synced h) s.syncs,
+)
 
 -- a lawful list is no longer than its conditions, twice its systems and its sync points
 pub lists_end : ListsEnd

@@ -26,10 +26,12 @@ pub first_or_none : (P : StepFault → Type 0) → ((f : StepFault) → P f ⊎ 
     ((f : StepFault) × IsFirst P fs f) ⊎ NoneOf P fs
 first_or_none P decide [] = inr tt
 first_or_none P decide (f ∷ fs) = elim (decide f) [
-      inl p ↦ inl (f, inl (refl, p))
-    | inr not_here ↦ elim (first_or_none P decide fs) [
-          inl found ↦ inl (found.0, inr (not_here, found.1))
-        | inr none ↦ inr (not_here, none) ] ]
+  | inl p ↦ inl (f, inl (refl, p))
+  | inr not_here ↦ elim (first_or_none P decide fs) [
+    | inl found ↦ inl (found.0, inr (not_here, found.1))
+    | inr none ↦ inr (not_here, none)
+  ]
+]
 
 -- the first fault holds
 pub first_holds : (P : StepFault → Type 0) (fs : List StepFault) (f : StepFault) → IsFirst P fs f → P f
@@ -110,24 +112,28 @@ from_decided (inr none) not_none = absurd (not_none none)
 -- where no fault of a step holds it is allowed
 pub may_from : (s : Schedule) (h : List Step) (step : Step) → NoneOf (HasFault s h step) (faults_of step) → May s h step
 may_from s h (Cond c answer) (unknown, (repeated, (not_ready, (meets, end)))) = record {
-    known = below_from _ c unknown;
-    fresh = false_from_ne_true _ repeated;
-    member = from_decided (decide_member s h c) not_ready;
-    apart = meets }
+  known = below_from _ c unknown;
+  fresh = false_from_ne_true _ repeated;
+  member = from_decided (decide_member s h c) not_ready;
+  apart = meets;
+}
 may_from s h (Start n) (unknown, (repeated, (not_ready, (unasked, (refused, (meets, end)))))) = record {
-    free = from_decided (decide_free s h n) not_ready;
-    answers = all_answered s h n (λ c e. true_from_ne_false _ (λ q. unasked (c, e, q))) refused;
-    apart = meets }
+  free = from_decided (decide_free s h n) not_ready;
+  answers = all_answered s h n (λ c e. true_from_ne_false _ (λ q. unasked (c, e, q))) refused;
+  apart = meets;
+}
 may_from s h (Skip n) (unknown, (repeated, (not_ready, (unasked, (accepted, end))))) = record {
-    free = from_decided (decide_free s h n) not_ready;
-    asked = λ c e. true_from_ne_false _ (λ q. unasked (c, e, q));
-    refused = from_decided (decide_refused s h n) accepted }
+  free = from_decided (decide_free s h n) not_ready;
+  asked = λ c e. true_from_ne_false _ (λ q. unasked (c, e, q));
+  refused = from_decided (decide_refused s h n) accepted;
+}
 may_from s h (Finish n) (unknown, (stopped, end)) = record { running = true_from_ne_false _ stopped }
 may_from s h (Sync k) (unknown, (repeated, (waiting, (level_open, end)))) = record {
-    known = below_from _ k unknown;
-    fresh = false_from_ne_true _ repeated;
-    lower = λ j l. true_from_ne_false _ (λ q. waiting (j, l, q));
-    level = λ n l e. true_from_ne_false _ (λ q. level_open (n, l, e, q)) }
+  known = below_from _ k unknown;
+  fresh = false_from_ne_true _ repeated;
+  lower = λ j l. true_from_ne_false _ (λ q. waiting (j, l, q));
+  level = λ n l e. true_from_ne_false _ (λ q. level_open (n, l, e, q));
+}
 
 -- ---- a step that is allowed has no fault
 
@@ -167,11 +173,13 @@ fault_refutes s h (Sync k) lawful _ p may = p
 -- faults are exact
 pub faults_are_exact : FaultsAreExact
 faults_are_exact s h step lawful = (
-    may_or_fault,
-    (λ f first may. fault_refutes s h step lawful f (first_holds (HasFault s h step) (faults_of step) f first) may),
-    (λ f g first second. one_first (HasFault s h step) (faults_of step) f g first second))
+  may_or_fault,
+  (λ f first may. fault_refutes s h step lawful f (first_holds (HasFault s h step) (faults_of step) f first) may),
+  (λ f g first second. one_first (HasFault s h step) (faults_of step) f g first second),
+)
   where
     may_or_fault : May s h step ⊎ ((f : StepFault) × IsFirstFault s h step f)
     may_or_fault = elim (first_or_none (HasFault s h step) (decide_fault s h step lawful) (faults_of step)) [
-          inl found ↦ inr found
-        | inr none ↦ inl (may_from s h step none) ]
+      | inl found ↦ inr found
+      | inr none ↦ inl (may_from s h step none)
+    ]

@@ -17,8 +17,9 @@ use Rattle.model.proofs.Searches.{decide_true, decide_false, decide_both, NoneBe
 -- a condition that covers a system is known
 pub covered_known : (s : Schedule) (c n : ℕ) → covers s c n ≡ true → c < length s.conditions
 covered_known s c n e = elim (cases_lt c (length s.conditions)) [
-      inl l ↦ l
-    | inr past ↦ absurd (true≢false (sym (subst (λ (x : ScheduledCondition). has n x.covers ≡ true) (get_or_past s.conditions c _ past) e))) ]
+  | inl l ↦ l
+  | inr past ↦ absurd (true≢false (sym (subst (λ (x : ScheduledCondition). has n x.covers ≡ true) (get_or_past s.conditions c _ past) e)))
+]
 
 -- where no covering condition is open each was asked
 pub all_asked : (s : Schedule) (h : List Step) (n : ℕ) → NoneBelow (λ c. (covers s c n ≡ true) × (was_asked h c ≡ false)) (length s.conditions) →
@@ -39,22 +40,36 @@ GoesOn s h = (step : Step) × May s h step
 -- where nothing runs a free system leads to a step
 pub free_goes_on : (s : Schedule) (h : List Step) (n : ℕ) → NoneRuns h → IsFree s h n → GoesOn s h
 free_goes_on s h n none free = elim (least_below (λ c. (covers s c n ≡ true) × (was_asked h c ≡ false))
-        (λ c. decide_both (decide_true (covers s c n)) (decide_false (was_asked h c))) (length s.conditions)) [
-      inl open_one ↦ (Cond open_one.number true, record {
+    (λ c. decide_both (decide_true (covers s c n)) (decide_false (was_asked h c))) (length s.conditions)) [
+      | inl open_one ↦ (
+        Cond open_one.number true,
+        record {
           known = open_one.below;
           fresh = open_one.holds.1;
           member = (n, open_one.holds.0, free);
-          apart = λ meets. both_ways _ (none meets.0) meets.1 })
-    | inr no_open ↦ elim (least_below (λ c. (covers s c n ≡ true) × (answered h c false ≡ true))
-        (λ c. decide_both (decide_true (covers s c n)) (decide_true (answered h c false))) (length s.conditions)) [
-          inl refusal ↦ (Skip n, record {
-              free = free;
-              asked = all_asked s h n no_open;
-              refused = (refusal.number, refusal.holds.0, refusal.holds.1) })
-        | inr no_refusal ↦ (Start n, record {
-              free = free;
-              answers = all_answered s h n (all_asked s h n no_open) (λ refused. no_refusal refused.0 (covered_known s refused.0 n refused.1) (refused.1, refused.2));
-              apart = λ meets. both_ways _ (none meets.0) meets.1 }) ] ]
+          apart = λ meets. both_ways _ (none meets.0) meets.1;
+        },
+      )
+      | inr no_open ↦ elim (least_below (λ c. (covers s c n ≡ true) × (answered h c false ≡ true))
+          (λ c. decide_both (decide_true (covers s c n)) (decide_true (answered h c false))) (length s.conditions)) [
+            | inl refusal ↦ (
+              Skip n,
+              record {
+                free = free;
+                asked = all_asked s h n no_open;
+                refused = (refusal.number, refusal.holds.0, refusal.holds.1);
+              },
+            )
+            | inr no_refusal ↦ (
+              Start n,
+              record {
+                free = free;
+                answers = all_answered s h n (all_asked s h n no_open) (λ refused. no_refusal refused.0 (covered_known s refused.0 n refused.1) (refused.1, refused.2));
+                apart = λ meets. both_ways _ (none meets.0) meets.1;
+              },
+            )
+          ]
+    ]
 
 -- a system of the level that has not begun
 abbrev pub IsUnbegun : Schedule → List Step → ℕ → ℕ → Type 0
@@ -72,10 +87,11 @@ level_member_ended s h k n none began l = begun_ended h n none (true_from_ne_fal
 pub first_free : (s : Schedule) (h : List Step) (k : ℕ) → IsBuilt s → IsLawful s h → NoneRuns h →
     ((j : ℕ) → j < k → synced h j ≡ true) → (found : FirstIn (IsUnbegun s h k) s.order) → IsFree s h found.number
 first_free s h k built lawful none lower found = record {
-    known = built.known found.number (found_has (IsUnbegun s h k) s.order found);
-    waits = found.holds.1;
-    after = λ m e. go m e (cases_order (level_of s m) k);
-    over = λ j l. lower j (subst (λ x. j < x) found.holds.0 l) }
+  known = built.known found.number (found_has (IsUnbegun s h k) s.order found);
+  waits = found.holds.1;
+  after = λ m e. go m e (cases_order (level_of s m) k);
+  over = λ j l. lower j (subst (λ x. j < x) found.holds.0 l);
+}
   where
     go : (m : ℕ) → has_edge s m found.number ≡ true → (level_of s m ≡ k) ⊎ ((level_of s m < k) ⊎ (k < level_of s m)) → ended h m ≡ true
     go m e (inl same) = level_member_ended s h k m none (found.first m (built.after found.front found.rest found.number found.splits m e)) same
@@ -86,28 +102,36 @@ first_free s h k built lawful none lower found = record {
 pub level_goes_on : (s : Schedule) (h : List Step) (k : ℕ) → IsBuilt s → IsLawful s h → NoneRuns h → k < s.syncs → synced h k ≡ false →
     ((j : ℕ) → j < k → synced h j ≡ true) → GoesOn s h
 level_goes_on s h k built lawful none known fresh lower = elim (first_in (IsUnbegun s h k)
-        (λ n. decide_both (cases_eq (level_of s n) k) (decide_false (begun h n))) s.order) [
-      inl found ↦ free_goes_on s h found.number none (first_free s h k built lawful none lower found)
-    | inr all_begun ↦ (Sync k, record {
+    (λ n. decide_both (cases_eq (level_of s n) k) (decide_false (begun h n))) s.order) [
+      | inl found ↦ free_goes_on s h found.number none (first_free s h k built lawful none lower found)
+      | inr all_begun ↦ (
+        Sync k,
+        record {
           known = known;
           fresh = fresh;
           lower = lower;
-          level = λ n l same. level_member_ended s h k n none (all_begun n (built.listed n l)) same }) ]
+          level = λ n l same. level_member_ended s h k n none (all_begun n (built.listed n l)) same;
+        },
+      )
+    ]
 
 -- where each sync point is done the list is complete
 pub all_synced : (s : Schedule) (h : List Step) → IsBuilt s → IsLawful s h → ((k : ℕ) → k < s.syncs → synced h k ≡ true) → IsComplete s h
 all_synced s h built lawful synced_all = record {
-    ends = λ n l. level_ended s h (level_of s n) n lawful (synced_all _ (built.levels n l)) l refl;
-    syncs = synced_all }
+  ends = λ n l. level_ended s h (level_of s n) n lawful (synced_all _ (built.levels n l)) l refl;
+  syncs = synced_all;
+}
 
 -- a lawful list is complete or has a next step
 pub continues : (s : Schedule) (h : List Step) → IsBuilt s → IsLawful s h → IsComplete s h ⊎ GoesOn s h
 continues s h built lawful = elim (least_below (λ n. runs h n ≡ true) (λ n. decide_true (runs h n)) (length s.systems)) [
-      inl running ↦ inr (Finish running.number, record { running = running.holds })
-    | inr none ↦ elim (least_below (λ k. synced h k ≡ false) (λ k. decide_false (synced h k)) s.syncs) [
-          inl open_one ↦ inr (level_goes_on s h open_one.number built lawful (none_runs none) open_one.below open_one.holds
-              (λ j l. true_from_ne_false _ (open_one.least j l)))
-        | inr no_open ↦ inl (all_synced s h built lawful (λ k l. true_from_ne_false _ (no_open k l))) ] ]
+  | inl running ↦ inr (Finish running.number, record { running = running.holds })
+  | inr none ↦ elim (least_below (λ k. synced h k ≡ false) (λ k. decide_false (synced h k)) s.syncs) [
+    | inl open_one ↦ inr (level_goes_on s h open_one.number built lawful (none_runs none) open_one.below open_one.holds
+        (λ j l. true_from_ne_false _ (open_one.least j l)))
+    | inr no_open ↦ inl (all_synced s h built lawful (λ k l. true_from_ne_false _ (no_open k l)))
+  ]
+]
   where
     none_runs : NoneBelow (λ n. runs h n ≡ true) (length s.systems) → NoneRuns h
     none_runs none n = false_from_ne_true _ (λ r. none n (runs_known s h n lawful r) r)

@@ -43,7 +43,8 @@ pub id_at-slots_after : (tick : ℕ) (f : ℕ → ℕ → Option (List ℤ)) (sl
 unfolding slots_after
 id_at-slots_after tick f slots index = λ i. record {
   index = index;
-  generation = get_or-map_index-view (λ (slot : Slot). slot.generation) (λ j. slot_after tick (f j)) slots index fresh_slot (λ j slot. refl) i }
+  generation = get_or-map_index-view (λ (slot : Slot). slot.generation) (λ j. slot_after tick (f j)) slots index fresh_slot (λ j slot. refl) i;
+}
 
 -- the ids that a grant gives stay
 pub granted_ids-slots_after : (n tick : ℕ) (f : ℕ → ℕ → Option (List ℤ)) (slots : List Slot) → granted_ids n (slots_after tick f slots) ≡ granted_ids n slots
@@ -51,7 +52,7 @@ unfolding granted_ids
 granted_ids-slots_after n tick f slots =
     ap₂ (λ xs indices. map (id_at xs) indices) (with_room-slots_after n tick f slots) (least_vacant-slots_after n tick f slots)
     ∙ map-same (id_at (slots_after tick f (with_room n slots))) (id_at (with_room n slots)) (least_vacant n slots)
-        (λ index i. id_at-slots_after tick f (with_room n slots) index)
+    (λ index i. id_at-slots_after tick f (with_room n slots) index)
 
 -- a slot that is granted and written
 granted_slot-slot_after : (granted : Bool) (tick : ℕ) (f : ℕ → Option (List ℤ)) (slot : Slot) →
@@ -64,9 +65,9 @@ pub grant-slots_after : (n tick : ℕ) (f : ℕ → ℕ → Option (List ℤ)) (
 unfolding grant slots_after
 grant-slots_after n tick f slots =
     ap₂ (λ (indices : List ℕ) (xs : List Slot). map_index (λ index slot. cond (has index indices) (granted_slot slot) slot) xs)
-        (least_vacant-slots_after n tick f slots) (with_room-slots_after n tick f slots)
+    (least_vacant-slots_after n tick f slots) (with_room-slots_after n tick f slots)
     ∙ map_index-comm (λ index slot. cond (has index (least_vacant n slots)) (granted_slot slot) slot) (λ index. slot_after tick (f index)) fresh_slot (with_room n slots)
-        (λ index. granted_slot-slot_after (has index (least_vacant n slots)) tick (f index) (get_or (with_room n slots) index fresh_slot))
+    (λ index. granted_slot-slot_after (has index (least_vacant n slots)) tick (f index) (get_or (with_room n slots) index fresh_slot))
 
 -- a granted slot has the row that it had
 row_of-granted : (granted : Bool) (slot : Slot) → (cond granted (granted_slot slot) slot).row ≡ slot.row
@@ -78,5 +79,5 @@ pub row_at-grant : (n : ℕ) (slots : List Slot) (index : ℕ) → row_at (grant
 unfolding grant with_room
 row_at-grant n slots index =
     get_or-map_index-view (λ (slot : Slot). slot.row) (λ i slot. cond (has i (least_vacant n slots)) (granted_slot slot) slot) (with_room n slots) index fresh_slot
-        (λ i slot. row_of-granted (has i (least_vacant n slots)) slot)
+    (λ i slot. row_of-granted (has i (least_vacant n slots)) slot)
     ∙ ap (λ (slot : Slot). slot.row) (get_or-append_replicate slots (n - length (vacant_indices slots)) index fresh_slot)

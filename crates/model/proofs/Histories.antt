@@ -28,6 +28,7 @@ any_either f g k either (x ∷ xs) e = elim (or_cases _ _ e) [ inl p ↦ here (e
     here : (g x ≡ true) ⊎ (k x ≡ true) → (list_any g (x ∷ xs) ≡ true) ⊎ (list_any k (x ∷ xs) ≡ true)
     here (inl p) = inl (or_left _ _ p)
     here (inr p) = inr (or_left _ _ p)
+
     there : (list_any g xs ≡ true) ⊎ (list_any k xs ≡ true) → (list_any g (x ∷ xs) ≡ true) ⊎ (list_any k (x ∷ xs) ≡ true)
     there (inl p) = inl (or_right _ _ p)
     there (inr p) = inr (or_right _ _ p)
@@ -104,8 +105,9 @@ runs-finish h m n e = go (m == n) refl e
 pub finished_started : (s : Schedule) (h : List Step) (n : ℕ) → IsLawful s h → finished h n ≡ true → started h n ≡ true
 finished_started s [] n lawful e = e
 finished_started s (Finish m ∷ h) n lawful e = elim (same_or m n (finished h n) e) [
-      inl q ↦ subst (λ k. started h k ≡ true) q (runs_parts h m lawful.0.running).0
-    | inr r ↦ finished_started s h n lawful.1 r ]
+  | inl q ↦ subst (λ k. started h k ≡ true) q (runs_parts h m lawful.0.running).0
+  | inr r ↦ finished_started s h n lawful.1 r
+]
 finished_started s (Start m ∷ h) n lawful e = or_right _ _ (finished_started s h n lawful.1 e)
 finished_started s (Skip m ∷ h) n lawful e = finished_started s h n lawful.1 e
 finished_started s (Cond c a ∷ h) n lawful e = finished_started s h n lawful.1 e
@@ -114,18 +116,21 @@ finished_started s (Sync k ∷ h) n lawful e = finished_started s h n lawful.1 e
 -- what has ended has begun
 pub ended_begun : (s : Schedule) (h : List Step) (n : ℕ) → IsLawful s h → ended h n ≡ true → begun h n ≡ true
 ended_begun s h n lawful e = elim (or_cases _ _ e) [
-      inl f ↦ or_left _ _ (finished_started s h n lawful f)
-    | inr k ↦ or_right (started h n) _ k ]
+  | inl f ↦ or_left _ _ (finished_started s h n lawful f)
+  | inr k ↦ or_right (started h n) _ k
+]
 
 -- no system is both started and skipped
 pub started_not-skipped : (s : Schedule) (h : List Step) (n : ℕ) → IsLawful s h → started h n ≡ true → skipped h n ≡ true → ⊥
 started_not-skipped s [] n lawful e k = true≢false (sym e)
 started_not-skipped s (Start m ∷ h) n lawful e k = elim (same_or m n (started h n) e) [
-      inl q ↦ both_ways _ (or_parts _ _ (subst (λ j. begun h j ≡ false) q lawful.0.free.waits)).1 k
-    | inr r ↦ started_not-skipped s h n lawful.1 r k ]
+  | inl q ↦ both_ways _ (or_parts _ _ (subst (λ j. begun h j ≡ false) q lawful.0.free.waits)).1 k
+  | inr r ↦ started_not-skipped s h n lawful.1 r k
+]
 started_not-skipped s (Skip m ∷ h) n lawful e k = elim (same_or m n (skipped h n) k) [
-      inl q ↦ both_ways _ (or_parts _ _ (subst (λ j. begun h j ≡ false) q lawful.0.free.waits)).0 e
-    | inr r ↦ started_not-skipped s h n lawful.1 e r ]
+  | inl q ↦ both_ways _ (or_parts _ _ (subst (λ j. begun h j ≡ false) q lawful.0.free.waits)).0 e
+  | inr r ↦ started_not-skipped s h n lawful.1 e r
+]
 started_not-skipped s (Finish m ∷ h) n lawful e k = started_not-skipped s h n lawful.1 e k
 started_not-skipped s (Cond c a ∷ h) n lawful e k = started_not-skipped s h n lawful.1 e k
 started_not-skipped s (Sync j ∷ h) n lawful e k = started_not-skipped s h n lawful.1 e k
@@ -133,8 +138,9 @@ started_not-skipped s (Sync j ∷ h) n lawful e k = started_not-skipped s h n la
 -- what runs has not ended
 pub runs_not-ended : (s : Schedule) (h : List Step) (n : ℕ) → IsLawful s h → runs h n ≡ true → ended h n ≡ true → ⊥
 runs_not-ended s h n lawful r e = elim (or_cases _ _ e) [
-      inl f ↦ both_ways _ (runs_parts h n r).1 f
-    | inr k ↦ started_not-skipped s h n lawful (runs_parts h n r).0 k ]
+  | inl f ↦ both_ways _ (runs_parts h n r).1 f
+  | inr k ↦ started_not-skipped s h n lawful (runs_parts h n r).0 k
+]
 
 -- what has begun runs or has ended
 pub begun_runs_or_ended : (h : List Step) (n : ℕ) → begun h n ≡ true → (runs h n ≡ true) ⊎ (ended h n ≡ true)
@@ -158,23 +164,28 @@ free_found s h m n q free = subst (HasBegun s h) q (record { known = free.known;
 -- what was found stays
 pub found_later : (s : Schedule) (step : Step) (h : List Step) (n : ℕ) → HasBegun s h n → HasBegun s (step ∷ h) n
 found_later s step h n found = record {
-    known = found.known;
-    after = λ m e. ended_later step h m (found.after m e);
-    over = λ k l. synced_later step h k (found.over k l) }
+  known = found.known;
+  after = λ m e. ended_later step h m (found.after m e);
+  over = λ k l. synced_later step h k (found.over k l);
+}
 
 -- what a system found that has begun
 pub begun_found : (s : Schedule) (h : List Step) (n : ℕ) → IsLawful s h → begun h n ≡ true → HasBegun s h n
 begun_found s [] n lawful e = absurd (true≢false (sym e))
 begun_found s (Start m ∷ h) n lawful e = found_later s (Start m) h n (elim (or_cases _ _ e) [
-      inl p ↦ elim (same_or m n (started h n) p) [
-          inl q ↦ free_found s h m n q lawful.0.free
-        | inr r ↦ begun_found s h n lawful.1 (or_left _ _ r) ]
-    | inr k ↦ begun_found s h n lawful.1 (or_right (started h n) _ k) ])
+  | inl p ↦ elim (same_or m n (started h n) p) [
+    | inl q ↦ free_found s h m n q lawful.0.free
+    | inr r ↦ begun_found s h n lawful.1 (or_left _ _ r)
+  ]
+  | inr k ↦ begun_found s h n lawful.1 (or_right (started h n) _ k)
+])
 begun_found s (Skip m ∷ h) n lawful e = found_later s (Skip m) h n (elim (or_cases (started h n) _ e) [
-      inl p ↦ begun_found s h n lawful.1 (or_left _ _ p)
-    | inr k ↦ elim (same_or m n (skipped h n) k) [
-          inl q ↦ free_found s h m n q lawful.0.free
-        | inr r ↦ begun_found s h n lawful.1 (or_right (started h n) _ r) ] ])
+  | inl p ↦ begun_found s h n lawful.1 (or_left _ _ p)
+  | inr k ↦ elim (same_or m n (skipped h n) k) [
+    | inl q ↦ free_found s h m n q lawful.0.free
+    | inr r ↦ begun_found s h n lawful.1 (or_right (started h n) _ r)
+  ]
+])
 begun_found s (Finish m ∷ h) n lawful e = found_later s (Finish m) h n (begun_found s h n lawful.1 e)
 begun_found s (Cond c a ∷ h) n lawful e = found_later s (Cond c a) h n (begun_found s h n lawful.1 e)
 begun_found s (Sync k ∷ h) n lawful e = found_later s (Sync k) h n (begun_found s h n lawful.1 e)
@@ -197,8 +208,9 @@ start_runs s h n lawful free = runs_from (Start n ∷ h) n (or_left _ _ (eq-eqb 
 pub lower_synced : (s : Schedule) (h : List Step) (j k : ℕ) → IsLawful s h → synced h k ≡ true → j < k → synced h j ≡ true
 lower_synced s [] j k lawful e l = absurd (true≢false (sym e))
 lower_synced s (Sync i ∷ h) j k lawful e l = or_right _ _ (elim (same_or i k (synced h k) e) [
-      inl q ↦ lawful.0.lower j (subst (λ x. j < x) (sym q) l)
-    | inr r ↦ lower_synced s h j k lawful.1 r l ])
+  | inl q ↦ lawful.0.lower j (subst (λ x. j < x) (sym q) l)
+  | inr r ↦ lower_synced s h j k lawful.1 r l
+])
 lower_synced s (Start m ∷ h) j k lawful e l = lower_synced s h j k lawful.1 e l
 lower_synced s (Skip m ∷ h) j k lawful e l = lower_synced s h j k lawful.1 e l
 lower_synced s (Finish m ∷ h) j k lawful e l = lower_synced s h j k lawful.1 e l
@@ -208,8 +220,9 @@ lower_synced s (Cond c a ∷ h) j k lawful e l = lower_synced s h j k lawful.1 e
 pub level_ended : (s : Schedule) (h : List Step) (k n : ℕ) → IsLawful s h → synced h k ≡ true → n < length s.systems → level_of s n ≡ k → ended h n ≡ true
 level_ended s [] k n lawful e known l = absurd (true≢false (sym e))
 level_ended s (Sync j ∷ h) k n lawful e known l = elim (same_or j k (synced h k) e) [
-      inl q ↦ lawful.0.level n known (l ∙ sym q)
-    | inr r ↦ level_ended s h k n lawful.1 r known l ]
+  | inl q ↦ lawful.0.level n known (l ∙ sym q)
+  | inr r ↦ level_ended s h k n lawful.1 r known l
+]
 level_ended s (Start m ∷ h) k n lawful e known l = ended_later (Start m) h n (level_ended s h k n lawful.1 e known l)
 level_ended s (Skip m ∷ h) k n lawful e known l = ended_later (Skip m) h n (level_ended s h k n lawful.1 e known l)
 level_ended s (Finish m ∷ h) k n lawful e known l = ended_later (Finish m) h n (level_ended s h k n lawful.1 e known l)
@@ -222,10 +235,12 @@ above_waits s h k n lawful fresh l e = both_ways _ fresh ((begun_found s h n law
 -- at a sync point nothing runs
 pub idle : (s : Schedule) (h : List Step) (k n : ℕ) → IsLawful s h → MaySync s h k → runs h n ≡ true → ⊥
 idle s h k n lawful may r = elim (cases_order (level_of s n) k) [
-      inl q ↦ runs_not-ended s h n lawful r (may.level n (runs_known s h n lawful r) q)
-    | inr p ↦ elim p [
-          inl below ↦ runs_not-ended s h n lawful r (level_ended s h (level_of s n) n lawful (may.lower _ below) (runs_known s h n lawful r) refl)
-        | inr above ↦ above_waits s h k n lawful may.fresh above (begun_from_runs h n r) ] ]
+  | inl q ↦ runs_not-ended s h n lawful r (may.level n (runs_known s h n lawful r) q)
+  | inr p ↦ elim p [
+    | inl below ↦ runs_not-ended s h n lawful r (level_ended s h (level_of s n) n lawful (may.lower _ below) (runs_known s h n lawful r) refl)
+    | inr above ↦ above_waits s h k n lawful may.fresh above (begun_from_runs h n r)
+  ]
+]
 
 -- at the end nothing runs
 pub idle_at_end : (s : Schedule) (h : List Step) → IsLawful s h → IsComplete s h → NoneRuns h
@@ -271,22 +286,27 @@ asked_answered h c e = any_either (is_cond c) (is_answer c true) (is_answer c fa
 pub answered-cond : (h : List Step) (d : ℕ) (a : Bool) (c : ℕ) (answer : Bool) → answered (Cond d a ∷ h) c answer ≡ true →
     ((d ≡ c) × (a ≡ answer)) ⊎ (answered h c answer ≡ true)
 answered-cond h d a c true e = elim (or_cases ((d == c) && a) _ e) [
-      inl p ↦ inl (let parts = and_parts (d == c) a p in (eqb-true d c parts.0, parts.1))
-    | inr r ↦ inr r ]
+  | inl p ↦ inl (let parts = and_parts (d == c) a p in (eqb-true d c parts.0, parts.1))
+  | inr r ↦ inr r
+]
 answered-cond h d a c false e = elim (or_cases ((d == c) && not a) _ e) [
-      inl p ↦ inl (let parts = and_parts (d == c) (not a) p in (eqb-true d c parts.0, not-true a parts.1))
-    | inr r ↦ inr r ]
+  | inl p ↦ inl (let parts = and_parts (d == c) (not a) p in (eqb-true d c parts.0, not-true a parts.1))
+  | inr r ↦ inr r
+]
 
 -- a condition has one answer
 pub one_answer : (s : Schedule) (h : List Step) (c : ℕ) → IsLawful s h → answered h c true ≡ true → answered h c false ≡ true → ⊥
 one_answer s [] c lawful p q = true≢false (sym p)
 one_answer s (Cond d a ∷ h) c lawful p q = elim (answered-cond h d a c true p) [
-      inl u ↦ elim (answered-cond h d a c false q) [
-          inl v ↦ true≢false (sym u.1 ∙ v.1)
-        | inr y ↦ both_ways _ (subst (λ x. was_asked h x ≡ false) u.0 lawful.0.fresh) (answered_asked h c false y) ]
-    | inr x ↦ elim (answered-cond h d a c false q) [
-          inl v ↦ both_ways _ (subst (λ x. was_asked h x ≡ false) v.0 lawful.0.fresh) (answered_asked h c true x)
-        | inr y ↦ one_answer s h c lawful.1 x y ] ]
+  | inl u ↦ elim (answered-cond h d a c false q) [
+    | inl v ↦ true≢false (sym u.1 ∙ v.1)
+    | inr y ↦ both_ways _ (subst (λ x. was_asked h x ≡ false) u.0 lawful.0.fresh) (answered_asked h c false y)
+  ]
+  | inr x ↦ elim (answered-cond h d a c false q) [
+    | inl v ↦ both_ways _ (subst (λ x. was_asked h x ≡ false) v.0 lawful.0.fresh) (answered_asked h c true x)
+    | inr y ↦ one_answer s h c lawful.1 x y
+  ]
+]
 one_answer s (Start m ∷ h) c lawful p q = one_answer s h c lawful.1 p q
 one_answer s (Skip m ∷ h) c lawful p q = one_answer s h c lawful.1 p q
 one_answer s (Finish m ∷ h) c lawful p q = one_answer s h c lawful.1 p q

@@ -121,9 +121,10 @@ holds_cond s h c answer w k = record { alive = k.alive; listed = k.listed; fit =
 -- a running system is another than one that may start, and apart from it
 pub apart_start : (s : Schedule) (h : List Step) (n : ℕ) (w : Interleaved) → MayStart s h n → Holds s h w → (p : RunningSystem) → IsIn p w.running_systems →
     (p.system ≢ n) × Apart (params_of s p.system) (params_of s n)
-apart_start s h n w may k p i =
-    ((λ e. both_ways (begun h n) may.free.waits (begun_from_runs h n (subst (λ m. runs h m ≡ true) e (k.alive p i)))),
-     (λ c. may.apart (p.system, k.alive p i, c)))
+apart_start s h n w may k p i = (
+  (λ e. both_ways (begun h n) may.free.waits (begun_from_runs h n (subst (λ m. runs h m ≡ true) e (k.alive p i)))),
+  (λ c. may.apart (p.system, k.alive p i, c)),
+)
 
 -- so it is beside it as it runs
 beside_start : (s : Schedule) (h : List Step) (n : ℕ) (w : Interleaved) → MayStart s h n → Holds s h w → (p : RunningSystem) → IsIn p w.running_systems →
@@ -137,14 +138,16 @@ holds_start : (s : Schedule) (h : List Step) (n : ℕ) (w : Interleaved) → IsL
 holds_start s h n w lawful may k = record {
   alive = λ p i. ⊎_elim (λ j. runs_after-start h n p.system (k.alive p j)) (λ j. new_alive p j) (IsIn-append p w.running_systems (started_system s n w.run ∷ []) i);
   listed = λ m r. ⊎_elim (λ e. running_system-append_new m w.running_systems (started_system s n w.run) (system_of-started s n w.run ∙ e))
-    (λ q. let f : (p : RunningSystem) × (running_system m w.running_systems ≡ Some p) = k.listed m q in
-        (f.0, running_system-append m w.running_systems (started_system s n w.run) f.0 f.1)) (runs-start h n m r);
+      (λ q. let f : (p : RunningSystem) × (running_system m w.running_systems ≡ Some p) = k.listed m q in
+      (f.0, running_system-append m w.running_systems (started_system s n w.run) f.0 f.1)) (runs-start h n m r);
   fit = λ p i. ⊎_elim (λ j. fits-after_start s p n w.run (k.fit p j)) (λ j. new_fit p j) (IsIn-append p w.running_systems (started_system s n w.run ∷ []) i);
-  beside = are_beside-append s w.running_systems (started_system s n w.run) k.beside (beside_start s h n w may k) }
+  beside = are_beside-append s w.running_systems (started_system s n w.run) k.beside (beside_start s h n w may k);
+}
   where
     new_alive : (p : RunningSystem) → IsIn p (started_system s n w.run ∷ []) → runs (Start n ∷ h) p.system ≡ true
     new_alive p (inl e) = subst (λ m. runs (Start n ∷ h) m ≡ true) (sym (ap (λ (q : RunningSystem). q.system) e ∙ system_of-started s n w.run)) (start_runs s h n lawful may.free)
     new_alive p (inr e) = absurd e
+
     new_fit : (p : RunningSystem) → IsIn p (started_system s n w.run ∷ []) → Fits s p (after_start s n w.run).state.world.slots
     new_fit p (inl e) = subst (λ (q : RunningSystem). Fits s q (after_start s n w.run).state.world.slots) (sym e)
         (fits-after_start s (started_system s n w.run) n w.run (fits-started_system s n w.run))
@@ -156,17 +159,22 @@ holds_finish : (s : Schedule) (bodies : List BodyMeaning) (h : List Step) (n : �
 holds_finish s bodies h n w p after k e = record {
   alive = λ q i. runs_after-finish h n q.system (without_system-other s n w.running_systems q k.beside i) (k.alive q (without_system-IsIn n w.running_systems q i));
   listed = λ m r.
-    let d : (n ≡ m → ⊥) × (runs h m ≡ true) = runs-finish h n m r in
-    let f : (q : RunningSystem) × (running_system m w.running_systems ≡ Some q) = k.listed m d.1 in
-    (f.0, running_system-without m n w.running_systems d.0 ∙ f.1);
+      let d : (n ≡ m → ⊥) × (runs h m ≡ true) = runs-finish h n m r in
+      let f : (q : RunningSystem) × (running_system m w.running_systems ≡ Some q) = k.listed m d.1 in
+      (f.0, running_system-without m n w.running_systems d.0 ∙ f.1);
   fit = λ q i. fits-finish s bodies q p w.run after e (k.fit q (without_system-IsIn n w.running_systems q i));
-  beside = are_beside-without s n w.running_systems k.beside }
+  beside = are_beside-without s n w.running_systems k.beside;
+}
 
 -- after a sync point
 holds_sync : (s : Schedule) (h : List Step) (k : ℕ) (w : Interleaved) → IsLawful s h → MaySync s h k → Holds s h w →
     Holds s (Sync k ∷ h) (record { run = after_sync s k w.run; running_systems = w.running_systems })
 holds_sync s h k w lawful may hold = record {
-  alive = hold.alive; listed = hold.listed; fit = (λ p i. absurd (idle s h k p.system lawful may (hold.alive p i))); beside = hold.beside }
+  alive = hold.alive;
+  listed = hold.listed;
+  fit = (λ p i. absurd (idle s h k p.system lawful may (hold.alive p i)));
+  beside = hold.beside;
+}
 
 -- a run state with running systems that is there
 with_running_systems-Some : (ps : List RunningSystem) (o : Option RunState) (w : Interleaved) → with_running_systems ps o ≡ Some w →
@@ -179,21 +187,21 @@ holds_step : (s : Schedule) (bodies : List BodyMeaning) (h : List Step) (step : 
     interleaved_step s bodies step w ≡ Some after → Holds s (step ∷ h) after
 holds_step s bodies h (Cond c answer) w after lawful may k e =
     subst (Holds s (Cond c answer ∷ h)) (provided-Some (has_tick w.run.state) (record { run = after_condition s c w.run; running_systems = w.running_systems }) after e).1
-        (holds_cond s h c answer w k)
+    (holds_cond s h c answer w k)
 holds_step s bodies h (Start n) w after lawful may k e =
     subst (Holds s (Start n ∷ h)) (provided-Some (can_start s n w.run) (record { run = after_start s n w.run; running_systems = w.running_systems ++ started_system s n w.run ∷ [] }) after e).1
-        (holds_start s h n w lawful may k)
+    (holds_start s h n w lawful may k)
 holds_step s bodies h (Skip n) w after lawful may k e =
     let same : Holds s (Skip n ∷ h) w = record { alive = k.alive; listed = k.listed; fit = k.fit; beside = k.beside } in
     subst (Holds s (Skip n ∷ h)) (same_Some w after e) same
 holds_step s bodies h (Finish n) w after lawful may k e =
     option_and_then_some (λ p. with_running_systems (without_system n w.running_systems) (finish s bodies p w.run)) (running_system n w.running_systems) after e (λ p i f.
-        let r : (run : RunState) × (finish s bodies p w.run ≡ Some run) × (record { run = run; running_systems = without_system n w.running_systems } ≡ after)
-            = with_running_systems-Some (without_system n w.running_systems) (finish s bodies p w.run) after f in
-        subst (Holds s (Finish n ∷ h)) r.2 (holds_finish s bodies h n w p r.0 k r.1))
+    let r : (run : RunState) × (finish s bodies p w.run ≡ Some run) × (record { run = run; running_systems = without_system n w.running_systems } ≡ after)
+    = with_running_systems-Some (without_system n w.running_systems) (finish s bodies p w.run) after f in
+    subst (Holds s (Finish n ∷ h)) r.2 (holds_finish s bodies h n w p r.0 k r.1))
 holds_step s bodies h (Sync j) w after lawful may k e =
     subst (Holds s (Sync j ∷ h)) (provided-Some (has_tick w.run.state) (record { run = after_sync s j w.run; running_systems = w.running_systems }) after e).1
-        (holds_sync s h j w lawful may k)
+    (holds_sync s h j w lawful may k)
 
 -- after a lawful history
 pub holds : (s : Schedule) (bodies : List BodyMeaning) (start : State) (h : List Step) (w : Interleaved) → IsLawful s h → interleaved s bodies start h ≡ Some w → Holds s h w
@@ -203,4 +211,4 @@ holds s bodies start [] w lawful e =
     subst (Holds s []) r.2 first
 holds s bodies start (step ∷ h) w lawful e =
     option_and_then_some (interleaved_step s bodies step) (interleaved s bodies start h) w e (λ v d f.
-        holds_step s bodies h step v w lawful.1 lawful.0 (holds s bodies start h v lawful.1 d) f)
+    holds_step s bodies h step v w lawful.1 lawful.0 (holds s bodies start h v lawful.1 d) f)

@@ -39,16 +39,18 @@ start_beside : (s : Schedule) (bodies : List BodyMeaning) (n : ℕ) (p : Running
     IsActBeside s bodies (start_act s n) (λ run. started_system s n run ∷ []) p
 start_beside s bodies n p d a = record {
   swaps = λ run f. finish-act s bodies p (can_start s n) (after_start s n) run
-    (λ o. can_start-overlaid s n p o run) (λ o. can_finish-after_start s n p.system o run) (λ o. after_start-overlaid s n p o run d a);
-  same = λ run after f e. ap (λ (x : RunningSystem). x ∷ []) (finish-view (started_system s n) s bodies p run after (λ o. started_system-overlaid s n p o run d a f) e) }
+      (λ o. can_start-overlaid s n p o run) (λ o. can_finish-after_start s n p.system o run) (λ o. after_start-overlaid s n p o run d a);
+  same = λ run after f e. ap (λ (x : RunningSystem). x ∷ []) (finish-view (started_system s n) s bodies p run after (λ o. started_system-overlaid s n p o run d a f) e);
+}
 
 -- a condition is beside a system that doesn't conflict with what it reads
 cond_beside : (s : Schedule) (bodies : List BodyMeaning) (c : ℕ) (p : RunningSystem) → Apart (params_of s p.system) (access_of s c) →
     IsActBeside s bodies (cond_act s c) (λ run. []) p
 cond_beside s bodies c p a = record {
   swaps = λ run f. finish-act s bodies p (λ r. has_tick r.state) (after_condition s c) run
-    (λ o. has_tick-overlaid s p o run) (λ o. can_finish-after_condition s c p.system o run) (λ o. after_condition-overlaid s c p o run a);
-  same = λ run after f e. refl }
+      (λ o. has_tick-overlaid s p o run) (λ o. can_finish-after_condition s c p.system o run) (λ o. after_condition-overlaid s c p o run a);
+  same = λ run after f e. refl;
+}
 
 -- a running system is apart from a condition that may be asked
 apart_cond : (s : Schedule) (h : List Step) (c : ℕ) (w : Interleaved) → MayAsk s h c → Holds s h w → (p : RunningSystem) → IsIn p w.running_systems →
@@ -95,7 +97,7 @@ settles_cond s bodies h c answer w may k =
     ∙ ap (λ ps. option_and_then (settle s bodies ps) (cond_act s c w.run)) (sym (append-nil w.running_systems))
     ∙ sym (settle-act s bodies (cond_act s c) (λ run. []) w.running_systems w.run (λ p i. cond_beside s bodies c p (apart_cond s h c w may k p i)) k.fit)
     ∙ option_and_then-same (λ r. option_and_then (settle s bodies []) (cond_act s c r)) (cond_act s c) (settled s bodies w)
-        (λ r e. option_and_then-settle_none s bodies (cond_act s c r))
+    (λ r e. option_and_then-settle_none s bodies (cond_act s c r))
 
 -- a start
 settles_start : (s : Schedule) (bodies : List BodyMeaning) (h : List Step) (n : ℕ) (w : Interleaved) → MayStart s h n → Holds s h w →
@@ -103,9 +105,9 @@ settles_start : (s : Schedule) (bodies : List BodyMeaning) (h : List Step) (n : 
 settles_start s bodies h n w may k =
     settled-provided s bodies (can_start s n w.run) (after_start s n w.run) (w.running_systems ++ started_system s n w.run ∷ [])
     ∙ sym (settle-act s bodies (start_act s n) (λ run. started_system s n run ∷ []) w.running_systems w.run
-        (λ p i. start_beside s bodies n p (apart_start s h n w may k p i).0 (apart_start s h n w may k p i).1) k.fit)
+    (λ p i. start_beside s bodies n p (apart_start s h n w may k p i).0 (apart_start s h n w may k p i).1) k.fit)
     ∙ option_and_then-same (λ r. option_and_then (settle s bodies (started_system s n r ∷ [])) (start_act s n r)) (serial_step s bodies (Start n)) (settled s bodies w)
-        (λ r e. option_and_then-settle_one s bodies (started_system s n r) (start_act s n r))
+    (λ r e. option_and_then-settle_one s bodies (started_system s n r) (start_act s n r))
 
 -- a finish
 settles_finish : (s : Schedule) (bodies : List BodyMeaning) (h : List Step) (n : ℕ) (w : Interleaved) → runs h n ≡ true → Holds s h w →
@@ -145,7 +147,7 @@ settles s bodies start [] lawful =
 settles s bodies start (step ∷ h) lawful =
     option_and_then-assoc (interleaved_step s bodies step) (settled s bodies) (interleaved s bodies start h)
     ∙ option_and_then-same (λ w. option_and_then (settled s bodies) (interleaved_step s bodies step w)) (λ w. option_and_then (serial_step s bodies step) (settled s bodies w))
-        (interleaved s bodies start h) (λ w e. settles_step s bodies h step w lawful.1 lawful.0 (holds s bodies start h w lawful.1 e))
+    (interleaved s bodies start h) (λ w e. settles_step s bodies h step w lawful.1 lawful.0 (holds s bodies start h w lawful.1 e))
     ∙ sym (option_and_then-assoc (settled s bodies) (serial_step s bodies step) (interleaved s bodies start h))
     ∙ ap (option_and_then (serial_step s bodies step)) (settles s bodies start h lawful.1)
 
@@ -158,16 +160,17 @@ option_map-same f g (Some x) h = sym (h x refl)
 pub interleaved_serial : InterleavedIsSerial
 interleaved_serial s bodies start h lawful complete =
     option_map-same (settled s bodies) (λ w. w.run) (interleaved s bodies start h)
-        (λ w e. ap (λ ps. settle s bodies ps w.run)
-            (none_running w.running_systems (λ p i. both_ways (runs h p.system) (idle_at_end s h lawful complete p.system) ((holds s bodies start h w lawful e).alive p i))))
+    (λ w e. ap (λ ps. settle s bodies ps w.run)
+    (none_running w.running_systems (λ p i. both_ways (runs h p.system) (idle_at_end s h lawful complete p.system) ((holds s bodies start h w lawful e).alive p i))))
     ∙ settles s bodies start h lawful
 
 -- what a start shows and a condition is asked about is the same
 pub same_shown : SameIsShown
 same_shown s bodies start h w run lawful e f =
     let k : Holds s h w = holds s bodies start h w lawful e in
-    let g : settle s bodies w.running_systems w.run ≡ Some run = sym (ap (option_and_then (settled s bodies)) e) ∙ settles s bodies start h lawful ∙ f in
-    ((λ n may. sym (settle-view (started_system s n) s bodies w.running_systems w.run run
-        (λ p i r o fit. started_system-overlaid s n p o r (apart_start s h n w may k p i).0 (apart_start s h n w may k p i).1 fit) k.fit g)),
-     (λ c answer may. sym (settle-view (asked_of s c) s bodies w.running_systems w.run run
-        (λ p i r o fit. asked_of-overlaid s c p o r (apart_cond s h c w may k p i) fit) k.fit g)))
+    let g : settle s bodies w.running_systems w.run ≡ Some run = sym (ap (option_and_then (settled s bodies)) e) ∙ settles s bodies start h lawful ∙ f in (
+      (λ n may. sym (settle-view (started_system s n) s bodies w.running_systems w.run run
+          (λ p i r o fit. started_system-overlaid s n p o r (apart_start s h n w may k p i).0 (apart_start s h n w may k p i).1 fit) k.fit g)),
+      (λ c answer may. sym (settle-view (asked_of s c) s bodies w.running_systems w.run run
+          (λ p i r o fit. asked_of-overlaid s c p o r (apart_cond s h c w may k p i) fit) k.fit g)),
+    )

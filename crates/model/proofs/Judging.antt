@@ -1,6 +1,6 @@
 -- The judgement by computed tests is the judgement: a test is true exactly where its fault holds, so the fault that is computed is
 -- the one that is told, and none is computed exactly where the step may come.
-use Rattle.std.proofs.Common.{ℕ, zero, suc, ◌<◌, ◌≤◌, Bool, true, false, not, ◌&&◌, ◌||◌, ◌==◌, ◌≡◌, ◌⊎◌, inl, inr, nat_lt, nat_le, List, [], ◌∷◌, length, find, cond, Option, Some, None, is_none, MatchOption, refl, sym, subst, arith, true≢false, le-leb, leb-true, lt-ltb, ltb-true, eq-eqb, eqb-true}
+use Rattle.std.proofs.Common.{ℕ, zero, suc, ◌<◌, ◌≤◌, Bool, true, false, not, ◌&&◌, ◌==◌, ◌≡◌, inl, inr, nat_lt, nat_le, List, [], ◌∷◌, length, find, cond, Option, Some, None, is_none, MatchOption, refl, sym, subst, arith, true≢false, le-leb, leb-true, lt-ltb, ltb-true, eq-eqb, eqb-true}
 use Rattle.std.specs.List.{list_any, list_all}
 use Rattle.std.proofs.lemmas.Bool.{and_parts, and_from, or_cases, or_left, or_right, both_ways, true_from_ne_false, false_from_ne_true, not_from_false, not-true, cases_order}
 use Rattle.model.specs.declared.steps.Step.{Step}
@@ -59,21 +59,24 @@ SomeBelow test bound = (n : ℕ) × (n < bound) × (test n ≡ true)
 found_below : (test : ℕ → Bool) (bound : ℕ) → any_below test bound ≡ true → SomeBelow test bound
 found_below test zero e = absurd (true≢false (sym e))
 found_below test (suc bound) e = elim (or_cases _ _ e) [
-      inl below ↦ let found : SomeBelow test bound = found_below test bound below in (found.0, omega (arith, found.1), found.2)
-    | inr here ↦ (bound, omega arith, here) ]
+  | inl below ↦ let found : SomeBelow test bound = found_below test bound below in (found.0, omega (arith, found.1), found.2)
+  | inr here ↦ (bound, omega arith, here)
+]
 
 below_found : (test : ℕ → Bool) (bound n : ℕ) → n < bound → test n ≡ true → any_below test bound ≡ true
 below_found test zero n l e = absurd (omega arith)
 below_found test (suc bound) n l e = elim (cases_order n bound) [
-      inl q ↦ or_right _ _ (subst (λ m. test m ≡ true) q e)
-    | inr other ↦ elim other [ inl below ↦ or_left _ _ (below_found test bound n below e) | inr above ↦ absurd (omega arith) ] ]
+  | inl q ↦ or_right _ _ (subst (λ m. test m ≡ true) q e)
+  | inr other ↦ elim other [ inl below ↦ or_left _ _ (below_found test bound n below e) | inr above ↦ absurd (omega arith) ]
+]
 
 -- each of a list passes exactly where no number of it fails
 all_passed : (test : ℕ → Bool) (xs : List ℕ) → list_all test xs ≡ true → (n : ℕ) → has n xs ≡ true → test n ≡ true
 all_passed test [] e n among = absurd (true≢false (sym among))
 all_passed test (x ∷ xs) e n among = elim (same_or x n (has n xs) among) [
-      inl q ↦ subst (λ m. test m ≡ true) q (and_parts _ _ e).0
-    | inr there ↦ all_passed test xs (and_parts _ _ e).1 n there ]
+  | inl q ↦ subst (λ m. test m ≡ true) q (and_parts _ _ e).0
+  | inr there ↦ all_passed test xs (and_parts _ _ e).1 n there
+]
 
 passed_all : (test : ℕ → Bool) (xs : List ℕ) → ((n : ℕ) → has n xs ≡ true → test n ≡ true) → list_all test xs ≡ true
 passed_all test [] each = refl
@@ -83,14 +86,16 @@ passed_all test (x ∷ xs) each = and_from _ _ (each x (or_left _ _ (eq-eqb x x 
 one_passed : (test : ℕ → Bool) (xs : List ℕ) → list_any test xs ≡ true → (n : ℕ) × (has n xs ≡ true) × (test n ≡ true)
 one_passed test [] e = absurd (true≢false (sym e))
 one_passed test (x ∷ xs) e = elim (or_cases _ _ e) [
-      inl here ↦ (x, or_left _ _ (eq-eqb x x refl), here)
-    | inr there ↦ let found : (n : ℕ) × (has n xs ≡ true) × (test n ≡ true) = one_passed test xs there in (found.0, or_right _ _ found.1, found.2) ]
+  | inl here ↦ (x, or_left _ _ (eq-eqb x x refl), here)
+  | inr there ↦ let found : (n : ℕ) × (has n xs ≡ true) × (test n ≡ true) = one_passed test xs there in (found.0, or_right _ _ found.1, found.2)
+]
 
 passed_one : (test : ℕ → Bool) (xs : List ℕ) (n : ℕ) → has n xs ≡ true → test n ≡ true → list_any test xs ≡ true
 passed_one test [] n among e = absurd (true≢false (sym among))
 passed_one test (x ∷ xs) n among e = elim (same_or x n (has n xs) among) [
-      inl q ↦ or_left _ _ (subst (λ m. test m ≡ true) (sym q) e)
-    | inr there ↦ or_right _ _ (passed_one test xs n there e) ]
+  | inl q ↦ or_left _ _ (subst (λ m. test m ≡ true) (sym q) e)
+  | inr there ↦ or_right _ _ (passed_one test xs n there e)
+]
 
 -- ---- the words of a history
 
@@ -222,7 +227,6 @@ found_first P test tells (f ∷ fs) = go (found_first P test tells fs) (test f) 
     go : Found P fs (find test fs) → (b : Bool) → test f ≡ b → Found P (f ∷ fs) (cond b (Some f) (find test fs))
     go rest true e = inl (refl, (tells f).sound e)
     go rest false e = found_more P f fs (find test fs) (λ p. both_ways (test f) e ((tells f).exact p)) rest
-
 
 judged_found : (s : Schedule) (h : List Step) (step : Step) (o : Option StepFault) → Found (HasFault s h step) (faults_of step) o → MatchOption o (May s h step) (λ f. IsFirstFault s h step f)
 judged_found s h step None none = may_from s h step none

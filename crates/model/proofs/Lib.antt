@@ -2,6 +2,8 @@ pub mod Lists
 pub mod Members
 pub mod Conflicts
 pub mod Tests
+pub mod Answers
+pub mod Causes
 pub mod Histories
 pub mod Order
 pub mod Searches
@@ -10,8 +12,8 @@ pub mod GoOn
 pub mod Offers
 pub mod Decided
 pub mod Exact
-pub mod Single
 pub mod Judging
+pub mod Single
 pub mod Within
 pub mod Writes
 pub mod Uses
@@ -20,4 +22,16 @@ pub mod Overlays
 pub mod Settling
 pub mod Holding
 pub mod Interleaving
+pub mod Each
+pub mod RowShapes
+pub mod SlotShapes
+pub mod CommandShapes
+pub mod QueueShapes
+pub mod OutcomeShapes
+pub mod MemoryShapes
+pub mod StateShapes
+pub mod Shapes
+pub mod LoadedShapes
+pub mod Engine
+pub mod Laying
 pub mod examples

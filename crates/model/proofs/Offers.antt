@@ -19,10 +19,11 @@ use Rattle.model.proofs.Histories.{same_or}
 -- an offer of a free system is accepted
 pub offer_accepted : (s : Schedule) (h : List Step) (n : ℕ) (x : Ready) → Offers s h n x → (answer : Bool) → May s h (step_of x answer)
 offer_accepted s h n (ready.Ask c) offer answer = let askable : IsAskable s h n c = offer.1.0 in record {
-    known = covered_known s c n askable.0;
-    fresh = askable.1;
-    member = (n, askable.0, offer.0);
-    apart = askable.2 }
+  known = covered_known s c n askable.0;
+  fresh = askable.1;
+  member = (n, askable.0, offer.0);
+  apart = askable.2;
+}
 offer_accepted s h n (ready.Skip m) offer answer = subst (λ k. MaySkip s h k) (sym offer.1.0) offer.1.1
 offer_accepted s h n (ready.Start m) offer answer = subst (λ k. MayStart s h k) (sym offer.1.0) offer.1.1
 offer_accepted s h n (ready.Sync k) offer answer = absurd offer.1
@@ -52,8 +53,9 @@ pub none_offers : (s : Schedule) (h : List Step) (ns : List ℕ) → IsReadyAmon
 none_offers s h [] is n e = absurd (both_ways false refl e)
 none_offers s h (m ∷ ns) (inl x) n e = absurd (none_not-some x.0 x.1)
 none_offers s h (m ∷ ns) (inr rest) n e = elim (same_or m n (has n ns) e) [
-      inl q ↦ subst (λ k. OffersNothing s h k) q rest.0
-    | inr r ↦ none_offers s h ns rest.1 n r ]
+  | inl q ↦ subst (λ k. OffersNothing s h k) q rest.0
+  | inr r ↦ none_offers s h ns rest.1 n r
+]
 
 -- and no sync point is accepted
 pub no_sync : (s : Schedule) (h : List Step) (ns : List ℕ) → IsReadyAmong s h ns None → (k : ℕ) → MaySync s h k → ⊥
@@ -99,5 +101,6 @@ no_next s h none only next = go next.0 next.1
 -- where nothing runs and nothing is ready the list is complete
 pub lists_complete : ListsComplete
 lists_complete s h built lawful none nothing = elim (continues s h built lawful) [
-      inl complete ↦ complete
-    | inr next ↦ absurd (no_next s h none (only_finish s h built nothing) next) ]
+  | inl complete ↦ complete
+  | inr next ↦ absurd (no_next s h none (only_finish s h built nothing) next)
+]

@@ -21,12 +21,15 @@ starts_apart s h j m n may q r c = may.apart (n, r, subst (λ k. Conflict (param
 pub none_conflict : NoneConflict
 none_conflict s [] m n lawful p q differ c = true≢false (sym p)
 none_conflict s (Start j ∷ h) m n lawful p q differ c = elim (runs-start h j m p) [
-      inl u ↦ elim (runs-start h j n q) [
-          inl v ↦ differ (sym u ∙ v)
-        | inr y ↦ starts_apart s h j m n lawful.0 u y (conflict_swap _ _ c) ]
-    | inr x ↦ elim (runs-start h j n q) [
-          inl v ↦ starts_apart s h j n m lawful.0 v x c
-        | inr y ↦ none_conflict s h m n lawful.1 x y differ c ] ]
+  | inl u ↦ elim (runs-start h j n q) [
+    | inl v ↦ differ (sym u ∙ v)
+    | inr y ↦ starts_apart s h j m n lawful.0 u y (conflict_swap _ _ c)
+  ]
+  | inr x ↦ elim (runs-start h j n q) [
+    | inl v ↦ starts_apart s h j n m lawful.0 v x c
+    | inr y ↦ none_conflict s h m n lawful.1 x y differ c
+  ]
+]
 none_conflict s (Finish j ∷ h) m n lawful p q differ c = none_conflict s h m n lawful.1 (runs-finish h j m p).1 (runs-finish h j n q).1 differ c
 none_conflict s (Skip j ∷ h) m n lawful p q differ c = none_conflict s h m n lawful.1 p q differ c
 none_conflict s (Cond j a ∷ h) m n lawful p q differ c = none_conflict s h m n lawful.1 p q differ c
@@ -35,16 +38,18 @@ none_conflict s (Sync j ∷ h) m n lawful p q differ c = none_conflict s h m n l
 -- the end of a system stands before what an edge leads to
 pub edges_kept : EdgesKept
 edges_kept s later h m n step lawful which e = elim which [
-      inl q ↦ (subst (λ x. May s h x) q (may_at s later h step lawful)).free.after m e
-    | inr q ↦ (subst (λ x. May s h x) q (may_at s later h step lawful)).free.after m e ]
+  | inl q ↦ (subst (λ x. May s h x) q (may_at s later h step lawful)).free.after m e
+  | inr q ↦ (subst (λ x. May s h x) q (may_at s later h step lawful)).free.after m e
+]
 
 -- sync points stand between the levels
 pub syncs_kept : SyncsKept
 syncs_kept s later h k n lawful = let before : IsLawful s h = (lawful_before s later (Sync k ∷ h) lawful).1 in
-    let may : MaySync s h k = may_at s later h (Sync k) lawful in
-    ((λ known l. may.level n known l),
-     (λ l. false_from_ne_true _ (above_waits s h k n before may.fresh l)),
-     (λ r. idle s h k n before may r))
+    let may : MaySync s h k = may_at s later h (Sync k) lawful in (
+      (λ known l. may.level n known l),
+      (λ l. false_from_ne_true _ (above_waits s h k n before may.fresh l)),
+      (λ r. idle s h k n before may r),
+    )
 
 -- what reaches a system that found its predecessors ended has begun
 pub reaches_begun : (s : Schedule) (h : List Step) (m n : ℕ) → IsLawful s h → Reaches s m n → HasBegun s h n → begun h m ≡ true
@@ -60,7 +65,8 @@ before_begun s h m n lawful known (ByLevel l) found = ended_begun s h m lawful (
 -- the order of starts is topological
 pub order_is_topological : OrderIsTopological
 order_is_topological s later h m n lawful before e = elim (or_cases (started h m) (skipped h m) (before_begun s h m n (lawful_before s later (Start n ∷ h) lawful).1
-      (begun_found s (later ++ Start n ∷ h) m lawful (or_left _ _ e)).known before
-      (free_found s h n n refl (may_at s later h (Start n) lawful).free)) ) [
-      inl p ↦ p
-    | inr k ↦ absurd (started_not-skipped s (later ++ Start n ∷ h) m lawful e (any_later (is_skip m) later (Start n ∷ h) k)) ]
+    (begun_found s (later ++ Start n ∷ h) m lawful (or_left _ _ e)).known before
+    (free_found s h n n refl (may_at s later h (Start n) lawful).free))) [
+      | inl p ↦ p
+      | inr k ↦ absurd (started_not-skipped s (later ++ Start n ∷ h) m lawful e (any_later (is_skip m) later (Start n ∷ h) k))
+    ]

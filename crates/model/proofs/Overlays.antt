@@ -31,15 +31,19 @@ pub record Fits (s : Schedule) (p : RunningSystem) (slots : List Slot) : Type 0 
 -- what fits still fits where the kinds are the same
 pub fits_same : (s : Schedule) (p : RunningSystem) (slots others : List Slot) → ((index : ℕ) → kinds_of (row_at others index) ≡ kinds_of (row_at slots index)) →
     Fits s p slots → Fits s p others
-fits_same s p slots others h f = record { at = λ cells.
-    within_same (params_of s p.system).queries slots others (words_written (params_of s p.system).queries p.shown.rows cells) h (f.at cells) }
+fits_same s p slots others h f = record {
+  at = λ cells.
+      within_same (params_of s p.system).queries slots others (words_written (params_of s p.system).queries p.shown.rows cells) h (f.at cells);
+}
 
 -- a system that starts fits
 pub fits-started_system : (s : Schedule) (n : ℕ) (run : RunState) → Fits s (started_system s n run) run.state.world.slots
 unfolding started_system shown
-fits-started_system s n run = record { at = λ cells.
-    words_written-within run.state.world.slots (params_of s n).queries (started_system s n run).shown.rows cells
-        (rows_of_each-match (params_of s n).queries (memory_of_system run.state n).last_run run.state.world.slots) }
+fits-started_system s n run = record {
+  at = λ cells.
+      words_written-within run.state.world.slots (params_of s n).queries (started_system s n run).shown.rows cells
+      (rows_of_each-match (params_of s n).queries (memory_of_system run.state n).last_run run.state.world.slots);
+}
 
 -- what fits still fits after an overlay
 pub fits-overlaid : (s : Schedule) (p q : RunningSystem) (o : Outcome) (run : RunState) → Fits s p run.state.world.slots →
@@ -69,20 +73,23 @@ overlaid-comm s p q o r run d a f g = λ i. record {
   state = record {
     world = record {
       slots = slots_after-comm p.tick q.tick
-        (words_written (params_of s p.system).queries p.shown.rows o.cells) (words_written (params_of s q.system).queries q.shown.rows r.cells) run.state.world.slots
-        (one_writer (params_of s p.system) (params_of s q.system) run.state.world.slots
-            (words_written (params_of s p.system).queries p.shown.rows o.cells) (words_written (params_of s q.system).queries q.shown.rows r.cells) a (f.at o.cells) (g.at r.cells)) i;
+          (words_written (params_of s p.system).queries p.shown.rows o.cells) (words_written (params_of s q.system).queries q.shown.rows r.cells) run.state.world.slots
+          (one_writer (params_of s p.system) (params_of s q.system) run.state.world.slots
+          (words_written (params_of s p.system).queries p.shown.rows o.cells) (words_written (params_of s q.system).queries q.shown.rows r.cells) a (f.at o.cells) (g.at r.cells)) i;
       resources = resources_after-comm p.tick q.tick
-        (value_written (params_of s p.system).res_mut o.res_mut) (value_written (params_of s q.system).res_mut r.res_mut) run.state.world.resources
-        (λ n. one_setter (params_of s p.system) (params_of s q.system) o.res_mut r.res_mut n a) i;
-      clock = run.state.world.clock };
+          (value_written (params_of s p.system).res_mut o.res_mut) (value_written (params_of s q.system).res_mut r.res_mut) run.state.world.resources
+          (λ n. one_setter (params_of s p.system) (params_of s q.system) o.res_mut r.res_mut n a) i;
+      clock = run.state.world.clock;
+    };
     events = queues_after-comm (events_sent (params_of s p.system).writes o.events) (events_sent (params_of s q.system).writes r.events) run.state.events
         (λ k. one_sender (params_of s p.system) (params_of s q.system) o.events r.events k a) i;
     systems = update_at-comm p.system q.system (with_registers o.registers) (with_registers r.registers) run.state.systems d i;
     conditions = run.state.conditions;
-    passed_over = run.state.passed_over };
+    passed_over = run.state.passed_over;
+  };
   buffers = with_at-comm p.system q.system o.commands r.commands run.buffers d i;
-  grants = run.grants }
+  grants = run.grants;
+}
 
 -- whether the events of one get numbers stays
 pub can_finish-overlaid : (s : Schedule) (p q : RunningSystem) (o r : Outcome) (run : RunState) → Apart (params_of s p.system) (params_of s q.system) →
@@ -90,7 +97,7 @@ pub can_finish-overlaid : (s : Schedule) (p q : RunningSystem) (o r : Outcome) (
 unfolding can_finish overlaid
 can_finish-overlaid s p q o r run a =
     has_event_numbers-queues_after (events_sent (params_of s p.system).writes o.events) (events_sent (params_of s q.system).writes r.events) run.state.events
-        (λ k. one_sender (params_of s p.system) (params_of s q.system) o.events r.events k a)
+    (λ k. one_sender (params_of s p.system) (params_of s q.system) o.events r.events k a)
 
 -- ---- what another sees
 
@@ -100,7 +107,7 @@ pub rows_of-overlaid : (s : Schedule) (p : RunningSystem) (o : Outcome) (run : R
 unfolding overlaid
 rows_of-overlaid s p o run b query last a f i =
     rows_of-slots_after query last p.tick (words_written (params_of s p.system).queries p.shown.rows o.cells) run.state.world.slots
-        (unseen (params_of s p.system) b run.state.world.slots (words_written (params_of s p.system).queries p.shown.rows o.cells) query a (f.at o.cells) i)
+    (unseen (params_of s p.system) b run.state.world.slots (words_written (params_of s p.system).queries p.shown.rows o.cells) query a (f.at o.cells) i)
 
 -- a resource that another access reads
 pub resource-overlaid : (s : Schedule) (p : RunningSystem) (o : Outcome) (run : RunState) (b : Params) (n : ℕ) → Apart (params_of s p.system) b →
@@ -108,10 +115,10 @@ pub resource-overlaid : (s : Schedule) (p : RunningSystem) (o : Outcome) (run : 
 unfolding overlaid
 resource-overlaid s p o run b n a (inl i) =
     get_or-resources_after p.tick (value_written (params_of s p.system).res_mut o.res_mut) run.state.world.resources n
-        (unread_resource (params_of s p.system) b o.res_mut n a (or_left (has n b.res) (has n b.res_mut) (has-IsIn n b.res i)))
+    (unread_resource (params_of s p.system) b o.res_mut n a (or_left (has n b.res) (has n b.res_mut) (has-IsIn n b.res i)))
 resource-overlaid s p o run b n a (inr i) =
     get_or-resources_after p.tick (value_written (params_of s p.system).res_mut o.res_mut) run.state.world.resources n
-        (unread_resource (params_of s p.system) b o.res_mut n a (or_right (has n b.res) (has n b.res_mut) (has-IsIn n b.res_mut i)))
+    (unread_resource (params_of s p.system) b o.res_mut n a (or_right (has n b.res) (has n b.res_mut) (has-IsIn n b.res_mut i)))
 
 -- the queue of an event kind that another access reads
 pub queue-overlaid : (s : Schedule) (p : RunningSystem) (o : Outcome) (run : RunState) (b : Params) (k : ℕ) → Apart (params_of s p.system) b →
@@ -119,7 +126,7 @@ pub queue-overlaid : (s : Schedule) (p : RunningSystem) (o : Outcome) (run : Run
 unfolding overlaid
 queue-overlaid s p o run b k a i =
     queue_of-queues_after (events_sent (params_of s p.system).writes o.events) run.state.events k
-        (unread_event (params_of s p.system) b o.events k a (or_left (has k b.reads) (has k b.writes) (has-IsIn k b.reads i)))
+    (unread_event (params_of s p.system) b o.events k a (or_left (has k b.reads) (has k b.writes) (has-IsIn k b.reads i)))
 
 -- the ends of its readers' queues
 pub end_cursors-overlaid : (s : Schedule) (p : RunningSystem) (o : Outcome) (run : RunState) (b : Params) → Apart (params_of s p.system) b →
@@ -133,12 +140,13 @@ pub shown-overlaid : (s : Schedule) (p : RunningSystem) (o : Outcome) (run : Run
 unfolding shown
 shown-overlaid s p o run b memory ids a f = λ i. record {
   rows = map-same (λ query. rows_of query memory.last_run (overlaid s p o run).state.world.slots) (λ query. rows_of query memory.last_run run.state.world.slots) b.queries
-    (λ query j. rows_of-overlaid s p o run b query memory.last_run a f j) i;
+      (λ query j. rows_of-overlaid s p o run b query memory.last_run a f j) i;
   res = values-same (overlaid s p o run).state.world.resources run.state.world.resources b.res (λ n j. resource-overlaid s p o run b n a (inl j)) i;
   res_mut = values-same (overlaid s p o run).state.world.resources run.state.world.resources b.res_mut (λ n j. resource-overlaid s p o run b n a (inr j)) i;
   unread = unread_of-same (overlaid s p o run).state.events run.state.events b.reads memory.cursors (λ k j. queue-overlaid s p o run b k a j) i;
   registers = memory.registers;
-  granted = ids }
+  granted = ids;
+}
 
 -- ---- a start beside an outcome
 
@@ -172,7 +180,8 @@ started_system-overlaid s n p o run d a f = λ i. record {
   system = n;
   tick = next_tick-overlaid s p o run i;
   shown = (ap₂ (λ memory ids. shown (params_of s n) memory (overlaid s p o run).state ids) (memory_of_system-overlaid s n p o run d) (ids_of_start-overlaid s n p o run)
-    ∙ shown-overlaid s p o run (params_of s n) (memory_of_system run.state n) (ids_of_start s n run) a f) i }
+      ∙ shown-overlaid s p o run (params_of s n) (memory_of_system run.state n) (ids_of_start s n run) a f) i;
+}
 
 -- whether it can start stays
 pub can_start-overlaid : (s : Schedule) (n : ℕ) (p : RunningSystem) (o : Outcome) (run : RunState) → can_start s n (overlaid s p o run) ≡ can_start s n run
@@ -198,14 +207,17 @@ after_start-overlaid s n p o run d a = λ i. record {
     world = record {
       slots = grant-slots_after (spawns_of s n) p.tick (words_written (params_of s p.system).queries p.shown.rows o.cells) run.state.world.slots i;
       resources = resources_after p.tick (value_written (params_of s p.system).res_mut o.res_mut) run.state.world.resources;
-      clock = next_tick run.state };
+      clock = next_tick run.state;
+    };
     events = queues_after (events_sent (params_of s p.system).writes o.events) run.state.events;
     systems = systems-after_start (next_tick run.state) p.system n o.registers (params_of s n).reads (overlaid s p o run).state.events run.state.events run.state.systems
         (λ e. d (sym e)) (end_cursors-overlaid s p o run (params_of s n) a) i;
     conditions = run.state.conditions;
-    passed_over = run.state.passed_over };
+    passed_over = run.state.passed_over;
+  };
   buffers = with_at p.system o.commands run.buffers;
-  grants = with_at n (ids_of_start-overlaid s n p o run i) run.grants }
+  grants = with_at n (ids_of_start-overlaid s n p o run i) run.grants;
+}
 
 -- whether the events of an outcome get numbers stays after a start
 pub can_finish-after_start : (s : Schedule) (n m : ℕ) (o : Outcome) (run : RunState) → can_finish s m o (after_start s n run) ≡ can_finish s m o run
@@ -228,14 +240,14 @@ asked-same (OnEvent k) last cursors w v f g h = ap (λ q. Unread (unread q (head
 asked-same (Not c) last cursors w v f g h = asked-same c last cursors w v f g h
 asked-same (And c d) last cursors w v f g h = ap₂ Both
     (asked-same c last cursors w v (λ q i. f q (IsIn_left q (queries_of c) (queries_of d) i)) (λ n i. g n (IsIn_left n (resources_of c) (resources_of d) i))
-        (λ k i. h k (IsIn_left k (events_of c) (events_of d) i)))
+    (λ k i. h k (IsIn_left k (events_of c) (events_of d) i)))
     (asked-same d last (cursors_after c cursors) w v (λ q i. f q (IsIn_right q (queries_of c) (queries_of d) i)) (λ n i. g n (IsIn_right n (resources_of c) (resources_of d) i))
-        (λ k i. h k (IsIn_right k (events_of c) (events_of d) i)))
+    (λ k i. h k (IsIn_right k (events_of c) (events_of d) i)))
 asked-same (Or c d) last cursors w v f g h = ap₂ Both
     (asked-same c last cursors w v (λ q i. f q (IsIn_left q (queries_of c) (queries_of d) i)) (λ n i. g n (IsIn_left n (resources_of c) (resources_of d) i))
-        (λ k i. h k (IsIn_left k (events_of c) (events_of d) i)))
+    (λ k i. h k (IsIn_left k (events_of c) (events_of d) i)))
     (asked-same d last (cursors_after c cursors) w v (λ q i. f q (IsIn_right q (queries_of c) (queries_of d) i)) (λ n i. g n (IsIn_right n (resources_of c) (resources_of d) i))
-        (λ k i. h k (IsIn_right k (events_of c) (events_of d) i)))
+    (λ k i. h k (IsIn_right k (events_of c) (events_of d) i)))
 
 -- a condition is asked about the same
 pub asked_of-overlaid : (s : Schedule) (c : ℕ) (p : RunningSystem) (o : Outcome) (run : RunState) → Apart (params_of s p.system) (access_of s c) →
@@ -243,9 +255,9 @@ pub asked_of-overlaid : (s : Schedule) (c : ℕ) (p : RunningSystem) (o : Outcom
 unfolding asked_of overlaid
 asked_of-overlaid s c p o run a f =
     asked-same (condition_of s c) (memory_of_condition run.state c).last_run (memory_of_condition run.state c).cursors (overlaid s p o run).state run.state
-        (λ query i. rows_of-overlaid s p o run (access_of s c) query (memory_of_condition run.state c).last_run a f i)
-        (λ n i. resource-overlaid s p o run (access_of s c) n a (inl i))
-        (λ k i. queue-overlaid s p o run (access_of s c) k a i)
+    (λ query i. rows_of-overlaid s p o run (access_of s c) query (memory_of_condition run.state c).last_run a f i)
+    (λ n i. resource-overlaid s p o run (access_of s c) n a (inl i))
+    (λ k i. queue-overlaid s p o run (access_of s c) k a i)
 
 -- an outcome laid over before a condition is laid over after it
 pub after_condition-overlaid : (s : Schedule) (c : ℕ) (p : RunningSystem) (o : Outcome) (run : RunState) → Apart (params_of s p.system) (access_of s c) →
@@ -256,14 +268,17 @@ after_condition-overlaid s c p o run a = λ i. record {
     world = record {
       slots = slots_after p.tick (words_written (params_of s p.system).queries p.shown.rows o.cells) run.state.world.slots;
       resources = resources_after p.tick (value_written (params_of s p.system).res_mut o.res_mut) run.state.world.resources;
-      clock = next_tick run.state };
+      clock = next_tick run.state;
+    };
     events = queues_after (events_sent (params_of s p.system).writes o.events) run.state.events;
     systems = update_at p.system (with_registers o.registers) run.state.systems;
     conditions = update_at c
         (λ (memory : Memory). record { last_run = next_tick run.state; cursors = end_cursors-overlaid s p o run (access_of s c) a i; registers = memory.registers }) run.state.conditions;
-    passed_over = run.state.passed_over };
+    passed_over = run.state.passed_over;
+  };
   buffers = with_at p.system o.commands run.buffers;
-  grants = run.grants }
+  grants = run.grants;
+}
 
 -- whether the events of an outcome get numbers stays after a condition
 pub can_finish-after_condition : (s : Schedule) (c m : ℕ) (o : Outcome) (run : RunState) → can_finish s m o (after_condition s c run) ≡ can_finish s m o run

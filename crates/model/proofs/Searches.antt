@@ -43,17 +43,20 @@ NoneBelow P bound = (n : ℕ) → n < bound → P n → ⊥
 -- none below one more
 pub none_below_more : (P : ℕ → Type 0) (bound : ℕ) → NoneBelow P bound → (P bound → ⊥) → NoneBelow P (suc bound)
 none_below_more P bound none not_here n l p = elim (cases_order n bound) [
-      inl q ↦ not_here (subst P q p)
-    | inr other ↦ elim other [ inl below ↦ none n below p | inr above ↦ omega arith ] ]
+  | inl q ↦ not_here (subst P q p)
+  | inr other ↦ elim other [ inl below ↦ none n below p | inr above ↦ omega arith ]
+]
 
 -- the least number with a property is found, or none has it
 pub least_below : (P : ℕ → Type 0) → ((n : ℕ) → P n ⊎ (P n → ⊥)) → (bound : ℕ) → LeastBelow P bound ⊎ NoneBelow P bound
 least_below P decide zero = inr (λ n l p. omega arith)
 least_below P decide (suc bound) = elim (least_below P decide bound) [
-      inl found ↦ inl (record { number = found.number; below = omega (arith, found.below); holds = found.holds; least = found.least })
-    | inr none ↦ elim (decide bound) [
-          inl p ↦ inl (record { number = bound; below = omega arith; holds = p; least = none })
-        | inr not_here ↦ inr (none_below_more P bound none not_here) ] ]
+  | inl found ↦ inl (record { number = found.number; below = omega (arith, found.below); holds = found.holds; least = found.least })
+  | inr none ↦ elim (decide bound) [
+    | inl p ↦ inl (record { number = bound; below = omega arith; holds = p; least = none })
+    | inr not_here ↦ inr (none_below_more P bound none not_here)
+  ]
+]
 
 -- ---- in a list
 
@@ -78,16 +81,19 @@ none_in_more P x xs not_here none n e p = elim (same_or x n (has n xs) e) [ inl 
 pub first_in : (P : ℕ → Type 0) → ((n : ℕ) → P n ⊎ (P n → ⊥)) → (xs : List ℕ) → FirstIn P xs ⊎ NoneIn P xs
 first_in P decide [] = inr (λ n e p. true≢false (sym e))
 first_in P decide (x ∷ xs) = elim (decide x) [
-      inl p ↦ inl (record { front = []; number = x; rest = xs; splits = refl; holds = p; first = λ n e q. true≢false (sym e) })
-    | inr not_here ↦ elim (first_in P decide xs) [
-          inl found ↦ inl (record {
-              front = x ∷ found.front;
-              number = found.number;
-              rest = found.rest;
-              splits = ap (λ ys. x ∷ ys) found.splits;
-              holds = found.holds;
-              first = none_in_more P x found.front not_here found.first })
-        | inr none ↦ inr (none_in_more P x xs not_here none) ] ]
+  | inl p ↦ inl (record { front = []; number = x; rest = xs; splits = refl; holds = p; first = λ n e q. true≢false (sym e) })
+  | inr not_here ↦ elim (first_in P decide xs) [
+    | inl found ↦ inl (record {
+      front = x ∷ found.front;
+      number = found.number;
+      rest = found.rest;
+      splits = ap (λ ys. x ∷ ys) found.splits;
+      holds = found.holds;
+      first = none_in_more P x found.front not_here found.first;
+    })
+    | inr none ↦ inr (none_in_more P x xs not_here none)
+  ]
+]
 
 -- what stands between two lists is in the whole
 pub has_middle : (front rest : List ℕ) (n : ℕ) → has n (front ++ n ∷ rest) ≡ true

@@ -138,14 +138,14 @@ settle-without_system s bodies n (q ∷ ps) p run b f h =
   where
     go : (t : Bool) → cond t (Some q) (running_system n ps) ≡ Some p →
         ((r : RunState) → finish s bodies q run ≡ Some r → running_system n ps ≡ Some p →
-            settle s bodies ps r ≡ option_and_then (settle s bodies (without_system n ps)) (finish s bodies p r)) →
+        settle s bodies ps r ≡ option_and_then (settle s bodies (without_system n ps)) (finish s bodies p r)) →
         settle s bodies (q ∷ ps) run ≡ option_and_then (settle s bodies (cond t ps (q ∷ without_system n ps))) (finish s bodies p run)
     go true e k = ap (λ x. option_and_then (settle s bodies ps) (finish s bodies x run)) (same_Some q p e)
     go false e k =
         option_and_then-same (settle s bodies ps) (λ r. option_and_then (settle s bodies (without_system n ps)) (finish s bodies p r)) (finish s bodies q run) (λ r d. k r d e)
         ∙ sym (option_and_then-assoc (finish s bodies p) (settle s bodies (without_system n ps)) (finish s bodies q run))
         ∙ ap (option_and_then (settle s bodies (without_system n ps)))
-            (finish_swap s bodies q p run (b.0 p (running_system-IsIn n ps p e).0) (f q (inl refl)) (f p (inr (running_system-IsIn n ps p e).0)))
+        (finish_swap s bodies q p run (b.0 p (running_system-IsIn n ps p e).0) (f q (inl refl)) (f p (inr (running_system-IsIn n ps p e).0)))
         ∙ option_and_then-assoc (finish s bodies q) (settle s bodies (without_system n ps)) (finish s bodies p run)
 
 -- a step is beside a running system: it can be taken before or after its finish, and the same systems start
@@ -161,9 +161,9 @@ settle-act s bodies act who [] run b f = refl
 settle-act s bodies act who (p ∷ ps) run b f =
     option_and_then-assoc (settle s bodies ps) (λ r. option_and_then (settle s bodies (who r)) (act r)) (finish s bodies p run)
     ∙ option_and_then-same (λ r. option_and_then (λ x. option_and_then (settle s bodies (who x)) (act x)) (settle s bodies ps r))
-        (λ r. option_and_then (settle s bodies (ps ++ who run)) (act r)) (finish s bodies p run)
-        (λ r e. settle-act s bodies act who ps r (λ q i. b q (inr i)) (all_fit-finish s bodies ps p run r e (λ q i. f q (inr i)))
-            ∙ ap (λ xs. option_and_then (settle s bodies (ps ++ xs)) (act r)) ((b p (inl refl)).same run r (f p (inl refl)) e))
+    (λ r. option_and_then (settle s bodies (ps ++ who run)) (act r)) (finish s bodies p run)
+    (λ r e. settle-act s bodies act who ps r (λ q i. b q (inr i)) (all_fit-finish s bodies ps p run r e (λ q i. f q (inr i)))
+    ∙ ap (λ xs. option_and_then (settle s bodies (ps ++ xs)) (act r)) ((b p (inl refl)).same run r (f p (inl refl)) e))
     ∙ sym (option_and_then-assoc act (settle s bodies (ps ++ who run)) (finish s bodies p run))
     ∙ ap (option_and_then (settle s bodies (ps ++ who run))) ((b p (inl refl)).swaps run (f p (inl refl)))
     ∙ option_and_then-assoc (finish s bodies p) (settle s bodies (ps ++ who run)) (act run)
@@ -175,5 +175,5 @@ pub settle-view : {A : Type 0} (view : RunState → A) (s : Schedule) (bodies : 
 settle-view view s bodies [] run after h f e = ap view (sym (same_Some run after e))
 settle-view view s bodies (p ∷ ps) run after h f e =
     option_and_then_some (settle s bodies ps) (finish s bodies p run) after e (λ r d k.
-        settle-view view s bodies ps r after (λ q i. h q (inr i)) (all_fit-finish s bodies ps p run r d (λ q i. f q (inr i))) k
-        ∙ finish-view view s bodies p run r (λ o. h p (inl refl) run o (f p (inl refl))) d)
+    settle-view view s bodies ps r after (λ q i. h q (inr i)) (all_fit-finish s bodies ps p run r d (λ q i. f q (inr i))) k
+    ∙ finish-view view s bodies p run r (λ o. h p (inl refl) run o (f p (inl refl))) d)

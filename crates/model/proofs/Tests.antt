@@ -1,12 +1,12 @@
 -- The computed test of a conflict is true exactly where there is one, and the computed datum is the least.
-use Rattle.std.proofs.Common.{◌≡◌, ℕ, Bool, true, false, not, cond, ◌⊎◌, ◌↔◌, inl, inr, refl, sym, ap, subst, ◌∙◌, List, [], ◌∷◌, ◌++◌, map, filter, filter_map, flat_map, Option, Some, None, ◌||◌, ◌&&◌, arith, ◌==◌, eqb-true, eq-eqb, nat_lt, ltb-true, ltb-false, lt-ltb}
-use Rattle.std.proofs.lemmas.Bool.{or_cases, or_left, or_right, and_parts, and_from, false≢true, false_from_ne_true, not-true, not_from_false}
-use Rattle.std.specs.List.{list_any, list_all}
+use Rattle.std.proofs.Common.{◌≡◌, ℕ, Bool, true, false, cond, ◌⊎◌, ◌↔◌, inl, inr, refl, sym, ap, subst, ◌∙◌, List, [], ◌∷◌, ◌++◌, map, filter, filter_map, flat_map, Option, Some, None, ◌||◌, ◌&&◌, arith, ◌==◌, eqb-true, eq-eqb, ltb-true, ltb-false, lt-ltb}
+use Rattle.std.proofs.lemmas.Bool.{or_cases, false≢true, false_from_ne_true, not-true, not_from_false}
+use Rattle.std.specs.List.{list_any}
 use Rattle.model.specs.Lists.{has, IsIn, is_number}
 use Rattle.model.specs.Query.{Term, admits, matches, touched, touches, writes}
 use Rattle.model.specs.Query.Term.{Entity, Read, Mut, Opt, With, Without, Added, Changed}
 use Rattle.model.specs.Access.{Params, names_resource, names_event}
-use Rattle.model.specs.Conflict.{Datum, ConflictAt, Conflict, QueriesConflictAt, ResourcesConflictAt, EventsConflictAt, is_below, IsLeastDatum, required, requires_kind, least_kinds, queries_conflict_at, conflict_at, data_of, conflicts, lesser, least_of, least_datum}
+use Rattle.model.specs.Conflict.{Datum, ConflictAt, Conflict, QueriesConflictAt, is_below, IsLeastDatum, required, requires_kind, least_kinds, queries_conflict_at, conflict_at, data_of, conflicts, lesser, least_of, least_datum}
 use Rattle.model.specs.Conflict.Datum.{OfKind, OfResource, OfEvent}
 use Rattle.model.proofs.Members.{in-map, in-flat_map, in-filter_map, in-filter, from-filter, number-of, number-is}
 use Rattle.model.proofs.Lists.{list_any-IsIn, IsIn_from_any, list_all-IsIn, list_all_from, IsIn_left, IsIn_right, IsIn_from_has}
@@ -159,17 +159,17 @@ unfolding kinds_touched resources_touched events_touched
 datum-touched a b (OfKind kind) c =
     let t = IsIn_from_any (λ t. is_number kind (touched t)) c.0 c.4.first_touches in
     IsIn_left (OfKind kind) (kinds_touched a) (resources_touched a ++ events_touched a)
-        (in-map OfKind (flat_map (λ q. filter_map touched q) a.queries) kind
-            (in-flat_map (λ q. filter_map touched q) a.queries c.0 kind c.2
-                (in-filter_map touched c.0 t.0 kind t.1 (number-of kind (touched t.0) t.2))))
+    (in-map OfKind (flat_map (λ q. filter_map touched q) a.queries) kind
+    (in-flat_map (λ q. filter_map touched q) a.queries c.0 kind c.2
+    (in-filter_map touched c.0 t.0 kind t.1 (number-of kind (touched t.0) t.2))))
 datum-touched a b (OfResource number) c =
     IsIn_right (OfResource number) (kinds_touched a) (resources_touched a ++ events_touched a)
-        (IsIn_left (OfResource number) (resources_touched a) (events_touched a)
-            (in-map OfResource (a.res ++ a.res_mut) number (in-either number a.res a.res_mut c.first_names)))
+    (IsIn_left (OfResource number) (resources_touched a) (events_touched a)
+    (in-map OfResource (a.res ++ a.res_mut) number (in-either number a.res a.res_mut c.first_names)))
 datum-touched a b (OfEvent kind) c =
     IsIn_right (OfEvent kind) (kinds_touched a) (resources_touched a ++ events_touched a)
-        (IsIn_right (OfEvent kind) (resources_touched a) (events_touched a)
-            (in-map OfEvent (a.reads ++ a.writes) kind (in-either kind a.reads a.writes c.first_names)))
+    (IsIn_right (OfEvent kind) (resources_touched a) (events_touched a)
+    (in-map OfEvent (a.reads ++ a.writes) kind (in-either kind a.reads a.writes c.first_names)))
 
 -- the test of two accesses finds a conflict
 pub conflict-found : (a b : Params) → conflicts a b ≡ true → Conflict a b
@@ -265,6 +265,7 @@ datum-least a b = go (least_datum a b) (least_of-least (filter (conflict_at a b)
   where
     listed : (d : Datum) → ConflictAt a b d → IsIn d (filter (conflict_at a b) (data_of a))
     listed d c = in-filter (conflict_at a b) (data_of a) d (datum-touched a b d c) (test-from_conflict a b d c)
+
     go : (o : Option Datum) → IsLeastOf (filter (conflict_at a b) (data_of a)) o → IsLeastDatum a b o
     go None none = λ c. none c.0 (listed c.0 c.1)
     go (Some d) least = (conflict-from_test a b d (from-filter (conflict_at a b) (data_of a) d least.0).1, λ e below c. least.1 e below (listed e c))

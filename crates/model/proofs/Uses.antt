@@ -20,7 +20,7 @@ pub resources_after-comm : (t u : ℕ) (f g : ℕ → Option ℤ) (resources : L
 unfolding resources_after
 resources_after-comm t u f g resources h =
     map_index-comm (λ n. resource_after t (f n)) (λ n. resource_after u (g n)) no_resource resources
-        (λ n. resource_after-comm t u (f n) (g n) (get_or resources n no_resource) (h n))
+    (λ n. resource_after-comm t u (f n) (g n) (get_or resources n no_resource) (h n))
 
 -- a resource that isn't written stays
 pub get_or-resources_after : (t : ℕ) (f : ℕ → Option ℤ) (resources : List Resource) (n : ℕ) → f n ≡ None →
@@ -64,7 +64,7 @@ unfolding queues_after has_event_numbers
 has_event_numbers-queues_after f g queues h =
     all_index-map_index (λ k. can_send (f k)) (λ k. send_all (g k)) queues
     ∙ all_index-same (λ k q. can_send (f k) (send_all (g k) q)) (λ k. can_send (f k)) empty_queue queues
-        (λ k. can_send-same (f k) (g k) (get_or queues k empty_queue) (h k))
+    (λ k. can_send-same (f k) (g k) (get_or queues k empty_queue) (h k))
 
 -- what readers haven't read, where their queues are the same
 pub unread_of-same : (queues others : List EventQueue) (kinds cursors : List ℕ) → ((k : ℕ) → IsIn k kinds → queue_of queues k ≡ queue_of others k) →

@@ -26,7 +26,7 @@ QueriesMatch slots (query ∷ queries) (rows ∷ more) = RowsMatch slots query r
 pub matches_from_row : (query : List Term) (last : ℕ) (slot : Slot) → is_row query last slot ≡ true → matches query (kinds_of slot.row) ≡ true
 matches_from_row query last slot h =
     (and_parts (is_living slot.status) (matches query (kinds_of slot.row))
-        (and_parts (is_living slot.status && matches query (kinds_of slot.row)) (list_all (passes last slot.row) query) h).0).1
+    (and_parts (is_living slot.status && matches query (kinds_of slot.row)) (list_all (passes last slot.row) query) h).0).1
 
 -- what holds of the index of each slot that the query matches holds of the rows
 rows_from-match : (query : List Term) (last index : ℕ) (slots : List Slot) (P : ℕ → Type 0) →
@@ -39,7 +39,7 @@ rows_from-match query last index (slot ∷ slots) P h =
   where
     go : (b : Bool) → is_row query last slot ≡ b → AllByRecursion (λ row. P row.entity.index) (rows_from query last (suc index) slots) →
         AllByRecursion (λ row. P row.entity.index)
-            (cond b (shown_row query index slot ∷ rows_from query last (suc index) slots) (rows_from query last (suc index) slots))
+        (cond b (shown_row query index slot ∷ rows_from query last (suc index) slots) (rows_from query last (suc index) slots))
     go true e r = (subst P (omega arith) (h zero (matches_from_row query last slot e)), r)
     go false e r = r
 
@@ -47,7 +47,7 @@ rows_from-match query last index (slot ∷ slots) P h =
 pub rows_of-match : (query : List Term) (last : ℕ) (slots : List Slot) → RowsMatch slots query (rows_of query last slots)
 rows_of-match query last slots =
     rows_from-match query last 0 slots (λ index. matches query (kinds_of (row_at slots index)) ≡ true)
-        (λ place m. subst (λ n. matches query (kinds_of (row_at slots n)) ≡ true) (sym (add-zero place)) m)
+    (λ place m. subst (λ n. matches query (kinds_of (row_at slots n)) ≡ true) (sym (add-zero place)) m)
 
 -- so do those of each query
 pub rows_of_each-match : (queries : List (List Term)) (last : ℕ) (slots : List Slot) → QueriesMatch slots queries (map (λ query. rows_of query last slots) queries)
@@ -81,7 +81,7 @@ words_in_query-within slots query [] cells index kind x m h = absurd (cc)
 words_in_query-within slots query (row ∷ rows) [] index kind x m h = absurd (cc)
 words_in_query-within slots query (row ∷ rows) (values ∷ cells) index kind x m h =
     go (first_some-cases (cond (row.entity.index == index) (words_in_row query values kind) None) (words_in_query query rows cells index kind) x h)
-       (words_in_query-within slots query rows cells index kind x m.1)
+    (words_in_query-within slots query rows cells index kind x m.1)
   where
     go : (cond (row.entity.index == index) (words_in_row query values kind) None ≡ Some x) ⊎ (words_in_query query rows cells index kind ≡ Some x) →
         (words_in_query query rows cells index kind ≡ Some x → (matches query (kinds_of (row_at slots index)) ≡ true) × (writes query kind ≡ true)) →
@@ -99,7 +99,7 @@ words_written-in slots (query ∷ queries) [] cells index kind x m h = absurd (c
 words_written-in slots (query ∷ queries) (rows ∷ more) [] index kind x m h = absurd (cc)
 words_written-in slots (query ∷ queries) (rows ∷ more) (cells ∷ others) index kind x m h =
     go (first_some-cases (words_in_query query rows cells index kind) (words_written queries more others index kind) x h)
-       (words_written-in slots queries more others index kind x m.1)
+    (words_written-in slots queries more others index kind x m.1)
   where
     go : (words_in_query query rows cells index kind ≡ Some x) ⊎ (words_written queries more others index kind ≡ Some x) →
         (words_written queries more others index kind ≡ Some x → WritesIn queries (kinds_of (row_at slots index)) kind) →

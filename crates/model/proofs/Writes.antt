@@ -60,8 +60,10 @@ kinds_of-slots_after tick f slots index =
 -- what is written within stays so where the kinds stay
 pub within_same : (queries : List (List Term)) (slots others : List Slot) (f : ℕ → ℕ → Option (List ℤ)) →
     ((index : ℕ) → kinds_of (row_at others index) ≡ kinds_of (row_at slots index)) → WritesWithin queries slots f → WritesWithin queries others f
-within_same queries slots others f h w = record { at = λ index kind x e.
-    subst (λ kinds. WritesIn queries kinds kind) (sym (h index)) (w.at index kind x e) }
+within_same queries slots others f h w = record {
+  at = λ index kind x e.
+      subst (λ kinds. WritesIn queries kinds kind) (sym (h index)) (w.at index kind x e);
+}
 
 -- ---- two writers
 
@@ -87,7 +89,7 @@ pub slots_after-comm : (t u : ℕ) (f g : ℕ → ℕ → Option (List ℤ)) (sl
 unfolding slots_after
 slots_after-comm t u f g slots h =
     map_index-comm (λ index. slot_after t (f index)) (λ index. slot_after u (g index)) fresh_slot slots
-        (λ index. slot_after-comm t u (f index) (g index) (get_or slots index fresh_slot) (h index))
+    (λ index. slot_after-comm t u (f index) (g index) (get_or slots index fresh_slot) (h index))
 
 -- ---- the rows of a query
 
@@ -136,7 +138,7 @@ is_row-slot_after query last tick f slot h = go (matches query (kinds_of slot.ro
         (all_pass-same query last (row_after tick f slot.row) slot.row (λ kind t. cell_at-row_after_same tick f slot.row kind (h kind m t)))
     go false m =
         fails_second (is_living slot.status) (matches query (kinds_of (row_after tick f slot.row))) (list_all (passes last (row_after tick f slot.row)) query)
-            (ap (matches query) (kinds_of-row_after tick f slot.row) ∙ m)
+        (ap (matches query) (kinds_of-row_after tick f slot.row) ∙ m)
         ∙ sym (fails_second (is_living slot.status) (matches query (kinds_of slot.row)) (list_all (passes last slot.row) query) m)
 
 -- a row that is shown stays, where what the query touches isn't written
@@ -144,7 +146,8 @@ shown_row-slot_after : (query : List Term) (index tick : ℕ) (f : ℕ → Optio
     ((kind : ℕ) → touches query kind ≡ true → f kind ≡ None) → shown_row query index (slot_after tick f slot) ≡ shown_row query index slot
 shown_row-slot_after query index tick f slot h = λ i. record {
   entity = record { index = index; generation = slot.generation };
-  values = fetches-same query (row_after tick f slot.row) slot.row (λ kind t. cell_at-row_after_same tick f slot.row kind (h kind t)) i }
+  values = fetches-same query (row_after tick f slot.row) slot.row (λ kind t. cell_at-row_after_same tick f slot.row kind (h kind t)) i;
+}
 
 -- the rows of a query stay, where of no entity that it matches something is written that it touches
 pub rows_from-slots_after : (query : List Term) (last index tick : ℕ) (f : ℕ → ℕ → Option (List ℤ)) (slots : List Slot) →
@@ -154,23 +157,23 @@ unfolding rows_from slots_after
 rows_from-slots_after query last index tick f [] h = refl
 rows_from-slots_after query last index tick f (slot ∷ slots) h =
     go (is_row query last slot) refl (is_row-slot_after query last tick (f zero) slot (h zero))
-       (rows_from-slots_after query last (suc index) tick (λ e. f (suc e)) slots (λ e. h (suc e)))
+    (rows_from-slots_after query last (suc index) tick (λ e. f (suc e)) slots (λ e. h (suc e)))
   where
     go : (b : Bool) → is_row query last slot ≡ b → is_row query last (slot_after tick (f zero) slot) ≡ is_row query last slot →
         rows_from query last (suc index) (slots_after tick (λ e. f (suc e)) slots) ≡ rows_from query last (suc index) slots →
         cond (is_row query last (slot_after tick (f zero) slot))
-            (shown_row query index (slot_after tick (f zero) slot) ∷ rows_from query last (suc index) (slots_after tick (λ e. f (suc e)) slots))
-            (rows_from query last (suc index) (slots_after tick (λ e. f (suc e)) slots))
+        (shown_row query index (slot_after tick (f zero) slot) ∷ rows_from query last (suc index) (slots_after tick (λ e. f (suc e)) slots))
+        (rows_from query last (suc index) (slots_after tick (λ e. f (suc e)) slots))
         ≡ cond b (shown_row query index slot ∷ rows_from query last (suc index) slots) (rows_from query last (suc index) slots)
     go true e p r =
         ap (λ b. cond b
-            (shown_row query index (slot_after tick (f zero) slot) ∷ rows_from query last (suc index) (slots_after tick (λ e. f (suc e)) slots))
-            (rows_from query last (suc index) (slots_after tick (λ e. f (suc e)) slots))) (p ∙ e)
+        (shown_row query index (slot_after tick (f zero) slot) ∷ rows_from query last (suc index) (slots_after tick (λ e. f (suc e)) slots))
+        (rows_from query last (suc index) (slots_after tick (λ e. f (suc e)) slots))) (p ∙ e)
         ∙ ap₂ ◌∷◌ (shown_row-slot_after query index tick (f zero) slot (λ kind. h zero kind (matches_from_row query last slot e))) r
     go false e p r =
         ap (λ b. cond b
-            (shown_row query index (slot_after tick (f zero) slot) ∷ rows_from query last (suc index) (slots_after tick (λ e. f (suc e)) slots))
-            (rows_from query last (suc index) (slots_after tick (λ e. f (suc e)) slots))) (p ∙ e)
+        (shown_row query index (slot_after tick (f zero) slot) ∷ rows_from query last (suc index) (slots_after tick (λ e. f (suc e)) slots))
+        (rows_from query last (suc index) (slots_after tick (λ e. f (suc e)) slots))) (p ∙ e)
         ∙ r
 
 -- the same of all rows

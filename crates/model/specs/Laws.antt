@@ -1,10 +1,12 @@
 -- The laws of a run.
-use Rattle.std.specs.Prelude.{ℕ, Bool, true, false, ◌≡◌, ◌≢◌, ◌<◌, List, ◌∷◌, ◌++◌, length, Some, None, IsSome, MatchOption, option_map, ◌⊎◌, ◌↔◌, ◌+◌, ◌*◌, ◌≤◌}
+use Rattle.std.specs.List.{AllByRecursion}
+use Rattle.std.specs.Prelude.{ℕ, ℤ, Bool, true, false, ◌≡◌, ◌≢◌, ◌<◌, List, ◌∷◌, ◌++◌, length, Some, None, IsSome, MatchOption, option_map, ◌⊎◌, ◌↔◌, ◌+◌, ◌*◌, ◌≤◌}
 use Rattle.model.specs.declared.steps.Step.{Step}
 use Rattle.model.specs.declared.steps.Step.TheVariants.{Cond, Start, Skip, Sync}
 use Rattle.model.specs.declared.steps.Ready.{Ready}
 use Rattle.model.specs.declared.steps.StepFault.{StepFault}
-use Rattle.model.specs.State.{State}
+use Rattle.model.specs.State.{State, most_indices, resource_count}
+use Rattle.model.specs.Loaded.{Given, loaded}
 use Rattle.model.specs.Access.{Params}
 use Rattle.model.specs.Conflict.{Conflict, conflicts, IsLeastDatum, least_datum}
 use Rattle.model.specs.Condition.{means}
@@ -128,6 +130,12 @@ abbrev pub SerialKeepsShape : Type 0
 SerialKeepsShape = (widths : ℕ → ℕ) (s : Schedule) (bodies : List BodyMeaning) (start : State) (h : List Step) (run : RunState) →
     BodiesKeepWithin widths s bodies → IsStateOf widths s start → IsLawful s h →
     serial s bodies start h ≡ Some run → IsRunStateOf widths s run
+
+-- the state as loaded has the shape of a state
+abbrev pub LoadedHasShape : Type 0
+LoadedHasShape = (widths : ℕ → ℕ) (s : Schedule) (entities : List (List Given)) (values : List ℤ) →
+    AllByRecursion (AllByRecursion (λ given. length given.words ≡ widths given.kind)) entities →
+    length entities ≤ most_indices → length values ≡ resource_count → IsStateOf widths s (loaded s entities values)
 
 -- ---- conflict, conditions, causes
 

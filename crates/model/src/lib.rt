@@ -49,3 +49,31 @@ pub fn interleaved_is_serial()
     ensures shown { SameIsShown }
     ensures equal { InterleavedIsSerial }
 {}
+
+ghost use Rattle.model.specs.Laws.{ConflictsAreTested, AnswersAreAsked, CausesAreExact, InterleavedKeepsShape, SerialKeepsShape, LoadedHasShape};
+
+/// The computed test of a conflict is exact, and its datum is the least.
+pub fn conflicts_are_tested()
+    ensures { ConflictsAreTested }
+{}
+
+/// A condition's answer depends only on what it is asked about.
+pub fn answers_are_asked()
+    ensures { AnswersAreAsked }
+{}
+
+/// A meaning lacks exactly where it meets a cause.
+pub fn causes_are_exact()
+    ensures { CausesAreExact }
+{}
+
+/// A run keeps the shape of a state.
+pub fn runs_keep_shape()
+    ensures interleaved { InterleavedKeepsShape }
+    ensures serial { SerialKeepsShape }
+{}
+
+/// The state as loaded has the shape of a state.
+pub fn loaded_has_shape()
+    ensures { LoadedHasShape }
+{}

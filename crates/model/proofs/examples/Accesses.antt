@@ -1,5 +1,5 @@
 -- Which accesses conflict: filters that exclude one another, an optional read, shared writes, and the least datum.
-use Rattle.std.proofs.Common.{◌≡◌, Bool, true, false, List, [], ◌∷◌, Option, Some, None, refl}
+use Rattle.std.proofs.Common.{◌≡◌, false, List, [], ◌∷◌, Some, refl}
 use Rattle.model.specs.Query.{Term}
 use Rattle.model.specs.Query.Term.{Entity, Mut, Read, Opt, With, Without, Added}
 use Rattle.model.specs.Access.{Params, no_params}

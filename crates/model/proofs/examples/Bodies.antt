@@ -1,16 +1,15 @@
 -- What the computed examples are made of: kinds, resources and events by number, systems with few parts, and bodies.
-use Rattle.std.proofs.Common.{ℕ, ℤ, pos, ◌+ℤ◌, List, [], ◌∷◌, map, get_or, replicate, reverse, Option, Some, None, Result, Ok, Err, option_map, option_and_then}
+use Rattle.std.proofs.Common.{ℕ, ℤ, pos, ◌+ℤ◌, List, [], ◌∷◌, map, replicate, reverse, Option, Some, None, Ok, option_map, option_and_then}
 use Rattle.model.specs.declared.steps.Step.{Step}
 use Rattle.model.specs.Lists.{head_or}
 use Rattle.model.specs.State.{State, Entity}
 use Rattle.model.specs.Query.{Term}
 use Rattle.model.specs.Access.{Params, no_params}
 use Rattle.model.specs.Input.{Shown, ShownRow}
-use Rattle.model.specs.Outcome.{Outcome, Command, BodyMeaning, untouched}
+use Rattle.model.specs.Outcome.{Command, BodyMeaning, untouched}
 use Rattle.model.specs.Condition.{Condition}
 use Rattle.model.specs.Schedule.{Schedule, ScheduledSystem, ScheduledCondition}
 use Rattle.model.specs.Meaning.{serial, interleaved}
-use Rattle.model.specs.RunState.{RunState}
 use Rattle.model.specs.Loaded.{Given}
 use Rattle.model.specs.Input.{shown, rows_from}
 use Rattle.model.specs.Overlay.{slots_after, resources_after, queues_after, has_event_numbers}

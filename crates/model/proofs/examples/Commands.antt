@@ -1,5 +1,5 @@
 -- Commands and ids: spawning, insertion before a spawn, despawning twice, removal of what is absent, ids that come back.
-use Rattle.std.proofs.Common.{◌≡◌, ℕ, ℤ, pos, List, [], ◌∷◌, map, Option, Some, None, option_map, refl, length}
+use Rattle.std.proofs.Common.{◌≡◌, ℕ, ℤ, pos, List, [], ◌∷◌, map, Some, option_map, refl, length}
 use Rattle.model.specs.declared.steps.Step.{Step}
 use Rattle.model.specs.declared.steps.Step.TheVariants.{Start, Finish, Sync}
 use Rattle.model.specs.State.{State, Slot, Component}
@@ -8,12 +8,12 @@ use Rattle.model.specs.Query.Term.{Entity, Read, With}
 use Rattle.model.specs.Access.{Params, no_params}
 use Rattle.model.specs.Outcome.{BodyMeaning, Command}
 use Rattle.model.specs.Outcome.Command.{Spawn, Insert, Remove, Despawn}
-use Rattle.model.specs.Rows.{new_component, changed_component}
+use Rattle.model.specs.Rows.{new_component}
 use Rattle.model.specs.Input.{Shown, value_of}
 use Rattle.model.specs.Lists.{head_or}
-use Rattle.model.specs.Schedule.{Schedule, ScheduledSystem}
-use Rattle.model.specs.Loaded.{loaded, Given}
-use Rattle.model.proofs.examples.Bodies.{health, score, frozen, total, asks, system, system_after, plain, given, zeros, idle, adds, issues, first_granted, entities_of, serially, woven, runs_from, computed}
+use Rattle.model.specs.Schedule.{Schedule}
+use Rattle.model.specs.Loaded.{loaded}
+use Rattle.model.proofs.examples.Bodies.{health, score, frozen, total, asks, system, system_after, plain, given, zeros, adds, issues, first_granted, entities_of, serially, woven, runs_from, computed}
 
 -- what an example compares: the slots and the count
 abbrev seen : State → List Slot × ℕ

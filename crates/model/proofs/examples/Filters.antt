@@ -1,5 +1,5 @@
 -- Two writers of one kind that filters keep apart run at once: each row keeps the tick of its own writer's start.
-use Rattle.std.proofs.Common.{◌≡◌, ℕ, ℤ, pos, List, [], ◌∷◌, Option, Some, None, option_map, refl}
+use Rattle.std.proofs.Common.{◌≡◌, ℕ, ℤ, pos, List, [], ◌∷◌, Some, option_map, refl}
 use Rattle.model.specs.declared.steps.Step.{Step}
 use Rattle.model.specs.declared.steps.Step.TheVariants.{Start, Finish, Sync}
 use Rattle.model.specs.State.{State, Slot, Component}

@@ -1,18 +1,17 @@
 -- Which lists of steps are lawful, and which fault is told of a step that may not come.
-use Rattle.std.proofs.Common.{◌≡◌, ◌≢◌, ℕ, zero, suc, pos, Bool, true, false, List, [], ◌∷◌, Option, Some, None, refl, arith}
+use Rattle.std.proofs.Common.{◌≡◌, pos, Bool, true, false, List, [], ◌∷◌, Option, Some, None, refl}
 use Rattle.model.specs.declared.steps.Step.{Step}
 use Rattle.model.specs.declared.steps.Step.TheVariants.{Cond, Start, Skip, Finish, Sync}
 use Rattle.model.specs.declared.steps.StepFault.{StepFault}
 use Rattle.model.specs.declared.steps.StepFault.TheVariants.{Unknown, ConditionOpen, ConditionFalse, ConditionTrue, Conflict, NotRunning, LevelOpen, Repeated, NotReady}
 use Rattle.model.specs.Query.Term.{Mut}
-use Rattle.model.specs.Access.{Params, no_params}
+use Rattle.model.specs.Access.{no_params}
 use Rattle.model.specs.Condition.Condition.{ResourceAtLeast, ResourceEquals}
 use Rattle.model.specs.Schedule.{Schedule}
-use Rattle.model.specs.Lawful.{IsLawful, IsComplete, May, runs}
+use Rattle.model.specs.Lawful.{IsLawful, runs}
 use Rattle.model.specs.Judged.{fault_of, is_lawful, is_complete}
-use Rattle.model.specs.Widths.{IsSingle}
 use Rattle.model.proofs.Judging.{lists_are_computed}
-use Rattle.model.proofs.examples.Bodies.{position, round, asks, system, system_after, condition, plain, history}
+use Rattle.model.proofs.examples.Bodies.{position, round, asks, system, condition, plain, history}
 use Rattle.model.proofs.examples.Filters.{two_writers}
 use Rattle.model.proofs.examples.Conditions.{guarded}
 use Rattle.model.proofs.examples.Commands.{deferring, ignoring}

@@ -1,18 +1,13 @@
 -- A system that moves an entity: one run and three runs.
-use Rattle.std.proofs.Common.{◌≡◌, ℕ, ℤ, pos, negsuc, ◌+ℤ◌, List, [], ◌∷◌, Option, Some, None, Ok, refl, option_and_then}
+use Rattle.std.proofs.Common.{◌≡◌, ℕ, ℤ, pos, negsuc, ◌+ℤ◌, List, [], ◌∷◌, Option, Some, None, refl}
 use Rattle.model.specs.declared.steps.Step.{Step}
 use Rattle.model.specs.declared.steps.Step.TheVariants.{Start, Finish, Sync}
-use Rattle.model.specs.State.{State, World, Slot, Component, Memory}
+use Rattle.model.specs.State.{State}
 use Rattle.model.specs.State.Status.{Living}
 use Rattle.model.specs.Query.Term.{Mut, Read}
 use Rattle.model.specs.Access.{Params}
-use Rattle.model.specs.Input.{shown, rows_from}
 use Rattle.model.specs.Outcome.{BodyMeaning}
-use Rattle.model.specs.Overlay.{slots_after, resources_after, queues_after, has_event_numbers}
-use Rattle.model.specs.Ids.{with_room, has_ids, granted_ids, grant}
-use Rattle.model.specs.Commands.{release}
 use Rattle.model.specs.Schedule.{Schedule}
-use Rattle.model.specs.RunState.{can_start, has_ids_to_start, ids_of_start, started_system, after_start, can_finish, overlaid, asked_of, answer_of, after_condition, after_sync}
 use Rattle.model.specs.Loaded.{loaded}
 use Rattle.model.proofs.examples.Bodies.{position, velocity, asks, system, plain, given, zeros, changes, serially, woven, runs_from, computed}
 

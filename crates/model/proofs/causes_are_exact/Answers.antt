@@ -1,0 +1,5 @@
+use Rattle.model.proofs.Causes.{causes-exact}
+use Rattle.model.proofs.causes_are_exact.Goals as goal
+
+pub returns : goal.returns
+returns c = causes-exact

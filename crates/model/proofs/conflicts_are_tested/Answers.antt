@@ -1,0 +1,5 @@
+use Rattle.model.proofs.Tests.{conflicts-tested}
+use Rattle.model.proofs.conflicts_are_tested.Goals as goal
+
+pub returns : goal.returns
+returns c = conflicts-tested

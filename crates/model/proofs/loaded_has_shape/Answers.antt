@@ -1,0 +1,5 @@
+use Rattle.model.proofs.LoadedShapes.{loaded-shape}
+use Rattle.model.proofs.loaded_has_shape.Goals as goal
+
+pub returns : goal.returns
+returns c = loaded-shape
