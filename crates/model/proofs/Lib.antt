@@ -34,4 +34,17 @@ pub mod Shapes
 pub mod LoadedShapes
 pub mod Engine
 pub mod Laying
+pub mod Descent
+pub mod Marks
+pub mod Swaps
+pub mod Visits
+pub mod Stamps
+pub mod Agreeing
+pub mod Seen
+pub mod Turns
+pub mod Places
+pub mod Timed
+pub mod Quiet
+pub mod Followed
+pub mod Sound
 pub mod examples

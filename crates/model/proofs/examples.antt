@@ -5,3 +5,5 @@ pub mod Commands
 pub mod Conditions
 pub mod Filters
 pub mod Lawful
+pub mod Orders
+pub mod Agreement

@@ -23,6 +23,7 @@ use Rattle.model.specs.Meaning.{Interleaved, serial, interleaved}
 use Rattle.model.specs.Causes.{serial_cause, interleaved_cause}
 use Rattle.model.specs.Ambiguity.{Settled, Before}
 use Rattle.model.specs.Shape.{IsStateOf, IsRunStateOf, BodiesKeepWithin}
+use Rattle.model.specs.Runs.{AreSingleRuns, AreSoundRuns}
 use Rattle.model.specs.Agreement.{AreRuns, Agrees, after_runs}
 
 -- ---- order
@@ -152,3 +153,10 @@ abbrev pub CausesAreExact : Type 0
 CausesAreExact = (s : Schedule) (bodies : List BodyMeaning) (start : State) (h : List Step) →
     ((serial s bodies start h ≡ None) ↔ IsSome (serial_cause s bodies start h))
     × (IsLawful s h → (interleaved s bodies start h ≡ None) ↔ IsSome (interleaved_cause s bodies start h))
+
+-- ---- the runs of one thread
+
+-- the runs of one thread are sound
+abbrev pub SingleRunsAreSound : Type 0
+SingleRunsAreSound = (s : Schedule) (bodies : List BodyMeaning) (w : State) (hs : List (List Step)) (w' : State) →
+    AreSingleRuns s bodies w hs w' → AreSoundRuns s bodies w hs w'

@@ -24,5 +24,6 @@ pub mod Ambiguity
 pub mod Shape
 pub mod Agreement
 pub mod Loaded
+pub mod Runs
 pub mod Laws
 pub mod Judged

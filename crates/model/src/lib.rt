@@ -77,3 +77,18 @@ pub fn runs_keep_shape()
 pub fn loaded_has_shape()
     ensures { LoadedHasShape }
 {}
+
+ghost use Rattle.model.specs.Laws.{SingleRunsAreSound};
+
+/// The runs of one thread are sound: in each no two systems that run together conflict, every edge and sync point is kept, the order
+/// of starts is topological, and the interleaved and the serial meaning are the state where the next one begins.
+pub fn single_runs_are_sound()
+    ensures { SingleRunsAreSound }
+{}
+
+ghost use Rattle.model.specs.Laws.{RunsAgree};
+
+/// Under the same bodies any two lists of as many runs of a settled schedule, from states that agree, leave states that agree.
+pub fn runs_agree()
+    ensures { RunsAgree }
+{}

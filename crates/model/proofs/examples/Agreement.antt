@@ -1,0 +1,119 @@
+-- Two systems that share nothing, run in two orders: the schedule is built and settled, the bodies keep within their parameters, both
+-- lists are runs from a state of the right shape, their ends differ in stamps, and they agree.
+use Rattle.std.proofs.Common.{◌≡◌, ◌≢◌, ℕ, zero, suc, ◌<◌, ◌≤◌, ℤ, pos, Bool, true, false, List, [], ◌∷◌, ◌++◌, length, Option, Some, None, Ok, Result, ◌⊎◌, inl, inr, refl, sym, subst, arith, true≢false}
+use Rattle.model.specs.declared.steps.Step.{Step}
+use Rattle.model.specs.declared.steps.Step.TheVariants.{Start, Finish, Sync}
+use Rattle.model.specs.Lists.{has}
+use Rattle.model.specs.State.{State, Resource}
+use Rattle.model.specs.Access.{Params, no_params}
+use Rattle.model.specs.Conflict.{Conflict}
+use Rattle.model.specs.Input.{Shown, shown}
+use Rattle.model.specs.Outcome.{Outcome, BodyMeaning, IsWithin, untouched}
+use Rattle.model.specs.Schedule.{Schedule, params_of, has_edge, level_of}
+use Rattle.model.specs.Built.{IsBuilt}
+use Rattle.model.specs.Ambiguity.{Settled}
+use Rattle.model.specs.Shape.{IsStateOf, BodiesKeepWithin}
+use Rattle.model.specs.Meaning.{interleaved}
+use Rattle.model.specs.Agreement.{IsRun, AreRuns, Agrees, after_runs}
+use Rattle.model.specs.Loaded.{loaded}
+use Rattle.model.proofs.Histories.{same_or}
+use Rattle.model.proofs.Judging.{lists_are_computed}
+use Rattle.model.proofs.LoadedShapes.{loaded-shape}
+use Rattle.model.proofs.examples.Bodies.{round, total, system, plain, zeros, sets, history, computed}
+use Rattle.model.proofs.examples.Orders.{no_conflict}
+
+abbrev first : Params
+first = record no_params { res_mut = round ∷ [] }
+
+abbrev second : Params
+second = record no_params { res_mut = total ∷ [] }
+
+abbrev apart : Schedule
+apart = plain (system first ∷ system second ∷ []) (0 ∷ 1 ∷ [])
+
+abbrev setters : List BodyMeaning
+setters = sets (pos 1) first ∷ sets (pos 2) second ∷ []
+
+abbrev start : State
+start = loaded apart [] zeros
+
+abbrev widths : ℕ → ℕ
+widths kind = 0
+
+-- a property of 0 and 1 is one of each number below two
+each_below_two : (P : ℕ → Type 0) → P 0 → P 1 → (n : ℕ) → n < 2 → P n
+each_below_two P zero_case one_case zero l = zero_case
+each_below_two P zero_case one_case (suc zero) l = one_case
+each_below_two P zero_case one_case (suc (suc n)) l = absurd (omega arith)
+
+-- ---- the premises
+
+-- in an order of 0 and 1 none stands twice
+none_twice : (front rest : List ℕ) (n : ℕ) → 0 ∷ 1 ∷ [] ≡ front ++ n ∷ rest → has n front ≡ false
+none_twice [] rest n e = refl
+none_twice (x ∷ []) rest n e = subst (λ m. has m (x ∷ []) ≡ false) one_is (subst (λ y. has 1 (y ∷ []) ≡ false) zero_is refl)
+  where
+    one_is : 1 ≡ n
+    one_is = cc
+
+    zero_is : 0 ≡ x
+    zero_is = cc
+none_twice (x ∷ y ∷ []) rest n e = cc
+none_twice (x ∷ y ∷ z ∷ front) rest n e = cc
+
+-- a number in the order is one of two
+in_order : (n : ℕ) → has n (0 ∷ 1 ∷ []) ≡ true → n < 2
+in_order n e = elim (same_or 0 n (has n (1 ∷ [])) e) [
+      inl q ↦ omega arith
+    | inr other ↦ elim (same_or 1 n false other) [ inl q ↦ omega arith | inr none ↦ absurd (true≢false (sym none)) ] ]
+
+-- no system has a predecessor
+no_edge : (m n : ℕ) → has_edge apart m n ≡ true → ⊥
+no_edge m zero e = true≢false (sym e)
+no_edge m (suc zero) e = true≢false (sym e)
+no_edge m (suc (suc n)) e = true≢false (sym e)
+
+apart_built : IsBuilt apart
+apart_built = record {
+  few_systems = omega arith;
+  few_conditions = omega arith;
+  few_syncs = omega arith;
+  sources = λ m n e. absurd (no_edge m n e);
+  rising = λ m n e. absurd (no_edge m n e);
+  levels = each_below_two (λ n. level_of apart n < 1) (omega arith) (omega arith);
+  listed = each_below_two (λ n. has n (0 ∷ 1 ∷ []) ≡ true) refl refl;
+  known = in_order;
+  once = none_twice;
+  after = λ front rest n e m edge. absurd (no_edge m n edge);
+  covered = λ c n e. absurd (true≢false (sym e));
+  reading = λ c query among kind. absurd among;
+}
+
+pairs_apart : (m n : ℕ) → m < 2 → n < 2 → m ≢ n → Conflict (params_of apart m) (params_of apart n) → ⊥
+pairs_apart m n l k = each_below_two (λ i. i ≢ n → Conflict (params_of apart i) (params_of apart n) → ⊥)
+    (each_below_two (λ j. 0 ≢ j → Conflict first (params_of apart j) → ⊥) (λ differ conflict. differ refl) (λ differ. no_conflict first second refl) n k)
+    (each_below_two (λ j. 1 ≢ j → Conflict second (params_of apart j) → ⊥) (λ differ. no_conflict second first refl) (λ differ conflict. differ refl) n k)
+    m l
+
+apart_settled : Settled apart
+apart_settled = record {
+  systems = λ m n pair. pairs_apart m n pair.first_known pair.second_known pair.differ pair.conflict;
+  conditions = λ c n pair. absurd (omega (arith, pair.condition_known));
+  no_commands = each_below_two (λ n. (params_of apart n).spawns ≡ None) refl refl;
+}
+
+-- the outcome of a setter keeps within its parameters
+setter_within : (n : ℤ) (number : ℕ) (seen : Shown) → seen.rows ≡ [] → length seen.registers ≡ 8 →
+    IsWithin widths (record no_params { res_mut = number ∷ [] }) seen (record (untouched (record no_params { res_mut = number ∷ [] }) seen) { res_mut = Some n ∷ [] })
+setter_within n number seen no_rows registers = record {
+  cells = subst (λ rows. Rattle.model.specs.Outcome.AreCells widths [] rows []) (sym no_rows) tt;
+  res_mut = refl;
+  events = refl;
+  commands = λ e. refl;
+  spawns = tt;
+  inserts = tt;
+  registers = registers;
+}
+
+start_shape : IsStateOf widths apart start
+start_shape = loaded-shape widths apart [] zeros tt (omega arith) refl

@@ -1,0 +1,5 @@
+use Rattle.model.proofs.runs_agree.Goals as goal
+use Rattle.model.proofs.Followed.{runs_agree}
+
+pub returns : goal.returns
+returns c = runs_agree

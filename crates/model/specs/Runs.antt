@@ -1,0 +1,67 @@
+-- What an engine that runs on one thread promises of the lists that it returns, and where it stops.
+use Rattle.std.specs.Prelude.{ℕ, ◌<◌, true, false, ◌≡◌, ◌≢◌, ◌⊎◌, List, [], ◌∷◌, ◌++◌, length, Some}
+use Rattle.model.specs.declared.steps.Step.{Step}
+use Rattle.model.specs.declared.steps.Step.TheVariants.{Start, Skip, Sync}
+use Rattle.model.specs.State.{State}
+use Rattle.model.specs.Conflict.{Conflict}
+use Rattle.model.specs.Outcome.{BodyMeaning}
+use Rattle.model.specs.Schedule.{Schedule, params_of, has_edge, level_of}
+use Rattle.model.specs.Lawful.{IsLawful, IsComplete, runs, started, begun, ended}
+use Rattle.model.specs.Ambiguity.{Before}
+use Rattle.model.specs.Widths.{IsSingle}
+use Rattle.model.specs.RunState.{RunState}
+use Rattle.model.specs.Meaning.{Interleaved, interleaved, serial, HasTrueAnswers}
+use Rattle.model.specs.Causes.{Cause, serial_cause}
+
+-- ---- the runs of one thread
+
+-- a run from one state to another: the single-threaded list, lawful and complete, with true answers, whose serial meaning ends there
+pub record IsSingleRun (s : Schedule) (bodies : List BodyMeaning) (w : State) (h : List Step) (w' : State) : Type 0 where
+  pub single : IsSingle s h
+  pub lawful : IsLawful s h
+  pub complete : IsComplete s h
+  pub answers : HasTrueAnswers s bodies w h
+  pub end : RunState
+  pub meaning : serial s bodies w h ≡ Some end
+  pub leaves : end.state ≡ w'
+
+-- runs one after the other, the first first
+abbrev pub AreSingleRuns : Schedule → List BodyMeaning → State → List (List Step) → State → Type 0
+AreSingleRuns s bodies w [] w' = w ≡ w'
+AreSingleRuns s bodies w (h ∷ hs) w' = (middle : State) × IsSingleRun s bodies w h middle × AreSingleRuns s bodies middle hs w'
+
+-- after fewer than so many complete runs, a front of the single-threaded list on which the serial meaning stops for this cause
+pub record IsStopped (s : Schedule) (bodies : List BodyMeaning) (times : ℕ) (w : State) (cause : Cause) : Type 0 where
+  pub complete_runs : List (List Step)
+  pub fewer : length complete_runs < times
+  pub middle : State
+  pub ran : AreSingleRuns s bodies w complete_runs middle
+  pub front : List Step
+  pub single : IsSingle s front
+  pub stops : serial_cause s bodies middle front ≡ Some cause
+
+-- ---- what one may rest on
+
+-- a run that is sound: no two systems that run together conflict, every edge and sync point is kept, the order of starts is
+-- topological, and its interleaved and serial meanings are one state
+pub record IsSoundRun (s : Schedule) (bodies : List BodyMeaning) (w : State) (h : List Step) (w' : State) : Type 0 where
+  pub apart : (later front : List Step) (m n : ℕ) → h ≡ later ++ front → runs front m ≡ true → runs front n ≡ true → m ≢ n →
+      Conflict (params_of s m) (params_of s n) → ⊥
+  pub edges : (later front : List Step) (step : Step) (m n : ℕ) → h ≡ later ++ step ∷ front → (step ≡ Start n) ⊎ (step ≡ Skip n) →
+      has_edge s m n ≡ true → ended front m ≡ true
+  pub syncs : (later front : List Step) (k n : ℕ) → h ≡ later ++ Sync k ∷ front →
+      (n < length s.systems → level_of s n ≡ k → ended front n ≡ true)
+      × (k < level_of s n → begun front n ≡ false)
+      × (runs front n ≡ true → ⊥)
+  pub order : (later front : List Step) (m n : ℕ) → h ≡ later ++ Start n ∷ front → Before s m n → started h m ≡ true → started front m ≡ true
+  pub woven : Interleaved
+  pub woven_meaning : interleaved s bodies w h ≡ Some woven
+  pub woven_leaves : woven.run.state ≡ w'
+  pub whole : RunState
+  pub serial_meaning : serial s bodies w h ≡ Some whole
+  pub serial_leaves : whole.state ≡ w'
+
+-- sound runs one after the other, each from the state that the one before leaves
+abbrev pub AreSoundRuns : Schedule → List BodyMeaning → State → List (List Step) → State → Type 0
+AreSoundRuns s bodies w [] w' = w ≡ w'
+AreSoundRuns s bodies w (h ∷ hs) w' = (middle : State) × IsSoundRun s bodies w h middle × AreSoundRuns s bodies middle hs w'
