@@ -72,7 +72,7 @@ next_wide s h step (Some n) lawful e j next = subst (λ (x : Step). May s h x ×
 
 -- each front of the single-threaded list is a list in which at most one system runs
 pub single_is_wide : SingleIsWide
-single_is_wide s [] built single = tt
-single_is_wide s (step ∷ h) built single = let wide : IsWide 1 s h = single_is_wide s h built single.1 in
+single_is_wide s [] single = tt
+single_is_wide s (step ∷ h) single = let wide : IsWide 1 s h = single_is_wide s h single.1 in
     let next = next_wide s h step (just_started h) (wide_lawful 1 s h wide) (running_alone s h single.1) refl single.0 in
     (next.0, next.1, wide)

@@ -1,14 +1,13 @@
 -- The runs of one thread are sound: the laws of order at each front of the list, and that interleaved is serial.
 use Rattle.std.proofs.Common.{◌≡◌, List, [], ◌∷◌, ◌++◌, Option, Some, None, option_map, sym, ◌∙◌, subst}
 use Rattle.model.specs.declared.steps.Step.{Step}
-use Rattle.model.specs.declared.steps.Step.TheVariants.{Start, Sync}
 use Rattle.model.specs.State.{State}
 use Rattle.model.specs.Outcome.{BodyMeaning}
 use Rattle.model.specs.Schedule.{Schedule}
 use Rattle.model.specs.Lawful.{IsLawful, started}
 use Rattle.model.specs.RunState.{RunState}
-use Rattle.model.specs.Meaning.{Interleaved, interleaved, serial}
-use Rattle.model.specs.Runs.{IsSingleRun, AreSingleRuns, IsSoundRun, AreSoundRuns}
+use Rattle.model.specs.Meaning.{Interleaved, interleaved}
+use Rattle.model.specs.Runs.{IsSingleRun, IsSoundRun}
 use Rattle.model.specs.Laws.{SingleRunsAreSound}
 use Rattle.model.proofs.Histories.{lawful_before}
 use Rattle.model.proofs.Order.{none_conflict, edges_kept, syncs_kept, order_is_topological}
@@ -23,7 +22,7 @@ woven_of (Some w) run e = (w, cc, cc)
 sound_run : (s : Schedule) (bodies : List BodyMeaning) (w : State) (h : List Step) (w' : State) → IsSingleRun s bodies w h w' → IsSoundRun s bodies w h w'
 sound_run s bodies w h w' r =
     let found : (end : Interleaved) × (interleaved s bodies w h ≡ Some end) × (end.run ≡ r.end) =
-        woven_of (interleaved s bodies w h) r.end (interleaved_serial s bodies w h r.lawful r.complete ∙ r.meaning) in
+    woven_of (interleaved s bodies w h) r.end (interleaved_serial s bodies w h r.lawful r.complete ∙ r.meaning) in
     record {
       apart = λ later front m n e. none_conflict s front m n (lawful_before s later front (subst (IsLawful s) e r.lawful));
       edges = λ later front step m n e. edges_kept s later front m n step (subst (IsLawful s) e r.lawful);

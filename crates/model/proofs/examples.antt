@@ -7,3 +7,4 @@ pub mod Filters
 pub mod Lawful
 pub mod Orders
 pub mod Agreement
+pub mod Single

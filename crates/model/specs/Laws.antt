@@ -117,7 +117,7 @@ ListsAreComputed = (s : Schedule) (h : List Step) → (is_lawful s h ≡ true �
 
 -- each front of the single-threaded list is a list in which at most one system runs
 abbrev pub SingleIsWide : Type 0
-SingleIsWide = (s : Schedule) (h : List Step) → IsBuilt s → IsSingle s h → IsWide 1 s h
+SingleIsWide = (s : Schedule) (h : List Step) → IsSingle s h → IsWide 1 s h
 
 -- ---- shape
 

@@ -1,10 +1,10 @@
 // The meaning of a schedule's run, in definitions that every other crate cites, and its laws.
 #![tactic(auto)]
 
+ghost use Rattle.model.specs.Laws.{NoneConflict, EdgesKept, SyncsKept, OrderIsTopological, ListsGoOn, ListsEnd, ListsComplete, ReadyIsAccepted, FaultsAreExact, FaultsAreComputed, ListsAreComputed, SingleIsWide, SameIsShown, InterleavedIsSerial, ConflictsAreTested, AnswersAreAsked, CausesAreExact, InterleavedKeepsShape, SerialKeepsShape, LoadedHasShape, SingleRunsAreSound, RunsAgree};
+
 pub mod entities;
 pub mod steps;
-
-ghost use Rattle.model.specs.Laws.{NoneConflict, EdgesKept, SyncsKept, OrderIsTopological};
 
 /// The order of lawful lists: systems that run together don't conflict, what an edge leads from has ended before what it
 /// leads to begins, sync points stand between the levels, and a system that is before another starts first.
@@ -15,7 +15,16 @@ pub fn lists_are_in_order()
     ensures order { OrderIsTopological }
 {}
 
-ghost use Rattle.model.specs.Laws.{ListsGoOn, ListsEnd, ListsComplete, ReadyIsAccepted};
+/// What a start shows and a condition is asked about is the same, interleaved and on one thread, and a complete list leaves the same run state.
+pub fn interleaved_is_serial()
+    ensures shown { SameIsShown }
+    ensures equal { InterleavedIsSerial }
+{}
+
+/// Under the same bodies any two lists of as many runs of a settled schedule, from states that agree, leave states that agree.
+pub fn runs_agree()
+    ensures { RunsAgree }
+{}
 
 /// Lawful lists go on until they are complete, and end: what is ready is accepted, and where nothing is ready and nothing
 /// runs the list is complete.
@@ -26,8 +35,6 @@ pub fn lists_go_on()
     ensures ready { ReadyIsAccepted }
 {}
 
-ghost use Rattle.model.specs.Laws.{FaultsAreExact, FaultsAreComputed, ListsAreComputed};
-
 /// A step that may not come has a fault that is told, one that may has none, and no step has two. The fault can be computed.
 pub fn faults_are_exact()
     ensures exact { FaultsAreExact }
@@ -35,22 +42,27 @@ pub fn faults_are_exact()
     ensures lists { ListsAreComputed }
 {}
 
-ghost use Rattle.model.specs.Laws.{SingleIsWide};
-
 /// Each front of the single-threaded list is a list in which at most one system runs.
 pub fn single_is_wide()
     ensures { SingleIsWide }
 {}
 
-ghost use Rattle.model.specs.Laws.{SameIsShown, InterleavedIsSerial};
-
-/// What a start shows and a condition is asked about is the same, interleaved and on one thread, and a complete list leaves the same run state.
-pub fn interleaved_is_serial()
-    ensures shown { SameIsShown }
-    ensures equal { InterleavedIsSerial }
+/// The runs of one thread are sound: in each no two systems that run together conflict, every edge and sync point is kept, the order
+/// of starts is topological, and the interleaved and the serial meaning are the state where the next one begins.
+pub fn single_runs_are_sound()
+    ensures { SingleRunsAreSound }
 {}
 
-ghost use Rattle.model.specs.Laws.{ConflictsAreTested, AnswersAreAsked, CausesAreExact, InterleavedKeepsShape, SerialKeepsShape, LoadedHasShape};
+/// A run keeps the shape of a state.
+pub fn runs_keep_shape()
+    ensures interleaved { InterleavedKeepsShape }
+    ensures serial { SerialKeepsShape }
+{}
+
+/// The state as loaded has the shape of a state.
+pub fn loaded_has_shape()
+    ensures { LoadedHasShape }
+{}
 
 /// The computed test of a conflict is exact, and its datum is the least.
 pub fn conflicts_are_tested()
@@ -65,30 +77,4 @@ pub fn answers_are_asked()
 /// A meaning lacks exactly where it meets a cause.
 pub fn causes_are_exact()
     ensures { CausesAreExact }
-{}
-
-/// A run keeps the shape of a state.
-pub fn runs_keep_shape()
-    ensures interleaved { InterleavedKeepsShape }
-    ensures serial { SerialKeepsShape }
-{}
-
-/// The state as loaded has the shape of a state.
-pub fn loaded_has_shape()
-    ensures { LoadedHasShape }
-{}
-
-ghost use Rattle.model.specs.Laws.{SingleRunsAreSound};
-
-/// The runs of one thread are sound: in each no two systems that run together conflict, every edge and sync point is kept, the order
-/// of starts is topological, and the interleaved and the serial meaning are the state where the next one begins.
-pub fn single_runs_are_sound()
-    ensures { SingleRunsAreSound }
-{}
-
-ghost use Rattle.model.specs.Laws.{RunsAgree};
-
-/// Under the same bodies any two lists of as many runs of a settled schedule, from states that agree, leave states that agree.
-pub fn runs_agree()
-    ensures { RunsAgree }
 {}

@@ -1,23 +1,27 @@
 -- Two systems that share nothing, run in two orders: the schedule is built and settled, the bodies keep within their parameters, both
 -- lists are runs from a state of the right shape, their ends differ in stamps, and they agree.
-use Rattle.std.proofs.Common.{◌≡◌, ◌≢◌, ℕ, zero, suc, ◌<◌, ◌≤◌, ℤ, pos, Bool, true, false, List, [], ◌∷◌, ◌++◌, length, Option, Some, None, Ok, Result, ◌⊎◌, inl, inr, refl, sym, subst, arith, true≢false}
+use Rattle.std.proofs.Common.{◌≡◌, ◌≢◌, ℕ, zero, suc, ◌<◌, ℤ, pos, true, false, List, [], ◌∷◌, ◌++◌, length, get_or, Some, None, Ok, Result, inl, inr, refl, sym, subst, arith, true≢false}
 use Rattle.model.specs.declared.steps.Step.{Step}
 use Rattle.model.specs.declared.steps.Step.TheVariants.{Start, Finish, Sync}
 use Rattle.model.specs.Lists.{has}
-use Rattle.model.specs.State.{State, Resource}
+use Rattle.model.specs.State.{State, Resource, Memory, no_memory}
+use Rattle.model.specs.RunState.{body_of, memory_of_system, spawns_of}
+use Rattle.model.specs.Ids.{granted_ids}
 use Rattle.model.specs.Access.{Params, no_params}
 use Rattle.model.specs.Conflict.{Conflict}
 use Rattle.model.specs.Input.{Shown, shown}
 use Rattle.model.specs.Outcome.{Outcome, BodyMeaning, IsWithin, untouched}
-use Rattle.model.specs.Schedule.{Schedule, params_of, has_edge, level_of}
+use Rattle.model.specs.Schedule.{Schedule, ScheduledSystem, params_of, has_edge, level_of}
 use Rattle.model.specs.Built.{IsBuilt}
 use Rattle.model.specs.Ambiguity.{Settled}
-use Rattle.model.specs.Shape.{IsStateOf, BodiesKeepWithin}
-use Rattle.model.specs.Meaning.{interleaved}
-use Rattle.model.specs.Agreement.{IsRun, AreRuns, Agrees, after_runs}
+use Rattle.model.specs.Shape.{IsStateOf, IsRunStateOf, BodiesKeepWithin, AreMemoriesOfSystems}
+use Rattle.model.specs.Meaning.{Interleaved, interleaved}
+use Rattle.model.specs.Agreement.{IsRun, Agrees, after_runs}
 use Rattle.model.specs.Loaded.{loaded}
 use Rattle.model.proofs.Histories.{same_or}
 use Rattle.model.proofs.Judging.{lists_are_computed}
+use Rattle.model.proofs.Followed.{runs_agree}
+use Rattle.model.proofs.Shapes.{interleaved-keeps}
 use Rattle.model.proofs.LoadedShapes.{loaded-shape}
 use Rattle.model.proofs.examples.Bodies.{round, total, system, plain, zeros, sets, history, computed}
 use Rattle.model.proofs.examples.Orders.{no_conflict}
@@ -64,8 +68,9 @@ none_twice (x ∷ y ∷ z ∷ front) rest n e = cc
 -- a number in the order is one of two
 in_order : (n : ℕ) → has n (0 ∷ 1 ∷ []) ≡ true → n < 2
 in_order n e = elim (same_or 0 n (has n (1 ∷ [])) e) [
-      inl q ↦ omega arith
-    | inr other ↦ elim (same_or 1 n false other) [ inl q ↦ omega arith | inr none ↦ absurd (true≢false (sym none)) ] ]
+  | inl q ↦ omega arith
+  | inr other ↦ elim (same_or 1 n false other) [ inl q ↦ omega arith | inr none ↦ absurd (true≢false (sym none)) ]
+]
 
 -- no system has a predecessor
 no_edge : (m n : ℕ) → has_edge apart m n ≡ true → ⊥
@@ -117,3 +122,98 @@ setter_within n number seen no_rows registers = record {
 
 start_shape : IsStateOf widths apart start
 start_shape = loaded-shape widths apart [] zeros tt (omega arith) refl
+
+-- the memory of each of two systems has eight registers
+registers_of : (clock : ℕ) (x y : ScheduledSystem) (ms : List Memory) → AreMemoriesOfSystems clock (x ∷ y ∷ []) ms →
+    (length (get_or ms 0 no_memory).registers ≡ 8) × (length (get_or ms 1 no_memory).registers ≡ 8)
+registers_of clock x y [] h = absurd h
+registers_of clock x y (m ∷ []) h = absurd h.1
+registers_of clock x y (m ∷ n ∷ ms) h = (h.0.registers, h.1.0.registers)
+
+-- what a system is shown of a state
+abbrev seen_by : State → ℕ → Shown
+seen_by w n = shown (params_of apart n) (memory_of_system w n) w (granted_ids (spawns_of apart n) w.world.slots)
+
+-- what a body answers is what it computes
+same_outcome : (answer : Result Outcome ℕ) (o p : Outcome) → answer ≡ Ok o → answer ≡ Ok p → o ≡ p
+same_outcome answer o p e f = cc
+
+setters_within : BodiesKeepWithin widths apart setters
+unfolding shown
+setters_within n w o l shape ids = each_below_two
+    (λ i. body_of setters i (seen_by w i) ≡ Ok o → IsWithin widths (params_of apart i) (seen_by w i) o)
+    (λ e. subst (IsWithin widths first (seen_by w 0)) (same_outcome _ _ o refl e)
+    (setter_within (pos 1) round (seen_by w 0) refl (registers_of w.world.clock (system first) (system second) w.systems shape.systems).0))
+    (λ e. subst (IsWithin widths second (seen_by w 1)) (same_outcome _ _ o refl e)
+    (setter_within (pos 2) total (seen_by w 1) refl (registers_of w.world.clock (system first) (system second) w.systems shape.systems).1))
+    n l
+
+-- ---- the two lists
+
+abbrev one_way : List Step
+one_way = Start 0 ∷ Finish 0 ∷ Start 1 ∷ Finish 1 ∷ Sync 0 ∷ []
+
+abbrev other_way : List Step
+other_way = Start 1 ∷ Start 0 ∷ Finish 1 ∷ Finish 0 ∷ Sync 0 ∷ []
+
+one_run : IsRun apart setters start (history one_way)
+one_run = record {
+  lawful = (lists_are_computed apart (history one_way)).0 refl;
+  complete = (lists_are_computed apart (history one_way)).1 refl;
+  answers = (tt, (tt, (tt, (tt, (tt, tt)))));
+}
+
+other_run : IsRun apart setters start (history other_way)
+other_run = record {
+  lawful = (lists_are_computed apart (history other_way)).0 refl;
+  complete = (lists_are_computed apart (history other_way)).1 refl;
+  answers = (tt, (tt, (tt, (tt, (tt, tt)))));
+}
+
+-- a resource that nobody wrote
+abbrev unchanged : Resource
+unchanged = record { value = pos 0; changed = 1 }
+
+-- the end where Round and Total were written at these ticks, which are the last runs too
+abbrev end_at : ℕ → ℕ → State
+end_at a b = record {
+  world = record {
+    slots = [];
+    resources = record { value = pos 1; changed = a } ∷ unchanged ∷ record { value = pos 2; changed = b } ∷ unchanged ∷ unchanged ∷ unchanged ∷ unchanged ∷ unchanged ∷ [];
+    clock = 5;
+  };
+  events = start.events;
+  systems = record { last_run = a; cursors = []; registers = zeros } ∷ record { last_run = b; cursors = []; registers = zeros } ∷ [];
+  conditions = [];
+  passed_over = 0;
+}
+
+one_end : after_runs apart setters start (history one_way ∷ []) ≡ Some (end_at 3 4)
+unfolding computed
+one_end = refl
+
+other_end : after_runs apart setters start (history other_way ∷ []) ≡ Some (end_at 4 3)
+unfolding computed
+other_end = refl
+
+-- a state agrees with itself
+start_agrees : Agrees apart start start
+start_agrees = record { same = refl; never = λ a. refl; terms = λ a query term e in_access in_query lives matches. refl; newer = λ c number e. refl }
+
+-- the two ends differ in stamps and agree
+ends_agree : Agrees apart (end_at 3 4) (end_at 4 3)
+ends_agree = runs_agree widths apart setters start start (history one_way ∷ []) (history other_way ∷ []) (end_at 3 4) (end_at 4 3)
+    apart_built apart_settled setters_within start_shape start_shape start_agrees refl
+    (one_run, λ end e. tt) (other_run, λ end e. tt) one_end other_end
+
+-- the end of a run keeps the shape of a state: the law of shape at one run
+abbrev woven_end : Type 0
+woven_end = (w : Interleaved) → interleaved apart setters start (history other_way) ≡ Some w → IsRunStateOf widths apart w.run
+
+end_has_shape : woven_end
+end_has_shape w e = interleaved-keeps widths apart setters start (history other_way) w setters_within start_shape other_run.lawful e
+
+-- the clock of the other end: an opening, two starts and a sync point after clock 1
+other_clock : option_map (λ (w : State). w.world.clock) (after_runs apart setters start (history other_way ∷ [])) ≡ Some 5
+unfolding computed
+other_clock = refl

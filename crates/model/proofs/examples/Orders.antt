@@ -1,21 +1,15 @@
 -- Which schedules are settled: a writer beside a condition that reads the same, and two systems that share nothing, run in two orders.
-use Rattle.std.proofs.Common.{◌≡◌, ◌≢◌, ℕ, zero, suc, ◌<◌, ◌≤◌, ℤ, pos, Bool, true, false, List, [], ◌∷◌, ◌++◌, length, Option, Some, None, Ok, ◌⊎◌, inl, inr, refl, sym, ◌∙◌, subst, arith, true≢false}
-use Rattle.std.specs.List.{AllByRecursion}
+use Rattle.std.proofs.Common.{◌≡◌, ◌≢◌, ℕ, zero, suc, ◌<◌, pos, true, false, List, [], ◌∷◌, None, ◌⊎◌, inl, inr, refl, sym, subst, arith, true≢false}
 use Rattle.std.proofs.lemmas.Bool.{both_ways}
-use Rattle.model.specs.declared.steps.Step.{Step}
-use Rattle.model.specs.declared.steps.Step.TheVariants.{Start, Finish, Sync}
-use Rattle.model.specs.Lists.{has}
-use Rattle.model.specs.State.{State}
 use Rattle.model.specs.Access.{Params, no_params}
 use Rattle.model.specs.Conflict.{Conflict, conflicts}
 use Rattle.model.specs.Condition.Condition.{ResourceAtLeast}
-use Rattle.model.specs.Outcome.{BodyMeaning}
 use Rattle.model.specs.Schedule.{Schedule, ScheduledSystem, params_of, access_of}
-use Rattle.model.specs.Ambiguity.{Reaches, Before, IsMember, AmbiguousSystems, AmbiguousCondition, Settled}
+use Rattle.model.specs.Ambiguity.{Reaches, Before, IsMember, AmbiguousCondition, Settled}
 use Rattle.model.specs.Ambiguity.Reaches.{Edge, Onward}
 use Rattle.model.specs.Ambiguity.Before.{ByPath, ByLevel}
 use Rattle.model.proofs.Tests.{conflict-found, conflict-tested}
-use Rattle.model.proofs.examples.Bodies.{round, system, system_after, condition, plain}
+use Rattle.model.proofs.examples.Bodies.{round, system, system_after, condition}
 
 -- accesses that the computed test keeps apart don't conflict
 pub no_conflict : (a b : Params) → conflicts a b ≡ false → Conflict a b → ⊥
@@ -31,8 +25,9 @@ below_three (suc (suc (suc n))) l = absurd (omega arith)
 -- a property of 0, 1 and 2 is one of each number below three
 each_below_three : (P : ℕ → Type 0) → P 0 → P 1 → P 2 → (n : ℕ) → n < 3 → P n
 each_below_three P zero_case one_case two_case n l = elim (below_three n l) [
-      inl e ↦ subst P (sym e) zero_case
-    | inr other ↦ elim other [ inl e ↦ subst P (sym e) one_case | inr e ↦ subst P (sym e) two_case ] ]
+  | inl e ↦ subst P (sym e) zero_case
+  | inr other ↦ elim other [ inl e ↦ subst P (sym e) one_case | inr e ↦ subst P (sym e) two_case ]
+]
 
 -- ---- a writer of Round before one member of a condition's set, or before the whole set
 
@@ -81,11 +76,11 @@ ordered = with_set (0 ∷ [])
 ordered_pairs : (m n : ℕ) → m < 3 → n < 3 → m ≢ n → Conflict (params_of ordered m) (params_of ordered n) → ⊥
 ordered_pairs m n l k = each_below_three (λ i. i ≢ n → Conflict (params_of ordered i) (params_of ordered n) → ⊥)
     (each_below_three (λ j. 0 ≢ j → Conflict (params_of ordered 0) (params_of ordered j) → ⊥)
-        (λ differ conflict. differ refl) (λ differ. no_conflict writer no_params refl) (λ differ. no_conflict writer no_params refl) n k)
+    (λ differ conflict. differ refl) (λ differ. no_conflict writer no_params refl) (λ differ. no_conflict writer no_params refl) n k)
     (each_below_three (λ j. 1 ≢ j → Conflict (params_of ordered 1) (params_of ordered j) → ⊥)
-        (λ differ. no_conflict no_params writer refl) (λ differ. no_conflict no_params no_params refl) (λ differ. no_conflict no_params no_params refl) n k)
+    (λ differ. no_conflict no_params writer refl) (λ differ. no_conflict no_params no_params refl) (λ differ. no_conflict no_params no_params refl) n k)
     (each_below_three (λ j. 2 ≢ j → Conflict (params_of ordered 2) (params_of ordered j) → ⊥)
-        (λ differ. no_conflict no_params writer refl) (λ differ. no_conflict no_params no_params refl) (λ differ. no_conflict no_params no_params refl) n k)
+    (λ differ. no_conflict no_params writer refl) (λ differ. no_conflict no_params no_params refl) (λ differ. no_conflict no_params no_params refl) n k)
     m l
 
 -- the writer stands before each member
