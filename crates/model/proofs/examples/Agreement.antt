@@ -1,6 +1,6 @@
 -- Two systems that share nothing, run in two orders: the schedule is built and settled, the bodies keep within their parameters, both
 -- lists are runs from a state of the right shape, their ends differ in stamps, and they agree.
-use Rattle.std.proofs.Common.{◌≡◌, ◌≢◌, ℕ, zero, suc, ◌<◌, ℤ, pos, true, false, List, [], ◌∷◌, ◌++◌, length, get_or, Some, None, Ok, Result, inl, inr, refl, sym, subst, arith, true≢false}
+use Rattle.std.proofs.Common.{option_map, ◌≡◌, ◌≢◌, ℕ, zero, suc, ◌<◌, ℤ, pos, true, false, List, [], ◌∷◌, ◌++◌, length, get_or, Some, None, Ok, Result, inl, inr, refl, sym, subst, arith, true≢false}
 use Rattle.model.specs.declared.steps.Step.{Step}
 use Rattle.model.specs.declared.steps.Step.TheVariants.{Start, Finish, Sync}
 use Rattle.model.specs.Lists.{has}
