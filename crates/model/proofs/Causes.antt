@@ -11,6 +11,7 @@ use Rattle.model.specs.Lawful.{IsLawful, May, runs, started, finished}
 use Rattle.model.specs.RunState.{RunState, RunningSystem, has_tick, has_ids_to_start, can_start, started_system, body_of, can_finish, after_start, after_condition, after_sync, overlaid, finish, finish_with, between, opening}
 use Rattle.model.specs.Meaning.{Interleaved, running_system, without_system, with_running_systems, serial, interleaved, serial_step, serial_start, interleaved_step}
 use Rattle.model.specs.Causes.{Cause, unless, cause_of_start, cause_of_answer, cause_of_finish, serial_cause_of, serial_cause_at, serial_cause, cause_of_running, interleaved_cause_of, interleaved_cause_at, interleaved_cause}
+use Rattle.model.proofs.Holding.{system_of-started}
 use Rattle.model.proofs.Lists.{provided-Some}
 use Rattle.model.specs.Causes.Cause.{NoTick, NoIds, NoEventNumber}
 
@@ -151,11 +152,6 @@ runs-longer true true s' f' e = absurd (false≢true e)
 runs-longer false true true f' e = absurd (false≢true e)
 runs-longer false true false f' e = absurd (false≢true e)
 
--- who starts has its number
-started-number : (s : Schedule) (n : ℕ) (run : RunState) → (started_system s n run).system ≡ n
-unfolding started_system
-started-number s n run = refl
-
 -- a step keeps each system that runs among the running systems
 listed-step : (s : Schedule) (bodies : List BodyMeaning) (step : Step) (h : List Step) (v w : Interleaved) (n : ℕ) → interleaved_step s bodies step v ≡ Some w
     → (runs h n ≡ true → IsThere n v.running_systems) → runs (step ∷ h) n ≡ true → IsThere n w.running_systems
@@ -167,7 +163,7 @@ listed-step s bodies (Start m) h v w n e before r =
     subst (λ x. IsThere n x.running_systems) p.1 (go (runs-longer (m == n) false (started h n) (finished h n) r).1)
   where
     go : ((m == n) ≡ true) ⊎ ((started h n && not (finished h n)) ≡ true) → IsThere n (v.running_systems ++ started_system s m v.run ∷ [])
-    go (inl same) = there-last n v.running_systems (started_system s m v.run) (ap (λ x. x == n) (started-number s m v.run) ∙ same)
+    go (inl same) = there-last n v.running_systems (started_system s m v.run) (ap (λ x. x == n) (system_of-started s m v.run) ∙ same)
     go (inr more) = there-before n v.running_systems (started_system s m v.run) (before more)
 listed-step s bodies (Skip m) h v w n e before r = let same : v ≡ w = cc in subst (λ x. IsThere n x.running_systems) same (before r)
 listed-step s bodies (Finish m) h v w n e before r =

@@ -109,7 +109,7 @@ runs_after-finish h n m d r =
     runs_from (Finish n ∷ h) m (runs_parts h m r).0 (or_from (n == m) (finished h m) (ne_eqb n m (λ e. d (sym e))) (runs_parts h m r).1)
 
 -- the number of a system that starts
-system_of-started : (s : Schedule) (n : ℕ) (run : RunState) → (started_system s n run).system ≡ n
+pub system_of-started : (s : Schedule) (n : ℕ) (run : RunState) → (started_system s n run).system ≡ n
 unfolding started_system
 system_of-started s n run = refl
 

@@ -1,6 +1,5 @@
 -- What is laid row by row over the shown rows is the overlay: the last row first, or in any order where no row stands twice.
 use Rattle.std.proofs.Common.{◌≡◌, ◌≢◌, ℕ, zero, suc, ℤ, Bool, true, false, cond, refl, sym, ap, ap₂, ◌∙◌, List, [], ◌∷◌, map-id, Option, Some, None, ◌==◌, arith, ne_eqb, eq-eqb, eqb-true, ◌<◌}
-use Rattle.std.proofs.lemmas.Bool.{cond-false, or_parts}
 use Rattle.std.specs.List.{AllByRecursion}
 use Rattle.model.specs.Lists.{first_some, has, map_index, update_at}
 use Rattle.model.specs.State.{Cell, Component, Slot, Resource, EventQueue, fresh_slot, no_resource, empty_queue}
@@ -9,6 +8,7 @@ use Rattle.model.specs.Events.{send_all}
 use Rattle.model.specs.Input.{ShownRow, is_row, shown_row, rows_from}
 use Rattle.model.specs.Outcome.{words_in_row, words_in_query, words_written, value_written, events_sent}
 use Rattle.model.specs.Overlay.{cell_after, row_after, slot_after, slots_after, resource_after, resources_after, queues_after}
+use Rattle.model.proofs.Conflicts.{events_sent-none}
 use Rattle.model.proofs.Lists.{map_index-same, map_index-id, map_index-map_index, update_at-comm}
 
 -- ---- one write after another
@@ -184,13 +184,6 @@ queues_after-none : (queues : List EventQueue) → queues_after (λ kind. []) qu
 unfolding queues_after
 queues_after-none queues = map_index-id (λ kind. send_all []) empty_queue queues (λ i. refl)
 
--- of a kind that isn't among those written nothing is sent
-events_sent-other : (ks : List ℕ) (sent : List (List ℤ)) (kind : ℕ) → has kind ks ≡ false → events_sent ks sent kind ≡ []
-events_sent-other [] sent kind e = refl
-events_sent-other (k ∷ ks) [] kind e = refl
-events_sent-other (k ∷ ks) (xs ∷ sent) kind e = let p = or_parts (k == kind) (has kind ks) e in
-    cond-false (k == kind) xs (events_sent ks sent kind) p.0 ∙ events_sent-other ks sent kind p.1
-
 -- the event kinds laid, the last one first
 abbrev pub laid_events : List ℕ → List (List ℤ) → List EventQueue → List EventQueue
 laid_events [] sent queues = queues
@@ -225,5 +218,5 @@ queues_after-one k xs events queues none =
 pub queues_after-laid : (ks : List ℕ) (sent : List (List ℤ)) (queues : List EventQueue) → KindsOnce ks → queues_after (events_sent ks sent) queues ≡ laid_events ks sent queues
 queues_after-laid [] sent queues once = queues_after-none queues
 queues_after-laid (k ∷ ks) [] queues once = queues_after-none queues
-queues_after-laid (k ∷ ks) (xs ∷ sent) queues once = queues_after-one k xs (events_sent ks sent) queues (events_sent-other ks sent k once.0)
+queues_after-laid (k ∷ ks) (xs ∷ sent) queues once = queues_after-one k xs (events_sent ks sent) queues (events_sent-none ks sent k once.0)
     ∙ ap (update_at k (send_all xs)) (queues_after-laid ks sent queues once.1)

@@ -1,18 +1,18 @@
 -- Serial runs without commands: no buffer holds a command and no id is granted, and each step does to the state what `after` says.
-use Rattle.std.proofs.Common.{ℕ, zero, suc, ◌-◌, Bool, true, false, cond, ◌&&◌, ◌==◌, ◌≡◌, List, [], ◌∷◌, ◌++◌, length, get_or, replicate, flat_map, None, Ok, refl, sym, ap, ap₂, ◌∙◌, arith, append-nil}
+use Rattle.std.proofs.Common.{ℕ, zero, suc, Bool, true, false, cond, ◌==◌, ◌≡◌, List, [], ◌∷◌, ◌++◌, get_or, flat_map, None, Ok, refl, sym, ap, ap₂, ◌∙◌}
 use Rattle.std.specs.Option.{unwrap_or}
-use Rattle.std.proofs.lemmas.Bool.{and_right}
 use Rattle.model.specs.Lists.{update_at}
-use Rattle.model.specs.State.{Entity, Slot, Component, Resource, EventQueue, State, fresh_slot, no_resource, empty_queue, is_granted}
+use Rattle.model.specs.State.{Entity, Slot, Component, Resource, EventQueue, State, fresh_slot, no_resource, empty_queue}
 use Rattle.model.specs.Input.{shown}
 use Rattle.model.specs.Outcome.{Outcome, Command, BodyMeaning}
 use Rattle.model.specs.Overlay.{row_after, slot_after, slots_after, resource_after, resources_after, queues_after}
 use Rattle.model.specs.Schedule.{Schedule, params_of, level_of}
-use Rattle.model.specs.Ids.{vacant_indices, with_room, granted_ids, grant}
-use Rattle.model.specs.Commands.{apply_buffer, release, names_index, freed}
+use Rattle.model.specs.Ids.{granted_ids, grant}
+use Rattle.model.specs.Commands.{apply_buffer, release}
 use Rattle.model.specs.RunState.{RunState, next_tick, memory_of_system, memory_after_run, with_registers, ids_of_start, started_system, after_start, overlaid, after_condition, after_sync, systems_of_level}
 use Rattle.model.specs.Agreement.Observer.{OfSystem, OfCondition}
 use Rattle.model.proofs.Lists.{map_index-id}
+use Rattle.model.proofs.Engine.{grant-none, granted_ids-none, release-none}
 use Rattle.model.proofs.Visits.{come, values_of, sent_of}
 use Rattle.model.proofs.Agreeing.{ticked}
 use Rattle.model.proofs.Seen.{shown_at}
@@ -48,30 +48,6 @@ resources_after-nothing t rs = map_index-id (λ n. resource_after t None) no_res
 queues_after-nothing : (queues : List EventQueue) → queues_after (λ k. []) queues ≡ queues
 unfolding queues_after
 queues_after-nothing queues = map_index-id (λ k queue. queue) empty_queue queues (λ k. refl)
-
--- there is room for no id
-with_room-none : (slots : List Slot) → with_room 0 slots ≡ slots
-unfolding with_room
-with_room-none slots = ap (λ k. slots ++ replicate k fresh_slot) (let e : 0 - length (vacant_indices slots) ≡ 0 = omega arith in e) ∙ append-nil slots
-
--- a grant of no id does nothing
-grant-none : (slots : List Slot) → grant 0 slots ≡ slots
-unfolding grant
-grant-none slots = map_index-id (λ index slot. slot) fresh_slot (with_room 0 slots) (λ i. refl) ∙ with_room-none slots
-
--- it gives none
-granted_ids-none : (slots : List Slot) → granted_ids 0 slots ≡ []
-unfolding granted_ids
-granted_ids-none slots = refl
-
--- a release of no id does nothing
-release-none : (slots : List Slot) → release [] slots ≡ slots
-unfolding release
-release-none slots = map_index-id (λ index slot. cond (is_granted slot.status && names_index index []) (freed slot) slot) fresh_slot slots
-    (λ i. go (get_or slots i fresh_slot))
-  where
-    go : (slot : Slot) → cond (is_granted slot.status && false) (freed slot) slot ≡ slot
-    go slot = ap (λ b. cond b (freed slot) slot) (and_right (is_granted slot.status) false refl)
 
 -- nothing for each is nothing
 flat_map-none : {A : Type 0} (f : ℕ → List A) (ns : List ℕ) → ((n : ℕ) → f n ≡ []) → flat_map f ns ≡ []
