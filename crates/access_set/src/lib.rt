@@ -1,4 +1,5 @@
 // What a system may touch: its parameters, and when two of them conflict.
 #![tactic(auto)]
 
+pub mod conflict;
 pub mod params;

@@ -1,8 +1,10 @@
 // The parameters of a system.
 
-ghost use Rattle.std.specs.Prelude.{◌≡◌, [], ◌∷◌, ◌++◌, map, OnOk, OnErr, None};
+ghost use Rattle.std.specs.Prelude.{◌≡◌, ◌==◌, [], ◌∷◌, ◌++◌, map, OnOk, OnErr, None};
 ghost use Rattle.kinds.specs.Res.{res_number, event_number};
-ghost use Rattle.model.specs.Access.{no_params};
+ghost use Rattle.std.specs.List.{list_any};
+ghost use Rattle.model.specs.Access.{no_params, names_resource, names_event};
+ghost use Rattle.model.specs.Lists.{has};
 
 use kinds::res::{Event, Res};
 use query_plan::query::Query;
@@ -62,4 +64,89 @@ impl Params {
     {
         self.queries.as_slice()
     }
+
+    /// The resources that are read (`Res`), in order.
+    pub fn res(&self) -> &[Res]
+        ensures { map res_number result.now ≡ self.now.res }
+    {
+        self.res.as_slice()
+    }
+
+    /// The resources that are written (`ResMut`), in order.
+    pub fn res_mut(&self) -> &[Res]
+        ensures { map res_number result.now ≡ self.now.res_mut }
+    {
+        self.res_mut.as_slice()
+    }
+
+    /// The event kinds that are read, in order.
+    pub fn reads(&self) -> &[Event]
+        ensures { map event_number result.now ≡ self.now.reads }
+    {
+        self.reads.as_slice()
+    }
+
+    /// The event kinds that are written, in order.
+    pub fn writes(&self) -> &[Event]
+        ensures { map event_number result.now ≡ self.now.writes }
+    {
+        self.writes.as_slice()
+    }
+
+    /// How many ids are granted at a start, where the system has Commands.
+    pub fn spawns(&self) -> Option<u32>
+        ensures { result ≡ self.now.spawns }
+    {
+        self.spawns
+    }
+
+    /// Whether the resource is read or written.
+    pub fn names_resource(&self, resource: Res) -> bool
+        ensures { result ≡ names_resource self.now (res_number resource) }
+    {
+        if has_resource(self.res(), resource) {
+            return true;
+        }
+        has_resource(self.res_mut(), resource)
+    }
+
+    /// Whether the event kind is read or written.
+    pub fn names_event(&self, event: Event) -> bool
+        ensures { result ≡ names_event self.now (event_number event) }
+    {
+        if has_event(self.reads(), event) {
+            return true;
+        }
+        has_event(self.writes(), event)
+    }
+}
+
+// Whether the resource is among these.
+#[tactic(auto, using(crate::proofs::Meets::any_of_numbers))]
+fn has_resource(resources: &[Res], resource: Res) -> bool
+    ensures { result ≡ has (res_number resource) (map res_number resources.now) }
+{
+    any_resource(resources, resource.number())
+}
+
+// Whether one of these resources has the number.
+fn any_resource(resources: &[Res], number: u32) -> bool
+    ensures { result ≡ list_any (λ x. res_number x == number) resources.now }
+{
+    resources.iter().any(|x| x.number() == number)
+}
+
+// Whether the event kind is among these.
+#[tactic(auto, using(crate::proofs::Meets::any_of_numbers))]
+fn has_event(events: &[Event], event: Event) -> bool
+    ensures { result ≡ has (event_number event) (map event_number events.now) }
+{
+    any_event(events, event.number())
+}
+
+// Whether one of these event kinds has the number.
+fn any_event(events: &[Event], number: u32) -> bool
+    ensures { result ≡ list_any (λ x. event_number x == number) events.now }
+{
+    events.iter().any(|x| x.number() == number)
 }

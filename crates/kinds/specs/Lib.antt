@@ -1,2 +1,4 @@
 pub mod Kind
 pub mod Res
+pub mod Components
+pub mod Value

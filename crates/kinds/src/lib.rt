@@ -1,5 +1,9 @@
 // The kinds of components. No other crate lists them.
 #![tactic(auto)]
 
+pub mod component;
+pub mod each_kind;
 pub mod kind;
 pub mod res;
+pub mod value;
+pub mod words;

@@ -1,9 +1,12 @@
 // The resources, and the kinds of events.
 
-ghost use Rattle.std.specs.Prelude.{◌≡◌, ◌<◌};
-ghost use Rattle.kinds.specs.Res.{res_number, event_number};
+ghost use Rattle.std.specs.Prelude.{◌≡◌, ◌<◌, Some};
+ghost use Rattle.kinds.specs.Res.{res_number, res_name, IsRes, event_number, event_name, IsEvent};
+ghost use Rattle.texts.specs.Reads.{Reads};
 
-/// A resource: one value of 64 bits, which the world has from the start.
+use std::fmt;
+
+/// A resource: one value of 64 bits, which the world has from the start. Printed as its name.
 #[derive(Clone, Copy, PartialEq, Eq, Debug)]
 pub enum Res {
     Round,
@@ -35,9 +38,50 @@ impl Res {
             Res::Step => 7,
         }
     }
+
+    /// The name of the resource.
+    pub fn name(self) -> &'static str
+        ensures { result.now ≡ res_name self }
+    {
+        match self {
+            Res::Round => "Round",
+            Res::Gravity => "Gravity",
+            Res::Total => "Total",
+            Res::Seed => "Seed",
+            Res::Limit => "Limit",
+            Res::Alarm => "Alarm",
+            Res::Mode => "Mode",
+            Res::Step => "Step",
+        }
+    }
+
+    /// The resource that a word names.
+    pub fn named(word: &str) -> Option<Res>
+        ensures { Reads IsRes word.now result }
+    {
+        match word {
+            "Round" => Some(Res::Round),
+            "Gravity" => Some(Res::Gravity),
+            "Total" => Some(Res::Total),
+            "Seed" => Some(Res::Seed),
+            "Limit" => Some(Res::Limit),
+            "Alarm" => Some(Res::Alarm),
+            "Mode" => Some(Res::Mode),
+            "Step" => Some(Res::Step),
+            _ => None,
+        }
+    }
 }
 
-/// A kind of events, each with one value of 64 bits.
+impl fmt::Display for Res {
+    ghost output = { λ res. Some (res_name res) };
+
+    fn fmt<W: fmt::Write>(&self, f: &mut fmt::Formatter<W>) -> fmt::Result {
+        f.write_str(self.name())
+    }
+}
+
+/// A kind of events, each with one value of 64 bits. Printed as its name.
 #[derive(Clone, Copy, PartialEq, Eq, Debug)]
 pub enum Event {
     Hit,
@@ -60,5 +104,52 @@ impl Event {
             Event::Spark => 2,
             Event::Done => 3,
         }
+    }
+
+    /// The name of the event kind.
+    pub fn name(self) -> &'static str
+        ensures { result.now ≡ event_name self }
+    {
+        match self {
+            Event::Hit => "Hit",
+            Event::Heal => "Heal",
+            Event::Spark => "Spark",
+            Event::Done => "Done",
+        }
+    }
+
+    /// The event kind that a word names.
+    pub fn named(word: &str) -> Option<Event>
+        ensures { Reads IsEvent word.now result }
+    {
+        match word {
+            "Hit" => Some(Event::Hit),
+            "Heal" => Some(Event::Heal),
+            "Spark" => Some(Event::Spark),
+            "Done" => Some(Event::Done),
+            _ => None,
+        }
+    }
+}
+
+impl fmt::Display for Event {
+    ghost output = { λ event. Some (event_name event) };
+
+    fn fmt<W: fmt::Write>(&self, f: &mut fmt::Formatter<W>) -> fmt::Result {
+        f.write_str(self.name())
+    }
+}
+
+#[cfg(test)]
+mod tests {
+    use super::*;
+
+    #[test]
+    fn names(rt: HostRuntime) {
+        assert_eq!(rt; Res::named("Gravity"), Some(Res::Gravity));
+        assert_eq!(rt; Res::named("gravity"), None);
+        assert_eq!(rt; Res::Step.name(), "Step");
+        assert_eq!(rt; Event::named("Spark"), Some(Event::Spark));
+        assert_eq!(rt; Event::named("Gravity"), None);
     }
 }

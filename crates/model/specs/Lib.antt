@@ -24,6 +24,11 @@ pub mod Ambiguity
 pub mod Shape
 pub mod Agreement
 pub mod Loaded
+pub mod Codes
+pub mod QueryFaults
+pub mod Declarations
+pub mod Refusals
+pub mod ScheduleOrder
 pub mod Runs
 pub mod Laws
 pub mod Judged

@@ -1,1 +1,3 @@
 pub mod Term
+pub mod BadQuery
+pub mod Grammar

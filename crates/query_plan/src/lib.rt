@@ -1,4 +1,6 @@
-// Queries: their terms, what they ask of an entity, and their rows.
+// Queries: their terms, what they ask of an entity, their texts, and their rows.
 #![tactic(auto)]
 
+pub mod check;
 pub mod query;
+pub mod reading;

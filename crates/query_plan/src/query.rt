@@ -1,6 +1,12 @@
 // The terms of a query, and a query as the list of them.
 
 ghost use Rattle.std.specs.Prelude.{◌≡◌, [], ◌∷◌, ◌++◌, map, OnOk, OnErr};
+ghost use Rattle.std.specs.List.{list_any};
+ghost use Rattle.std.specs.Option.{option_map};
+ghost use Rattle.kinds.specs.Kind.{kind_number};
+ghost use Rattle.model.specs.Lists.{is_number};
+ghost use Rattle.model.specs.Query.{touched, written, touches, writes};
+ghost use Rattle.model.specs.Conflict.{required, requires_kind};
 ghost use Rattle.query_plan.specs.Term.{term_of};
 
 use kinds::kind::Kind;
@@ -28,6 +34,46 @@ pub enum Term {
     Added(Kind),
     /// The component was changed since the last run.
     Changed(Kind),
+}
+
+impl Term {
+    /// The kind that the term touches: of a component that a row shows, or whose stamps are asked for.
+    pub fn touched(self) -> Option<Kind>
+        ensures { option_map kind_number result ≡ touched (term_of self) }
+    {
+        match self {
+            Term::Entity | Term::With(_) | Term::Without(_) => None,
+            Term::Read(kind) => Some(kind),
+            Term::Mut(kind) => Some(kind),
+            Term::Opt(kind) => Some(kind),
+            Term::Added(kind) => Some(kind),
+            Term::Changed(kind) => Some(kind),
+        }
+    }
+
+    /// The kind that the term writes.
+    pub fn written(self) -> Option<Kind>
+        ensures { option_map kind_number result ≡ written (term_of self) }
+    {
+        match self {
+            Term::Mut(kind) => Some(kind),
+            _ => None,
+        }
+    }
+
+    /// The kind that an entity must have for the term.
+    pub fn required(self) -> Option<Kind>
+        ensures { option_map kind_number result ≡ required (term_of self) }
+    {
+        match self {
+            Term::Entity | Term::Opt(_) | Term::Without(_) => None,
+            Term::Read(kind) => Some(kind),
+            Term::Mut(kind) => Some(kind),
+            Term::With(kind) => Some(kind),
+            Term::Added(kind) => Some(kind),
+            Term::Changed(kind) => Some(kind),
+        }
+    }
 }
 
 /// A query: its terms in order. Contracts see the list of terms, each over the number of its kind.
@@ -70,5 +116,60 @@ impl Query {
         ensures { map term_of result.now ≡ self.now }
     {
         self.terms.as_slice()
+    }
+
+    /// Whether a term of the query touches the kind.
+    #[tactic(auto, using(crate::proofs::Terms::any_of_terms))]
+    pub fn touches(&self, kind: Kind) -> bool
+        ensures { result ≡ touches self.now (kind_number kind) }
+    {
+        any_touches(self.terms(), kind)
+    }
+
+    /// Whether a term of the query writes the kind.
+    #[tactic(auto, using(crate::proofs::Terms::any_of_terms))]
+    pub fn writes(&self, kind: Kind) -> bool
+        ensures { result ≡ writes self.now (kind_number kind) }
+    {
+        any_writes(self.terms(), kind)
+    }
+
+    /// Whether every entity that the query matches has the kind.
+    #[tactic(auto, using(crate::proofs::Terms::any_of_terms))]
+    pub fn requires_kind(&self, kind: Kind) -> bool
+        ensures { result ≡ requires_kind self.now (kind_number kind) }
+    {
+        any_requires(self.terms(), kind)
+    }
+}
+
+// Whether some of the terms touches the kind.
+fn any_touches(terms: &[Term], kind: Kind) -> bool
+    ensures { result ≡ list_any (λ t. is_number (kind_number kind) (touched (term_of t))) terms.now }
+{
+    terms.iter().any(|term| is_kind(kind, term.touched()))
+}
+
+// Whether some of the terms writes the kind.
+fn any_writes(terms: &[Term], kind: Kind) -> bool
+    ensures { result ≡ list_any (λ t. is_number (kind_number kind) (written (term_of t))) terms.now }
+{
+    terms.iter().any(|term| is_kind(kind, term.written()))
+}
+
+// Whether some of the terms requires the kind.
+fn any_requires(terms: &[Term], kind: Kind) -> bool
+    ensures { result ≡ list_any (λ t. is_number (kind_number kind) (required (term_of t))) terms.now }
+{
+    terms.iter().any(|term| is_kind(kind, term.required()))
+}
+
+// Whether the kind is the named one.
+fn is_kind(kind: Kind, named: Option<Kind>) -> bool
+    ensures { result ≡ is_number (kind_number kind) (option_map kind_number named) }
+{
+    match named {
+        None => false,
+        Some(other) => other.number() == kind.number(),
     }
 }

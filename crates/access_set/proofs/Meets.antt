@@ -1,0 +1,105 @@
+-- The three parts of a conflict, from the tests that look for them.
+use Rattle.std.proofs.Common.{ℕ, Bool, true, ◌||◌, ◌≡◌, ◌↔◌, ◌⊎◌, inl, inr, List, [], ◌∷◌, map, Option, Some, None, refl, ap}
+use Rattle.std.proofs.lemmas.Bool.{or_cases, or_left, or_right, false≢true}
+use Rattle.std.specs.List.{list_any}
+use Rattle.model.specs.Lists.{has, is_number}
+use Rattle.model.specs.Query.{Term, touched}
+use Rattle.model.specs.Access.{Params, names_resource, names_event}
+use Rattle.model.specs.Conflict.{Conflict, QueriesConflictAt, queries_conflict_at}
+use Rattle.model.specs.Conflict.Datum.{OfKind, OfResource, OfEvent}
+use Rattle.model.proofs.Lists.{list_any-IsIn, IsIn_from_any, has-IsIn, IsIn_from_has}
+use Rattle.model.proofs.Members.{number-of}
+use Rattle.model.proofs.Tests.{test-queries, conflict-queries}
+use Rattle.access_set.specs.Meets.{MeetAtKind, MeetAtResource, MeetAtEvent, meets_at, queries_meet}
+
+-- a test of numbers is a test of what has them
+pub any_of_numbers : {A : Type 0} (test : ℕ → Bool) (number : A → ℕ) (xs : List A) → list_any test (map number xs) ≡ list_any (λ x. test (number x)) xs
+any_of_numbers test number [] = refl
+any_of_numbers test number (x ∷ xs) = ap (λ b. test (number x) || b) (any_of_numbers test number xs)
+
+-- ---- kinds
+
+-- queries that conflict at a kind that one term touches
+meets_from : (q r : List Term) (kind : ℕ) (o : Option ℕ) → o ≡ Some kind → queries_conflict_at q r kind ≡ true → meets_at q r o ≡ true
+meets_from q r kind o same e = rw same e
+
+-- queries that conflict at a kind meet
+queries_meet_from : (q r : List Term) (kind : ℕ) → QueriesConflictAt q r kind → queries_meet q r ≡ true
+queries_meet_from q r kind c = let t = IsIn_from_any (λ t. is_number kind (touched t)) q c.first_touches in
+    list_any-IsIn (λ t. meets_at q r (touched t)) t.0 q t.1 (meets_from q r kind (touched t.0) (number-of kind (touched t.0) t.2) (test-queries q r kind c))
+
+-- where they meet at what a term touches they conflict there
+conflict_from : (q r : List Term) (o : Option ℕ) → meets_at q r o ≡ true → (kind : ℕ) × QueriesConflictAt q r kind
+conflict_from q r None e = absurd (false≢true e)
+conflict_from q r (Some kind) e = (kind, conflict-queries q r kind e)
+
+-- queries that meet conflict at some kind
+conflict_from_queries_meet : (q r : List Term) → queries_meet q r ≡ true → (kind : ℕ) × QueriesConflictAt q r kind
+conflict_from_queries_meet q r e = let t = IsIn_from_any (λ t. meets_at q r (touched t)) q e in conflict_from q r (touched t.0) t.2
+
+-- accesses conflict at a kind exactly where two of their queries meet
+pub meet_at_kind : (a b : Params) → (list_any (λ q. list_any (λ r. queries_meet q r) b.queries) a.queries ≡ true) ↔ MeetAtKind a b
+meet_at_kind a b = (found, tested)
+  where
+    found : list_any (λ q. list_any (λ r. queries_meet q r) b.queries) a.queries ≡ true → MeetAtKind a b
+    found e =
+        let first = IsIn_from_any (λ q. list_any (λ r. queries_meet q r) b.queries) a.queries e in
+        let second = IsIn_from_any (λ r. queries_meet first.0 r) b.queries first.2 in
+        let at = conflict_from_queries_meet first.0 second.0 second.2 in
+        (at.0, (first.0, second.0, first.1, second.1, at.1))
+
+    tested : MeetAtKind a b → list_any (λ q. list_any (λ r. queries_meet q r) b.queries) a.queries ≡ true
+    tested (kind, c) = list_any-IsIn (λ q. list_any (λ r. queries_meet q r) b.queries) c.0 a.queries c.2
+        (list_any-IsIn (λ r. queries_meet c.0 r) c.1 b.queries c.3 (queries_meet_from c.0 c.1 kind c.4))
+
+-- ---- resources and event kinds
+
+-- what the first writes and the second names
+pub first_writes_resource : (a b : Params) → list_any (names_resource b) a.res_mut ≡ true → MeetAtResource a b
+first_writes_resource a b e = let x = IsIn_from_any (names_resource b) a.res_mut e in let here = has-IsIn x.0 a.res_mut x.1 in
+    (x.0, record { first_names = or_right _ _ here; second_names = x.2; one_writes = or_left _ _ here })
+
+-- what the second writes and the first names
+pub second_writes_resource : (a b : Params) → list_any (names_resource a) b.res_mut ≡ true → MeetAtResource a b
+second_writes_resource a b e = let x = IsIn_from_any (names_resource a) b.res_mut e in let here = has-IsIn x.0 b.res_mut x.1 in
+    (x.0, record { first_names = x.2; second_names = or_right _ _ here; one_writes = or_right _ _ here })
+
+-- accesses that conflict at a resource
+pub resource_met : (a b : Params) → MeetAtResource a b → (list_any (names_resource b) a.res_mut ≡ true) ⊎ (list_any (names_resource a) b.res_mut ≡ true)
+resource_met a b (number, c) = elim (or_cases (has number a.res_mut) (has number b.res_mut) c.one_writes) [
+  | inl first ↦ inl (list_any-IsIn (names_resource b) number a.res_mut (IsIn_from_has number a.res_mut first) c.second_names)
+  | inr second ↦ inr (list_any-IsIn (names_resource a) number b.res_mut (IsIn_from_has number b.res_mut second) c.first_names)
+]
+
+-- the same of event kinds
+pub first_writes_event : (a b : Params) → list_any (names_event b) a.writes ≡ true → MeetAtEvent a b
+first_writes_event a b e = let x = IsIn_from_any (names_event b) a.writes e in let here = has-IsIn x.0 a.writes x.1 in
+    (x.0, record { first_names = or_right _ _ here; second_names = x.2; one_writes = or_left _ _ here })
+
+pub second_writes_event : (a b : Params) → list_any (names_event a) b.writes ≡ true → MeetAtEvent a b
+second_writes_event a b e = let x = IsIn_from_any (names_event a) b.writes e in let here = has-IsIn x.0 b.writes x.1 in
+    (x.0, record { first_names = x.2; second_names = or_right _ _ here; one_writes = or_right _ _ here })
+
+pub event_met : (a b : Params) → MeetAtEvent a b → (list_any (names_event b) a.writes ≡ true) ⊎ (list_any (names_event a) b.writes ≡ true)
+event_met a b (kind, c) = elim (or_cases (has kind a.writes) (has kind b.writes) c.one_writes) [
+  | inl first ↦ inl (list_any-IsIn (names_event b) kind a.writes (IsIn_from_has kind a.writes first) c.second_names)
+  | inr second ↦ inr (list_any-IsIn (names_event a) kind b.writes (IsIn_from_has kind b.writes second) c.first_names)
+]
+
+-- ---- the three parts
+
+-- where one part conflicts the accesses do
+pub conflict_at_kind : (a b : Params) → MeetAtKind a b → Conflict a b
+conflict_at_kind a b (kind, c) = (OfKind kind, c)
+
+pub conflict_at_resource : (a b : Params) → MeetAtResource a b → Conflict a b
+conflict_at_resource a b (number, c) = (OfResource number, c)
+
+pub conflict_at_event : (a b : Params) → MeetAtEvent a b → Conflict a b
+conflict_at_event a b (kind, c) = (OfEvent kind, c)
+
+-- a conflict that is neither at a kind nor at a resource is at an event kind
+pub else_event : (a b : Params) → (MeetAtKind a b → ⊥) → (MeetAtResource a b → ⊥) → Conflict a b → MeetAtEvent a b
+else_event a b no_kind no_resource (OfKind kind, c) = absurd (no_kind (kind, c))
+else_event a b no_kind no_resource (OfResource number, c) = absurd (no_resource (number, c))
+else_event a b no_kind no_resource (OfEvent kind, c) = (kind, c)

@@ -1,0 +1,4 @@
+mod Rows
+mod Grants
+mod Edits
+mod Worlds

@@ -1,0 +1,5 @@
+pub mod Row
+pub mod Slot
+pub mod Ids
+pub mod Resources
+pub mod Store

@@ -1,0 +1,36 @@
+-- What contracts see of a store, and what its calls change.
+use Rattle.std.specs.Prelude.{ℕ, ℤ, pos, List, [], replicate, Some}
+use Rattle.model.specs.Lists.{update_at}
+use Rattle.model.specs.State.{Cell, Slot, World, resource_count}
+use Rattle.model.specs.Loaded.{resource_given}
+use Rattle.model.specs.Overlay.{resource_after}
+use Rattle.change_ticks.specs.declared.stamp.Stamp.{Stamp}
+
+-- a store: its state
+pub record StoreValue : Type 0 where
+  pub state : World
+
+-- the world without entities, at a clock: each resource is 0 and was changed at tick 1
+abbrev pub empty_world : ℕ → World
+empty_world clock = record { slots = []; resources = replicate resource_count (resource_given (pos 0)); clock = clock }
+
+-- the world with its slots changed
+abbrev pub with_slots : (List Slot → List Slot) → World → World
+with_slots f w = record { slots = f w.slots; resources = w.resources; clock = w.clock }
+
+-- the world with one slot changed
+abbrev pub with_slot : ℕ → (Slot → Slot) → World → World
+with_slot index f w = with_slots (update_at index f) w
+
+-- the world with a resource written at a tick
+abbrev pub with_resource : ℕ → ℤ → ℕ → World → World
+with_resource number value tick w =
+    record { slots = w.slots; resources = update_at number (resource_after tick (Some value)) w.resources; clock = w.clock }
+
+-- the world at another clock
+abbrev pub at_clock : ℕ → World → World
+at_clock clock w = record { slots = w.slots; resources = w.resources; clock = clock }
+
+-- the stamps of a cell
+abbrev pub stamp_of : Cell → Stamp
+stamp_of c = record { added = c.added; changed = c.changed }

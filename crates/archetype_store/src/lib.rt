@@ -1,0 +1,10 @@
+// The store: what the world holds by entity, its resources and its clock, in plain rows.
+#![tactic(auto)]
+
+pub mod fault;
+mod ids;
+mod resources;
+pub mod row;
+mod slot;
+mod slots;
+pub mod store;

@@ -1,0 +1,334 @@
+// The world: entities with their components, resources and the clock.
+
+ghost use Rattle.std.specs.Prelude.{◌≡◌, ◌+◌, ◌≤◌, ◌<◌, ◌↔◌, ℕ, true, false, length, map, option_map, is_some, All, IfSome, IfNone, IfOk, IsErr, OnOk, OnErr, IsErrOf};
+ghost use Rattle.kinds.specs.Kind.{kind_number};
+ghost use Rattle.kinds.specs.Res.{res_number};
+ghost use Rattle.kinds.specs.Components.{widths};
+ghost use Rattle.model.specs.State.{last_tick};
+ghost use Rattle.model.specs.Shape.{IsWorld};
+ghost use Rattle.model.specs.Rows.{insert_component, row_at};
+ghost use Rattle.model.specs.Input.{value_of, words_of};
+ghost use Rattle.model.specs.Ids as ids;
+ghost use Rattle.model.specs.Commands.{is_alive, spawned, with_row};
+ghost use Rattle.model.specs.Overlay.{slot_after};
+ghost use Rattle.archetype_store.specs.Row.{component_of, only};
+ghost use Rattle.archetype_store.specs.Slot.{slot_at, lives_at, cell_of};
+ghost use Rattle.archetype_store.specs.Ids.{IsGranted};
+ghost use Rattle.archetype_store.specs.Resources.{changed_of};
+ghost use Rattle.archetype_store.specs.Store.{empty_world, with_slots, with_slot, with_resource, at_clock, stamp_of};
+
+use crate::fault::{GrantFault, StoreFault};
+use crate::resources::Resources;
+use crate::row::Stored;
+use crate::slots::Slots;
+use change_ticks::clock::{Clock, ClockSpent, Tick};
+use change_ticks::stamp::Stamp;
+use entity_table::Entity;
+use kinds::component::Component;
+use kinds::kind::Kind;
+use kinds::res::Res;
+use kinds::value::Value;
+use kinds::words::Words;
+use std::alloc::{AllocError, Global};
+use std::marker::Model;
+
+/// What a reader sees of one index.
+#[derive(Clone, Copy, Debug)]
+pub struct SlotView<'a> {
+    /// The generation; 1 past the last index.
+    pub generation: u32,
+    /// Whether the entity lives.
+    pub living: bool,
+    /// The components in rising kinds, none unless the entity lives.
+    pub components: &'a [Stored],
+}
+
+/// The world. Contracts see its state: slots by index, resources by number, the clock.
+#[derive(Drop, Debug)]
+pub struct World {
+    slots: Slots,
+    resources: Resources,
+    clock: Clock,
+}
+
+impl Model for World {
+    ghost use Rattle.kinds.specs.Components.{widths};
+    ghost use Rattle.model.specs.Shape.{IsWorld};
+    ghost use Rattle.archetype_store.specs.Store.{StoreValue};
+
+    ghost Value = { StoreValue };
+
+    ghost view = { λ w. record { state = record { slots = w.slots; resources = w.resources; clock = w.clock } } };
+
+    ghost invariant = { λ w. IsWorld widths (record { slots = w.slots; resources = w.resources; clock = w.clock }) };
+}
+
+impl World {
+    /// The world without entities, at this clock. Each resource is 0, changed at tick 1.
+    pub fn new(alloc: Global, clock: Clock) -> Result<World, AllocError>
+        ensures { IfOk result (λ w. w.state ≡ empty_world clock) }
+    {
+        // Tells that the clock stands at one of its ticks.
+        let _now = clock.now();
+        Ok(World {
+            slots: Slots::new(alloc),
+            resources: Resources::new(),
+            clock,
+        })
+    }
+
+    /// The tick at which the clock stands.
+    pub fn now(&self) -> Tick
+        ensures value { result ≡ self.now.state.clock }
+        ensures world { IsWorld widths self.now.state }
+    {
+        self.clock.now()
+    }
+
+    /// Moves the clock to the next tick, and gives that tick. At the last tick the clock is spent and nothing changes.
+    pub fn next(&mut self) -> Result<Tick, ClockSpent>
+        ensures ok { IfOk result (λ tick. tick ≡ self.old.state.clock + 1) }
+        ensures moved { OnOk result (self.new.state ≡ at_clock (self.old.state.clock + 1) self.old.state) }
+        ensures spent { IsErr result ↔ (self.old.state.clock ≡ last_tick) }
+        ensures err { OnErr result (self.new ≡ self.old) }
+    {
+        self.clock.next()
+    }
+
+    /// Grants so many ids: the least vacant indices, at their generations. After an error nothing has changed.
+    pub fn grant(&mut self, alloc: Global, count: u32) -> Result<Vec<Entity>, GrantFault>
+        ensures ok { IfOk result (λ granted. granted.items ≡ ids.granted_ids count self.old.state.slots) }
+        ensures granted { OnOk result (self.new.state ≡ with_slots (ids.grant count) self.old.state) }
+        ensures each { IfOk result (λ granted. All (IsGranted self.new.state.slots) granted.items) }
+        ensures spent { IsErrOf result GrantFault.IdsSpent ↔ (ids.has_ids count self.old.state.slots ≡ false) }
+        ensures err { OnErr result (self.new ≡ self.old) }
+    {
+        self.slots.grant(alloc, count)
+    }
+
+    /// Makes the entity of a granted id live, without components.
+    pub fn spawn_at(&mut self, e: Entity)
+        requires { IsGranted self.old.state.slots e }
+        ensures { self.new.state ≡ with_slot e.index (spawned e.generation) self.old.state }
+    {
+        self.slots.spawn_at(e);
+    }
+
+    /// Whether an entity lives.
+    pub fn lives(&self, e: Entity) -> bool
+        ensures { result ≡ is_alive self.now.state.slots e }
+    {
+        self.slots.lives(e)
+    }
+
+    /// The living entity of the least index from this one on.
+    pub fn next_living(&self, index: u32) -> Option<Entity>
+        ensures lives { IfSome result (λ e. (index ≤ e.index) × (is_alive self.now.state.slots e ≡ true)) }
+        ensures least { IfSome result (λ e. (k : ℕ) → index ≤ k → k < e.index → lives_at self.now.state.slots k ≡ false) }
+        ensures none { IfNone result ((k : ℕ) → index ≤ k → lives_at self.now.state.slots k ≡ false) }
+    {
+        self.slots.next_living(index)
+    }
+
+    /// Inserts a component of an entity at a tick. A component of the kind that is there is replaced and keeps its added stamp. After
+    /// an error nothing has changed.
+    pub fn insert<C: Component>(
+        &mut self,
+        e: Entity,
+        component: C,
+        tick: Tick,
+    ) -> Result<(), StoreFault>
+        requires { tick ≤ self.old.state.clock }
+        ensures ok { OnOk result (self.new.state ≡ with_slot e.index (with_row (insert_component tick C.NUMBER (C.words component))) self.old.state) }
+        ensures dead { IsErrOf result StoreFault.NotAlive ↔ (is_alive self.old.state.slots e ≡ false) }
+        ensures err { OnErr result (self.new ≡ self.old) }
+    {
+        self.slots.insert(e, component.into_value(), tick)
+    }
+
+    /// The component of this kind of an entity that lives.
+    pub fn get<C: Component>(&self, e: Entity) -> Option<C>
+        ensures { option_map C.words result ≡ words_of (cell_of self.now.state.slots e C.NUMBER) }
+    {
+        match self.slots.find(e, C::NUMBER) {
+            Some(stored) => C::from_value(stored.value),
+            None => None,
+        }
+    }
+
+    /// Whether an entity lives and has a component of a kind.
+    pub fn has(&self, e: Entity, kind: Kind) -> bool
+        ensures { result ≡ is_some (cell_of self.now.state.slots e (kind_number kind)) }
+    {
+        self.slots.find(e, kind.number()).is_some()
+    }
+
+    /// The stamps of a component of an entity that lives.
+    pub fn stamp(&self, e: Entity, kind: Kind) -> Option<Stamp>
+        ensures { result ≡ option_map stamp_of (cell_of self.now.state.slots e (kind_number kind)) }
+    {
+        match self.slots.find(e, kind.number()) {
+            Some(stored) => Some(stored.stamp),
+            None => None,
+        }
+    }
+
+    /// The value of a resource.
+    pub fn res(&self, res: Res) -> i64
+        ensures { result ≡ value_of self.now.state.resources (res_number res) }
+    {
+        self.resources.value(res)
+    }
+
+    /// Writes a resource at a tick.
+    pub fn set_res(&mut self, res: Res, value: i64, tick: Tick)
+        requires { tick ≤ self.old.state.clock }
+        ensures { self.new.state ≡ with_resource (res_number res) value tick self.old.state }
+    {
+        self.resources.set(res, value, tick);
+    }
+
+    /// When a resource was last changed.
+    pub fn res_changed(&self, res: Res) -> Tick
+        ensures { result ≡ changed_of self.now.state.resources (res_number res) }
+    {
+        self.resources.changed(res)
+    }
+
+    /// How many indices the world has: past them every index is vacant at generation 1.
+    pub fn slot_count(&self) -> u32
+        ensures { result ≡ length self.now.state.slots }
+    {
+        self.slots.len()
+    }
+
+    /// What a reader sees of an index.
+    pub fn slot(&self, index: u32) -> SlotView<'_>
+        ensures generation { result.generation ≡ (slot_at self.now.state.slots index).generation }
+        ensures living { result.living ≡ lives_at self.now.state.slots index }
+        ensures components { map component_of result.components.now ≡ row_at self.now.state.slots index }
+    {
+        match self.slots.get(index) {
+            Some(slot) => SlotView {
+                generation: slot.generation(),
+                living: slot.is_living(),
+                components: slot.row().components(),
+            },
+            None => SlotView {
+                generation: 1,
+                living: false,
+                components: &[],
+            },
+        }
+    }
+
+    /// Writes the words of one component at a tick: its value and its changed stamp. A kind that the row doesn't have is not
+    /// written.
+    pub fn write_words(&mut self, index: u32, kind: Kind, words: &Words, tick: Tick)
+        requires width { length words.now ≡ widths (kind_number kind) }
+        requires tick { tick ≤ self.old.state.clock }
+        ensures { self.new.state ≡ with_slot index (slot_after tick (only (kind_number kind) words.now)) self.old.state }
+    {
+        self.slots
+            .write(index, Value::of(kind, words.as_slice()), tick);
+    }
+}
+
+#[cfg(test)]
+mod tests {
+    use super::*;
+    use kinds::component::{Position, Velocity};
+    use std::test::Fail;
+
+    const FIRST: Entity = Entity {
+        index: 0,
+        generation: 1,
+    };
+
+    #[test]
+    fn starts_empty(rt: HostRuntime) -> Result<(), Fail> {
+        let mut world = World::new(rt.alloc(), Clock::at(1))?;
+        assert_eq!(rt; world.slot_count(), 0);
+        assert_eq!(rt;
+            (world.res(Res::Step), world.res_changed(Res::Step)),
+            (0, 1)
+        );
+        assert_eq!(rt; world.next()?, 2);
+        world.set_res(Res::Step, 7, 2);
+        assert_eq!(rt;
+            (world.res(Res::Step), world.res_changed(Res::Step)),
+            (7, 2)
+        );
+        Ok(())
+    }
+
+    #[test]
+    fn grants_the_least_vacant(rt: HostRuntime) -> Result<(), Fail> {
+        let mut world = World::new(rt.alloc(), Clock::at(1))?;
+        let ids = world.grant(rt.alloc(), 2)?;
+        assert_eq!(rt; ids.len(), 2);
+        assert_eq!(rt;
+            format!(in rt.alloc(); "{} {}", ids[0], ids[1])?.as_str(),
+            "0v1 1v1"
+        );
+        assert_eq!(rt; world.grant(rt.alloc(), 1)?.len(), 1);
+        assert_eq!(rt; world.slot_count(), 3);
+        assert!(rt; !world.lives(FIRST), "a granted id does not live yet");
+        assert_eq!(rt;
+            world.grant(rt.alloc(), 1_048_574).err(),
+            Some(GrantFault::IdsSpent)
+        );
+        Ok(())
+    }
+
+    #[test]
+    fn stamps_an_insert(rt: HostRuntime) -> Result<(), Fail> {
+        let mut world = World::new(rt.alloc(), Clock::at(4))?;
+        let ids = world.grant(rt.alloc(), 1)?;
+        assert_eq!(rt; ids.as_slice(), [FIRST].as_slice());
+        world.spawn_at(ids[0]);
+        world.insert(FIRST, Velocity { x: 0, y: 1 }, 2)?;
+        world.insert(FIRST, Position { x: 3, y: 5 }, 3)?;
+        world.insert(FIRST, Velocity { x: 1, y: 1 }, 4)?;
+        assert_eq!(rt; world.next_living(0), Some(FIRST));
+        assert_eq!(rt; world.get::<Velocity>(FIRST), Some(Velocity { x: 1, y: 1 }));
+        assert_eq!(rt;
+            world.stamp(FIRST, Kind::Velocity),
+            Some(Stamp {
+                added: 2,
+                changed: 4
+            })
+        );
+        assert_eq!(rt;
+            world.stamp(FIRST, Kind::Position),
+            Some(Stamp {
+                added: 3,
+                changed: 3
+            })
+        );
+        world.write_words(0, Kind::Position, &Words::two(8, 9), 4);
+        assert_eq!(rt;
+            world.stamp(FIRST, Kind::Position),
+            Some(Stamp {
+                added: 3,
+                changed: 4
+            })
+        );
+        let components = world.slot(0).components;
+        assert_eq!(rt; components.len(), 2, "kinds rise");
+        assert_eq!(rt;
+            components[0].value,
+            Value::Position(Position { x: 8, y: 9 })
+        );
+        let stale = Entity {
+            index: 0,
+            generation: 2,
+        };
+        assert_eq!(rt;
+            world.insert(stale, Position { x: 0, y: 0 }, 4),
+            Err(StoreFault::NotAlive)
+        );
+        assert!(rt; !world.has(stale, Kind::Position));
+        Ok(())
+    }
+}

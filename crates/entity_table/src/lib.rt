@@ -1,0 +1,4 @@
+// The ids of entities.
+#![tactic(auto)]
+
+pub use model::entities::Entity;

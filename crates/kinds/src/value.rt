@@ -1,0 +1,91 @@
+// A component of any kind.
+
+ghost use Rattle.std.specs.Prelude.{◌≡◌, ◌+◌, ◌<◌, length};
+ghost use Rattle.kinds.specs.Kind.{kind_number};
+ghost use Rattle.kinds.specs.Components.{widths};
+ghost use Rattle.kinds.specs.Value.{value_number, value_words};
+
+use crate::component::{Component, Position, Velocity};
+use crate::each_kind;
+use crate::kind::Kind;
+use crate::words::Words;
+
+/// A component of any kind. Contracts see the number of its kind and its words.
+#[derive(Clone, Copy, PartialEq, Eq, Debug)]
+pub enum Value {
+    Position(Position),
+    Velocity(Velocity),
+}
+
+impl Value {
+    /// The component of a kind with these fields.
+    pub fn of(kind: Kind, list: &[i64]) -> Self
+        requires { length list.now ≡ widths (kind_number kind) }
+        ensures number { value_number result ≡ kind_number kind }
+        ensures words { value_words result ≡ list.now }
+    {
+        each_kind!(kind, K => { <K as Component>::from_words(list).into_value() })
+    }
+
+    /// The kind of the component.
+    pub fn kind(self) -> Kind
+        ensures { kind_number result ≡ value_number self }
+    {
+        match self {
+            Value::Position(_) => Kind::Position,
+            Value::Velocity(_) => Kind::Velocity,
+        }
+    }
+
+    /// The fields of the component, in order: as many as its kind has.
+    pub fn words(&self) -> Words
+        ensures words { result ≡ value_words self.now }
+        ensures width { length result ≡ widths (value_number self.now) }
+    {
+        match self {
+            Value::Position(component) => component.to_words(),
+            Value::Velocity(component) => component.to_words(),
+        }
+    }
+}
+
+#[cfg(test)]
+mod tests {
+    use super::*;
+
+    // Adds the width of a kind to a sum.
+    fn width_added<C: Component>(sum: usize) -> usize
+        requires { sum < 100 }
+        ensures { result ≡ sum + C.WIDTH }
+    {
+        C::WIDTH + sum
+    }
+
+    // A component, made a value and words and back.
+    fn there_and_back<C: Component>(component: C) -> Option<C>
+        ensures { result ≡ Some component }
+    {
+        let component = C::from_words(component.to_words().as_slice());
+        C::from_value(component.into_value())
+    }
+
+    #[test]
+    fn components_come_back(rt: HostRuntime) {
+        let position = Position { x: 1, y: i64::MIN };
+        assert_eq!(rt; there_and_back(position), Some(position));
+        let velocity = Velocity { x: -1, y: i64::MAX };
+        assert_eq!(rt; there_and_back(velocity), Some(velocity));
+    }
+
+    #[test]
+    fn blocks_of_each_kind(rt: HostRuntime) {
+        let mut sum = 0;
+        each_kind!(K => { sum = width_added::<K>(sum); });
+        assert_eq!(rt; sum, 4);
+        let value = Value::of(Kind::Velocity, &[3, -4]);
+        assert_eq!(rt; value, Value::Velocity(Velocity { x: 3, y: -4 }));
+        assert_eq!(rt; value.kind(), Kind::Velocity);
+        assert_eq!(rt; value.words().as_slice(), [3, -4].as_slice());
+        assert_eq!(rt; Position::from_value(value), None);
+    }
+}

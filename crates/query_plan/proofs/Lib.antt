@@ -1,0 +1,3 @@
+pub mod QueryTexts
+pub mod Fetches
+pub mod Terms

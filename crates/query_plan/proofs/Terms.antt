@@ -1,0 +1,16 @@
+-- A test of the terms that contracts see is a test of the terms.
+use Rattle.std.proofs.Common.{Bool, ◌||◌, ◌&&◌, ◌≡◌, List, [], ◌∷◌, map, refl, ap}
+use Rattle.std.specs.List.{list_any, list_all}
+use Rattle.model.specs.Query.{Term as ModelTerm}
+use Rattle.query_plan.specs.declared.query.Term.{Term}
+use Rattle.query_plan.specs.Term.{term_of}
+
+-- for some term
+pub any_of_terms : (test : ModelTerm → Bool) (terms : List Term) → list_any test (map term_of terms) ≡ list_any (λ t. test (term_of t)) terms
+any_of_terms test [] = refl
+any_of_terms test (t ∷ terms) = ap (λ b. test (term_of t) || b) (any_of_terms test terms)
+
+-- for each term
+pub all_of_terms : (test : ModelTerm → Bool) (terms : List Term) → list_all test (map term_of terms) ≡ list_all (λ t. test (term_of t)) terms
+all_of_terms test [] = refl
+all_of_terms test (t ∷ terms) = ap (λ b. test (term_of t) && b) (all_of_terms test terms)

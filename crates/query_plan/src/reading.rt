@@ -1,0 +1,99 @@
+// Queries read from texts.
+
+ghost use Rattle.std.specs.Prelude.{map};
+ghost use Rattle.std.specs.List.{AllZip};
+ghost use Rattle.texts.specs.Reads.{Reads, ReadsUnlessMemory, SpellsSeen};
+ghost use Rattle.query_plan.specs.Term.{term_of};
+ghost use Rattle.query_plan.specs.Grammar.{AreTerm, IsTerm, IsQuery};
+
+use crate::query::{Query, Term};
+use kinds::kind::Kind;
+use std::alloc::Global;
+use texts::parts::parts_of;
+use texts::read_error::ReadError;
+use texts::words::{is_blank, words_of};
+
+impl Term {
+    /// Reads a term: `read K` or `mut K`, with one or more spaces between the words and any number at either end.
+    pub fn read(alloc: Global, text: &str) -> Result<Term, ReadError>
+        ensures { ReadsUnlessMemory IsTerm text.now result }
+    {
+        let words = words_of(alloc, text)?;
+        match Term::of_words(words.as_slice()) {
+            Some(term) => Ok(term),
+            None => Err(ReadError::Outside),
+        }
+    }
+
+    // The term that the words are.
+    fn of_words(words: &[&str]) -> Option<Term>
+        ensures { Reads AreTerm (map (λ word. word.now) words.now) result }
+    {
+        let [word, name] = words else {
+            return None;
+        };
+        let kind = Kind::named(name)?;
+        match *word {
+            "read" => Some(Term::Read(kind)),
+            "mut" => Some(Term::Mut(kind)),
+            _ => None,
+        }
+    }
+}
+
+impl Query {
+    /// Reads a query: terms with commas between. The empty text, or one of spaces alone, is the query without terms. Elsewhere
+    /// each part needs a term: a last comma is refused.
+    pub fn read(alloc: Global, text: &str) -> Result<Query, ReadError>
+        ensures { ReadsUnlessMemory IsQuery text.now result }
+    {
+        if is_blank(text) {
+            return Ok(Query::new(alloc));
+        }
+        let parts = parts_of(alloc, text)?;
+        Query::of_parts(alloc, parts.as_slice())
+    }
+
+    // The query of which each part is a term.
+    fn of_parts(alloc: Global, parts: &[&str]) -> Result<Query, ReadError>
+        ensures { ReadsUnlessMemory (AllZip (SpellsSeen term_of IsTerm)) (map (λ part. part.now) parts.now) result }
+    {
+        let mut query = Query::new(alloc);
+        for part in parts {
+            query.push(Term::read(alloc, part)?)?;
+        }
+        Ok(query)
+    }
+}
+
+#[cfg(test)]
+mod tests {
+    use super::*;
+    use std::test::Fail;
+
+    #[test]
+    fn queries(rt: HostRuntime) -> Result<(), Fail> {
+        let query = Query::read(rt.alloc(), " read  Position , mut Velocity")?;
+        assert_eq!(rt;
+            query.terms(),
+            [Term::Read(Kind::Position), Term::Mut(Kind::Velocity)].as_slice()
+        );
+        let empty = Query::read(rt.alloc(), "  ")?;
+        assert_eq!(rt; empty.terms().len(), 0);
+        for text in [
+            "read Position,",
+            ",",
+            "read Position,,mut Velocity",
+            "read\tPosition",
+            "mut",
+            "write Position",
+        ] {
+            assert_eq!(rt;
+                Query::read(rt.alloc(), text).err(),
+                Some(ReadError::Outside),
+                "at {text}"
+            );
+        }
+        Ok(())
+    }
+}

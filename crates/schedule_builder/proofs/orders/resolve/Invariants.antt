@@ -1,0 +1,5 @@
+use Rattle.schedule_builder.specs.Orders.{AreDeclaredBy}
+use Rattle.schedule_builder.proofs.orders.resolve.Given as goal
+
+abbrev pub invariant-loop-number : goal.invariant-loop-number
+invariant-loop-number l = AreDeclaredBy l.systems l.number l.orders.items

@@ -1,0 +1,30 @@
+-- What a search for queries that fetch a kind twice tells.
+use Rattle.std.specs.Prelude.{ℕ, ◌<◌, ◌≡◌, Bool, true, false, List, [], Option, Some, None, length, get_or}
+use Rattle.model.specs.Lists.{has}
+use Rattle.model.specs.Query.{Term}
+use Rattle.model.specs.Declarations.{DeclaredSystem}
+use Rattle.model.specs.Refusals.{fetches_twice, query_of}
+use Rattle.schedule_builder.specs.Orders.{items_of}
+
+-- whether a number that may be there is among others
+abbrev pub is_among : List ℕ → Option ℕ → Bool
+is_among seen None = false
+is_among seen (Some n) = has n seen
+
+-- no query of a number below one fetches a kind twice
+abbrev pub AreGoodBelow : List (List Term) → ℕ → Type 0
+AreGoodBelow queries number = (k : ℕ) → k < number → fetches_twice (get_or queries k []) ≡ false
+
+-- the first query that fetches a kind twice, or that none does
+abbrev pub TellsTwice : List (List Term) → Option ℕ → Type 0
+TellsTwice queries None = AreGoodBelow queries (length queries)
+TellsTwice queries (Some number) = (fetches_twice (get_or queries number []) ≡ true) × AreGoodBelow queries number
+
+-- no query of a system of a number below one fetches a kind twice
+abbrev pub AreGoodSystemsBelow : List DeclaredSystem → ℕ → Type 0
+AreGoodSystemsBelow systems item = (m k : ℕ) → m < item → fetches_twice (query_of (items_of systems) m k) ≡ false
+
+-- the first system and query of it that fetches a kind twice, or that none does
+abbrev pub TellsFirstTwice : List DeclaredSystem → Option (ℕ × ℕ) → Type 0
+TellsFirstTwice systems None = AreGoodSystemsBelow systems (length systems)
+TellsFirstTwice systems (Some (item, number)) = (item < length systems) × (fetches_twice (query_of (items_of systems) item number) ≡ true) × AreGoodSystemsBelow systems item × ((k : ℕ) → k < number → fetches_twice (query_of (items_of systems) item k) ≡ false)

@@ -1,0 +1,75 @@
+// Why a schedule is refused, as the program tells it.
+
+ghost use Rattle.std.specs.Prelude.{◌≡◌};
+ghost use Rattle.schedule_builder.specs.declared.fault.BuildFault.TheVariants.{Memory};
+
+use std::alloc::{AllocError, AllocFailed};
+use std::error::Error;
+use std::fmt;
+
+/// Why a schedule is refused. It is printed as the program tells it, as `refused B6 a b c a`.
+#[derive(Debug, Drop)]
+pub enum BuildFault {
+    /// B1: no item has this name, which is the first such name that is looked up.
+    UnknownName(String),
+    /// B2: the first item with an earlier item's name has this name.
+    DuplicateName(String),
+    /// B5: the first item that is ordered with itself.
+    DependencyLoop(String),
+    /// B6: a cycle of orders, from its least declared item, each item once.
+    DependencyCycle(Vec<String>),
+    /// B10: the first query at fault: its system, its number, and the fault (2: a kind is fetched twice).
+    BadQuery {
+        owner: String,
+        query: usize,
+        case: u32,
+    },
+    /// B12: the number of the least limit that is passed (1: at most 256 systems).
+    OverLimit(u32),
+    /// Memory is wanting.
+    Memory,
+}
+
+impl fmt::Display for BuildFault {
+    fn fmt<W: fmt::Write>(&self, f: &mut fmt::Formatter<W>) -> fmt::Result {
+        match self {
+            BuildFault::UnknownName(name) => write!(f, "refused B1 {name}"),
+            BuildFault::DuplicateName(name) => write!(f, "refused B2 {name}"),
+            BuildFault::DependencyLoop(name) => write!(f, "refused B5 {name}"),
+            BuildFault::DependencyCycle(names) => {
+                write!(f, "refused B6")?;
+                for name in names.iter() {
+                    write!(f, " {name}")?;
+                }
+                match names.first() {
+                    Some(name) => write!(f, " {name}"),
+                    None => Ok(()),
+                }
+            }
+            BuildFault::BadQuery { owner, query, case } => write!(
+                f,
+                "refused B10 {owner} {query} {case}"
+            ),
+            BuildFault::OverLimit(limit) => write!(f, "refused B12 {limit}"),
+            BuildFault::Memory => write!(f, "error memory"),
+        }
+    }
+}
+
+impl Error for BuildFault {}
+
+impl From<AllocError> for BuildFault {
+    ghost from_gives = { λ _ fault. fault ≡ Memory };
+
+    fn from(_error: AllocError) -> BuildFault {
+        BuildFault::Memory
+    }
+}
+
+impl<T: Drop> From<AllocFailed<T>> for BuildFault {
+    ghost from_gives = { λ _ fault. fault ≡ Memory };
+
+    fn from(_error: AllocFailed<T>) -> BuildFault {
+        BuildFault::Memory
+    }
+}

@@ -1,0 +1,13 @@
+// The builder: declared systems and orders become a built schedule, or the first thing at fault is told.
+#![tactic(auto)]
+
+pub mod builder;
+pub mod built;
+mod cycle;
+pub mod desc;
+pub mod fault;
+mod heights;
+mod names;
+mod orders;
+mod queries;
+mod sequence;

@@ -1,0 +1,4 @@
+pub mod Cuts
+pub mod WordsOfText
+pub mod PartsOfText
+pub mod Grammars
