@@ -1,22 +1,19 @@
 -- The words in which a step is judged, from what the code tests.
-use Rattle.std.proofs.Common.{ℕ, ◌<◌, ◌≤◌, Bool, true, false, not, ◌≡◌, ◌⊎◌, ◌↔◌, inl, inr, List, [], ◌∷◌, length, drop, get_or, Option, Some, None, Result, Ok, Err, refl, sym, ◌∙◌, ap, subst, arith}
+use Rattle.std.proofs.Common.{ℕ, ◌<◌, ◌≤◌, Bool, true, false, not, ◌≡◌, inl, inr, List, [], length, refl, subst, arith}
 use Rattle.std.proofs.lemmas.Bool.{both_ways, true_from_ne_false, false≢true, cases_order}
 use Rattle.std.specs.List.{list_all}
 use Rattle.model.specs.declared.steps.Step.{Step}
-use Rattle.model.specs.declared.steps.Step.TheVariants.{Cond, Start, Skip, Finish, Sync}
 use Rattle.model.specs.declared.steps.StepFault.{StepFault}
-use Rattle.model.specs.declared.steps.Ready.{Ready}
 use Rattle.model.specs.declared.steps.Ready.TheVariants as ready
-use Rattle.model.specs.Conflict.{Conflict}
 use Rattle.model.specs.Schedule.{Schedule, system_at, params_of, level_of, covers, has_edge}
-use Rattle.model.specs.Lawful.{IsLawful, May, MayStart, MaySync, IsFree, IsComplete, HasOpen, HasFalse, MeetsRunning, begun, ended, runs, synced}
+use Rattle.model.specs.Lawful.{IsLawful, May, MayStart, MaySync, IsFree, HasOpen, HasFalse, MeetsRunning, begun, ended, synced}
 use Rattle.model.specs.Faults.{WaitsForSync, IsLevelOpen, IsFirstFault}
-use Rattle.model.specs.Ready.{IsAskable, Offers, OffersNothing}
+use Rattle.model.specs.Ready.{IsAskable, OffersNothing}
 use Rattle.model.proofs.Lists.{list_all-IsIn, list_all_from, has-IsIn, IsIn_from_has}
 use Rattle.model.proofs.Histories.{runs_known}
 use Rattle.model.proofs.GoOn.{all_answered}
 use Rattle.model.proofs.Exact.{faults_are_exact}
-use Rattle.executor_core.specs.Judges.{HasUnended, RunsAgainst, Judges}
+use Rattle.executor_core.specs.Judges.{HasUnended, RunsAgainst}
 
 -- a word is told exactly: `told` is true where it holds
 abbrev pub Tells : Bool → Type 0 → Type 0

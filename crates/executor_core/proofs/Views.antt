@@ -1,5 +1,5 @@
 -- From what is known of a core's fields to each history for which it stands.
-use Rattle.std.proofs.Common.{ℕ, ◌+◌, ◌*◌, ◌<◌, ◌≤◌, Bool, true, false, not, ◌≡◌, ◌↔◌, List, [], ◌∷◌, ◌++◌, length, reverse, Option, Some, None, Result, Ok, Err, IsOk, IfSome, IfNone, refl, sym, ◌∙◌, ap, subst, arith}
+use Rattle.std.proofs.Common.{ℕ, ◌<◌, ◌≤◌, Bool, true, false, not, ◌≡◌, ◌↔◌, List, [], ◌∷◌, ◌++◌, length, reverse, Option, Some, None, Result, Ok, Err, IsOk, IfSome, IfNone, refl, sym, ◌∙◌, ap, subst, arith}
 use Rattle.std.specs.Bool.{OnFalse}
 use Rattle.std.proofs.lemmas.List.{length-reverse, reverse-append}
 use Rattle.std.proofs.lemmas.Bool.{both_ways, false≢true, true_from_ne_false}
@@ -8,7 +8,7 @@ use Rattle.model.specs.declared.steps.StepFault.{StepFault}
 use Rattle.model.specs.declared.steps.Ready.{Ready}
 use Rattle.model.specs.Schedule.{Schedule}
 use Rattle.model.specs.Built.{IsBuilt}
-use Rattle.model.specs.Lawful.{IsLawful, IsComplete, NoneRuns, May, ended, synced}
+use Rattle.model.specs.Lawful.{IsLawful, IsComplete, NoneRuns, May, synced}
 use Rattle.model.specs.Faults.{WaitsForSync}
 use Rattle.model.specs.Ready.{IsReady, OnlyFinish, step_of}
 use Rattle.model.proofs.Offers.{ready_is_accepted, lists_complete}

@@ -3,7 +3,7 @@ use Rattle.std.specs.Prelude.{ℕ, ◌<◌, ◌≤◌, ◌≡◌, ◌⊎◌, ◌
 use Rattle.std.specs.List.{filter_map}
 use Rattle.model.specs.Lists.{has, IsIn, head_or}
 use Rattle.model.specs.Query.{Term}
-pub use Rattle.model.specs.QueryFaults.{fetched}
+pub use Rattle.model.specs.QueryFaults.{fetches_twice}
 use Rattle.model.specs.Declarations.{Declared, declared_at, name_of, HasItem, looked_up, declared_orders, IsOrdered}
 
 -- a refusal, with what it tells
@@ -81,15 +81,6 @@ abbrev pub IsToldCycle : Declared → List (List ℕ) → Type 0
 IsToldCycle d told = (items : List ℕ) × IsCycle d items × ((n : ℕ) → has n items ≡ true → head_or 0 items ≤ n) × (told ≡ map (name_of d) items)
 
 -- ---- queries
-
--- whether a number stands twice
-abbrev pub has_twice : List ℕ → Bool
-has_twice [] = false
-has_twice (n ∷ ns) = has n ns || has_twice ns
-
--- whether a query fetches a kind twice
-abbrev pub fetches_twice : List Term → Bool
-fetches_twice query = has_twice (filter_map fetched query)
 
 -- the query of an item by its number; none where the item has no such query
 abbrev pub query_of : Declared → ℕ → ℕ → List Term

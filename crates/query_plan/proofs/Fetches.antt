@@ -1,94 +1,44 @@
 -- Whether some kind is fetched twice, from the first term on.
-use Rattle.std.proofs.Common.{◌≡◌, ◌<◌, ◌≤◌, ◌↔◌, ℕ, ◌+◌, Bool, true, false, cond, inl, inr, List, [], ◌∷◌, Option, Some, None, refl, sym, ◌∙◌, ap, zero-add, map, arith}
-use Rattle.std.proofs.lemmas.Bool.{cases_Bool, eqb-true, eq-eqb, true≢false, false≢true}
-use Rattle.std.proofs.lemmas.List.Sums.{sum_by-cons}
-use Rattle.std.specs.List.{list_any, count_by}
+use Rattle.std.proofs.Common.{◌≡◌, ℕ, Bool, true, false, ◌||◌, List, [], ◌∷◌, Option, Some, None, refl, sym, ◌∙◌, ap, subst, map}
+use Rattle.std.proofs.lemmas.Bool.{or_left}
+use Rattle.std.specs.List.{list_any, filter_map, cons_option}
+use Rattle.model.specs.Lists.{has, is_number}
 use Rattle.model.specs.Query.{Term}
-use Rattle.model.specs.Lists.{is_number}
+use Rattle.model.specs.QueryFaults.{fetched, fetches, has_twice, fetches_twice}
 use Rattle.query_plan.specs.declared.query.Term.{Term as Code}
 use Rattle.query_plan.specs.Term.{term_of}
-use Rattle.model.specs.QueryFaults.{fetched, fetches, FetchesTwice}
 
--- ---- counts of a test
+-- one more kind that may be there
+has-cons_option : (kind : ℕ) (o : Option ℕ) (x : Bool) (ys : List ℕ) → x ≡ has kind ys → (is_number kind o || x) ≡ has kind (cons_option o ys)
+has-cons_option kind None x ys e = e
+has-cons_option kind (Some k) x ys e = ap (λ b. is_number kind (Some k) || b) e
 
-module _ {X : Type 0} (p : X → Bool) where
-  count-yes : (x : X) (xs : List X) → p x ≡ true → count_by p (x ∷ xs) ≡ 1 + count_by p xs
-  count-yes x xs e = sum_by-cons (λ y. cond (p y) 1 0) x xs ∙ ap (λ b. cond b 1 0 + count_by p xs) e
+-- some of these terms fetches the kind just where it is among what they fetch
+fetches-among : (kind : ℕ) (ts : List Code) → list_any (λ u. fetches kind (term_of u)) ts ≡ has kind (filter_map fetched (map term_of ts))
+fetches-among kind [] = refl
+fetches-among kind (t ∷ ts) = has-cons_option kind (fetched (term_of t)) _ (filter_map fetched (map term_of ts)) (fetches-among kind ts)
 
-  count-no : (x : X) (xs : List X) → p x ≡ false → count_by p (x ∷ xs) ≡ count_by p xs
-  count-no x xs e = sum_by-cons (λ y. cond (p y) 1 0) x xs ∙ (ap (λ b. cond b 1 0 + count_by p xs) e ∙ zero-add (count_by p xs))
-
-  count-le : (x : X) (xs : List X) → count_by p xs ≤ count_by p (x ∷ xs)
-  count-le x xs = elim (cases_Bool (p x)) [
-    | inl e ↦ omega (arith, count-yes x xs e)
-    | inr e ↦ omega (arith, count-no x xs e)
-  ]
-
-  -- a test that some element passes counts it
-  counted : (xs : List X) → list_any p xs ≡ true → 0 < count_by p xs
-  counted [] h = absurd (false≢true h)
-  counted (x ∷ xs) h = elim (cases_Bool (p x)) [
-    | inl e ↦ omega (arith, count-yes x xs e)
-    | inr e ↦ let g = rw e at h in omega (arith, count-no x xs e, counted xs g)
-  ]
-
-  -- and one that none passes counts none
-  none_counted : (xs : List X) → list_any p xs ≡ false → count_by p xs ≡ 0
-  none_counted [] h = refl
-  none_counted (x ∷ xs) h = elim (cases_Bool (p x)) [
-    | inl e ↦ let g = rw e at h in absurd (true≢false g)
-    | inr e ↦ let g = rw e at h in omega (arith, count-no x xs e, none_counted xs g)
-  ]
-
-  -- the test of what is made of each element
-  pub list_any-map : {Y : Type 0} (f : Y → X) (ys : List Y) → list_any (λ y. p (f y)) ys ≡ list_any p (map f ys)
-  list_any-map f [] = refl
-  list_any-map f (y ∷ ys) = rw (list_any-map f ys) refl
-
--- ---- kinds
-
-number_is : (kind : ℕ) (o : Option ℕ) → is_number kind o ≡ true → o ≡ Some kind
-number_is kind None h = absurd (false≢true h)
-number_is kind (Some number) h = ap (λ n. Some n) (eqb-true number kind h)
-
-is_number-same : (kind : ℕ) (o : Option ℕ) → o ≡ Some kind → is_number kind o ≡ true
-is_number-same kind o e = ap (is_number kind) e ∙ eq-eqb kind kind refl
-
--- the first term fetches a kind that a later one fetches
-pub fetches_again : (t : Term) (ts : List Term) (kind : ℕ) → fetched t ≡ Some kind → list_any (fetches kind) ts ≡ true → FetchesTwice (t ∷ ts)
-fetches_again t ts kind e h = (
-  kind,
-  omega (arith, count-yes (fetches kind) t ts (is_number-same kind (fetched t) e), counted (fetches kind) ts h),
-)
-
--- no later term fetches a kind that the first one fetches
-pub fetches_once : (t : Term) (ts : List Term) → ((kind : ℕ) → fetched t ≡ Some kind → list_any (fetches kind) ts ≡ false)
-    → FetchesTwice (t ∷ ts) ↔ FetchesTwice ts
-fetches_once t ts once = (to, λ h. (h.0, omega (arith, h.1, count-le (fetches h.0) t ts))) where
-  to : FetchesTwice (t ∷ ts) → FetchesTwice ts
-  to h = elim (cases_Bool (fetches h.0 t)) [
-    | inl e ↦ absurd (omega (arith, h.1, count-yes (fetches h.0) t ts e, none_counted (fetches h.0) ts (once h.0 (number_is h.0 (fetched t) e))))
-    | inr e ↦ (h.0, omega (arith, h.1, count-no (fetches h.0) t ts e))
-  ]
-
-pub nothing_twice : FetchesTwice [] → ⊥
-nothing_twice h = omega (arith, h.1)
-
--- ---- the terms of the code
+-- what is fetched twice, where the first term fetches this kind
+twice-first : (t : Code) (ts : List Code) (kind : ℕ) → Some kind ≡ fetched (term_of t) →
+    fetches_twice (map term_of (t ∷ ts)) ≡ (has kind (filter_map fetched (map term_of ts)) || fetches_twice (map term_of ts))
+twice-first t ts kind e = ap (λ o. has_twice (cons_option o (filter_map fetched (map term_of ts)))) (sym e)
 
 -- the first of the terms that are left fetches a kind again
 pub found_again : (all : List Term) (rest : List Code) (t : Code) (ts : List Code) (kind : ℕ)
-    → FetchesTwice all ↔ FetchesTwice (map term_of rest) → rest ≡ t ∷ ts → Some kind ≡ fetched (term_of t)
-    → list_any (λ u. fetches kind (term_of u)) ts ≡ true → FetchesTwice all
-found_again all rest t ts kind same is fetching h =
-    same.1 (rw is (fetches_again (term_of t) (map term_of ts) kind (sym fetching) (sym (list_any-map (fetches kind) term_of ts) ∙ h)))
+    → fetches_twice all ≡ fetches_twice (map term_of rest) → rest ≡ t ∷ ts → Some kind ≡ fetched (term_of t)
+    → list_any (λ u. fetches kind (term_of u)) ts ≡ true → fetches_twice all ≡ true
+found_again all rest t ts kind same is fetching h = same ∙ ap (λ xs. fetches_twice (map term_of xs)) is ∙ twice-first t ts kind fetching
+    ∙ or_left _ _ (sym (fetches-among kind ts) ∙ h)
 
 -- it fetches a kind that no later one fetches
 pub found_once : (all : List Term) (rest : List Code) (t : Code) (ts : List Code) (kind : ℕ)
-    → FetchesTwice all ↔ FetchesTwice (map term_of rest) → rest ≡ t ∷ ts → Some kind ≡ fetched (term_of t)
-    → list_any (λ u. fetches kind (term_of u)) ts ≡ false → FetchesTwice all ↔ FetchesTwice (map term_of ts)
-found_once all rest t ts kind same is fetching h = (λ twice. once.0 (rw is at (same.0 twice)), λ twice. same.1 (rw is (once.1 twice))) where
-  once : FetchesTwice (term_of t ∷ map term_of ts) ↔ FetchesTwice (map term_of ts)
-  once = fetches_once (term_of t) (map term_of ts) (λ other e.
-      let same_kind : other ≡ kind = (let k : Some other ≡ Some kind = sym e ∙ sym fetching in cc) in
-      rw same_kind (sym (list_any-map (fetches kind) term_of ts) ∙ h))
+    → fetches_twice all ≡ fetches_twice (map term_of rest) → rest ≡ t ∷ ts → Some kind ≡ fetched (term_of t)
+    → list_any (λ u. fetches kind (term_of u)) ts ≡ false → fetches_twice all ≡ fetches_twice (map term_of ts)
+found_once all rest t ts kind same is fetching h = same ∙ ap (λ xs. fetches_twice (map term_of xs)) is ∙ twice-first t ts kind fetching
+    ∙ ap (λ b. b || fetches_twice (map term_of ts)) (sym (fetches-among kind ts) ∙ h)
+
+-- it fetches nothing
+pub found_none : (all : List Term) (rest : List Code) (t : Code) (ts : List Code)
+    → fetches_twice all ≡ fetches_twice (map term_of rest) → rest ≡ t ∷ ts → None ≡ fetched (term_of t) → fetches_twice all ≡ fetches_twice (map term_of ts)
+found_none all rest t ts same is fetching = same ∙ ap (λ xs. fetches_twice (map term_of xs)) is
+    ∙ ap (λ o. has_twice (cons_option o (filter_map fetched (map term_of ts)))) (sym fetching)

@@ -1,10 +1,10 @@
 // What is wrong with a query by itself.
 
-ghost use Rattle.std.specs.Prelude.{◌≡◌, ◌<◌, ◌↔◌, IsTrue, IsErrOf, Some, map};
+ghost use Rattle.std.specs.Prelude.{◌≡◌, ◌<◌, ◌↔◌, IsTrue, IsErrOf, Some, true, map};
 ghost use Rattle.std.specs.List.{list_any};
 ghost use Rattle.std.specs.Option.{option_map};
 ghost use Rattle.kinds.specs.Kind.{kind_number};
-ghost use Rattle.model.specs.QueryFaults.{fetched, fetches, FetchesTwice};
+ghost use Rattle.model.specs.QueryFaults.{fetched, fetches, fetches_twice};
 ghost use Rattle.query_plan.specs.Term.{term_of};
 ghost use Rattle.query_plan.specs.BadQuery.{bad_query_text};
 
@@ -47,7 +47,7 @@ impl Term {
 impl Query {
     /// Whether the query can be met: no kind is fetched by two of its terms.
     pub fn check(&self) -> Result<(), BadQuery>
-        ensures { IsErrOf result BadQuery.FetchedTwice ↔ FetchesTwice self.now }
+        ensures { IsErrOf result BadQuery.FetchedTwice ↔ (fetches_twice self.now ≡ true) }
     {
         let mut rest = self.terms();
         while let Some((term, others)) = rest.split_first() {

@@ -1,15 +1,15 @@
 -- The systems of a schedule with their predecessors, and what is lawful of a built schedule.
-use Rattle.std.proofs.Common.{◌≡◌, ℕ, zero, suc, ◌<◌, ◌≤◌, ◌+◌, ◌⊎◌, inl, inr, Bool, true, false, cond, eqb, List, [], ◌∷◌, ◌++◌, length, map, get_or, refl, arith, subst, sym, ap, ◌∙◌, ◌↔◌}
+use Rattle.std.proofs.Common.{◌≡◌, ℕ, zero, suc, ◌<◌, ◌≤◌, ◌+◌, inl, inr, Bool, true, false, cond, eqb, List, [], ◌∷◌, ◌++◌, length, map, get_or, arith, subst, sym, ap, ◌∙◌}
 use Rattle.std.specs.List.{filter}
 use Rattle.std.proofs.lemmas.Bool.{false≢true, or_cases, or_left, or_right, eqb-true, eq-eqb, cases_lt}
 use Rattle.std.proofs.lemmas.Bool.Decides.{eqb_tells}
-use Rattle.std.proofs.lemmas.List.{same_lists, get_or-map, length-map, get_or_push, get_or_append_left, length_push, get_or_default, get_or_past}
+use Rattle.std.proofs.lemmas.List.{same_lists, get_or-map, length-map, get_or_push, get_or_append_left, length_push, get_or_past}
 use Rattle.model.specs.Lists.{has}
 use Rattle.model.specs.Access.{Params, no_params}
-use Rattle.model.specs.Declarations.{DeclaredSystem, declared_at, IsOrdered}
+use Rattle.model.specs.Declarations.{DeclaredSystem}
 use Rattle.model.specs.Refusals.{HasDistinctNames}
-use Rattle.model.specs.Schedule.{Schedule, ScheduledSystem, system_at, has_edge, level_of}
-use Rattle.model.specs.ScheduleOrder.{IsScheduleOrder, IsNextPlaced, HasDeclaredEdges, HasDeclaredSystems}
+use Rattle.model.specs.Schedule.{ScheduledSystem, has_edge, level_of}
+use Rattle.model.specs.ScheduleOrder.{IsScheduleOrder, HasDeclaredEdges, HasDeclaredSystems}
 use Rattle.model.specs.Built.{IsBuilt}
 use Rattle.schedule_builder.specs.declared.orders.Order.{Order}
 use Rattle.schedule_builder.specs.Orders.{items_of, AreDeclared}

@@ -1,5 +1,5 @@
 -- What a table of places by name tells of declared items, and orders that are looked up in it.
-use Rattle.std.proofs.Common.{◌≡◌, ℕ, zero, suc, ◌<◌, ◌≤◌, ◌+◌, ◌⊎◌, inl, inr, Bool, true, false, cond, List, [], ◌∷◌, ◌++◌, length, map, flat_map, get_or, take, drop, Option, Some, None, IsSome, is_some, unwrap_or, string_bytes, refl, arith, subst, sym, ap, ◌∙◌}
+use Rattle.std.proofs.Common.{◌≡◌, ℕ, zero, suc, ◌<◌, ◌≤◌, ◌+◌, inl, Bool, true, false, cond, List, [], ◌∷◌, ◌++◌, length, map, flat_map, get_or, take, Option, Some, None, IsSome, is_some, unwrap_or, string_bytes, refl, arith, subst, sym, ap, ◌∙◌}
 use Rattle.std.specs.declared.alloc.Global.{Global}
 use Rattle.std.specs.declared.string.String.{String}
 use Rattle.std.specs.Str.{bytes_eq}
@@ -15,7 +15,7 @@ use Rattle.schedule_builder.specs.declared.orders.Order.{Order}
 use Rattle.schedule_builder.specs.declared.fault.BuildFault.{BuildFault}
 use Rattle.schedule_builder.specs.declared.fault.BuildFault.TheVariants.{UnknownName, DuplicateName, DependencyLoop, DependencyCycle, BadQuery, OverLimit, Memory}
 use Rattle.schedule_builder.specs.Answers.{IsAnswered}
-use Rattle.schedule_builder.specs.Orders.{Places, items_of, IsPlaceAmong, TellsPlacesAmong, TellsPlaces, place_in, orders_before, orders_after, TellsMissing, TellsLacking, names_of_order, IsBetween, AreDeclaredBy}
+use Rattle.schedule_builder.specs.Orders.{Places, items_of, IsPlaceAmong, TellsPlaces, place_in, orders_before, orders_after, TellsMissing, TellsLacking, names_of_order, IsBetween, AreDeclaredBy}
 use Rattle.schedule_builder.proofs.Each.{EachIs-append, EachIs-weaker, IsFirstBad-front, IsFirstBad-rest, IsFirstBad-weaker}
 
 -- ---- one more name in the table

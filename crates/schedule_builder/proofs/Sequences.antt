@@ -1,9 +1,9 @@
 -- The schedule order: one more system, and why it ends with every system.
-use Rattle.std.proofs.Common.{◌≡◌, ℕ, zero, suc, ◌<◌, ◌≤◌, ◌+◌, Bool, true, false, not, ◌||◌, ◌&&◌, eqb, List, [], ◌∷◌, ◌++◌, length, get_or, refl, arith, subst, sym, ap, ◌∙◌, inl, inr}
+use Rattle.std.proofs.Common.{◌≡◌, ℕ, zero, suc, ◌<◌, ◌≤◌, ◌+◌, Bool, true, false, not, ◌&&◌, eqb, List, [], ◌∷◌, ◌++◌, length, get_or, refl, arith, subst, sym, ap, ◌∙◌, inl, inr}
 use Rattle.std.specs.List.{list_all}
 use Rattle.std.proofs.lemmas.Bool.{false≢true, or_cases, or_left, or_right, eqb-true, eq-eqb}
 use Rattle.model.specs.Lists.{has}
-use Rattle.model.specs.Schedule.{Schedule, ScheduledSystem, system_at, has_edge}
+use Rattle.model.specs.Schedule.{ScheduledSystem, system_at}
 use Rattle.model.specs.ScheduleOrder.{IsPlaceable, IsNextPlaced, IsScheduleOrder}
 use Rattle.schedule_builder.specs.Cycles.{IsRankable}
 use Rattle.schedule_builder.specs.Sequence.{schedule_of, can_place, IsEdge, HasSourcesBelow, IsSequence}

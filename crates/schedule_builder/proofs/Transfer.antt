@@ -1,14 +1,13 @@
 -- Orders by number against declared orders by name.
-use Rattle.std.proofs.Common.{◌≡◌, ◌≢◌, ℕ, zero, suc, ◌<◌, ◌≤◌, ◌+◌, ◌⊎◌, inl, inr, Bool, true, false, eqb, List, [], ◌∷◌, ◌++◌, length, map, take, get_or, refl, arith, subst, sym, ap, ◌∙◌}
-use Rattle.std.specs.List.{All, Contains}
+use Rattle.std.proofs.Common.{◌≡◌, ◌≢◌, ℕ, zero, suc, ◌<◌, ◌≤◌, inl, inr, List, [], ◌∷◌, ◌++◌, length, map, take, get_or, refl, arith, subst, sym, ap, ◌∙◌}
 use Rattle.std.proofs.lemmas.List.{get_or_default}
 use Rattle.std.proofs.lemmas.Bool.Decides.{eqb_tells}
-use Rattle.model.specs.Lists.{has, IsIn, head_or}
-use Rattle.model.specs.Declarations.{Declared, DeclaredSystem, name_of, declared_orders, IsOrdered}
-use Rattle.model.specs.Refusals.{EachIs, IsFirstBad, HasDistinctNames, HasNoLoop, IsLoop, IsWalk, IsCycle, HasNoCycle, IsToldCycle}
+use Rattle.model.specs.Lists.{IsIn}
+use Rattle.model.specs.Declarations.{DeclaredSystem, name_of, IsOrdered}
+use Rattle.model.specs.Refusals.{EachIs, IsFirstBad, HasDistinctNames, HasNoLoop, IsLoop, IsWalk, IsCycle, HasNoCycle}
 use Rattle.schedule_builder.specs.declared.orders.Order.{Order}
 use Rattle.schedule_builder.specs.Orders.{items_of, names_of_order, IsBetween, AreDeclared, IsLoopAt}
-use Rattle.schedule_builder.specs.Cycles.{IsStep, IsRankable, IsRound, BeginsLeast}
+use Rattle.schedule_builder.specs.Cycles.{IsStep, IsRankable, IsRound}
 use Rattle.schedule_builder.proofs.Each.{EachIs-at}
 use Rattle.schedule_builder.proofs.Walks.{walk_weaker, no_round}
 

@@ -1,8 +1,8 @@
 -- Walks and round trips over numbers: one more step, a part, a turn, and what ranks rule out.
-use Rattle.std.proofs.Common.{◌≡◌, ◌≢◌, ℕ, zero, suc, ◌<◌, ◌≤◌, ◌+◌, ◌-◌, ◌*◌, ◌⊎◌, inl, inr, Bool, true, false, not, ◌||◌, eqb, cond, List, [], ◌∷◌, ◌++◌, length, take, drop, get_or, Option, Some, None, IsSome, is_some, unwrap_or, nat_lt, refl, arith, subst, sym, ap, ◌∙◌}
+use Rattle.std.proofs.Common.{◌≡◌, ℕ, zero, suc, ◌<◌, ◌≤◌, ◌+◌, inl, inr, Bool, true, false, not, ◌||◌, eqb, cond, List, [], ◌∷◌, ◌++◌, length, take, drop, get_or, Option, Some, None, IsSome, unwrap_or, nat_lt, refl, arith, subst, sym, ap, ◌∙◌}
 use Rattle.std.proofs.Math.ListN.{set}
-use Rattle.std.specs.List.{All, Contains, IsFirstBest, count_by}
-use Rattle.std.proofs.lemmas.List.{append-nil, append_assoc, take-append-drop, length-append, length-take, length-drop, get_or-set_same, get_or-set_other, drop_more}
+use Rattle.std.specs.List.{All, IsFirstBest, count_by}
+use Rattle.std.proofs.lemmas.List.{append-nil, append_assoc, take-append-drop, length-append, length-drop, get_or-set_same, get_or-set_other, drop_more}
 use Rattle.std.proofs.lemmas.List.Sums.{sum_by-set}
 use Rattle.std.proofs.lemmas.Bool.{false≢true, or_cases, or_parts, or_from, or_left, or_right, eqb-true, eq-eqb}
 use Rattle.std.proofs.lemmas.Bool.Decides.{eqb_tells, nat_tests}
@@ -10,7 +10,7 @@ use Rattle.model.specs.Lists.{has, head_or}
 use Rattle.model.specs.Refusals.{IsOnceEach, IsWalk}
 use Rattle.schedule_builder.specs.declared.orders.Order.{Order}
 use Rattle.schedule_builder.specs.Orders.{IsBetween}
-use Rattle.schedule_builder.specs.Cycles.{IsStep, IsRankable, height_of, IsAbove, IsRanked, PointsOn, IsStuck, GoesOn, Points, IsRound, BeginsLeast}
+use Rattle.schedule_builder.specs.Cycles.{IsStep, IsRankable, height_of, IsAbove, IsRanked, PointsOn, IsStuck, GoesOn, IsRound, BeginsLeast}
 
 -- ---- what a list has
 

@@ -1,7 +1,7 @@
 -- Cycles of orders by number, and the heights that rule them out.
 use Rattle.std.specs.Prelude.{Vec}
 use Rattle.std.specs.declared.alloc.Global.{Global}
-use Rattle.std.specs.Prelude.{ℕ, ◌<◌, ◌≤◌, ◌≡◌, true, List, ◌++◌, Option, Some, None, IsSome, length, take, get_or, replicate}
+use Rattle.std.specs.Prelude.{ℕ, ◌<◌, ◌≤◌, ◌≡◌, true, List, ◌++◌, Option, Some, None, IsSome, length, take, get_or}
 use Rattle.std.specs.List.{All, Contains}
 use Rattle.model.specs.Lists.{has, head_or}
 use Rattle.model.specs.Refusals.{IsOnceEach, IsWalk}

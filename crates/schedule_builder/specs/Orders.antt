@@ -1,5 +1,5 @@
 -- Names looked up, and declared orders by the numbers of their items.
-use Rattle.std.specs.Prelude.{ℕ, ◌<◌, ◌≡◌, Bool, IsSome, List, [], ◌++◌, Option, Some, None, length, map, flat_map, take, get_or, unwrap_or, string_bytes}
+use Rattle.std.specs.Prelude.{ℕ, ◌<◌, ◌≡◌, IsSome, List, Option, Some, None, length, map, flat_map, take, get_or, unwrap_or, string_bytes}
 use Rattle.std.specs.BTreeMap.{BTreeMap, get_by_text}
 use Rattle.std.specs.declared.alloc.Global.{Global}
 use Rattle.std.specs.declared.string.String.{String}

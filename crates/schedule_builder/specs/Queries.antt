@@ -1,15 +1,10 @@
 -- What a search for queries that fetch a kind twice tells.
-use Rattle.std.specs.Prelude.{ℕ, ◌<◌, ◌≡◌, Bool, true, false, List, [], Option, Some, None, length, get_or}
-use Rattle.model.specs.Lists.{has}
+use Rattle.std.specs.Prelude.{ℕ, ◌<◌, ◌≡◌, true, false, List, [], Option, Some, None, length, get_or}
 use Rattle.model.specs.Query.{Term}
 use Rattle.model.specs.Declarations.{DeclaredSystem}
-use Rattle.model.specs.Refusals.{fetches_twice, query_of}
+use Rattle.model.specs.QueryFaults.{fetches_twice}
+use Rattle.model.specs.Refusals.{query_of}
 use Rattle.schedule_builder.specs.Orders.{items_of}
-
--- whether a number that may be there is among others
-abbrev pub is_among : List ℕ → Option ℕ → Bool
-is_among seen None = false
-is_among seen (Some n) = has n seen
 
 -- no query of a number below one fetches a kind twice
 abbrev pub AreGoodBelow : List (List Term) → ℕ → Type 0

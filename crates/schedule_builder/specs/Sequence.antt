@@ -1,7 +1,7 @@
 -- A schedule under construction, and which systems can be placed next.
 use Rattle.std.specs.Prelude.{ℕ, ◌<◌, ◌≡◌, ◌++◌, ◌∷◌, Bool, true, false, not, ◌&&◌, ◌==◌, List, [], length, map, get_or}
 use Rattle.std.specs.List.{list_all, filter}
-use Rattle.model.specs.Access.{Params, no_params}
+use Rattle.model.specs.Access.{Params}
 use Rattle.model.specs.Declarations.{DeclaredSystem, declared_at}
 use Rattle.model.specs.Schedule.{Schedule, ScheduledSystem, system_at, has_edge}
 use Rattle.model.specs.ScheduleOrder.{IsNextPlaced}

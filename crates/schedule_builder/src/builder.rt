@@ -111,7 +111,7 @@ fn check_queries(alloc: Global, systems: &[SystemDesc]) -> Result<(), BuildFault
     ensures good { OnOk result (HasGoodQueries (items_of systems.now)) }
     ensures refused { IfErr result (IsAnswered (items_of systems.now)) }
 {
-    match first_bad(alloc, systems)? {
+    match first_bad(systems) {
         None => Ok(()),
         Some((item, query)) => {
             let owner = name_at(alloc, systems, item)?;

@@ -1,12 +1,11 @@
-use Rattle.std.proofs.Common.{◌≡◌, ℕ, ◌≤◌, List, length, sym, subst, ap, ◌∙◌, arith}
-use Rattle.model.specs.Declarations.{Declared, DeclaredSystem}
+use Rattle.std.proofs.Common.{◌≡◌, ℕ, List, sym, subst}
+use Rattle.model.specs.Declarations.{DeclaredSystem}
 use Rattle.model.specs.Refusals.{IsBuildable}
 use Rattle.model.specs.Schedule.{Schedule, ScheduledSystem}
 use Rattle.model.specs.ScheduleOrder.{IsScheduleOrder, HasDeclaredSystems, HasDeclaredEdges}
 use Rattle.schedule_builder.specs.declared.orders.Order.{Order}
 use Rattle.schedule_builder.specs.Orders.{items_of, AreDeclared}
-use Rattle.schedule_builder.specs.Cycles.{IsRankable, IsStep}
-use Rattle.schedule_builder.specs.Sequence.{schedule_of, AreScheduled, IsEdge, HasSourcesBelow}
+use Rattle.schedule_builder.specs.Sequence.{schedule_of, AreScheduled}
 use Rattle.schedule_builder.proofs.Assembly.{edges_rankable, edges_from, is_built, declared_systems, declared_edges}
 use Rattle.schedule_builder.proofs.builder.build.Goals as goal
 

@@ -1,8 +1,7 @@
-use Rattle.std.proofs.Common.{◌≡◌, ℕ, ◌<◌, ◌*◌, ◌++◌, nat_lt, List, Option, IsSome, None, Some, length, take, drop, arith, sym, subst, rules, ap, ◌∙◌}
+use Rattle.std.proofs.Common.{◌≡◌, ℕ, ◌<◌, ◌*◌, ◌++◌, nat_lt, List, Option, IsSome, length, take, drop, arith, subst, ap, ◌∙◌}
 use Rattle.std.specs.List.{IsFirstBest}
-use Rattle.model.specs.Refusals.{IsWalk}
 use Rattle.schedule_builder.specs.declared.orders.Order.{Order}
-use Rattle.schedule_builder.specs.Cycles.{GoesOn, IsStep, Points, IsRound, IsRankable, PointsOn, BeginsLeast, IsStuck, height_of}
+use Rattle.schedule_builder.specs.Cycles.{IsStep, Points, IsRound, height_of}
 use Rattle.schedule_builder.proofs.Walks.{goes_on, rankable, round_weaker, turned_round, turned_least}
 use Rattle.schedule_builder.proofs.cycle.find_round.Goals as goal
 

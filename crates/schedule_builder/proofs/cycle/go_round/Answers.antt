@@ -1,10 +1,9 @@
-use Rattle.std.proofs.Common.{◌≡◌, ℕ, ◌<◌, ◌++◌, ◌∷◌, [], List, Bool, Option, Some, None, take, drop, ◌-◌, length, get_or, true, false, arith, sym, subst, ap, ◌∙◌, rules}
+use Rattle.std.proofs.Common.{◌≡◌, ℕ, ◌<◌, ◌++◌, ◌∷◌, [], List, Bool, Option, take, drop, ◌-◌, length, get_or, true, false, arith, sym, subst, ap, ◌∙◌, rules}
 use Rattle.std.proofs.lemmas.Result.{IfOk-weaker}
 use Rattle.std.proofs.lemmas.List.{length-set, take_rest}
 use Rattle.model.specs.Lists.{has}
-use Rattle.model.specs.Refusals.{IsOnceEach, IsWalk}
 use Rattle.schedule_builder.specs.Cycles.{IsRound, Points}
-use Rattle.schedule_builder.proofs.Walks.{seen_more, unseen_less, once_push, walk_push, cut_round}
+use Rattle.schedule_builder.proofs.Walks.{seen_more, once_push, walk_push, cut_round}
 use Rattle.schedule_builder.proofs.cycle.go_round.Goals as goal
 
 pub loop-seen-preserved : goal.loop-seen-preserved

@@ -1,4 +1,4 @@
-use Rattle.std.proofs.Common.{◌≡◌, ◌≢◌, ℕ, ◌<◌, slice_index}
+use Rattle.std.proofs.Common.{◌≢◌, ℕ, ◌<◌, slice_index}
 use Rattle.schedule_builder.proofs.cycle.place_on.Given as goal
 
 abbrev pub invariant-loop-place : goal.invariant-loop-place

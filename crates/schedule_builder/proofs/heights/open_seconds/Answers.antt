@@ -1,7 +1,7 @@
-use Rattle.std.proofs.Common.{◌≡◌, ℕ, ◌+◌, List, Option, Bool, get_or, None, arith, rules, subst, sym, ap, ◌∙◌, refl}
+use Rattle.std.proofs.Common.{◌≡◌, ℕ, List, Option, get_or, arith}
 use Rattle.std.proofs.lemmas.List.{get_or_default}
 use Rattle.schedule_builder.specs.declared.orders.Order.{Order}
-use Rattle.schedule_builder.specs.Cycles.{height_of, PointsOnBy}
+use Rattle.schedule_builder.specs.Cycles.{height_of}
 use Rattle.schedule_builder.proofs.Falls.{points_set, points_skip, none_from_test, not_none_from_test}
 use Rattle.schedule_builder.proofs.heights.open_seconds.Goals.{then-is_none, else-is_none}
 use Rattle.schedule_builder.proofs.heights.open_seconds.Goals as goal

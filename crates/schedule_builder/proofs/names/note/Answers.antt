@@ -1,5 +1,4 @@
-use Rattle.std.proofs.Common.{◌≡◌, ℕ, List, Some, not, string_bytes, ◌∙◌, ap, cond, sym, subst, rules}
-use Rattle.std.specs.Str.{bytes_eq}
+use Rattle.std.proofs.Common.{◌≡◌, Some, string_bytes, ◌∙◌, rules}
 use Rattle.std.specs.BTreeMap.{get_by_text}
 use Rattle.std.proofs.lemmas.Map.Text.{btree_map_updates_text}
 use Rattle.std.proofs.lemmas.Result.{IfOk-at_ok}

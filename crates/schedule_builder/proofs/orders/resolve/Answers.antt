@@ -1,4 +1,4 @@
-use Rattle.std.proofs.Common.{◌≡◌, ℕ, ◌+◌, List, map, IsSome, string_bytes, sym, subst, ap, ◌∙◌, arith, rules, IfErr, ◌++◌}
+use Rattle.std.proofs.Common.{◌≡◌, ℕ, ◌+◌, List, IsSome, sym, subst, ap, ◌∙◌, arith, ◌++◌}
 use Rattle.std.specs.BTreeMap.{get_by_text}
 use Rattle.std.proofs.lemmas.Result.{err_from_is_err_and}
 use Rattle.model.specs.Declarations.{DeclaredSystem, declared_at}

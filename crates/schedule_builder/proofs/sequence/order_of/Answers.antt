@@ -1,8 +1,7 @@
-use Rattle.std.proofs.Common.{◌≡◌, ℕ, ◌<◌, ◌++◌, ◌∷◌, [], List, Bool, length, get_or, true, false, arith, sym, subst, ap, ◌∙◌, rules}
+use Rattle.std.proofs.Common.{◌≡◌, ℕ, ◌<◌, ◌++◌, ◌∷◌, [], List, Bool, length, true, false, arith, subst, ◌∙◌}
 use Rattle.std.proofs.lemmas.List.{length-set}
 use Rattle.model.specs.Schedule.{ScheduledSystem}
-use Rattle.model.specs.ScheduleOrder.{IsNextPlaced}
-use Rattle.schedule_builder.specs.Sequence.{schedule_of, can_place}
+use Rattle.schedule_builder.specs.Sequence.{can_place}
 use Rattle.schedule_builder.proofs.Walks.{seen_more}
 use Rattle.schedule_builder.proofs.Sequences.{next_is, sequence_more, schedule_order}
 use Rattle.schedule_builder.proofs.sequence.order_of.Goals as goal

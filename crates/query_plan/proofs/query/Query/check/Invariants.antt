@@ -1,11 +1,11 @@
 -- Some kind is fetched twice in the query just where it is in what is left.
-use Rattle.std.proofs.Common.{◌↔◌, map, length}
-use Rattle.model.specs.QueryFaults.{FetchesTwice}
+use Rattle.std.proofs.Common.{◌≡◌, map, length}
+use Rattle.model.specs.QueryFaults.{fetches_twice}
 use Rattle.query_plan.specs.Term.{term_of}
 use Rattle.query_plan.proofs.query.Query.check.Given as goal
 
 abbrev pub invariant-loop-term : goal.invariant-loop-term
-invariant-loop-term l = FetchesTwice l.self ↔ FetchesTwice (map term_of l.rest)
+invariant-loop-term l = fetches_twice l.self ≡ fetches_twice (map term_of l.rest)
 
 abbrev pub decreases-loop-term : goal.decreases-loop-term
 decreases-loop-term l = length l.rest
