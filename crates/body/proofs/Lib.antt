@@ -1,0 +1,7 @@
+mod Edits
+mod Reading
+mod Writing
+mod Views
+mod Opening
+mod Laying
+mod States

@@ -1,0 +1,4 @@
+pub mod Seen
+pub mod Cells
+pub mod ViewRow
+pub mod Laid
