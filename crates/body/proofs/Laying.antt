@@ -134,7 +134,7 @@ row_words-Some terms [] i k e v l a h = absurd (omega arith)
 row_words-Some [] (c ∷ cs) i k e v l a h = absurd a
 row_words-Some (t ∷ ts) (c ∷ cs) zero k e v l a h =
     one-kind (is_number k (written (term_of t))) (k == value_number v) (value_words v) c _
-    (ap (is_number k) (subst (λ o. IsWritten (term_of t) o) h a.0) ∙ same-test (value_number v) k) (ap words_fetched h)
+        (ap (is_number k) (subst (λ o. IsWritten (term_of t) o) h a.0) ∙ same-test (value_number v) k) (ap words_fetched h)
 row_words-Some (t ∷ ts) (c ∷ cs) (suc i) k e v l a h = row_words-Some ts cs i k e v (omega arith) a.1 h
 
 under : (b : Bool) (x y z : Option (List ℤ)) → x ≡ first_some y z → cond b x None ≡ first_some (cond b y None) (cond b z None)

@@ -5,3 +5,4 @@ mod Views
 mod Opening
 mod Laying
 mod States
+mod Times

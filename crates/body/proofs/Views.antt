@@ -26,10 +26,5 @@ unfolding shown
 seen_of-shown params memory world queries qs registers e h r state w =
     (λ i. record {
       rows = (h ∙ ap (λ (v : World). map (λ query. rows_of query memory.last_run v.slots) queries) (sym w)) i;
-      res = [];
-      res_mut = [];
-      unread = [];
-      registers = r i;
-      granted = [];
-    })
+      res = []; res_mut = []; unread = []; registers = r i; granted = [] })
     ∙ ap (λ p. shown p memory state []) (sym e)

@@ -2,3 +2,4 @@ pub mod Seen
 pub mod Cells
 pub mod ViewRow
 pub mod Laid
+pub mod Steps

@@ -2,8 +2,8 @@
 #![tactic(auto)]
 
 pub mod cells;
-mod lay;
 pub mod memory;
+mod lay;
 mod open;
 pub mod state;
 pub mod view;

@@ -2,6 +2,7 @@
 
 ghost use Rattle.std.specs.Prelude.{◌≡◌, []};
 ghost use Rattle.model.specs.Loaded.{first_memory};
+ghost use Rattle.body.specs.Steps.{memory_ran};
 
 use change_ticks::clock::Tick;
 use std::alloc::Global;
@@ -50,6 +51,14 @@ impl Memory {
         ensures { result ≡ self.now.registers }
     {
         self.registers
+    }
+
+    /// Remembers a run at a tick of a system without event readers.
+    pub fn ran(&mut self, tick: Tick)
+        ensures { self.new ≡ memory_ran tick self.old }
+    {
+        self.last_run = tick;
+        self.cursors.clear();
     }
 
     /// Remembers a run at a tick.

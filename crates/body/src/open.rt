@@ -8,9 +8,9 @@ ghost use Rattle.query_plan.specs.Term.{term_of};
 ghost use Rattle.query_plan.specs.Fetched.{AreFetched};
 ghost use Rattle.body.specs.ViewRow.{IsRowOf, AreRows, row_cells, query_cells, shown_rows, terms_of};
 
-use crate::cells::{ViewQuery, ViewRow};
-use archetype_store::world::World;
+use archetype_store::store::World;
 use change_ticks::clock::Tick;
+use crate::cells::{ViewQuery, ViewRow};
 use kinds::value::Value;
 use query_plan::plan::{QueryRow, plan};
 use query_plan::query::{Query, Term};
@@ -24,11 +24,7 @@ fn none_written(alloc: Global, terms: &[Term]) -> Result<Vec<Option<Value>>, All
 }
 
 // These rows, with nothing written.
-fn untouched_in(
-    alloc: Global,
-    terms: &[Term],
-    rows: Vec<QueryRow>,
-) -> Result<Vec<ViewRow>, AllocError>
+fn untouched_in(alloc: Global, terms: &[Term], rows: Vec<QueryRow>) -> Result<Vec<ViewRow>, AllocError>
     requires { AllByRecursion (λ row. AreFetched (map term_of terms.now) row.values.items) rows.items }
     ensures shown { IfOk result (λ v. map (λ row. row.shown) v.items ≡ rows.items) }
     ensures written { IfOk result (λ v. AllByRecursion (λ row. row.written.items ≡ map (λ term. None) terms.now) v.items) }
@@ -43,12 +39,7 @@ fn untouched_in(
 }
 
 // A query as it is opened.
-fn open_query(
-    alloc: Global,
-    query: &Query,
-    world: &World,
-    last_run: Tick,
-) -> Result<ViewQuery, AllocError>
+fn open_query(alloc: Global, query: &Query, world: &World, last_run: Tick) -> Result<ViewQuery, AllocError>
     ensures terms { IfOk result (λ q. terms_of q ≡ query.now) }
     ensures shown { IfOk result (λ q. shown_rows q ≡ rows_of query.now last_run world.now.state.slots) }
     ensures cells { IfOk result (λ q. query_cells q ≡ untouched_rows query.now (shown_rows q)) }
@@ -60,12 +51,7 @@ fn open_query(
 }
 
 // Queries as they are opened.
-pub(crate) fn open_queries(
-    alloc: Global,
-    queries: &[Query],
-    world: &World,
-    last_run: Tick,
-) -> Result<Vec<ViewQuery>, AllocError>
+pub(crate) fn open_queries(alloc: Global, queries: &[Query], world: &World, last_run: Tick) -> Result<Vec<ViewQuery>, AllocError>
     ensures terms { IfOk result (λ v. map terms_of v.items ≡ queries.now) }
     ensures shown { IfOk result (λ v. map shown_rows v.items ≡ map (λ query. rows_of query last_run world.now.state.slots) queries.now) }
     ensures cells { IfOk result (λ v. map query_cells v.items ≡ untouched_cells (map terms_of v.items) (map shown_rows v.items)) }

@@ -5,10 +5,12 @@ ghost use Rattle.std.specs.List.{AllByRecursion};
 ghost use Rattle.model.specs.State.{no_memory, event_count, empty_queue};
 ghost use Rattle.model.specs.Loaded.{first_memory};
 
+use archetype_store::store::World;
 use crate::memory::Memory;
-use archetype_store::world::World;
 use std::alloc::{AllocError, Global};
 use std::marker::Model;
+
+mod steps;
 
 /// The state of an engine. Contracts see the state that the definitions speak of, with no events, no conditions and nothing passed
 /// over. No last run is above the clock.

@@ -1,6 +1,6 @@
 // A view: what a system is shown at its start, and its outcome so far.
 
-ghost use Rattle.std.specs.Prelude.{◌≡◌, ◌<◌, [], length, option_map, IfSome, IfOk, IsTrue};
+ghost use Rattle.std.specs.Prelude.{◌≡◌, ◌<◌, ◌≤◌, [], length, option_map, IfSome, IfOk, IsTrue};
 ghost use Rattle.kinds.specs.Kind.{kind_number};
 ghost use Rattle.kinds.specs.Value.{value_number, value_words};
 ghost use Rattle.model.specs.State.{State};
@@ -12,13 +12,13 @@ ghost use Rattle.query_plan.specs.Fetched.{words_fetched};
 ghost use Rattle.body.specs.Laid.{with_slots};
 ghost use Rattle.body.specs.Seen.{query_at, rows_at, row_at, read_at, with_written};
 
+use access_set::params::Params;
+use archetype_store::store::World;
+use change_ticks::clock::Tick;
 use crate::cells::{self, ViewQuery};
 use crate::lay::lay_queries;
 use crate::memory::Memory;
 use crate::open::open_queries;
-use access_set::params::Params;
-use archetype_store::world::World;
-use change_ticks::clock::Tick;
 use entity_table::Entity;
 use kinds::component::Component;
 use kinds::kind::Kind;
@@ -48,12 +48,7 @@ impl Model for View {
 
 impl View {
     /// What a system with these parameters and this memory is shown of a world, and nothing written.
-    pub fn open(
-        alloc: Global,
-        params: &Params,
-        memory: &Memory,
-        world: &World,
-    ) -> Result<Self, AllocError>
+    pub fn open(alloc: Global, params: &Params, memory: &Memory, world: &World) -> Result<Self, AllocError>
         ensures params { IfOk result (λ v. v.params ≡ params.now) }
         ensures shown { IfOk result (λ v. (state : State) → state.world ≡ world.now.state → v.shown ≡ shown params.now memory.now state []) }
         ensures untouched { IfOk result (λ v. v.outcome ≡ untouched v.params v.shown) }
@@ -63,14 +58,6 @@ impl View {
             queries,
             registers: memory.registers(),
         })
-    }
-
-    /// How many queries there are.
-    pub fn queries(&self) -> usize
-        ensures params { result ≡ length self.now.params.queries }
-        ensures shown { result ≡ length self.now.shown.rows }
-    {
-        self.queries.len()
     }
 
     /// How many rows a query has.
@@ -142,6 +129,7 @@ impl View {
 
     /// Lays what was written over a world at a tick, the tick of the system's start. All else of the world stays.
     pub fn close(self, world: &mut World, tick: Tick)
+        requires { tick ≤ world.old.state.clock }
         ensures { world.new ≡ with_slots world.old (slots_after tick (words_written self.params.queries self.shown.rows self.outcome.cells) world.old.state.slots) }
     {
         lay_queries(self.queries.as_slice(), world, tick);

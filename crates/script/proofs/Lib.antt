@@ -1,4 +1,3 @@
 mod Faulty
 mod Running
 mod Terms
-mod Within

@@ -2,4 +2,3 @@ pub mod Instruction
 pub mod Script
 pub mod Faults
 pub mod Block
-pub mod Within

@@ -106,11 +106,7 @@ fn cause_of(terms: &[Term], instruction: Instruction) -> Option<Cause>
 }
 
 // The first fault of the code of a block.
-pub(crate) fn check_code(
-    terms: &[Term],
-    block: usize,
-    code: &[Instruction],
-) -> Result<(), ScriptFault>
+pub(crate) fn check_code(terms: &[Term], block: usize, code: &[Instruction]) -> Result<(), ScriptFault>
     ensures { code_fault (map term_of terms.now) block 0 code.now ≡ result_err result }
 {
     for (instruction, there) in code.iter().enumerate() {

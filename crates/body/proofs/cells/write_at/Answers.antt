@@ -22,5 +22,5 @@ pub returns-clause-cells : goal.returns-clause-cells
 returns-clause-cells c =
     let terms = get_or-map terms_of c.args.queries.now c.args.query c.index-queries-query.result [] c.requires.query in
     map-set_update query_cells (update_at c.args.row (with_words (get_or (map terms_of c.args.queries.now) c.args.query []) (value_number c.args.value) (value_words c.args.value)))
-    c.args.queries.now c.args.query c.write_query.new.query c.index-queries-query.result
-    (rw terms c.write_query.ensures.cells)
+        c.args.queries.now c.args.query c.write_query.new.query c.index-queries-query.result
+        (rw terms c.write_query.ensures.cells)

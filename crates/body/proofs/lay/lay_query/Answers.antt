@@ -19,7 +19,7 @@ loop-left-init c =
     record {
       left = omega arith;
       laid = laid-none c.args.tick (rows_words (terms_of c.args.query.now) (drop c.len-left.result rows)) c.args.world.now
-          (λ i k. rows_words-end (terms_of c.args.query.now) rows c.len-left.result i k e);
+          (λ i k. rows_words-end (terms_of c.args.query.now) rows c.len-left.result i k e)
     }
 
 pub lay_row-requires-clause-same : goal.lay_row-requires-clause-same
@@ -27,7 +27,7 @@ lay_row-requires-clause-same c =
     let query = c.args.query.now in
     let n = c.loop-left.left in
     let here : n - 1 < length query.rows.items = (let t = c.loop-left-test.true in let b = c.loop-left.invariant.left in omega arith) in
-    let row = subst (IsRowOf (terms_of query)) (sym c.index-row.ensures) (all-at (IsRowOf (terms_of query)) query.rows.items (n - 1) c.index-row.result.now c.requires here) in
+    let row = subst (IsRowOf (terms_of query)) (sym c.index-row.ensures) (all-at (IsRowOf (terms_of query)) query.rows.items (n - 1) c.index-row.result.now c.requires.rows here) in
     rw (c.as_slice.ensures.value, c.as_slice-in-loop-left.ensures.value) (AreWritten-length query.terms.items c.index-row.result.now.written.items row.written)
 
 pub loop-left-preserved : goal.loop-left-preserved
@@ -44,8 +44,8 @@ loop-left-preserved c =
       left = (let b = c.loop-left.invariant.left in omega arith);
       laid = laid-again c.args.tick one (rows_words terms (drop n rows)) (rows_words terms (drop (n - 1) rows)) c.args.world.now c.loop-left.world c.lay_row.new.world
           (λ i k. rows_words-drop terms rows (n - 1) row i k here
-          ∙ ap (λ (r : ViewRow). first_some (at_index r.shown.entity.index (words_in_row terms (row_cells r)) i k) (rows_words terms (drop (suc (n - 1)) rows) i k)) (sym c.index-row.ensures)
-          ∙ ap (λ m. first_some (one i k) (rows_words terms (drop m rows) i k)) next)
+              ∙ ap (λ (r : ViewRow). first_some (at_index r.shown.entity.index (words_in_row terms (row_cells r)) i k) (rows_words terms (drop (suc (n - 1)) rows) i k)) (sym c.index-row.ensures)
+              ∙ ap (λ m. first_some (one i k) (rows_words terms (drop m rows) i k)) next)
           c.loop-left.invariant.laid
-          (rw (c.as_slice.ensures.value, c.as_slice-in-loop-left.ensures.value) at c.lay_row.ensures);
+          (rw (c.as_slice.ensures.value, c.as_slice-in-loop-left.ensures.value) at c.lay_row.ensures)
     }

@@ -18,5 +18,5 @@ loop-query-preserved c =
       terms = rw (c.in_ok-push.ensures.items, next) (map-append terms_of view _ ∙ ap₂ (λ xs x. xs ++ x ∷ []) c.loop-query.invariant.terms (ok.terms ∙ c.query-item.is));
       shown = rw (c.in_ok-push.ensures.items, next) (map-append shown_rows view _ ∙ ap₂ (λ xs x. xs ++ x ∷ []) c.loop-query.invariant.shown (ok.shown ∙ ap rows c.query-item.is) ∙ sym (map-append rows (take i queries) _));
       cells = rw (c.in_ok-push.ensures.items) (cells-more view _ c.loop-query.invariant.cells (rw ok.terms (ok.cells)));
-      rows = rw (c.in_ok-push.ensures.items) (all-more AreRows view _ c.loop-query.invariant.rows ok.rows);
+      rows = rw (c.in_ok-push.ensures.items) (all-more AreRows view _ c.loop-query.invariant.rows ok.rows)
     }

@@ -10,5 +10,5 @@ invariant-loop-query l = record {
   terms : map terms_of l.view.items ≡ take l.query-index l.queries;
   shown : map shown_rows l.view.items ≡ map (λ query. rows_of query l.last_run l.world.state.slots) (take l.query-index l.queries);
   cells : map query_cells l.view.items ≡ untouched_cells (map terms_of l.view.items) (map shown_rows l.view.items);
-  rows : AllByRecursion AreRows l.view.items;
+  rows : AllByRecursion AreRows l.view.items
 }

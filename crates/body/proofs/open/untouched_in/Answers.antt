@@ -23,7 +23,7 @@ loop-shown-preserved c =
           (map-append (λ (row : ViewRow). row.shown) view _ ∙ ap (λ xs. xs ++ c.in-Some.shown ∷ []) c.loop-shown.invariant.shown ∙ ap (λ x. take (length c.loop-shown.yielded) rows ++ x ∷ []) t.1);
       written = rw (c.in_ok-push.ensures.items) (all-more (λ (row : ViewRow). row.written.items ≡ map (λ term. None) terms) view _ c.loop-shown.invariant.written c.in_ok-written.ensures);
       rows = rw (c.in_ok-push.ensures.items) (all-more (IsRowOf (map term_of terms)) view _ c.loop-shown.invariant.rows
-          (record { shown = rw t.1 fetched; written = rw c.in_ok-written.ensures (AreWritten-none terms) }));
+          (record { shown = rw t.1 fetched; written = rw c.in_ok-written.ensures (AreWritten-none terms) }))
     }
 
 pub returns-clause-shown : goal.returns-clause-shown

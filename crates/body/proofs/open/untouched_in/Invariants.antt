@@ -8,5 +8,5 @@ abbrev pub invariant-loop-shown : goal.invariant-loop-shown
 invariant-loop-shown l = record {
   shown : map (λ row. row.shown) l.view.items ≡ take (length l.yielded) l.fn.rows.items;
   written : AllByRecursion (λ row. row.written.items ≡ map (λ term. None) l.terms) l.view.items;
-  rows : AllByRecursion (IsRowOf (map term_of l.terms)) l.view.items;
+  rows : AllByRecursion (IsRowOf (map term_of l.terms)) l.view.items
 }

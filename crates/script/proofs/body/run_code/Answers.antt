@@ -15,7 +15,7 @@ loop-instruction-preserved c =
     record {
       view = still-first first c.run_instruction.new.view _ e;
       rest = ap (with_row_cells c.args.query c.args.row (after_code query values (drop (n + 1) code))) (outcome-is first c.run_instruction.new.view _ e)
-          ∙ code-more query values code n _ c.args.query c.args.row c.loop-instruction.view.outcome _ c.loop-instruction-test.true c.loop-instruction.invariant.rest;
+          ∙ code-more query values code n _ c.args.query c.args.row c.loop-instruction.view.outcome _ c.loop-instruction-test.true c.loop-instruction.invariant.rest
     }
 
 pub returns : goal.returns
@@ -23,4 +23,4 @@ returns c =
     let first = c.args.view.now in
     c.loop-instruction.invariant.view
     ∙ ap (with_outcome first) (code-ended (query_at first.params c.args.query) (row_at first.shown c.args.query c.args.row).values c.args.code.now c.loop-instruction.instruction-index
-    c.args.query c.args.row c.loop-instruction.view.outcome _ c.loop-instruction-test.false c.loop-instruction.invariant.rest)
+        c.args.query c.args.row c.loop-instruction.view.outcome _ c.loop-instruction-test.false c.loop-instruction.invariant.rest)

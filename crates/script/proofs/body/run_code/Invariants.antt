@@ -10,5 +10,5 @@ invariant-loop-instruction l =
     let values = (row_at first.shown l.query l.row).values in
     record {
       view : l.view ≡ with_outcome first l.view.outcome;
-      rest : with_row_cells l.query l.row (after_code query values (drop l.instruction-index l.code)) l.view.outcome ≡ with_row_cells l.query l.row (after_code query values l.code) first.outcome;
+      rest : with_row_cells l.query l.row (after_code query values (drop l.instruction-index l.code)) l.view.outcome ≡ with_row_cells l.query l.row (after_code query values l.code) first.outcome
     }
