@@ -1,4 +1,4 @@
 mod Rows
 mod Grants
-pub mod Edits
+mod Edits
 mod Worlds

@@ -5,6 +5,6 @@ pub mod fault;
 mod ids;
 mod resources;
 pub mod row;
-pub mod slot;
+mod slot;
 mod slots;
 pub mod store;

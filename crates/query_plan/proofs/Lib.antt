@@ -1,5 +1,3 @@
 pub mod QueryTexts
 pub mod Fetches
 pub mod Terms
-pub mod Fetching
-pub mod Rows

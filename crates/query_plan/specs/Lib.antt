@@ -1,5 +1,3 @@
 pub mod Term
 pub mod BadQuery
 pub mod Grammar
-pub mod Fetched
-pub mod QueryRow

@@ -2,6 +2,5 @@
 #![tactic(auto)]
 
 pub mod check;
-pub mod plan;
 pub mod query;
 pub mod reading;

@@ -1,8 +1,0 @@
-mod Edits
-mod Reading
-mod Writing
-mod Views
-mod Opening
-mod Laying
-mod States
-mod Times

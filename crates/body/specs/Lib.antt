@@ -1,5 +1,0 @@
-pub mod Seen
-pub mod Cells
-pub mod ViewRow
-pub mod Laid
-pub mod Steps

@@ -1,9 +1,0 @@
-// Bodies: what a system is shown at its start, what it writes, and how that is laid over the world.
-#![tactic(auto)]
-
-pub mod cells;
-pub mod memory;
-mod lay;
-mod open;
-pub mod state;
-pub mod view;

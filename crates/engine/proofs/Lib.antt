@@ -1,2 +1,0 @@
-mod Starting
-mod Turning

@@ -1,4 +1,0 @@
-pub mod History
-pub mod Fits
-pub mod EngineValue
-pub mod Stage

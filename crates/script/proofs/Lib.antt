@@ -1,3 +1,0 @@
-mod Faulty
-mod Running
-mod Terms

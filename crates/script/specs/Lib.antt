@@ -1,4 +1,0 @@
-pub mod Instruction
-pub mod Script
-pub mod Faults
-pub mod Block
