@@ -11,7 +11,7 @@ use crate::words::{has_false, has_open, is_free, is_level_open, meets_running, w
 use model::steps::{Ready, Step, StepFault};
 use schedule_builder::built::Built;
 
-// Whether the step may come.
+/// Whether the step may come.
 pub fn judge(built: &Built, steps: &[Step], step: Step) -> Result<(), StepFault>
     requires { IsLawful built.now (reverse steps.now) }
     ensures { Judges built.now (reverse steps.now) step result }
@@ -113,7 +113,7 @@ fn may_sync(built: &Built, steps: &[Step], sync: u32) -> Result<(), StepFault>
     Ok(())
 }
 
-// What the system offers: to start, since there are no conditions to ask or to skip it for yet.
+/// What the system offers: to start, since there are no conditions to ask or to skip it for yet.
 pub fn offer(built: &Built, steps: &[Step], system: u32) -> Option<Ready>
     requires { IsLawful built.now (reverse steps.now) }
     ensures { TellsOffer built.now (reverse steps.now) system result }
@@ -125,7 +125,7 @@ pub fn offer(built: &Built, steps: &[Step], system: u32) -> Option<Ready>
     }
 }
 
-// The sync point that may be done.
+/// The sync point that may be done.
 pub fn ready_sync(built: &Built, steps: &[Step]) -> Option<Ready>
     requires { IsLawful built.now (reverse steps.now) }
     ensures { IsReadySync built.now (reverse steps.now) result }

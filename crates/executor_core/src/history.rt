@@ -5,35 +5,35 @@ ghost use Rattle.model.specs.Lawful.{is_start, is_skip, is_finish, is_sync, star
 
 use model::steps::Step;
 
-// Whether the system was started.
+/// Whether the system was started.
 pub fn was_started(steps: &[Step], system: u32) -> bool
     ensures { result ≡ started (reverse steps.now) system }
 {
     steps.iter().rev().any(|step| starts(*step, system))
 }
 
-// Whether the system was skipped.
+/// Whether the system was skipped.
 pub fn was_skipped(steps: &[Step], system: u32) -> bool
     ensures { result ≡ skipped (reverse steps.now) system }
 {
     steps.iter().rev().any(|step| skips(*step, system))
 }
 
-// Whether the system was finished.
+/// Whether the system was finished.
 pub fn was_finished(steps: &[Step], system: u32) -> bool
     ensures { result ≡ finished (reverse steps.now) system }
 {
     steps.iter().rev().any(|step| finishes(*step, system))
 }
 
-// Whether the sync point was done.
+/// Whether the sync point was done.
 pub fn was_synced(steps: &[Step], sync: u32) -> bool
     ensures { result ≡ synced (reverse steps.now) sync }
 {
     steps.iter().rev().any(|step| does_sync(*step, sync))
 }
 
-// Whether the system was started or skipped.
+/// Whether the system was started or skipped.
 pub fn has_begun(steps: &[Step], system: u32) -> bool
     ensures { result ≡ begun (reverse steps.now) system }
 {
@@ -43,7 +43,7 @@ pub fn has_begun(steps: &[Step], system: u32) -> bool
     was_skipped(steps, system)
 }
 
-// Whether the system was finished or skipped.
+/// Whether the system was finished or skipped.
 pub fn has_ended(steps: &[Step], system: u32) -> bool
     ensures { result ≡ ended (reverse steps.now) system }
 {
@@ -53,7 +53,7 @@ pub fn has_ended(steps: &[Step], system: u32) -> bool
     was_skipped(steps, system)
 }
 
-// Whether the system was started and not finished.
+/// Whether the system was started and not finished.
 pub fn is_running(steps: &[Step], system: u32) -> bool
     ensures { result ≡ runs (reverse steps.now) system }
 {

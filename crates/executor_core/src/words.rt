@@ -11,7 +11,7 @@ use crate::history::{has_begun, has_ended, is_running, was_synced};
 use model::steps::Step;
 use schedule_builder::built::Built;
 
-// Whether each system with an edge to this one has ended.
+/// Whether each system with an edge to this one has ended.
 pub fn is_after_all(built: &Built, steps: &[Step], system: u32) -> bool
     requires { system < length built.now.systems }
     ensures { result ≡ list_all (ended (reverse steps.now)) (system_at built.now system).predecessors }
@@ -26,7 +26,7 @@ fn all_ended(systems: &[u32], steps: &[Step]) -> bool
     systems.iter().all(|system| has_ended(steps, *system))
 }
 
-// Whether some lower sync point isn't done.
+/// Whether some lower sync point isn't done.
 pub fn waits_for_sync(steps: &[Step], sync: u32) -> bool
     ensures { IsTrue result ↔ WaitsForSync (reverse steps.now) sync }
 {
@@ -38,7 +38,7 @@ pub fn waits_for_sync(steps: &[Step], sync: u32) -> bool
     false
 }
 
-// Whether the system is free.
+/// Whether the system is free.
 pub fn is_free(built: &Built, steps: &[Step], system: u32) -> bool
     ensures { IsTrue result ↔ IsFree built.now (reverse steps.now) system }
 {
@@ -54,7 +54,7 @@ pub fn is_free(built: &Built, steps: &[Step], system: u32) -> bool
     !waits_for_sync(steps, built.level(system))
 }
 
-// Whether some condition that covers the system was not asked. There are no conditions yet.
+/// Whether some condition that covers the system was not asked. There are no conditions yet.
 pub fn has_open(built: &Built, steps: &[Step], system: u32) -> bool
     ensures { IsTrue result ↔ HasOpen built.now (reverse steps.now) system }
 {
@@ -62,7 +62,7 @@ pub fn has_open(built: &Built, steps: &[Step], system: u32) -> bool
     false
 }
 
-// Whether some condition that covers the system answered no. There are no conditions yet.
+/// Whether some condition that covers the system answered no. There are no conditions yet.
 pub fn has_false(built: &Built, steps: &[Step], system: u32) -> bool
     ensures { IsTrue result ↔ HasFalse built.now (reverse steps.now) system }
 {
@@ -70,7 +70,7 @@ pub fn has_false(built: &Built, steps: &[Step], system: u32) -> bool
     false
 }
 
-// Whether some running system conflicts with this one.
+/// Whether some running system conflicts with this one.
 pub fn meets_running(built: &Built, steps: &[Step], system: u32) -> bool
     requires lawful { IsLawful built.now (reverse steps.now) }
     requires known { system < length built.now.systems }
@@ -96,7 +96,7 @@ fn runs_against(built: &Built, steps: &[Step], other: u32, system: u32) -> bool
     built.conflict(other, system)
 }
 
-// Whether some system of the level hasn't ended.
+/// Whether some system of the level hasn't ended.
 pub fn is_level_open(built: &Built, steps: &[Step], level: u32) -> bool
     ensures { IsTrue result ↔ IsLevelOpen built.now (reverse steps.now) level }
 {
@@ -122,7 +122,7 @@ fn has_unended(built: &Built, steps: &[Step]) -> bool
     false
 }
 
-// Whether every system has ended and every sync point is done.
+/// Whether every system has ended and every sync point is done.
 pub fn is_complete(built: &Built, steps: &[Step]) -> bool
     ensures { IsTrue result ↔ IsComplete built.now (reverse steps.now) }
 {
