@@ -202,16 +202,21 @@ mod tests {
         Ok(system)
     }
 
+    /// The schedule order, or what is refused.
+    fn answer(alloc: Global, desc: ScheduleDesc) -> Result<String, AllocError> {
+        match build(alloc, desc) {
+            Ok(built) => format!(in alloc; "{:?}", built.order()),
+            Err(fault) => fault.to_string(alloc),
+        }
+    }
+
     /// What is told of systems, each by its name and the names that it runs before and after.
     fn told(alloc: Global, systems: &[(&str, &str, &str)]) -> Result<String, AllocError> {
         let mut desc = ScheduleDesc::new(alloc);
         for (name, before, after) in systems {
             desc.add_system(system(alloc, *name, *before, *after)?)?;
         }
-        match build(alloc, desc) {
-            Ok(built) => format!(in alloc; "{:?}", built.order()),
-            Err(fault) => fault.to_string(alloc),
-        }
+        answer(alloc, desc)
     }
 
     #[test]
@@ -255,42 +260,35 @@ mod tests {
         let mut desc = ScheduleDesc::new(alloc);
         desc.add_system(system(alloc, "first", "", "")?)?;
         desc.add_system(SystemDesc::new(alloc, String::from_str(alloc, "second")?, params))?;
-        match build(alloc, desc) {
-            Ok(_) => assert!(rt; false, "a kind is fetched twice"),
-            Err(fault) => assert_eq!(rt;
-                fault.to_string(alloc)?.as_str(),
-                "refused B10 second 1 2"
-            ),
-        }
+        assert_eq!(rt; answer(alloc, desc)?.as_str(), "refused B10 second 1 2");
         Ok(())
+    }
+
+    /// A chain of systems, each before the next; where it is closed, the last is before the first.
+    fn chain(alloc: Global, count: u32, is_closed: bool) -> Result<ScheduleDesc, AllocError> {
+        let mut desc = ScheduleDesc::new(alloc);
+        for number in 1..=count {
+            let name = format!(in alloc; "s{number}")?;
+            let mut system = SystemDesc::new(alloc, name, Params::new(alloc));
+            if is_closed && number == count {
+                system.add_before(String::from_str(alloc, "s1")?)?;
+            }
+            if number > 1 {
+                system.add_after(format!(in alloc; "s{}", number - 1)?)?;
+            }
+            desc.add_system(system)?;
+        }
+        Ok(desc)
     }
 
     #[test]
     fn refuses_long_chains_quickly(rt: HostRuntime) -> Result<(), Fail> {
         let alloc = rt.alloc();
-        for closed in [false, true] {
-            let mut desc = ScheduleDesc::new(alloc);
-            for number in 0..4_000u32 {
-                let mut system = SystemDesc::new(
-                    alloc,
-                    format!(in alloc; "s{number}")?,
-                    Params::new(alloc),
-                );
-                if number < 3_999 {
-                    system.add_before(format!(in alloc; "s{}", number + 1)?)?;
-                } else if closed {
-                    system.add_before(String::from_str(alloc, "s0")?)?;
-                }
-                desc.add_system(system)?;
-            }
-            match build(alloc, desc) {
-                Err(BuildFault::OverLimit(limit)) => assert!(rt; !closed && limit == 1),
-                Err(BuildFault::DependencyCycle(names)) => assert!(rt;
-                    closed && names.len() == 4_000
-                ),
-                _ => assert!(rt; false, "the chain is built"),
-            }
-        }
+        let long = answer(alloc, chain(alloc, 40_000, false)?)?;
+        assert_eq!(rt; long.as_str(), "refused B12 1");
+        let closed = answer(alloc, chain(alloc, 4_000, true)?)?;
+        assert!(rt; closed.as_str().starts_with("refused B6 s1 s2 s3 "));
+        assert!(rt; closed.as_str().ends_with(" s3999 s4000 s1"));
         Ok(())
     }
 }
