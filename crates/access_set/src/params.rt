@@ -25,13 +25,15 @@ pub struct Params {
 }
 
 impl Model for Params {
-    ghost use Rattle.std.specs.Prelude.{map};
+    ghost use Rattle.std.specs.Prelude.{◌≡◌, [], map, None};
     ghost use Rattle.model.specs.Access as access;
     ghost use Rattle.kinds.specs.Res.{res_number, event_number};
 
     ghost Value = { access.Params };
 
     ghost view = { λ p. record { queries = p.queries.items; res = map res_number p.res.items; res_mut = map res_number p.res_mut.items; reads = map event_number p.reads.items; writes = map event_number p.writes.items; spawns = p.spawns } };
+
+    ghost invariant = { λ p. (p.res.items ≡ []) × (p.res_mut.items ≡ []) × (p.reads.items ≡ []) × (p.writes.items ≡ []) × (p.spawns ≡ None) };
 }
 
 impl Params {
@@ -58,9 +60,17 @@ impl Params {
         Ok(())
     }
 
-    /// The queries, in order.
+    /// Queries are all that there is yet.
+    pub fn law(&self)
+        ensures { self.now ≡ record no_params { queries = self.now.queries } }
+    {
+        let _ = &self.spawns;
+    }
+
+    /// The queries, in order, which are all that there is yet.
     pub fn queries(&self) -> &[Query]
-        ensures { result.now ≡ self.now.queries }
+        ensures queries { result.now ≡ self.now.queries }
+        ensures alone { self.now ≡ record no_params { queries = result.now } }
     {
         self.queries.as_slice()
     }

@@ -1,4 +1,4 @@
 mod Rows
-mod Grants
-mod Edits
+pub mod Grants
+pub mod Edits
 mod Worlds

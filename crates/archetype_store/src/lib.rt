@@ -5,6 +5,6 @@ pub mod fault;
 mod ids;
 mod resources;
 pub mod row;
-mod slot;
+pub mod slot;
 mod slots;
 pub mod store;

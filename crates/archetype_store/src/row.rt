@@ -32,7 +32,7 @@ impl Stored {
 
 /// The components of one entity, which contracts see as a list. Kinds rise strictly where they rose before.
 #[derive(Drop, Debug)]
-pub(crate) struct Row {
+pub struct Row {
     components: Vec<Stored>,
 }
 

@@ -2,6 +2,8 @@
 
 ghost use Rattle.std.specs.Prelude.{◌≡◌, ◌+◌, ◌≤◌, ◌<◌, ◌↔◌, ℕ, true, false, length, map, option_map, is_some, All, IfSome, IfNone, IfOk, IsErr, OnOk, OnErr, IsErrOf};
 ghost use Rattle.kinds.specs.Kind.{kind_number};
+ghost use Rattle.kinds.specs.Value.{value_number, value_words};
+ghost use Rattle.model.specs.Lists.{update_at};
 ghost use Rattle.kinds.specs.Res.{res_number};
 ghost use Rattle.kinds.specs.Components.{widths};
 ghost use Rattle.model.specs.State.{last_tick};
@@ -20,6 +22,7 @@ ghost use Rattle.archetype_store.specs.Store.{empty_world, with_slots, with_slot
 use crate::fault::{GrantFault, StoreFault};
 use crate::resources::Resources;
 use crate::row::Stored;
+use crate::slot::Slot;
 use crate::slots::Slots;
 use change_ticks::clock::{Clock, ClockSpent, Tick};
 use change_ticks::stamp::Stamp;
@@ -202,6 +205,17 @@ impl World {
         self.slots.len()
     }
 
+    /// The slot of an index.
+    pub fn slot_at(&self, index: u32) -> &Slot
+        requires { index < length self.now.state.slots }
+        ensures { result.now ≡ slot_at self.now.state.slots index }
+    {
+        match self.slots.get(index) {
+            Some(slot) => slot,
+            None => unreachable!(),
+        }
+    }
+
     /// What a reader sees of an index.
     pub fn slot(&self, index: u32) -> SlotView<'_>
         ensures generation { result.generation ≡ (slot_at self.now.state.slots index).generation }
@@ -220,6 +234,15 @@ impl World {
                 components: &[],
             },
         }
+    }
+
+    /// Writes one component at a tick: its value and its changed stamp. A kind that the row doesn't have is not written.
+    pub fn write(&mut self, index: u32, value: Value, tick: Tick)
+        requires { tick ≤ self.old.state.clock }
+        ensures { self.new ≡ record { state = record self.old.state { slots = update_at index (slot_after tick (only (value_number value) (value_words value))) self.old.state.slots } } }
+    {
+        let words = value.words();
+        self.write_words(index, value.kind(), &words, tick);
     }
 
     /// Writes the words of one component at a tick: its value and its changed stamp. A kind that the row doesn't have is not

@@ -1,5 +1,5 @@
 -- The number and the name of each resource and of each event kind.
-use Rattle.std.specs.Prelude.{◌≡◌, ℕ, List, codes}
+use Rattle.std.specs.Prelude.{◌≡◌, ℕ, List, [], ◌∷◌, codes}
 use Rattle.kinds.specs.declared.res.Res.{Res}
 use Rattle.kinds.specs.declared.res.Res.TheVariants.{Round, Gravity, Total, Seed, Limit, Alarm, Mode, Step}
 use Rattle.kinds.specs.declared.res.Event.{Event}
@@ -30,6 +30,10 @@ res_name Step = codes "Step"
 -- the word names the resource
 abbrev pub IsRes : Res → List ℕ → Type 0
 IsRes res word = word ≡ res_name res
+
+-- every resource, by number
+abbrev pub every_res : List Res
+every_res = Round ∷ Gravity ∷ Total ∷ Seed ∷ Limit ∷ Alarm ∷ Mode ∷ Step ∷ []
 
 -- the number of an event kind
 abbrev pub event_number : Event → ℕ

@@ -23,6 +23,18 @@ impl Res {
     /// How many resources there are.
     pub const COUNT: usize = 8;
 
+    /// Every resource, by number.
+    pub const ALL: [Res; Res::COUNT] = [
+        Res::Round,
+        Res::Gravity,
+        Res::Total,
+        Res::Seed,
+        Res::Limit,
+        Res::Alarm,
+        Res::Mode,
+        Res::Step,
+    ];
+
     /// The number of the resource, its place in the world.
     pub fn number(self) -> u32
         ensures { result ≡ res_number self }

@@ -27,6 +27,13 @@ impl Value {
         each_kind!(kind, K => { <K as Component>::from_words(list).into_value() })
     }
 
+    /// The number of the kind of the component.
+    pub fn number(self) -> u32
+        ensures { result ≡ value_number self }
+    {
+        self.kind().number()
+    }
+
     /// The kind of the component.
     pub fn kind(self) -> Kind
         ensures { kind_number result ≡ value_number self }

@@ -1,3 +1,5 @@
 pub mod QueryTexts
 pub mod Fetches
 pub mod Terms
+pub mod Fetching
+pub mod Rows

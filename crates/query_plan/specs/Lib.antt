@@ -1,3 +1,5 @@
 pub mod Term
 pub mod BadQuery
 pub mod Grammar
+pub mod Fetched
+pub mod QueryRow

@@ -2,5 +2,6 @@
 #![tactic(auto)]
 
 pub mod check;
+pub mod plan;
 pub mod query;
 pub mod reading;

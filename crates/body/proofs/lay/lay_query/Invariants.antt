@@ -1,0 +1,15 @@
+use Rattle.std.proofs.Common.{◌≡◌, ◌≤◌, length, drop}
+use Rattle.model.specs.Overlay.{slots_after}
+use Rattle.body.specs.Laid.{with_slots}
+use Rattle.body.specs.ViewRow.{terms_of}
+use Rattle.body.proofs.Laying.{rows_words}
+use Rattle.body.proofs.lay.lay_query.Given as goal
+
+abbrev pub invariant-loop-left : goal.invariant-loop-left
+invariant-loop-left l = record {
+  left : l.left ≤ length l.query.rows.items;
+  laid : l.world ≡ with_slots l.fn.world (slots_after l.tick (rows_words (terms_of l.query) (drop l.left l.query.rows.items)) l.fn.world.state.slots);
+}
+
+abbrev pub decreases-loop-left : goal.decreases-loop-left
+decreases-loop-left l = l.left

@@ -1,0 +1,5 @@
+pub mod Seen
+pub mod Cells
+pub mod ViewRow
+pub mod Laid
+pub mod Steps

@@ -1,0 +1,35 @@
+-- What the steps of a run do to the parts of a state.
+use Rattle.std.specs.Prelude.{ℕ, []}
+use Rattle.model.specs.Lists.{update_at}
+use Rattle.model.specs.State.{Memory, State}
+use Rattle.model.specs.Overlay.{slots_after}
+use Rattle.model.specs.Outcome.{words_written}
+use Rattle.body.specs.Seen.{Seen}
+
+-- the state at another tick
+abbrev pub at_clock : ℕ → State → State
+at_clock clock state = record {
+  world = record { slots = state.world.slots; resources = state.world.resources; clock = clock };
+  events = state.events;
+  systems = state.systems;
+  conditions = state.conditions;
+  passed_over = state.passed_over;
+}
+
+-- a memory after a run at a tick
+abbrev pub memory_ran : ℕ → Memory → Memory
+memory_ran tick memory = record { last_run = tick; cursors = []; registers = memory.registers }
+
+-- the state with what was written in a view laid over it at a tick, as the run of a system
+abbrev pub laid : ℕ → ℕ → Seen → State → State
+laid n tick seen state = record {
+  world = record {
+    slots = slots_after tick (words_written seen.params.queries seen.shown.rows seen.outcome.cells) state.world.slots;
+    resources = state.world.resources;
+    clock = state.world.clock;
+  };
+  events = state.events;
+  systems = update_at n (memory_ran tick) state.systems;
+  conditions = state.conditions;
+  passed_over = state.passed_over;
+}

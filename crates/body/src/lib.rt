@@ -1,0 +1,9 @@
+// Bodies: what a system is shown at its start, what it writes, and how that is laid over the world.
+#![tactic(auto)]
+
+pub mod cells;
+mod lay;
+pub mod memory;
+mod open;
+pub mod state;
+pub mod view;

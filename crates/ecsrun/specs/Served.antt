@@ -1,0 +1,66 @@
+-- What a command leaves with its streams.
+use Rattle.std.specs.Prelude.{ℕ, ◌≡◌, ◌≢◌, ◌⊎◌, ℤ, List, [], ◌∷◌, ◌++◌, length, Option}
+use Rattle.std.specs.List.{All}
+use Rattle.std.specs.Io.KnownBytes.{Keeps, Appends}
+use Rattle.model.specs.declared.steps.Step.{Step}
+use Rattle.model.specs.Declarations.{Declared}
+use Rattle.model.specs.Loaded.{Given, loaded}
+use Rattle.model.specs.Outcome.{BodyMeaning}
+use Rattle.model.specs.Runs.{AreSingleRuns, AreSoundRuns}
+use Rattle.model.specs.Schedule.{Schedule}
+use Rattle.model.specs.State.{State}
+use Rattle.script.specs.declared.script_body.ScriptBody.{ScriptBody}
+use Rattle.engine.specs.EngineValue.{meanings}
+use Rattle.ecsrun.specs.Setup.{IsScheduleOf, AreScriptsOf}
+use Rattle.ecsrun.specs.Streams.{AppendsFront}
+use Rattle.ecsrun.specs.World.{world_text}
+
+-- the text of a state that so many complete runs of a schedule leave
+pub record IsTextOfRuns (s : Schedule) (bodies : List BodyMeaning) (start : State) (times : ℕ) (text : List ℕ) : Type 0 where
+  pub histories : List (List Step)
+  pub many : length histories ≡ times
+  pub final : State
+  pub ran : AreSingleRuns s bodies start histories final
+  pub sound : AreSoundRuns s bodies start histories final
+  pub same : text ≡ world_text times final
+
+-- the text of a state that so many complete runs leave: of a schedule that the builder accepted, with a script for each system,
+-- from the state of some entities and values of the resources as loaded
+pub record IsRunText (times : ℕ) (text : List ℕ) : Type 0 where
+  pub declared : Declared
+  pub schedule : Schedule
+  pub built : IsScheduleOf declared schedule
+  pub scripts : List ScriptBody
+  pub fitting : AreScriptsOf schedule scripts
+  pub entities : List (List Given)
+  pub values : List ℤ
+  pub runs : IsTextOfRuns schedule (meanings schedule scripts) (loaded schedule entities values) times text
+
+-- the work is done, and the output gained its text
+pub record IsDone (times status : ℕ) (old new : Option (List ℕ)) : Type 0 where
+  pub success : status ≡ 0
+  pub text : List ℕ
+  pub run : IsRunText times text
+  pub written : Appends old new text
+
+-- the output failed, and gained a beginning of the text
+pub record IsCutOff (times status : ℕ) (old new : Option (List ℕ)) : Type 0 where
+  pub failure : status ≡ 3
+  pub text : List ℕ
+  pub run : IsRunText times text
+  pub written : AppendsFront old new text
+
+-- the work is refused, and nothing was written
+pub record IsRefusal (status : ℕ) (old new : Option (List ℕ)) : Type 0 where
+  pub failure : status ≢ 0
+  pub kept : Keeps old new
+
+-- what the output of a command is, by its status
+abbrev pub IsServed : ℕ → ℕ → Option (List ℕ) → Option (List ℕ) → Type 0
+IsServed times status old new = IsDone times status old new ⊎ (IsCutOff times status old new ⊎ IsRefusal status old new)
+
+-- a writer took one line, or a beginning of one
+pub record GainsLine (old new : Option (List ℕ)) : Type 0 where
+  pub line : List ℕ
+  pub one : All (λ byte. byte ≢ 10) line
+  pub written : AppendsFront old new (line ++ 10 ∷ [])

@@ -1,0 +1,11 @@
+-- What a text that is written whole leaves with a writer.
+use Rattle.std.specs.Prelude.{◌≡◌, ℕ, List, ◌++◌, Option, Result, MatchResult}
+use Rattle.std.specs.Io.KnownBytes.{Appends}
+
+-- a writer took a beginning of the text
+abbrev pub AppendsFront : Option (List ℕ) → Option (List ℕ) → List ℕ → Type 0
+AppendsFront old new text = (front : List ℕ) × (rest : List ℕ) × (text ≡ front ++ rest) × Appends old new front
+
+-- a writer took the text at `Ok`, and a beginning of it at `Err`
+abbrev pub WritesWhole : {T E : Type 0} → Option (List ℕ) → Option (List ℕ) → Result T E → List ℕ → Type 0
+WritesWhole old new r text = MatchResult r (λ _. Appends old new text) (λ _. AppendsFront old new text)

@@ -1,0 +1,70 @@
+// Readers and writers for tests: they move few bytes at once, and fail after a while.
+
+use std::alloc::Global;
+use std::io;
+use std::io::{ErrorKind, Read, Write};
+
+/// A reader of these bytes that fails where so many reads were made.
+#[derive(Drop)]
+pub struct Source<'a> {
+    left: &'a [u8],
+    at_once: usize,
+    until_failure: usize,
+}
+
+impl<'a> Source<'a> {
+    pub fn new(left: &'a [u8], at_once: usize, until_failure: usize) -> Self {
+        Source {
+            left,
+            at_once,
+            until_failure,
+        }
+    }
+}
+
+impl Read for Source<'_> {
+    fn read(&mut self, buf: &mut [u8]) -> io::Result<usize> {
+        if self.until_failure == 0 {
+            return Err(io::Error::from(ErrorKind::BrokenPipe));
+        }
+        self.until_failure -= 1;
+        let count = self.left.len().min(self.at_once).min(buf.len());
+        buf[..count].copy_from_slice(&self.left[..count]);
+        self.left = &self.left[count..];
+        Ok(count)
+    }
+}
+
+/// A writer that keeps what it takes, and fails where so many writes were made.
+#[derive(Drop)]
+pub struct Sink {
+    pub taken: Vec<u8>,
+    at_once: usize,
+    until_failure: usize,
+}
+
+impl Sink {
+    pub fn new(alloc: Global, at_once: usize, until_failure: usize) -> Self {
+        Sink {
+            taken: Vec::new(alloc),
+            at_once,
+            until_failure,
+        }
+    }
+}
+
+impl Write for Sink {
+    fn write(&mut self, buf: &[u8]) -> io::Result<usize> {
+        if self.until_failure == 0 {
+            return Err(io::Error::from(ErrorKind::BrokenPipe));
+        }
+        self.until_failure -= 1;
+        let count = buf.len().min(self.at_once);
+        self.taken.extend_from_slice(&buf[..count])?;
+        Ok(count)
+    }
+
+    fn flush(&mut self) -> io::Result<()> {
+        Ok(())
+    }
+}

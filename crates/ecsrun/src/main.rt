@@ -1,0 +1,66 @@
+// The program: its command line, its streams, what a program file says, and the texts that it prints.
+#![tactic(auto)]
+
+mod args;
+#[cfg(test)]
+mod fakes;
+mod fault;
+mod file;
+mod keys;
+mod load;
+mod misfit;
+mod name;
+mod opened;
+mod place;
+mod readings;
+mod serve;
+mod setup;
+mod streams;
+mod tree;
+mod world;
+
+use args::{Args, LineFault};
+use engine::Single;
+use fault::Fault;
+use opened::open;
+use serve::{serve, tell};
+use std::alloc::Global;
+use std::io::Write;
+use std::process::ExitCode;
+use streams::write_whole;
+
+// Tells of a line that asks for no work.
+fn tell_line<O: Write, E: Write>(alloc: Global, out: &mut O, faults: &mut E, fault: &LineFault) -> u8 {
+    let text = fault.text();
+    let written = match fault {
+        LineFault::Help(_) => write_whole(out, text),
+        LineFault::Usage(_) | LineFault::Memory => write_whole(faults, text),
+    };
+    match (fault, written) {
+        (LineFault::Help(_), Err(error)) => tell(alloc, faults, &Fault::from(error)),
+        _ => fault.status(),
+    }
+}
+
+fn main(rt: HostRuntime) -> ExitCode {
+    let words: Vec<String> = match std::env::args(&rt) {
+        Ok(words) => match words.collect(rt.alloc()) {
+            Ok(words) => words,
+            Err(_) => return ExitCode::from(tell(rt.alloc(), &mut rt.stderr(), &Fault::Memory)),
+        },
+        Err(_) => return ExitCode::from(tell(rt.alloc(), &mut rt.stderr(), &Fault::Memory)),
+    };
+    let args = match Args::read(rt.alloc(), words.as_slice()) {
+        Ok(args) => args,
+        Err(fault) => return ExitCode::from(tell_line(rt.alloc(), &mut rt.stdout(), &mut rt.stderr(), &fault)),
+    };
+    let status = serve(
+        rt.alloc(),
+        &args,
+        &Single,
+        &mut open(&rt, args.file),
+        &mut rt.stdout(),
+        &mut rt.stderr(),
+    );
+    ExitCode::from(status)
+}

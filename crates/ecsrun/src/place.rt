@@ -1,0 +1,27 @@
+// The places of a program file.
+
+use std::fmt;
+
+/// A place of a program file, by which a refusal is told. Entities and systems are numbered from 0 in the order of the file.
+#[derive(Clone, Copy, PartialEq, Eq, Debug)]
+pub enum Place {
+    /// The keys at the top.
+    Top,
+    /// The table of resources.
+    Resources,
+    /// An entity.
+    Entity(usize),
+    /// A system, with its blocks.
+    System(usize),
+}
+
+impl fmt::Display for Place {
+    fn fmt<W: fmt::Write>(&self, f: &mut fmt::Formatter<W>) -> fmt::Result {
+        match self {
+            Place::Top => write!(f, "top"),
+            Place::Resources => write!(f, "resources"),
+            Place::Entity(number) => write!(f, "entity {number}"),
+            Place::System(number) => write!(f, "system {number}"),
+        }
+    }
+}

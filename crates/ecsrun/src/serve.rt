@@ -1,0 +1,112 @@
+// The work of a command line, on readers and writers.
+
+ghost use Rattle.std.specs.Prelude.{◌≡◌, length, string_bytes, IfOk};
+ghost use Rattle.engine.specs.EngineValue.{meanings};
+ghost use Rattle.ecsrun.specs.Fault.{status_of};
+ghost use Rattle.ecsrun.specs.Served.{IsRunText, IsServed, IsTextOfRuns, GainsLine};
+ghost use Rattle.ecsrun.specs.Setup.{AreScriptsOf, start_of};
+
+use crate::args::Args;
+use crate::fault::Fault;
+use crate::file::{bytes_of, document_of};
+use crate::load::world_of;
+use crate::setup::{bodies_of, declare};
+use crate::streams::{write_line, write_whole};
+use crate::tree::Tree;
+use crate::world::text_of;
+use body::state::State;
+use engine::{Engine, NewFault, RunFault, Single};
+use schedule_builder::builder::build;
+use script::script_body::ScriptBody;
+use schedule_builder::built::Built;
+use archetype_store::store::World;
+use std::alloc::Global;
+use std::io::{Read, Write};
+
+/// Does the work of a command line: reads the program file, runs its schedule so many times in the mode, and writes the world to
+/// `out`. What goes wrong is told to `faults` in one line. Gives the exit status: 0 where the work is done, 1 where the content
+/// is refused, 3 where input, output or memory fail.
+pub fn serve<F: Read, O: Write, E: Write>(
+    alloc: Global,
+    args: &Args<'_>,
+    mode: &Single,
+    file: &mut F,
+    out: &mut O,
+    faults: &mut E,
+) -> u8
+    ensures output { IsServed args.now.times result (O.contents out.old) (O.contents out.new) }
+    ensures told { GainsLine (E.contents faults.old) (E.contents faults.new) }
+{
+    let text = match answer(alloc, args.times, mode, file) {
+        Ok(text) => text,
+        Err(fault) => return tell(alloc, faults, &fault),
+    };
+    match write_whole(out, text.as_str()) {
+        Ok(()) => 0,
+        Err(error) => tell(alloc, faults, &Fault::from(error)),
+    }
+}
+
+// The text of the world that so many runs of a program file leave.
+fn answer<F: Read>(
+    alloc: Global,
+    times: u32,
+    mode: &Single,
+    file: &mut F,
+) -> Result<String, Fault>
+    ensures { IfOk result (λ text. IsRunText times (string_bytes text)) }
+{
+    let bytes = bytes_of(alloc, file)?;
+    let document = document_of(alloc, bytes.as_slice())?;
+    let Tree {
+        resources,
+        entities,
+        systems,
+    } = Tree::read(alloc, &document)?;
+    let (desc, codes) = declare(alloc, systems)?;
+    let built = build(alloc, desc)?;
+    let bodies = bodies_of(alloc, &built, codes)?;
+    let world = world_of(alloc, entities.as_slice(), &resources)?;
+    run(alloc, times, mode, built, bodies, world)
+}
+
+// The text of the world that so many runs of a schedule leave.
+fn run(
+    alloc: Global,
+    times: u32,
+    mode: &Single,
+    built: Built,
+    bodies: Vec<ScriptBody>,
+    world: World,
+) -> Result<String, Fault>
+    requires scripts { AreScriptsOf built bodies.items }
+    ensures { IfOk result (λ text. IsTextOfRuns built (meanings built bodies.items) (start_of built world.state) times (string_bytes text)) }
+{
+    let state = State::new(alloc, world, built.count() as usize)?;
+    let mut engine = match Engine::new(alloc, built, bodies, state) {
+        Ok(engine) => engine,
+        Err(NewFault::Memory) => return Err(Fault::Memory),
+        Err(NewFault::Count) => unreachable!(),
+        Err(NewFault::Misfit(_)) => unreachable!(),
+    };
+    match engine.run(alloc, times, mode) {
+        Ok(_) => {}
+        Err(RunFault::Memory) => return Err(Fault::Memory),
+        Err(RunFault::ClockSpent) => return Err(Fault::ClockSpent),
+        Err(RunFault::Spoiled) => unreachable!(),
+    }
+    let state = engine.state();
+    Ok(text_of(alloc, times, state.world(), state.passed_over())?)
+}
+
+/// Tells of a fault in one line, and gives the exit status. The status stays where the line can't be written.
+pub fn tell<E: Write>(alloc: Global, faults: &mut E, fault: &Fault) -> u8
+    ensures status { result ≡ status_of fault.now }
+    ensures line { GainsLine (E.contents faults.old) (E.contents faults.new) }
+{
+    match fault.to_string(alloc) {
+        Ok(line) => write_line(faults, line.as_str()),
+        Err(_) => write_line(faults, "error memory"),
+    }
+    fault.status()
+}

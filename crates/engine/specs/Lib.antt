@@ -1,0 +1,4 @@
+pub mod History
+pub mod Fits
+pub mod EngineValue
+pub mod Stage

@@ -1,0 +1,60 @@
+// Why an engine isn't made, and why a run stops.
+
+ghost use Rattle.std.specs.Prelude.{◌≡◌};
+ghost use Rattle.engine.specs.declared.faults.RunFault.TheVariants.{Memory, ClockSpent as Spent};
+
+use change_ticks::clock::ClockSpent;
+use std::alloc::{AllocError, AllocFailed};
+use thiserror::Error;
+
+/// Why an engine isn't made.
+#[derive(Clone, Copy, PartialEq, Eq, Debug, Error)]
+pub enum NewFault {
+    /// The numbers of bodies or of memories differ from that of systems.
+    #[error("the numbers of bodies and memories are not that of systems")]
+    Count,
+    /// The body of this system, the least such one, doesn't fit the system's parameters.
+    #[error("the body of system {0} does not fit its parameters")]
+    Misfit(u32),
+    /// Memory is wanting.
+    #[error("out of memory")]
+    Memory,
+}
+
+/// Why a run stops. After each of these the engine is spoiled.
+#[derive(Clone, Copy, PartialEq, Eq, Debug, Error)]
+pub enum RunFault {
+    /// Memory is wanting.
+    #[error("out of memory")]
+    Memory,
+    /// The clock gives no further tick.
+    #[error("the clock is spent")]
+    ClockSpent,
+    /// An earlier run stopped.
+    #[error("the engine is spoiled")]
+    Spoiled,
+}
+
+impl From<AllocError> for RunFault {
+    ghost from_gives = { λ _ fault. fault ≡ Memory };
+
+    fn from(_error: AllocError) -> Self {
+        RunFault::Memory
+    }
+}
+
+impl<T: Drop> From<AllocFailed<T>> for RunFault {
+    ghost from_gives = { λ _ fault. fault ≡ Memory };
+
+    fn from(_error: AllocFailed<T>) -> Self {
+        RunFault::Memory
+    }
+}
+
+impl From<ClockSpent> for RunFault {
+    ghost from_gives = { λ _ fault. fault ≡ Spent };
+
+    fn from(_error: ClockSpent) -> Self {
+        RunFault::ClockSpent
+    }
+}

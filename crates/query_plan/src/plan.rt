@@ -1,0 +1,153 @@
+// The rows of a query: the living entities that it matches, in rising index, with what it fetches of them.
+
+ghost use Rattle.std.specs.Prelude.{◌≡◌, ◌<◌, true, map, length, IfSome, IfOk};
+ghost use Rattle.std.specs.List.{list_all, AllByRecursion};
+ghost use Rattle.model.specs.Input as input;
+ghost use Rattle.model.specs.Query as query;
+ghost use Rattle.model.specs.Rows.{cell_at, kinds_of};
+ghost use Rattle.kinds.specs.Kind.{kind_number};
+ghost use Rattle.kinds.specs.Value.{value_number};
+ghost use Rattle.query_plan.specs.Term.{term_of};
+ghost use Rattle.query_plan.specs.Fetched.{IsFetched, AreFetched, words_fetched};
+ghost use Rattle.query_plan.specs.QueryRow.{shown_of};
+
+use crate::query::{Query, Term};
+use archetype_store::row::Row;
+use archetype_store::slot::Slot;
+use archetype_store::store::World;
+use change_ticks::stamp::newer;
+use entity_table::Entity;
+use kinds::kind::Kind;
+use kinds::value::Value;
+use std::alloc::{AllocError, Global};
+
+/// A row of a query: an entity, and for each term the component that it fetches.
+#[derive(Drop, Debug)]
+pub struct QueryRow {
+    /// The entity of the row.
+    pub entity: Entity,
+    /// What each term fetches, in the order of the terms.
+    pub values: Vec<Option<Value>>,
+}
+
+/// The rows of a query for an observer with this last run, in rising index: each with what every term fetches.
+pub fn plan(
+    alloc: Global,
+    query: &Query,
+    world: &World,
+    last_run: u64,
+) -> Result<Vec<QueryRow>, AllocError>
+    ensures rows { IfOk result (λ rows. map shown_of rows.items ≡ input.rows_of query.now last_run world.now.state.slots) }
+    ensures fetched { IfOk result (λ rows. AllByRecursion (λ row. AreFetched query.now row.values.items) rows.items) }
+{
+    let mut rows = Vec::new(alloc);
+    for index in 0..world.slot_count() {
+        let slot = world.slot_at(index);
+        if !is_row(query.terms(), slot, last_run) {
+            continue;
+        }
+        rows.push(row_of(alloc, query.terms(), index, slot)?)?;
+    }
+    Ok(rows)
+}
+
+// Whether a slot is a row of a query with these terms, for an observer with this last run.
+#[tactic(auto, using(crate::proofs::Rows::over_terms))]
+fn is_row(terms: &[Term], slot: &Slot, last_run: u64) -> bool
+    ensures { result ≡ input.is_row (map term_of terms.now) last_run slot.now }
+{
+    slot.is_living() && matches_row(terms, slot.row()) && passes_all(terms, slot.row(), last_run)
+}
+
+// Whether a query with these terms matches a row.
+fn matches_row(terms: &[Term], row: &Row) -> bool
+    ensures { result ≡ list_all (λ term. query.admits (kinds_of row.now) (term_of term)) terms.now }
+{
+    terms.iter().all(|term| admits(*term, row))
+}
+
+// Whether a row passes the filters of these terms.
+fn passes_all(terms: &[Term], row: &Row, last_run: u64) -> bool
+    ensures { result ≡ list_all (λ term. input.passes last_run row.now (term_of term)) terms.now }
+{
+    terms.iter().all(|term| passes(*term, row, last_run))
+}
+
+// Whether a row has a component of this kind.
+fn has(row: &Row, kind: Kind) -> bool
+    ensures { result ≡ kinds_of row.now (kind_number kind) }
+{
+    row.find(kind.number()).is_some()
+}
+
+// Whether a term admits the kinds of a row.
+fn admits(term: Term, row: &Row) -> bool
+    ensures { result ≡ query.admits (kinds_of row.now) (term_of term) }
+{
+    match term {
+        Term::Entity | Term::Opt(_) => true,
+        Term::Without(kind) => !has(row, kind),
+        Term::Read(kind)
+        | Term::Mut(kind)
+        | Term::With(kind)
+        | Term::Added(kind)
+        | Term::Changed(kind) => has(row, kind),
+    }
+}
+
+// Whether a row passes the filter of a term.
+fn passes(term: Term, row: &Row, last_run: u64) -> bool
+    ensures { result ≡ input.passes last_run row.now (term_of term) }
+{
+    match term {
+        Term::Added(kind) => match row.find(kind.number()) {
+            Some(stored) => newer(stored.stamp.added, last_run),
+            None => false,
+        },
+        Term::Changed(kind) => match row.find(kind.number()) {
+            Some(stored) => newer(stored.stamp.changed, last_run),
+            None => false,
+        },
+        _ => true,
+    }
+}
+
+// The row of a slot that the terms match.
+fn row_of(alloc: Global, terms: &[Term], index: u32, slot: &Slot) -> Result<QueryRow, AllocError>
+    ensures shown { IfOk result (λ row. shown_of row ≡ input.shown_row (map term_of terms.now) index slot.now) }
+    ensures fetched { IfOk result (λ row. query.matches (map term_of terms.now) (kinds_of slot.now.row) ≡ true → AreFetched (map term_of terms.now) row.values.items) }
+{
+    let mut values = Vec::with_capacity(alloc, terms.len())?;
+    for term in terms {
+        values.push(fetch(*term, slot.row()))?;
+    }
+    Ok(QueryRow {
+        entity: Entity {
+            index,
+            generation: slot.generation(),
+        },
+        values,
+    })
+}
+
+// What a term fetches of a row.
+fn fetch(term: Term, row: &Row) -> Option<Value>
+    ensures words { words_fetched result ≡ input.fetch row.now (term_of term) }
+    ensures fetched { query.admits (kinds_of row.now) (term_of term) ≡ true → IsFetched (term_of term) result }
+{
+    match term {
+        Term::Read(kind) | Term::Mut(kind) | Term::Opt(kind) => value_in(row, kind),
+        _ => None,
+    }
+}
+
+// The component of a kind in a row.
+fn value_in(row: &Row, kind: Kind) -> Option<Value>
+    ensures words { words_fetched result ≡ input.words_of (cell_at row.now (kind_number kind)) }
+    ensures kind { IfSome result (λ value. value_number value ≡ kind_number kind) }
+{
+    match row.find(kind.number()) {
+        Some(stored) => Some(stored.value),
+        None => None,
+    }
+}

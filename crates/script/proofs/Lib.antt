@@ -1,0 +1,4 @@
+mod Faulty
+mod Running
+mod Terms
+mod Within
