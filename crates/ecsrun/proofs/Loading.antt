@@ -1,9 +1,9 @@
 -- How a world gets its entities and resources, one after the other.
-use Rattle.std.proofs.Common.{◌≡◌, ℕ, zero, suc, ◌+◌, ◌-◌, ◌<◌, ◌≤◌, ℤ, List, [], ◌∷◌, ◌++◌, length, get_or, take, drop, map, fold, replicate, refl, ap, sym, ◌∙◌, arith, true, Some}
-use Rattle.std.specs.Prelude.{pos, Vec}
+use Rattle.std.proofs.Common.{◌≡◌, ℕ, zero, suc, ◌+◌, ◌-◌, ◌<◌, ◌≤◌, ℤ, List, [], ◌∷◌, ◌++◌, length, get_or, take, drop, map, replicate, refl, ap, sym, ◌∙◌, arith, true, Some}
+use Rattle.std.specs.Prelude.{Vec}
 use Rattle.std.specs.declared.alloc.Global.{Global}
 use Rattle.std.proofs.lemmas.List.Sums.{fold-append}
-use Rattle.std.proofs.lemmas.List.{take_all, drop_all, append-nil, take_more, drop_more, length-map, length-replicate, map-append, length-append}
+use Rattle.std.proofs.lemmas.List.{take_all, drop_all, append-nil, take_more, length-replicate, map-append}
 use Rattle.model.specs.declared.entities.Entity.{Entity}
 use Rattle.model.specs.Lists.{update_at}
 use Rattle.model.specs.State.{Slot, World, fresh_slot, Component}
@@ -21,7 +21,6 @@ use Rattle.archetype_store.specs.Store.{with_slot, with_slots, with_resource}
 use Rattle.kinds.specs.declared.value.Value.{Value}
 use Rattle.kinds.specs.Value.{value_number, value_words}
 use Rattle.kinds.specs.declared.res.Res.{Res}
-use Rattle.kinds.specs.declared.res.Res.TheVariants.{Round}
 use Rattle.kinds.specs.Res.{res_number, every_res}
 use Rattle.ecsrun.specs.Load.{given_of, entity_given, slots_so_far, with_entities, with_resources}
 
@@ -181,7 +180,7 @@ pub entities-more : (i : ℕ) (entities : List (List Given)) (given : List Given
 entities-more i entities given w0 w1 w2 l e first second =
     second ∙ ap (with_slot i (λ slot. slot_given given)) first ∙ ap (λ slots. (let w : World = record { slots = slots; resources = w0.resources; clock = w0.clock } in w))
     (written-more slot_given (λ slot. slot_given given) i entities (replicate (length entities) (granted_slot fresh_slot)) given fresh_slot l
-        (length-replicate (length entities) (granted_slot fresh_slot)) (ap slot_given e))
+    (length-replicate (length entities) (granted_slot fresh_slot)) (ap slot_given e))
 
 get_or-replicate : {A : Type 0} (n i : ℕ) (x d : A) → i < n → get_or (replicate n x) i d ≡ x
 get_or-replicate zero i x d l = absurd (omega arith)

@@ -1,8 +1,6 @@
 -- What a command leaves, from what its parts leave.
-use Rattle.std.proofs.Common.{◌≡◌, ◌≢◌, ◌<◌, ◌⊎◌, inl, inr, ℕ, ℤ, Bool, true, false, List, [], length, replicate, Option, None, Some, Result, Ok, Err, IfOk, refl, ap, sym, ◌∙◌, subst}
-use Rattle.std.proofs.lemmas.List.{length-replicate}
+use Rattle.std.proofs.Common.{◌≡◌, inl, inr, ℕ, ℤ, Bool, true, false, List, [], length, Option, None, Some, Result, Ok, Err, IfOk, refl, ap, sym, ◌∙◌, subst}
 use Rattle.std.specs.Io.KnownBytes.{Keeps}
-use Rattle.model.specs.Declarations.{Declared}
 use Rattle.model.specs.Loaded.{Given, loaded}
 use Rattle.model.specs.Schedule.{Schedule}
 use Rattle.model.specs.State.{State, World}
@@ -10,8 +8,8 @@ use Rattle.script.specs.declared.script_body.ScriptBody.{ScriptBody}
 use Rattle.engine.specs.EngineValue.{meanings}
 use Rattle.engine.specs.Fits.{Miscounts, IsFirstMisfit}
 use Rattle.ecsrun.specs.Load.{loaded_world}
-use Rattle.ecsrun.specs.Setup.{IsScheduleOf, AreScriptsOf, HasNoReaders, start_of}
-use Rattle.ecsrun.specs.Served.{IsTextOfRuns, IsRunText}
+use Rattle.ecsrun.specs.Setup.{AreScriptsOf, HasNoReaders, start_of}
+use Rattle.ecsrun.specs.Served.{IsTextOfRuns}
 use Rattle.ecsrun.proofs.Starting.{start-loaded}
 
 -- the numbers of scripts and memories are right

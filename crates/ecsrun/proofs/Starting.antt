@@ -1,9 +1,8 @@
 -- The state in which a schedule starts is the state as loaded.
-use Rattle.std.proofs.Common.{◌≡◌, ℕ, zero, suc, ◌<◌, ℤ, List, [], ◌∷◌, length, get_or, map, replicate, refl, ap, sym, ◌∙◌, arith}
-use Rattle.model.specs.Access.{no_params}
+use Rattle.std.proofs.Common.{◌≡◌, ℕ, suc, ◌<◌, ℤ, List, [], ◌∷◌, length, get_or, map, replicate, refl, arith}
 use Rattle.model.specs.Condition.{access_of_condition}
 use Rattle.model.specs.Loaded.{Given, first_memory, loaded}
-use Rattle.model.specs.Schedule.{Schedule, ScheduledSystem, ScheduledCondition, system_at, params_of}
+use Rattle.model.specs.Schedule.{Schedule, ScheduledSystem, ScheduledCondition}
 use Rattle.model.specs.State.{State, Memory, World, event_count, empty_queue}
 use Rattle.ecsrun.specs.Load.{loaded_world}
 use Rattle.ecsrun.specs.Setup.{HasNoReaders, start_of}

@@ -24,3 +24,9 @@ IsOfPlace (fault.Value place) = Unit {0}
 IsOfPlace (fault.Text place) = Unit {0}
 IsOfPlace fault.Memory = Unit {0}
 IsOfPlace _ = ⊥
+
+-- what is no fault of a grammar
+abbrev pub IsNoText : Misfit → Type 0
+IsNoText Value = Unit {0}
+IsNoText Text = ⊥
+IsNoText Memory = Unit {0}

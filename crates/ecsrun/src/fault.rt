@@ -1,12 +1,12 @@
 // Why the program ends with another status than 0, each told by one line.
 
-ghost use Rattle.std.specs.Prelude.{◌≡◌};
-ghost use Rattle.ecsrun.specs.Fault.{status_of, fault_of_read};
+ghost use Rattle.std.specs.Prelude.{◌≡◌, IfOk};
+ghost use Rattle.ecsrun.specs.Fault.{status_of, fault_of_read, IsScriptFault};
 ghost use Rattle.ecsrun.specs.declared.fault.Fault.TheVariants.{Memory, Write};
 
-use archetype_store::fault::GrantFault;
 use crate::place::Place;
 use crate::streams::{ReadFault, WriteFault};
+use archetype_store::fault::GrantFault;
 use schedule_builder::fault::BuildFault;
 use script::fault::{Cause, ScriptFault};
 use std::alloc::{AllocError, AllocFailed, Global};
@@ -57,7 +57,9 @@ pub enum Fault {
 
 impl Fault {
     /// The fault of the script of the system of this name.
-    pub fn of_script(alloc: Global, name: &str, fault: ScriptFault) -> Result<Fault, AllocError> {
+    pub fn of_script(alloc: Global, name: &str, fault: ScriptFault) -> Result<Fault, AllocError>
+        ensures { IfOk result (IsScriptFault name.now fault) }
+    {
         Ok(Fault::Script {
             cause: fault.cause,
             system: String::from_str(alloc, name)?,

@@ -1,6 +1,7 @@
 // The keys of a table of a program file, each read by its type.
 
 ghost use Rattle.std.specs.Prelude.{◌≡◌, IfOk, IfErr, IsTrue, ◌↔◌, All};
+ghost use Rattle.ecsrun.specs.Misfit.{IsNoText};
 ghost use Rattle.ecsrun.specs.Name.{IsName, IsAmong};
 
 use crate::misfit::Misfit;
@@ -27,7 +28,9 @@ fn is_among(text: &str, known: &[&str]) -> bool
 }
 
 /// The array at a key. One that isn't there is empty.
-pub fn items_at<'a>(table: &'a Table, key: &str) -> Result<&'a [Value], Misfit> {
+pub fn items_at<'a>(table: &'a Table, key: &str) -> Result<&'a [Value], Misfit>
+    ensures { IfErr result (λ misfit. misfit ≡ Misfit.Value) }
+{
     match table.get(key) {
         None => Ok(&[]),
         Some(value) => match value.as_array() {
@@ -37,8 +40,10 @@ pub fn items_at<'a>(table: &'a Table, key: &str) -> Result<&'a [Value], Misfit> 
     }
 }
 
-/// The tables of the array at a key.
-pub fn tables_at<'a>(alloc: Global, table: &'a Table, key: &str) -> Result<Vec<&'a Table>, Misfit> {
+/// The tables of the array at a key. Another value there is `Value`.
+pub fn tables_at<'a>(alloc: Global, table: &'a Table, key: &str) -> Result<Vec<&'a Table>, Misfit>
+    ensures { IfErr result IsNoText }
+{
     let mut tables = Vec::new(alloc);
     for item in items_at(table, key)? {
         tables.push(item.as_table().ok_or(Misfit::Value)?)?;
@@ -46,8 +51,10 @@ pub fn tables_at<'a>(alloc: Global, table: &'a Table, key: &str) -> Result<Vec<&
     Ok(tables)
 }
 
-/// The texts of the array at a key.
-pub fn texts_at<'a>(alloc: Global, table: &'a Table, key: &str) -> Result<Vec<&'a str>, Misfit> {
+/// The texts of the array at a key. Another value there is `Value`.
+pub fn texts_at<'a>(alloc: Global, table: &'a Table, key: &str) -> Result<Vec<&'a str>, Misfit>
+    ensures { IfErr result IsNoText }
+{
     let mut texts = Vec::new(alloc);
     for item in items_at(table, key)? {
         texts.push(item.as_str().ok_or(Misfit::Value)?)?;
@@ -89,8 +96,10 @@ pub fn name_at<'a>(table: &'a Table, key: &str) -> Result<&'a str, Misfit>
     }
 }
 
-/// The integers of an array.
-pub fn integers_of(alloc: Global, value: &Value) -> Result<Vec<i64>, Misfit> {
+/// The integers of an array. Another value is `Value`.
+pub fn integers_of(alloc: Global, value: &Value) -> Result<Vec<i64>, Misfit>
+    ensures { IfErr result IsNoText }
+{
     let mut integers = Vec::new(alloc);
     for item in value.as_array().ok_or(Misfit::Value)?.iter() {
         integers.push(item.as_integer().ok_or(Misfit::Value)?)?;
@@ -98,8 +107,10 @@ pub fn integers_of(alloc: Global, value: &Value) -> Result<Vec<i64>, Misfit> {
     Ok(integers)
 }
 
-/// The number of 32 bits at a key that has to be there.
-pub fn number_at(table: &Table, key: &str) -> Result<u32, Misfit> {
+/// The number of 32 bits at a key that has to be there. Another value, or none, is `Value`.
+pub fn number_at(table: &Table, key: &str) -> Result<u32, Misfit>
+    ensures { IfErr result (λ misfit. misfit ≡ Misfit.Value) }
+{
     match table.get(key) {
         Some(value) => u32::try_from(value.as_integer().ok_or(Misfit::Value)?).map_err(
             |_| Misfit::Value,

@@ -50,11 +50,7 @@ fn give_resources(world: &mut World, values: &[i64; 8])
 }
 
 // Gives a world without entities these ones.
-fn give_entities(
-    alloc: Global,
-    world: &mut World,
-    entities: &[Vec<Value>],
-) -> Result<(), Fault>
+fn give_entities(alloc: Global, world: &mut World, entities: &[Vec<Value>]) -> Result<(), Fault>
     requires clock { 1 ≤ world.old.state.clock }
     requires empty { world.old.state.slots ≡ [] }
     ensures { OnOk result (world.new.state ≡ with_entities (map entity_given entities.now) world.old.state) }
@@ -93,11 +89,7 @@ fn give(world: &mut World, entity: Entity, value: Value) -> Result<(), AllocErro
 }
 
 // Gives an entity that lives a component of this kind.
-fn give_of<C: Component>(
-    world: &mut World,
-    entity: Entity,
-    value: Value,
-) -> Result<(), AllocError>
+fn give_of<C: Component>(world: &mut World, entity: Entity, value: Value) -> Result<(), AllocError>
     requires clock { 1 ≤ world.old.state.clock }
     requires alive { is_alive world.old.state.slots entity ≡ true }
     requires kind { value_number value ≡ C.NUMBER }

@@ -16,6 +16,8 @@ mod readings;
 mod serve;
 mod setup;
 mod streams;
+#[cfg(test)]
+mod tests;
 mod tree;
 mod world;
 
@@ -30,7 +32,12 @@ use std::process::ExitCode;
 use streams::write_whole;
 
 // Tells of a line that asks for no work.
-fn tell_line<O: Write, E: Write>(alloc: Global, out: &mut O, faults: &mut E, fault: &LineFault) -> u8 {
+fn tell_line<O: Write, E: Write>(
+    alloc: Global,
+    out: &mut O,
+    faults: &mut E,
+    fault: &LineFault,
+) -> u8 {
     let text = fault.text();
     let written = match fault {
         LineFault::Help(_) => write_whole(out, text),
@@ -52,7 +59,12 @@ fn main(rt: HostRuntime) -> ExitCode {
     };
     let args = match Args::read(rt.alloc(), words.as_slice()) {
         Ok(args) => args,
-        Err(fault) => return ExitCode::from(tell_line(rt.alloc(), &mut rt.stdout(), &mut rt.stderr(), &fault)),
+        Err(fault) => return ExitCode::from(tell_line(
+            rt.alloc(),
+            &mut rt.stdout(),
+            &mut rt.stderr(),
+            &fault,
+        )),
     };
     let status = serve(
         rt.alloc(),

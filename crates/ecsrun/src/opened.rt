@@ -11,7 +11,7 @@ pub struct Opened<F: Drop> {
 }
 
 /// Opens a file to be read.
-pub fn open<R: Files>(rt: &R, path: &str) -> Opened<R::File> {
+pub(crate) fn open<R: Files>(rt: &R, path: &str) -> Opened<R::File> {
     Opened {
         file: fs::open(rt, path).ok(),
     }

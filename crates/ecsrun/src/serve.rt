@@ -14,12 +14,12 @@ use crate::setup::{bodies_of, declare};
 use crate::streams::{write_line, write_whole};
 use crate::tree::Tree;
 use crate::world::text_of;
+use archetype_store::store::World;
 use body::state::State;
 use engine::{Engine, NewFault, RunFault, Single};
 use schedule_builder::builder::build;
-use script::script_body::ScriptBody;
 use schedule_builder::built::Built;
-use archetype_store::store::World;
+use script::script_body::ScriptBody;
 use std::alloc::Global;
 use std::io::{Read, Write};
 
@@ -48,12 +48,7 @@ pub fn serve<F: Read, O: Write, E: Write>(
 }
 
 // The text of the world that so many runs of a program file leave.
-fn answer<F: Read>(
-    alloc: Global,
-    times: u32,
-    mode: &Single,
-    file: &mut F,
-) -> Result<String, Fault>
+fn answer<F: Read>(alloc: Global, times: u32, mode: &Single, file: &mut F) -> Result<String, Fault>
     ensures { IfOk result (λ text. IsRunText times (string_bytes text)) }
 {
     let bytes = bytes_of(alloc, file)?;

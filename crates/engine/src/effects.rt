@@ -16,7 +16,7 @@ use schedule_builder::built::Built;
 use script::script_body::ScriptBody;
 use std::alloc::Global;
 
-// The opening of a run.
+/// The opening of a run.
 pub fn open(state: &mut State) -> Result<(), ClockSpent>
     ensures opened { OnOk result (begin_run state.old ≡ Some (between state.new)) }
     ensures spent { IsErr result ↔ (has_tick state.old ≡ false) }
@@ -28,7 +28,7 @@ pub fn open(state: &mut State) -> Result<(), ClockSpent>
     Ok(())
 }
 
-// A sync point.
+/// A sync point.
 pub fn sync(state: &mut State) -> Result<(), ClockSpent>
     ensures done { OnOk result ((s : Schedule) (bodies : List BodyMeaning) (k : ℕ) → serial_step s bodies (Sync k) (between state.old) ≡ Some (between state.new)) }
     ensures spent { IsErr result ↔ (has_tick state.old ≡ false) }
@@ -39,7 +39,7 @@ pub fn sync(state: &mut State) -> Result<(), ClockSpent>
     Ok(())
 }
 
-// A system taken whole: it starts at the next tick, its body runs on what it is shown, and the outcome is laid over the state.
+/// A system taken whole: it starts at the next tick, its body runs on what it is shown, and the outcome is laid over the state.
 pub fn start(
     alloc: Global,
     built: &Built,

@@ -6,7 +6,7 @@ ghost use Rattle.engine.specs.Fits.{fits_at};
 use schedule_builder::built::Built;
 use script::script_body::ScriptBody;
 
-// The least system whose body doesn't fit its parameters.
+/// The least system whose body doesn't fit its parameters.
 pub fn first_misfit(built: &Built, bodies: &[ScriptBody]) -> Option<u32>
     requires { length bodies.now ≡ length built.now.systems }
     ensures known { IfSome result (λ n. n < length built.now.systems) }

@@ -21,7 +21,7 @@ use schedule_builder::built::Built;
 use script::script_body::ScriptBody;
 use std::alloc::{AllocError, Global};
 
-// The runs of a schedule, one after the other.
+/// The runs of a schedule, one after the other.
 pub fn run_times(
     alloc: Global,
     built: &Built,

@@ -1,4 +1,4 @@
-use Rattle.std.proofs.Common.{rules, ◌≡◌, ◌<◌, map, length, ap, sym, ◌∙◌, arith, vec_len, subst, ℕ}
+use Rattle.std.proofs.Common.{rules, ◌≡◌, ◌<◌, map, length, ap, sym, ◌∙◌, arith, subst, ℕ}
 use Rattle.std.proofs.lemmas.List.{length-map}
 use Rattle.model.specs.declared.entities.Entity.{Entity}
 use Rattle.model.specs.Loaded.{slot_given}

@@ -1,5 +1,4 @@
 use Rattle.std.proofs.Common.{◌≡◌, map}
-use Rattle.model.specs.Ids.{granted_ids}
 use Rattle.ecsrun.specs.Load.{entity_given, slots_so_far}
 use Rattle.ecsrun.proofs.load.give_entities.Given as goal
 

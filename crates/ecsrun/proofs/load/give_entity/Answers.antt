@@ -1,4 +1,4 @@
-use Rattle.std.proofs.Common.{rules, [], map, take, sym, ap, ◌∙◌, take_all, arith, ◌+◌}
+use Rattle.std.proofs.Common.{rules, [], map, take, ◌∙◌, ◌+◌}
 use Rattle.ecsrun.specs.Load.{given_of}
 use Rattle.ecsrun.proofs.Loading.{spawn-first, given-alive, given-more, given-all}
 use Rattle.ecsrun.proofs.load.give_entity.Goals as goal
@@ -13,7 +13,7 @@ loop-value-init c = record {
 pub loop-value-preserved : goal.loop-value-preserved
 loop-value-preserved c =
     let more = given-more c.args.entity.index c.loop-value.value-index c.args.components.now _ c.args.world.now.state c.loop-value.world.state c.give.new.world.state c.loop-value-test.true
-        (search rules) c.loop-value.invariant.world c.in_ok-give.ensures in
+    (search rules) c.loop-value.invariant.world c.in_ok-give.ensures in
     record {
       world = more;
       alive = given-alive c.args.entity c.args.world.now.state c.give.new.world.state (map given_of (take (c.loop-value.value-index + 1) c.args.components.now)) c.requires.granted c.requires.first more;

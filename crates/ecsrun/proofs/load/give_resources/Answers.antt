@@ -1,8 +1,7 @@
-use Rattle.std.proofs.Common.{rules, pos, ◌≡◌, ◌<◌, ◌≤◌, map, length, get_or, ap, sym, ◌∙◌, arith, subst, ℕ}
+use Rattle.std.proofs.Common.{rules, pos, get_or, ap, sym, ◌∙◌, arith}
 use Rattle.model.specs.State.{World}
 use Rattle.kinds.specs.declared.res.Res.TheVariants.{Round}
 use Rattle.kinds.specs.Res.{res_number, every_res}
-use Rattle.archetype_store.specs.Store.{with_resource}
 use Rattle.ecsrun.proofs.Loading.{resources-more, resources-all, res_number-at}
 use Rattle.ecsrun.proofs.load.give_resources.Goals as goal
 

@@ -1,4 +1,4 @@
-use Rattle.std.proofs.Common.{map, string_bytes, String}
+use Rattle.std.proofs.Common.{map, string_bytes}
 use Rattle.engine.specs.EngineValue.{meanings}
 use Rattle.ecsrun.specs.Load.{entity_given}
 use Rattle.ecsrun.specs.Setup.{start_of}

@@ -1,4 +1,4 @@
-use Rattle.std.proofs.Common.{rules, ◌≡◌, ◌+◌, ◌<◌, ◌∷◌, [], ◌++◌, length, get_or, ap, sym, ◌∙◌, arith}
+use Rattle.std.proofs.Common.{◌+◌, length, ap, sym, ◌∙◌, arith}
 use Rattle.std.proofs.lemmas.List.{length_push}
 use Rattle.std.proofs.lemmas.Iterator.Adapters.{YieldsList-from_vec}
 use Rattle.std.proofs.lemmas.Iterator.Consumers.{YieldsList-turn}
@@ -18,7 +18,7 @@ loop-code-preserved c =
     let len = c.len-in-loop-code.ensures in
     let all = ap length c.systems.ensures in
     let here = params-at c.args.built.now c.len-in-loop-code.result (length c.loop-code.bodies.items) c.systems.result.now c.index-systems-len.result c.params-params.result.now
-        (omega arith) c.systems.ensures (omega arith) c.index-systems-len.is c.params-params.ensures in
+    (omega arith) c.systems.ensures (omega arith) c.index-systems-len.is c.params-params.ensures in
     record {
       count = ap length c.in_ok-push-in-Ok.ensures.items ∙ pushed ∙ ap (λ n. n + 1) c.loop-code.invariant.count ∙ sym (length_push c.loop-code.yielded c.in-Some.code);
       fit = fits-more c.args.built.now c.loop-code.bodies.items c.push.new.self.items c.in-Ok.body c.loop-code.invariant.fit

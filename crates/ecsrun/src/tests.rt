@@ -1,0 +1,235 @@
+// Command lines from file to output.
+
+use crate::args::Args;
+use crate::fakes::{Sink, Source};
+use crate::serve::serve;
+use engine::Single;
+use std::alloc::{AllocError, Global};
+use std::test::Fail;
+
+// The file of one entity that moves.
+const MOVE: &str =
+    "[[entity]]\nPosition = [0, 0]\nVelocity = [1, -2]\n[[system]]\nname = \"move\"\nquery = [\"mut Position, read Velocity\"]\n[[system.do]]\neach = 0\ncode = [\"add Position.x Velocity.x\", \"add Position.y Velocity.y\"]\n";
+
+// The lines of the resources, each 0.
+const ZEROS: &str = "Round 0\nGravity 0\nTotal 0\nSeed 0\nLimit 0\nAlarm 0\nMode 0\nStep 0\n";
+
+// What a command leaves: its exit status, the output and the standard error.
+#[derive(Drop)]
+struct Served {
+    status: u8,
+    out: Vec<u8>,
+    faults: Vec<u8>,
+}
+
+// Serves a command over a file, where the reader and the writer fail after so many calls.
+fn serve_until(
+    alloc: Global,
+    line: &str,
+    file: &str,
+    reads: usize,
+    writes: usize,
+) -> Result<Served, Fail> {
+    let words: Vec<String> = line
+        .split(' ')
+        .map(|word| String::from_str(alloc, word))
+        .try_collect(alloc)?;
+    let args = Args::read(alloc, words.as_slice())?;
+    let mut out = Sink::new(alloc, 50, writes);
+    let mut faults = Sink::new(alloc, 1000, 1000);
+    let status = serve(
+        alloc,
+        &args,
+        &Single,
+        &mut Source::new(file.as_bytes(), 1000, reads),
+        &mut out,
+        &mut faults,
+    );
+    Ok(Served {
+        status,
+        out: out.taken,
+        faults: faults.taken,
+    })
+}
+
+// Serves a command over a file.
+fn serve_file(alloc: Global, line: &str, file: &str) -> Result<Served, Fail> {
+    serve_until(alloc, line, file, 10_000, 10_000)
+}
+
+// The text of a world in which every resource is 0 and nothing was passed over.
+fn world(alloc: Global, runs: u32, entities: &str) -> Result<String, AllocError> {
+    format!(in alloc; "runs {runs}\n{ZEROS}{entities}passed 0\n")
+}
+
+#[test]
+fn a_file_without_anything_is_run(rt: HostRuntime) -> Result<(), Fail> {
+    let answer = serve_file(rt.alloc(), "ecsrun run a.toml", "")?;
+    assert_eq!(rt; answer.status, 0);
+    assert_eq!(rt; answer.out.as_slice(), world(rt.alloc(), 1, "")?.as_bytes());
+    assert_eq!(rt; answer.faults.len(), 0);
+    Ok(())
+}
+
+#[test]
+fn an_entity_moves(rt: HostRuntime) -> Result<(), Fail> {
+    for (line, runs, entity) in [
+        (
+            "ecsrun run a.toml --times 3",
+            3,
+            "0v1 Position 3 -6 Velocity 1 -2\n",
+        ),
+        (
+            "ecsrun run a.toml --times 0",
+            0,
+            "0v1 Position 0 0 Velocity 1 -2\n",
+        ),
+        ("ecsrun run a.toml", 1, "0v1 Position 1 -2 Velocity 1 -2\n"),
+    ] {
+        let answer = serve_file(rt.alloc(), line, MOVE)?;
+        assert_eq!(rt; answer.status, 0, "at {line}");
+        assert_eq!(rt;
+            answer.out.as_slice(),
+            world(rt.alloc(), runs, entity)?.as_bytes()
+        );
+        assert_eq!(rt; answer.faults.len(), 0, "at {line}");
+    }
+    Ok(())
+}
+
+#[test]
+fn the_examples_are_run(rt: HostRuntime) -> Result<(), Fail> {
+    let fall = serve_file(
+        rt.alloc(),
+        "ecsrun run examples/fall.toml --times 9",
+        "[resources]\nGravity = 3\n[[entity]]\nPosition = [0, 100]\nVelocity = [2, 0]\n[[entity]]\nPosition = [5, 5]\n[[system]]\nname = \"fall\"\nquery = [\"mut Velocity\"]\n[[system.do]]\neach = 0\ncode = [\"sub Velocity.y 3\"]\n[[system]]\nname = \"move\"\nafter = [\"fall\"]\nquery = [\"mut Position, read Velocity\"]\n[[system.do]]\neach = 0\ncode = [\"add Position.x Velocity.x\", \"add Position.y Velocity.y\"]\n[[system]]\nname = \"floor\"\nafter = [\"move\"]\nquery = [\"mut Position\"]\n[[system.do]]\neach = 0\ncode = [\"max Position.y 0\"]\n",
+    )?;
+    assert_eq!(rt; fall.status, 0);
+    assert_eq!(rt;
+        fall.out.as_slice(),
+        "runs 9\nRound 0\nGravity 3\nTotal 0\nSeed 0\nLimit 0\nAlarm 0\nMode 0\nStep 0\n0v1 Position 18 0 Velocity 2 -27\n1v1 Position 5 5\npassed 0\n".as_bytes()
+    );
+    let limits = serve_file(
+        rt.alloc(),
+        "ecsrun run examples/limits.toml --times 1",
+        "[[entity]]\nPosition = [9223372036854775807, 4611686018427387904]\nVelocity = [1, -3]\n[[system]]\nname = \"grow\"\nquery = [\"mut Position, read Velocity\"]\n[[system.do]]\neach = 0\ncode = [\"add Position.x Velocity.x\", \"mul Position.y Velocity.y\"]\n",
+    )?;
+    assert_eq!(rt; limits.status, 0);
+    assert_eq!(rt;
+        limits.out.as_slice(),
+        world(
+            rt.alloc(),
+            1,
+            "0v1 Position 9223372036854775807 -9223372036854775808 Velocity 1 -3\n"
+        )?
+        .as_bytes()
+    );
+    Ok(())
+}
+
+#[test]
+fn schedules_and_scripts_are_refused(rt: HostRuntime) -> Result<(), Fail> {
+    for (file, line) in [
+        (
+            "system = [{ name = \"a\", before = [\"b\"] }, { name = \"b\", before = [\"c\"] }, { name = \"c\", before = [\"a\"] }]",
+            "refused B6 a b c a\n",
+        ),
+        (
+            "system = [{ name = \"a\", before = [\"b\"] }]",
+            "refused B1 b\n",
+        ),
+        (
+            "system = [{ name = \"a\" }, { name = \"a\" }]",
+            "refused B2 a\n",
+        ),
+        (
+            "system = [{ name = \"a\", after = [\"a\"] }]",
+            "refused B5 a\n",
+        ),
+        (
+            "system = [{ name = \"a\", query = [\"mut Position, read Position\"] }]",
+            "refused B10 a 0 2\n",
+        ),
+        (
+            "system = [{ name = \"a\" }, { name = \"b\", do = [{ each = 0, code = [] }] }]",
+            "refused X1 b 0 0\n",
+        ),
+        (
+            "system = [{ name = \"a\", query = [\"read Position\"], do = [{ each = 0, code = [] }, { each = 0, code = [\"set Position.x 1\"] }] }]",
+            "refused X1 a 1 0\n",
+        ),
+        (
+            "system = [{ name = \"a\", query = [\"mut Position\"], do = [{ each = 0, code = [\"set Position.x 1\", \"set Position.v 1\"] }] }]",
+            "refused X3 a 0 1\n",
+        ),
+        (
+            "system = [{ name = \"a\", query = [\"\", \"\"] }]",
+            "refused P2 system 0\n",
+        ),
+        ("system = [{ name = \"A\" }]", "refused P2 system 0\n"),
+        (
+            "system = [{ name = \"a\", query = [\"read\\tPosition\"] }]",
+            "refused P3 system 0\n",
+        ),
+        (
+            "entity = [{ Position = [9223372036854775808, 0] }]",
+            "refused P1\n",
+        ),
+        ("world = 1", "refused P2 top\n"),
+    ] {
+        let answer = serve_file(rt.alloc(), "ecsrun run a.toml", file)?;
+        assert_eq!(rt; answer.status, 1, "at {line}");
+        assert_eq!(rt; answer.out.len(), 0, "at {line}");
+        assert_eq!(rt; answer.faults.as_slice(), line.as_bytes());
+    }
+    Ok(())
+}
+
+#[test]
+fn a_long_chain_is_refused(rt: HostRuntime) -> Result<(), Fail> {
+    let mut file = String::new(rt.alloc());
+    write!(file, "system = [")?;
+    for number in 0..20_000u32 {
+        let next = number + 1;
+        write!(file, "{{name=\"s{number}\",before=[\"s{next}\"]}},")?;
+    }
+    write!(file, "{{name=\"s20000\"}}]")?;
+    let answer = serve_file(rt.alloc(), "ecsrun run a.toml", file.as_str())?;
+    assert_eq!(rt; answer.status, 1);
+    assert_eq!(rt; answer.out.len(), 0);
+    assert_eq!(rt; answer.faults.as_slice(), "refused B12 1\n".as_bytes());
+    Ok(())
+}
+
+#[test]
+fn a_file_that_fails_is_told(rt: HostRuntime) -> Result<(), Fail> {
+    for reads in [0, 1] {
+        let answer = serve_until(rt.alloc(), "ecsrun run a.toml", MOVE, reads, 100)?;
+        assert_eq!(rt; answer.status, 3, "after {reads} reads");
+        assert_eq!(rt; answer.out.len(), 0, "after {reads} reads");
+        assert_eq!(rt; answer.faults.as_slice(), "error file\n".as_bytes());
+    }
+    Ok(())
+}
+
+#[test]
+fn an_output_that_fails_is_told(rt: HostRuntime) -> Result<(), Fail> {
+    let mut file = String::new(rt.alloc());
+    for _entity in 0..100 {
+        write!(file, "[[entity]]\n")?;
+    }
+    let whole = serve_file(rt.alloc(), "ecsrun run a.toml", file.as_str())?;
+    assert_eq!(rt; whole.status, 0);
+    for writes in [0, 1] {
+        let answer = serve_until(rt.alloc(), "ecsrun run a.toml", file.as_str(), 100, writes)?;
+        assert_eq!(rt; answer.status, 3, "after {writes} writes");
+        assert_eq!(rt; answer.faults.as_slice(), "error write\n".as_bytes());
+        assert!(rt;
+            answer.out.len() <= whole.out.len(),
+            "after {writes} writes"
+        );
+        let kept = answer.out.len().min(whole.out.len());
+        assert_eq!(rt; answer.out.as_slice(), &whole.out[..kept]);
+    }
+    Ok(())
+}
