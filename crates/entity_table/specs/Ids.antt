@@ -1,0 +1,47 @@
+-- What is known of the indices of the id book, and what settling makes of them.
+use Rattle.std.specs.Prelude.{ℕ, ◌≡◌, ◌≢◌, ◌≤◌, Bool, List, length, get_or, fold, AllPairs}
+use Rattle.std.specs.List.{AllByRecursion}
+use Rattle.model.specs.Lists.{update_at}
+use Rattle.model.specs.declared.entities.Entity.{Entity}
+use Rattle.model.specs.State.{Slot, fresh_slot, is_living, most_indices}
+use Rattle.model.specs.State.Status.{Granted}
+use Rattle.model.specs.Ids.{vacant_indices}
+use Rattle.model.specs.Commands.{spawned, release}
+use Rattle.model.specs.Shape.{IsSlot}
+use Rattle.entity_table.specs.Rising.{Numbers}
+
+-- the slot of an index: vacant at generation 1 past the end
+abbrev pub slot_at : List Slot → ℕ → Slot
+slot_at slots index = get_or slots index fresh_slot
+
+-- whether the entity of an index lives
+abbrev pub lives_at : List Slot → ℕ → Bool
+lives_at slots index = is_living (slot_at slots index).status
+
+-- the id was granted and not yet spawned or settled
+pub record IsGranted (slots : List Slot) (e : Entity) : Type 0 where
+  pub status : (slot_at slots e.index).status ≡ Granted
+  pub generation : (slot_at slots e.index).generation ≡ e.generation
+
+-- no id is named twice
+abbrev pub AreApart : List Entity → Type 0
+AreApart ids = AllPairs (λ a b. a ≢ b) ids
+
+-- the slots once these ids are spawned
+abbrev pub spawned_all : List Entity → List Slot → List Slot
+spawned_all ids slots = fold (λ book e. update_at e.index (spawned e.generation) book) slots ids
+
+-- the slots once the used ids are spawned and the unused ones released
+abbrev pub settled : List Entity → List Entity → List Slot → List Slot
+settled used unused slots = release unused (spawned_all used slots)
+
+-- the slots of an id book, whatever the widths of components: each is one of a world, without components, and they are few enough
+pub record IsBook (book : List Slot) : Type 0 where
+  pub slots : AllByRecursion (IsSlot (λ kind. 0) 0) book
+  pub few : length book ≤ most_indices
+
+-- a book with its vacant indices, and room for all its indices among them
+pub record IsKept (book : List Slot) (numbers : Numbers) : Type 0 where
+  pub whole : IsBook book
+  pub vacant : numbers.rising ≡ vacant_indices book
+  pub room : length book ≤ numbers.room

@@ -1,0 +1,4 @@
+pub mod Status
+pub mod Rising
+pub mod Ids
+pub mod Rows

@@ -1,0 +1,290 @@
+// The id book.
+
+ghost use Rattle.std.specs.Prelude.{◌≡◌, ◌++◌, ◌+◌, ◌-◌, ◌≤◌, ◌<◌, ◌↔◌, ℕ, true, false, [], ◌∷◌, length, vec_len, vec_capacity, All, IsTrue, IfSome, IfNone, IfOk, OnOk, OnErr, IsErrOf};
+ghost use Rattle.model.specs.Lists.{update_at};
+ghost use Rattle.model.specs.State.{most_indices, is_vacant, is_granted};
+ghost use Rattle.model.specs.Ids as ids;
+ghost use Rattle.model.specs.Ids.{vacant_indices, granted_ids};
+ghost use Rattle.model.specs.Commands.{is_alive, spawned, freed};
+ghost use Rattle.model.specs.Commands as commands;
+ghost use Rattle.entity_table.specs.Status.{status_of};
+ghost use Rattle.entity_table.specs.Ids.{slot_at, lives_at, IsGranted, AreApart, IsBook, settled};
+
+use crate::fault::GrantFault;
+use crate::least_first::LeastFirst;
+use crate::place::Place;
+use crate::status::Status;
+use model::entities::Entity;
+use std::alloc::Global;
+use std::marker::Model;
+
+/// How many indices there may be.
+pub const MOST_INDICES: usize = 1_048_576;
+
+/// The id book: for each index its generation and what it is. Contracts see the slots by index, without components. An index past
+/// the end is vacant at generation 1.
+///
+/// The vacant indices stand apart, the least first: a grant of n ids among k vacant ones takes a time that grows as n times the
+/// logarithm of k, however many indices there are. Room for every index to be vacant is made by the grant that brings it.
+#[derive(Drop, Debug)]
+pub struct EntityTable {
+    places: Vec<Place>,
+    vacant: LeastFirst,
+}
+
+impl Model for EntityTable {
+    ghost use Rattle.std.specs.Prelude.{List};
+    ghost use Rattle.model.specs.State.{Slot};
+    ghost use Rattle.entity_table.specs.Ids.{IsKept};
+
+    ghost Value = { List Slot };
+
+    ghost view = { λ t. t.places.items };
+
+    ghost invariant = { λ t. IsKept t.places.items t.vacant };
+}
+
+impl EntityTable {
+    /// No indices.
+    pub fn new(alloc: Global) -> Self
+        ensures { result ≡ [] }
+    {
+        EntityTable {
+            places: Vec::new(alloc),
+            vacant: LeastFirst::new(alloc),
+        }
+    }
+
+    // An index that lives at this generation.
+    #[cfg(test)]
+    fn at_generation(alloc: Global, generation: u32) -> Result<Self, GrantFault>
+        requires { 1 ≤ generation }
+    {
+        let mut table = EntityTable::new(alloc);
+        table.places.reserve(1)?;
+        table.vacant.make_room(1)?;
+        let _ = table.places.push(Place::living(generation));
+        Ok(table)
+    }
+
+    /// How many indices there are: past them every index is vacant at generation 1.
+    pub fn len(&self) -> u32
+        ensures value { result ≡ length self.now }
+        ensures book { IsBook self.now }
+    {
+        self.places.len() as u32
+    }
+
+    /// Whether there are no indices.
+    pub fn is_empty(&self) -> bool
+        ensures { IsTrue result ↔ (self.now ≡ []) }
+    {
+        self.places.is_empty()
+    }
+
+    /// The generation of an index.
+    pub fn generation(&self, index: u32) -> u32
+        ensures { result ≡ (slot_at self.now index).generation }
+    {
+        match self.places.get(index as usize) {
+            Some(place) => place.generation(),
+            None => 1,
+        }
+    }
+
+    /// What an index is.
+    pub fn status(&self, index: u32) -> Status
+        ensures { status_of result ≡ (slot_at self.now index).status }
+    {
+        match self.places.get(index as usize) {
+            Some(place) => place.status(),
+            None => Status::Vacant,
+        }
+    }
+
+    /// Whether an entity lives.
+    pub fn lives(&self, e: Entity) -> bool
+        ensures value { result ≡ is_alive self.now e }
+        ensures within { IsTrue result → e.index < length self.now }
+    {
+        match self.places.get(e.index as usize) {
+            Some(place) => place.is_living() && place.generation() == e.generation,
+            None => false,
+        }
+    }
+
+    /// The living entity of the least index from this one on. It looks at each index on the way.
+    pub fn next_living(&self, from: u32) -> Option<Entity>
+        ensures lives { IfSome result (λ e. (from ≤ e.index) × (is_alive self.now e ≡ true)) }
+        ensures least { IfSome result (λ e. (k : ℕ) → from ≤ k → k < e.index → lives_at self.now k ≡ false) }
+        ensures none { IfNone result ((k : ℕ) → from ≤ k → lives_at self.now k ≡ false) }
+    {
+        next_living_in(self.places.as_slice(), from)
+    }
+
+    /// Grants so many ids: the least vacant indices, at their generations. It makes the room that `settle`, `release` and `despawn`
+    /// need later. After an error nothing has changed.
+    pub fn grant(&mut self, alloc: Global, count: u32) -> Result<Vec<Entity>, GrantFault>
+        ensures ok { IfOk result (λ granted. granted.items ≡ ids.granted_ids count self.old) }
+        ensures granted { OnOk result (self.new ≡ ids.grant count self.old) }
+        ensures each { IfOk result (λ granted. All (IsGranted self.new) granted.items) }
+        ensures apart { IfOk result (λ granted. AreApart granted.items) }
+        ensures spent { IsErrOf result GrantFault.IdsSpent ↔ (ids.has_ids count self.old ≡ false) }
+        ensures err { OnErr result (self.new ≡ self.old) }
+    {
+        let had = self.places.len();
+        let missing = (count as usize).saturating_sub(self.vacant.len());
+        if MOST_INDICES < had + missing {
+            return Err(GrantFault::IdsSpent);
+        }
+        let mut granted = Vec::with_capacity(alloc, count as usize)?;
+        self.places.reserve(missing)?;
+        self.vacant.make_room(had + missing)?;
+        grant_each(&mut self.places, &mut self.vacant, &mut granted, count);
+        Ok(granted)
+    }
+
+    /// Makes the entity of a granted id live.
+    pub fn spawn_at(&mut self, e: Entity)
+        requires { IsGranted self.old e }
+        ensures { self.new ≡ update_at e.index (spawned e.generation) self.old }
+    {
+        let place = &mut self.places[e.index as usize];
+        place.spawn();
+    }
+
+    /// Settles granted ids, none of them named twice: the used ones live, the unused ones are freed. It takes no memory.
+    pub fn settle(&mut self, used: &[Entity], unused: &[Entity])
+        requires used { All (IsGranted self.old) used.now }
+        requires unused { All (IsGranted self.old) unused.now }
+        requires apart { AreApart (used.now ++ unused.now) }
+        ensures { self.new ≡ settled used.now unused.now self.old }
+    {
+        for e in used {
+            self.spawn_at(*e);
+        }
+        self.release(unused);
+    }
+
+    /// Frees each index named that is still granted: it is vacant with one more generation, or retired where that can't grow. It takes
+    /// no memory.
+    pub fn release(&mut self, ids: &[Entity])
+        ensures { self.new ≡ commands.release ids.now self.old }
+    {
+        for id in ids {
+            if self.is_granted(id.index) {
+                self.free(id.index);
+            }
+        }
+    }
+
+    /// Frees the index of an entity that lives, so that its id names nothing. It takes no memory.
+    pub fn despawn(&mut self, e: Entity)
+        requires { is_alive self.old e ≡ true }
+        ensures { self.new ≡ update_at e.index freed self.old }
+    {
+        self.free(e.index);
+    }
+
+    // Whether the index was granted and is not settled.
+    fn is_granted(&self, index: u32) -> bool
+        ensures { result ≡ is_granted (slot_at self.now index).status }
+    {
+        match self.places.get(index as usize) {
+            Some(place) => place.is_granted(),
+            None => false,
+        }
+    }
+
+    // Frees an index that isn't vacant. There is room for it among the vacant ones, since there is for all indices.
+    fn free(&mut self, index: u32)
+        requires within { index < length self.old }
+        requires held { is_vacant (slot_at self.old index).status ≡ false }
+        ensures { self.new ≡ update_at index freed self.old }
+    {
+        let place = &mut self.places[index as usize];
+        place.free();
+        if place.is_vacant() {
+            self.vacant.push(index);
+        }
+    }
+}
+
+// The living entity of the least index from this one on.
+fn next_living_in(places: &[Place], from: u32) -> Option<Entity>
+    requires { length places.now ≤ most_indices }
+    ensures lives { IfSome result (λ e. (from ≤ e.index) × (is_alive places.now e ≡ true)) }
+    ensures least { IfSome result (λ e. (k : ℕ) → from ≤ k → k < e.index → lives_at places.now k ≡ false) }
+    ensures none { IfNone result ((k : ℕ) → from ≤ k → lives_at places.now k ≡ false) }
+{
+    for index in from as usize..places.len() {
+        let place = &places[index];
+        if place.is_living() {
+            return Some(Entity {
+                index: index as u32,
+                generation: place.generation(),
+            });
+        }
+    }
+    None
+}
+
+// Grants so many ids one after the other, for which there is room.
+fn grant_each(
+    places: &mut Vec<Place>,
+    vacant: &mut LeastFirst,
+    granted: &mut Vec<Entity>,
+    count: u32,
+)
+    requires kept { vacant.old.rising ≡ vacant_indices places.old.items }
+    requires few { length places.old.items + (count - length vacant.old.rising) ≤ most_indices }
+    requires room { vec_len places.old + (count - length vacant.old.rising) ≤ vec_capacity places.old }
+    requires granted_room { vec_len granted.old + count ≤ vec_capacity granted.old }
+    ensures grants { places.new.items ≡ ids.grant count places.old.items }
+    ensures ids { granted.new.items ≡ granted.old.items ++ granted_ids count places.old.items }
+    ensures kept { vacant.new.rising ≡ vacant_indices places.new.items }
+    ensures room { vacant.old.room ≤ vacant.new.room }
+{
+    for _ in 0..count {
+        let e = grant_one(places, vacant);
+        let _ = granted.push(e);
+    }
+}
+
+// Grants one id: the least vacant index, or else the next after the last, for which there is room.
+fn grant_one(places: &mut Vec<Place>, vacant: &mut LeastFirst) -> Entity
+    requires kept { vacant.old.rising ≡ vacant_indices places.old.items }
+    requires few { length places.old.items + (1 - length vacant.old.rising) ≤ most_indices }
+    requires room { vec_len places.old + (1 - length vacant.old.rising) ≤ vec_capacity places.old }
+    ensures grants { places.new.items ≡ ids.grant 1 places.old.items }
+    ensures id { granted_ids 1 places.old.items ≡ result ∷ [] }
+    ensures kept { vacant.new.rising ≡ vacant_indices places.new.items }
+    ensures len { length vacant.new.rising ≡ length vacant.old.rising - 1 }
+    ensures places { vec_len places.new ≡ vec_len places.old + (1 - length vacant.old.rising) }
+    ensures capacity { vec_capacity places.old ≤ vec_capacity places.new }
+    ensures room { vacant.new.room ≡ vacant.old.room }
+{
+    match vacant.pop() {
+        Some(index) => {
+            let place = &mut places[index as usize];
+            place.grant();
+            Entity {
+                index,
+                generation: place.generation(),
+            }
+        }
+        None => {
+            let index = places.len() as u32;
+            let mut place = Place::fresh();
+            place.grant();
+            let _ = places.push(place);
+            Entity {
+                index,
+                generation: 1,
+            }
+        }
+    }
+}
+
+#[cfg(test)]
+mod tests;
