@@ -1,6 +1,6 @@
 -- What is written in a row, at the first place that fits.
-use Rattle.std.proofs.Common.{◌≡◌, ℕ, zero, suc, ◌<◌, ◌≤◌, Bool, true, false, cond, ℤ, List, [], ◌∷◌, length, get_or, set, map, Option, Some, None, refl, sym, ap, ◌∙◌, arith}
-use Rattle.std.proofs.lemmas.Bool.{eqb-true}
+use Rattle.std.proofs.Common.{◌≡◌, ℕ, zero, suc, ◌+◌, ◌<◌, ◌≤◌, Bool, true, false, cond, ℤ, List, [], ◌∷◌, length, get_or, set, map, Option, Some, None, refl, sym, ap, subst, ◌∙◌, ◌⊎◌, inl, inr, arith}
+use Rattle.std.proofs.lemmas.Bool.{eqb-true, cases_lt}
 use Rattle.model.specs.Lists.{is_number}
 use Rattle.model.specs.Query.{written}
 use Rattle.kinds.specs.declared.value.Value.{Value}
@@ -14,6 +14,12 @@ use Rattle.body.specs.Cells.{AreWritten}
 -- no term before a place writes the kind
 abbrev pub NoneBefore : List Term → ℕ → Term → ℕ → Type 0
 NoneBefore terms k d i = (j : ℕ) → j < i → is_number k (written (term_of (get_or terms j d))) ≡ false
+
+-- nor does the term at it, so none before the next place
+pub NoneBefore-next : (terms : List Term) (k i : ℕ) (d : Term) → NoneBefore terms k d i → is_number k (written (term_of (get_or terms i d))) ≡ false → NoneBefore terms k d (i + 1)
+NoneBefore-next terms k i d none here j m = elim (cases_lt j i) [
+      inl before ↦ none j before
+    | inr past ↦ let same : i ≡ j = omega arith in subst (λ at. is_number k (written (term_of (get_or terms at d))) ≡ false) same here ]
 
 choice : {A : Type 0} (b c : Bool) (x y : A) → b ≡ c → cond b x y ≡ cond c x y
 choice b c x y e = cc

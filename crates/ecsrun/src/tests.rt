@@ -128,6 +128,41 @@ fn the_examples_are_run(rt: HostRuntime) -> Result<(), Fail> {
 }
 
 #[test]
+fn every_kind_is_printed(rt: HostRuntime) -> Result<(), Fail> {
+    let answer = serve_file(
+        rt.alloc(),
+        "ecsrun run a.toml",
+        "[[entity]]\nPosition = [1, 2]\nVelocity = [3, -4]\nHealth = [5]\nDamage = [6]\nTeam = [7]\nTimer = [8]\nScore = [9]\nEnergy = [10]\nCharge = [11]\nTarget = [12]\nFrozen = []\nHidden = []\n[[entity]]\nHidden = []\nTarget = [-1]\nHealth = [0]\n",
+    )?;
+    assert_eq!(rt; answer.status, 0);
+    assert_eq!(rt;
+        answer.out.as_slice(),
+        world(
+            rt.alloc(),
+            1,
+            "0v1 Position 1 2 Velocity 3 -4 Health 5 Damage 6 Team 7 Timer 8 Score 9 Energy 10 Charge 11 Target 12 Frozen Hidden\n1v1 Health 0 Target -1 Hidden\n"
+        )?
+        .as_bytes()
+    );
+    Ok(())
+}
+
+#[test]
+fn the_greatest_health_stays(rt: HostRuntime) -> Result<(), Fail> {
+    let answer = serve_file(
+        rt.alloc(),
+        "ecsrun run a.toml",
+        "[[entity]]\nHealth = [9223372036854775807]\n[[system]]\nname = \"a\"\nquery = [\"mut Health\"]\n[[system.do]]\neach = 0\ncode = [\"add Health.v 1\"]\n",
+    )?;
+    assert_eq!(rt; answer.status, 0);
+    assert_eq!(rt;
+        answer.out.as_slice(),
+        world(rt.alloc(), 1, "0v1 Health 9223372036854775807\n")?.as_bytes()
+    );
+    Ok(())
+}
+
+#[test]
 fn schedules_and_scripts_are_refused(rt: HostRuntime) -> Result<(), Fail> {
     for (file, line) in [
         (

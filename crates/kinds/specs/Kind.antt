@@ -1,17 +1,41 @@
 -- The number and the name of each kind.
-use Rattle.std.specs.Prelude.{◌≡◌, ℕ, List, [], ◌∷◌, get_or, codes, refl}
+use Rattle.std.specs.Prelude.{◌≡◌, ℕ, zero, suc, ◌+◌, ◌<◌, List, [], ◌∷◌, get_or, codes, refl}
 use Rattle.kinds.specs.declared.kind.Kind.{Kind}
-use Rattle.kinds.specs.declared.kind.Kind.TheVariants.{Position, Velocity}
+use Rattle.kinds.specs.declared.kind.Kind.TheVariants.{Position, Velocity, Health, Damage, Team, Timer, Score, Energy, Charge, Target, Frozen, Hidden}
+
+-- how many kinds there are
+abbrev pub kind_count : ℕ
+kind_count = 12
 
 -- the number of a kind
 abbrev pub kind_number : Kind → ℕ
 kind_number Position = 0
 kind_number Velocity = 1
+kind_number Health = 2
+kind_number Damage = 3
+kind_number Team = 4
+kind_number Timer = 5
+kind_number Score = 6
+kind_number Energy = 7
+kind_number Charge = 8
+kind_number Target = 9
+kind_number Frozen = 10
+kind_number Hidden = 11
 
 -- the name of a kind
 abbrev pub kind_name : Kind → List ℕ
 kind_name Position = codes "Position"
 kind_name Velocity = codes "Velocity"
+kind_name Health = codes "Health"
+kind_name Damage = codes "Damage"
+kind_name Team = codes "Team"
+kind_name Timer = codes "Timer"
+kind_name Score = codes "Score"
+kind_name Energy = codes "Energy"
+kind_name Charge = codes "Charge"
+kind_name Target = codes "Target"
+kind_name Frozen = codes "Frozen"
+kind_name Hidden = codes "Hidden"
 
 -- the word names the kind
 abbrev pub IsKind : Kind → List ℕ → Type 0
@@ -19,9 +43,36 @@ IsKind kind word = word ≡ kind_name kind
 
 -- the name of the kind of a number; nothing where no kind has it
 abbrev pub name_of_kind : ℕ → List ℕ
-name_of_kind number = get_or (kind_name Position ∷ kind_name Velocity ∷ []) number []
+name_of_kind number = get_or (kind_name Position ∷ kind_name Velocity ∷ kind_name Health ∷ kind_name Damage ∷ kind_name Team ∷ kind_name Timer ∷ kind_name Score ∷ kind_name Energy ∷ kind_name Charge ∷ kind_name Target ∷ kind_name Frozen ∷ kind_name Hidden ∷ []) number []
 
 -- a kind has one name, by itself and by its number
 pub name_of_kind-kind_number : (kind : Kind) → name_of_kind (kind_number kind) ≡ kind_name kind
 name_of_kind-kind_number Position = refl
 name_of_kind-kind_number Velocity = refl
+name_of_kind-kind_number Health = refl
+name_of_kind-kind_number Damage = refl
+name_of_kind-kind_number Team = refl
+name_of_kind-kind_number Timer = refl
+name_of_kind-kind_number Score = refl
+name_of_kind-kind_number Energy = refl
+name_of_kind-kind_number Charge = refl
+name_of_kind-kind_number Target = refl
+name_of_kind-kind_number Frozen = refl
+name_of_kind-kind_number Hidden = refl
+
+-- so many numbers from one on
+abbrev pub numbers_from : ℕ → ℕ → List ℕ
+numbers_from first zero = []
+numbers_from first (suc count) = first ∷ numbers_from (1 + first) count
+
+-- each kind has a number below their count
+abbrev pub NumbersAreBelow : Type 0
+NumbersAreBelow = (kind : Kind) → kind_number kind < kind_count
+
+-- no two kinds have one number
+abbrev pub NumbersAreApart : Type 0
+NumbersAreApart = (kind other : Kind) → kind_number kind ≡ kind_number other → kind ≡ other
+
+-- no two kinds have one name
+abbrev pub NamesAreApart : Type 0
+NamesAreApart = (kind other : Kind) → kind_name kind ≡ kind_name other → kind ≡ other

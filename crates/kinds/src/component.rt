@@ -1,25 +1,25 @@
-// The components, and what each kind of them has.
+// What each type of components has.
 
-ghost use Rattle.std.specs.Prelude.{◌≡◌, ℕ, ℤ, List, [], ◌∷◌, length, ◌↔◌, IsSome, IfSome, refl};
-ghost use Rattle.kinds.specs.Components.{widths, position_words, position_of, velocity_words, velocity_of, two_words};
+ghost use Rattle.std.specs.Prelude.{◌≡◌, ℕ, ℤ, List, length, map, ◌↔◌, IsSome, IfSome, IsOk, IfOk, IfErr};
+ghost use Rattle.std.specs.Borrow.{LendsIf, sem};
+ghost use Rattle.std.specs.declared.vec.Vec.{Vec};
+ghost use Rattle.std.specs.declared.alloc.Global.{Global};
+ghost use Rattle.kinds.specs.declared.column.Column.{Column};
+ghost use Rattle.kinds.specs.Components.{widths};
 ghost use Rattle.kinds.specs.Value.{value_number, value_words};
+ghost use Rattle.kinds.specs.Column.{column_number, column_words};
+ghost use Rattle.kinds.specs.Rows.{column_row, vec_row};
 
+mod amounts;
+mod marks;
+mod pairs;
+
+use crate::column::Column;
+pub use crate::types::{
+    Charge, Damage, Energy, Frozen, Health, Hidden, Position, Score, Target, Team, Timer, Velocity,
+};
 use crate::value::Value;
 use crate::words::Words;
-
-/// A place.
-#[derive(Clone, Copy, PartialEq, Eq, Debug)]
-pub struct Position {
-    pub x: i64,
-    pub y: i64,
-}
-
-/// A step.
-#[derive(Clone, Copy, PartialEq, Eq, Debug)]
-pub struct Velocity {
-    pub x: i64,
-    pub y: i64,
-}
 
 /// A type of components: one for each kind. Above this crate a component is known by the number of its kind and by its words,
 /// which are its fields in order.
@@ -31,6 +31,8 @@ pub trait Component: Copy {
     ghost words: { Self → List ℤ };
 
     ghost of_words: { List ℤ → Self };
+
+    ghost column_of: { Vec Self Global → Column };
 
     /// The number of the kind.
     const NUMBER: u32;
@@ -57,6 +59,33 @@ pub trait Component: Copy {
         ensures variant { IsSome result ↔ (value_number value ≡ NUMBER) }
         ensures some { IfSome result (λ c. value_words value ≡ words c) };
 
+    /// The components as a column.
+    fn into_column(list: Vec<Self>) -> Column
+        ensures number { column_number result ≡ NUMBER }
+        ensures words { column_words result ≡ map words list.items };
+
+    /// The components of a column of this kind. Another column is given back.
+    fn from_column(column: Column) -> Result<Vec<Self>, Column>
+        ensures variant { IsOk result ↔ (column_number column ≡ NUMBER) }
+        ensures ok { IfOk result (λ v. column_words column ≡ map words v.items) }
+        ensures err { IfErr result (λ c. c ≡ column) };
+
+    /// The components in a column, if it is of this kind.
+    fn in_column(column: &Column) -> Option<&Vec<Self>>
+        ensures variant { IsSome result ↔ (column_number column.now ≡ NUMBER) }
+        ensures some { IfSome result (λ v. column_words column.now ≡ map words v.now.items) };
+
+    /// The components in a column to write to, if it is of this kind: what is left of them is what the column has then.
+    fn in_column_mut(column: &mut Column) -> Option<&mut Vec<Self>>
+        ensures* writes_back { sem 𝓛 (LendsIf column_row (vec_row Self.row) column.entry result column_of column.old) }
+        ensures variant { IsSome result ↔ (column_number column.old ≡ NUMBER) }
+        ensures some { IfSome result (λ v. column_words column.old ≡ map words v.now.items) };
+
+    // A column shows the components that it was made of.
+    ghost column_words_of: { (v : Vec Self Global) → column_words (column_of v) ≡ map words v.items };
+
+    ghost column_number_of: { (v : Vec Self Global) → column_number (column_of v) ≡ NUMBER };
+
     // The words determine the component, and the component its words.
     ghost round_trip: { (c : Self) → of_words (words c) ≡ c };
 
@@ -66,92 +95,4 @@ pub trait Component: Copy {
     ghost same_width: { (c : Self) → length (words c) ≡ WIDTH };
 
     ghost width_of_number: { widths NUMBER ≡ WIDTH };
-}
-
-impl Component for Position {
-    ghost NUMBER = { 0 };
-
-    ghost WIDTH = { 2 };
-
-    ghost words = { position_words };
-
-    ghost of_words = { position_of };
-
-    ghost round_trip = { λ c. refl };
-
-    ghost round_trip_words = { λ w h. two_words w h };
-
-    ghost same_width = { λ c. refl };
-
-    ghost width_of_number = { refl };
-
-    const NUMBER: u32 = 0;
-
-    const WIDTH: usize = 2;
-
-    fn to_words(&self) -> Words {
-        Words::two(self.x, self.y)
-    }
-
-    fn from_words(list: &[i64]) -> Self {
-        Position {
-            x: list[0],
-            y: list[1],
-        }
-    }
-
-    fn into_value(self) -> Value {
-        Value::Position(self)
-    }
-
-    fn from_value(value: Value) -> Option<Self> {
-        match value {
-            Value::Position(component) => Some(component),
-            _ => None,
-        }
-    }
-}
-
-impl Component for Velocity {
-    ghost NUMBER = { 1 };
-
-    ghost WIDTH = { 2 };
-
-    ghost words = { velocity_words };
-
-    ghost of_words = { velocity_of };
-
-    ghost round_trip = { λ c. refl };
-
-    ghost round_trip_words = { λ w h. two_words w h };
-
-    ghost same_width = { λ c. refl };
-
-    ghost width_of_number = { refl };
-
-    const NUMBER: u32 = 1;
-
-    const WIDTH: usize = 2;
-
-    fn to_words(&self) -> Words {
-        Words::two(self.x, self.y)
-    }
-
-    fn from_words(list: &[i64]) -> Self {
-        Velocity {
-            x: list[0],
-            y: list[1],
-        }
-    }
-
-    fn into_value(self) -> Value {
-        Value::Velocity(self)
-    }
-
-    fn from_value(value: Value) -> Option<Self> {
-        match value {
-            Value::Velocity(component) => Some(component),
-            _ => None,
-        }
-    }
 }

@@ -11,11 +11,31 @@ macro_rules! each_kind {
         match $kind {
             $crate::kind::Kind::Position => $crate::for_kind!(Position [] [] $($block)*),
             $crate::kind::Kind::Velocity => $crate::for_kind!(Velocity [] [] $($block)*),
+            $crate::kind::Kind::Health => $crate::for_kind!(Health [] [] $($block)*),
+            $crate::kind::Kind::Damage => $crate::for_kind!(Damage [] [] $($block)*),
+            $crate::kind::Kind::Team => $crate::for_kind!(Team [] [] $($block)*),
+            $crate::kind::Kind::Timer => $crate::for_kind!(Timer [] [] $($block)*),
+            $crate::kind::Kind::Score => $crate::for_kind!(Score [] [] $($block)*),
+            $crate::kind::Kind::Energy => $crate::for_kind!(Energy [] [] $($block)*),
+            $crate::kind::Kind::Charge => $crate::for_kind!(Charge [] [] $($block)*),
+            $crate::kind::Kind::Target => $crate::for_kind!(Target [] [] $($block)*),
+            $crate::kind::Kind::Frozen => $crate::for_kind!(Frozen [] [] $($block)*),
+            $crate::kind::Kind::Hidden => $crate::for_kind!(Hidden [] [] $($block)*),
         }
     };
     (K => { $($block:tt)* }) => {{
         $crate::for_kind!(Position [] [] $($block)*);
         $crate::for_kind!(Velocity [] [] $($block)*);
+        $crate::for_kind!(Health [] [] $($block)*);
+        $crate::for_kind!(Damage [] [] $($block)*);
+        $crate::for_kind!(Team [] [] $($block)*);
+        $crate::for_kind!(Timer [] [] $($block)*);
+        $crate::for_kind!(Score [] [] $($block)*);
+        $crate::for_kind!(Energy [] [] $($block)*);
+        $crate::for_kind!(Charge [] [] $($block)*);
+        $crate::for_kind!(Target [] [] $($block)*);
+        $crate::for_kind!(Frozen [] [] $($block)*);
+        $crate::for_kind!(Hidden [] [] $($block)*);
     }};
 }
 
@@ -30,7 +50,7 @@ macro_rules! for_kind {
         $crate::for_kind!($type [$($outer)* {$($done)*}] [$($open)*] $($rest)*)
     };
     ($type:ident [$($done:tt)*] [$($open:tt)*] K $($rest:tt)*) => {
-        $crate::for_kind!($type [$($done)* $crate::component::$type] [$($open)*] $($rest)*)
+        $crate::for_kind!($type [$($done)* $crate::types::$type] [$($open)*] $($rest)*)
     };
     ($type:ident [$($done:tt)*] [$($open:tt)*] ($($inner:tt)*) $($rest:tt)*) => {
         $crate::for_kind!($type [] [paren [$($done)*] [$($rest)*] $($open)*] $($inner)*)

@@ -1,7 +1,7 @@
 // The kinds of components by number and by name.
 
-ghost use Rattle.std.specs.Prelude.{◌≡◌, ◌<◌, Some};
-ghost use Rattle.kinds.specs.Kind.{kind_number, kind_name, IsKind};
+ghost use Rattle.std.specs.Prelude.{◌≡◌, ◌<◌, map, Some};
+ghost use Rattle.kinds.specs.Kind.{kind_count, kind_number, kind_name, IsKind, numbers_from, NumbersAreBelow, NumbersAreApart, NamesAreApart};
 ghost use Rattle.kinds.specs.Components.{widths};
 ghost use Rattle.texts.specs.Reads.{Reads};
 
@@ -14,9 +14,55 @@ pub enum Kind {
     Position,
     /// A step, with the fields `x` and `y`.
     Velocity,
+    /// How much an entity can still take, with the field `v`.
+    Health,
+    /// How much an entity takes from others, with the field `v`.
+    Damage,
+    /// The number of the side on which an entity is, with the field `v`.
+    Team,
+    /// A count of time, with the field `v`.
+    Timer,
+    /// A count of points, with the field `v`.
+    Score,
+    /// How much an entity can spend, with the field `v`.
+    Energy,
+    /// How much is stored up, with the field `v`.
+    Charge,
+    /// The number of what an entity is after, with the field `v`.
+    Target,
+    /// A mark, without fields.
+    Frozen,
+    /// A mark, without fields.
+    Hidden,
 }
 
 impl Kind {
+    /// How many kinds there are.
+    pub const COUNT: usize = 12;
+
+    // The kinds, in the order of their numbers.
+    const ALL: [Kind; Kind::COUNT] = [
+        Kind::Position,
+        Kind::Velocity,
+        Kind::Health,
+        Kind::Damage,
+        Kind::Team,
+        Kind::Timer,
+        Kind::Score,
+        Kind::Energy,
+        Kind::Charge,
+        Kind::Target,
+        Kind::Frozen,
+        Kind::Hidden,
+    ];
+
+    /// The kinds, in the order of their numbers, which rise from 0.
+    pub fn every() -> &'static [Kind]
+        ensures { map kind_number result.now ≡ numbers_from 0 kind_count }
+    {
+        &Kind::ALL
+    }
+
     /// The number of the kind, by which rows are ordered.
     pub fn number(self) -> u32
         ensures { result ≡ kind_number self }
@@ -24,6 +70,16 @@ impl Kind {
         match self {
             Kind::Position => 0,
             Kind::Velocity => 1,
+            Kind::Health => 2,
+            Kind::Damage => 3,
+            Kind::Team => 4,
+            Kind::Timer => 5,
+            Kind::Score => 6,
+            Kind::Energy => 7,
+            Kind::Charge => 8,
+            Kind::Target => 9,
+            Kind::Frozen => 10,
+            Kind::Hidden => 11,
         }
     }
 
@@ -33,6 +89,8 @@ impl Kind {
     {
         match self {
             Kind::Position | Kind::Velocity => 2,
+            Kind::Frozen | Kind::Hidden => 0,
+            _ => 1,
         }
     }
 
@@ -43,6 +101,16 @@ impl Kind {
         match self {
             Kind::Position => "Position",
             Kind::Velocity => "Velocity",
+            Kind::Health => "Health",
+            Kind::Damage => "Damage",
+            Kind::Team => "Team",
+            Kind::Timer => "Timer",
+            Kind::Score => "Score",
+            Kind::Energy => "Energy",
+            Kind::Charge => "Charge",
+            Kind::Target => "Target",
+            Kind::Frozen => "Frozen",
+            Kind::Hidden => "Hidden",
         }
     }
 
@@ -53,6 +121,16 @@ impl Kind {
         match word {
             "Position" => Some(Kind::Position),
             "Velocity" => Some(Kind::Velocity),
+            "Health" => Some(Kind::Health),
+            "Damage" => Some(Kind::Damage),
+            "Team" => Some(Kind::Team),
+            "Timer" => Some(Kind::Timer),
+            "Score" => Some(Kind::Score),
+            "Energy" => Some(Kind::Energy),
+            "Charge" => Some(Kind::Charge),
+            "Target" => Some(Kind::Target),
+            "Frozen" => Some(Kind::Frozen),
+            "Hidden" => Some(Kind::Hidden),
             _ => None,
         }
     }
@@ -66,6 +144,13 @@ impl fmt::Display for Kind {
     }
 }
 
+/// The kinds are told apart: by their numbers, which are below their count, and by their names.
+pub fn kinds_are_apart()
+    ensures below { NumbersAreBelow }
+    ensures numbers { NumbersAreApart }
+    ensures names { NamesAreApart }
+{}
+
 #[cfg(test)]
 mod tests {
     use super::*;
@@ -73,11 +158,25 @@ mod tests {
 
     #[test]
     fn names(rt: HostRuntime) -> Result<(), Fail> {
+        for kind in Kind::every() {
+            assert_eq!(rt; Kind::named(kind.name()), Some(*kind));
+            let text = format!(in rt.alloc(); "{kind}")?;
+            assert_eq!(rt; text.as_str(), kind.name());
+        }
         assert_eq!(rt; Kind::named("Velocity"), Some(Kind::Velocity));
         assert_eq!(rt; Kind::named("Velocity "), None);
         assert_eq!(rt; Kind::named("Round"), None);
-        let text = format!(in rt.alloc(); "{}", Kind::Position)?;
-        assert_eq!(rt; text.as_str(), "Position");
+        let text = format!(in rt.alloc(); "{}", Kind::Hidden)?;
+        assert_eq!(rt; text.as_str(), "Hidden");
         Ok(())
+    }
+
+    #[test]
+    fn numbers(rt: HostRuntime) {
+        assert_eq!(rt; Kind::every().len(), Kind::COUNT);
+        assert_eq!(rt; Kind::Position.number(), 0);
+        assert_eq!(rt; Kind::Target.number(), 9);
+        assert_eq!(rt; Kind::Target.width(), 1);
+        assert_eq!(rt; Kind::Frozen.width(), 0);
     }
 }

@@ -1,13 +1,16 @@
 // A component of any kind.
 
-ghost use Rattle.std.specs.Prelude.{◌≡◌, ◌+◌, ◌<◌, length};
+ghost use Rattle.std.specs.Prelude.{◌≡◌, ◌+◌, ◌<◌, ◌≤◌, Some, length};
 ghost use Rattle.kinds.specs.Kind.{kind_number};
 ghost use Rattle.kinds.specs.Components.{widths};
 ghost use Rattle.kinds.specs.Value.{value_number, value_words};
 
-use crate::component::{Component, Position, Velocity};
+use crate::component::Component;
 use crate::each_kind;
 use crate::kind::Kind;
+use crate::types::{
+    Charge, Damage, Energy, Frozen, Health, Hidden, Position, Score, Target, Team, Timer, Velocity,
+};
 use crate::words::Words;
 
 /// A component of any kind. Contracts see the number of its kind and its words.
@@ -15,6 +18,16 @@ use crate::words::Words;
 pub enum Value {
     Position(Position),
     Velocity(Velocity),
+    Health(Health),
+    Damage(Damage),
+    Team(Team),
+    Timer(Timer),
+    Score(Score),
+    Energy(Energy),
+    Charge(Charge),
+    Target(Target),
+    Frozen(Frozen),
+    Hidden(Hidden),
 }
 
 impl Value {
@@ -41,6 +54,16 @@ impl Value {
         match self {
             Value::Position(_) => Kind::Position,
             Value::Velocity(_) => Kind::Velocity,
+            Value::Health(_) => Kind::Health,
+            Value::Damage(_) => Kind::Damage,
+            Value::Team(_) => Kind::Team,
+            Value::Timer(_) => Kind::Timer,
+            Value::Score(_) => Kind::Score,
+            Value::Energy(_) => Kind::Energy,
+            Value::Charge(_) => Kind::Charge,
+            Value::Target(_) => Kind::Target,
+            Value::Frozen(_) => Kind::Frozen,
+            Value::Hidden(_) => Kind::Hidden,
         }
     }
 
@@ -52,6 +75,16 @@ impl Value {
         match self {
             Value::Position(component) => component.to_words(),
             Value::Velocity(component) => component.to_words(),
+            Value::Health(component) => component.to_words(),
+            Value::Damage(component) => component.to_words(),
+            Value::Team(component) => component.to_words(),
+            Value::Timer(component) => component.to_words(),
+            Value::Score(component) => component.to_words(),
+            Value::Energy(component) => component.to_words(),
+            Value::Charge(component) => component.to_words(),
+            Value::Target(component) => component.to_words(),
+            Value::Frozen(component) => component.to_words(),
+            Value::Hidden(component) => component.to_words(),
         }
     }
 }
@@ -76,23 +109,47 @@ mod tests {
         C::from_value(component.into_value())
     }
 
+    // The words of a component of these words, which was made a value and back.
+    fn words_back<C: Component>(list: &[i64]) -> Option<Words>
+        requires { length list.now ≡ C.WIDTH }
+        ensures { result ≡ Some list.now }
+    {
+        let component = there_and_back(C::from_words(list))?;
+        Some(component.to_words())
+    }
+
+    // Whether the components of a kind come back from words and values of the kind.
+    fn comes_back<C: Component>() -> bool
+        requires { C.WIDTH ≤ 2 }
+    {
+        let words = [1, i64::MIN];
+        let list = &words[..C::WIDTH];
+        match words_back::<C>(list) {
+            None => false,
+            Some(back) => back.as_slice() == list,
+        }
+    }
+
     #[test]
     fn components_come_back(rt: HostRuntime) {
         let position = Position { x: 1, y: i64::MIN };
         assert_eq!(rt; there_and_back(position), Some(position));
-        let velocity = Velocity { x: -1, y: i64::MAX };
-        assert_eq!(rt; there_and_back(velocity), Some(velocity));
+        let health = Health { v: i64::MAX };
+        assert_eq!(rt; there_and_back(health), Some(health));
+        assert_eq!(rt; there_and_back(Hidden), Some(Hidden));
+        each_kind!(K => { assert!(rt; comes_back::<K>()); });
     }
 
     #[test]
     fn blocks_of_each_kind(rt: HostRuntime) {
         let mut sum = 0;
         each_kind!(K => { sum = width_added::<K>(sum); });
-        assert_eq!(rt; sum, 4);
+        assert_eq!(rt; sum, 12);
         let value = Value::of(Kind::Velocity, &[3, -4]);
         assert_eq!(rt; value, Value::Velocity(Velocity { x: 3, y: -4 }));
         assert_eq!(rt; value.kind(), Kind::Velocity);
         assert_eq!(rt; value.words().as_slice(), [3, -4].as_slice());
         assert_eq!(rt; Position::from_value(value), None);
+        assert_eq!(rt; Value::of(Kind::Frozen, &[]).number(), 10);
     }
 }

@@ -1,8 +1,13 @@
 use Rattle.std.proofs.Common.{sym}
 use Rattle.kinds.specs.Value.{value_number, value_words}
 use Rattle.query_plan.specs.declared.query.Term.TheVariants.{Entity}
-use Rattle.body.proofs.Writing.{with_words-set, with_words-none, AreWritten-set}
+use Rattle.body.proofs.Writing.{NoneBefore-next, with_words-set, with_words-none, AreWritten-set}
 use Rattle.body.proofs.cells.write_in.Goals as goal
+
+pub loop-at-preserved : goal.loop-at-preserved
+loop-at-preserved c =
+    let not = rw c.number.ensures at (sym c.if-writes.ensures) in
+    (c.loop-at.invariant.0, NoneBefore-next c.args.terms.now (value_number c.args.value) c.loop-at.at Entity c.loop-at.invariant.1 not)
 
 pub returns-then-writes-clause-words : goal.returns-then-writes-clause-words
 returns-then-writes-clause-words c =

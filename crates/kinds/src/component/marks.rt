@@ -1,0 +1,162 @@
+// The components without fields.
+
+ghost use Rattle.std.specs.Prelude.{◌≡◌, map, refl};
+ghost use Rattle.kinds.specs.declared.column.Column.TheVariants as column;
+ghost use Rattle.kinds.specs.Components.{frozen_words, frozen_of, hidden_words, hidden_of, no_words};
+ghost use Rattle.kinds.specs.Column.{column_number, column_words};
+
+use crate::column::Column;
+use crate::component::Component;
+use crate::types::{Frozen, Hidden};
+use crate::value::Value;
+use crate::words::Words;
+
+impl Component for Frozen {
+    ghost NUMBER = { 10 };
+
+    ghost WIDTH = { 0 };
+
+    ghost words = { frozen_words };
+
+    ghost of_words = { frozen_of };
+
+    ghost column_of = { column.Frozen };
+
+    ghost column_words_of = { λ v. refl };
+
+    ghost column_number_of = { λ v. refl };
+
+    ghost round_trip = { λ c. refl };
+
+    ghost round_trip_words = { λ w h. no_words w h };
+
+    ghost same_width = { λ c. refl };
+
+    ghost width_of_number = { refl };
+
+    const NUMBER: u32 = 10;
+
+    const WIDTH: usize = 0;
+
+    fn to_words(&self) -> Words {
+        Words::none()
+    }
+
+    fn from_words(_list: &[i64]) -> Self {
+        Frozen
+    }
+
+    fn into_value(self) -> Value {
+        Value::Frozen(self)
+    }
+
+    fn from_value(value: Value) -> Option<Self> {
+        match value {
+            Value::Frozen(component) => Some(component),
+            _ => None,
+        }
+    }
+
+    fn into_column(list: Vec<Self>) -> Column
+        ensures number { column_number result ≡ 10 }
+        ensures words { column_words result ≡ map frozen_words list.items }
+    {
+        Column::Frozen(list)
+    }
+
+    fn from_column(column: Column) -> Result<Vec<Self>, Column> {
+        match column {
+            Column::Frozen(items) => Ok(items),
+            other => Err(other),
+        }
+    }
+
+    fn in_column(column: &Column) -> Option<&Vec<Self>> {
+        match column {
+            Column::Frozen(items) => Some(items),
+            _ => None,
+        }
+    }
+
+    fn in_column_mut(column: &mut Column) -> Option<&mut Vec<Self>> {
+        match column {
+            Column::Frozen(lent) => Some(lent),
+            _ => None,
+        }
+    }
+}
+
+impl Component for Hidden {
+    ghost NUMBER = { 11 };
+
+    ghost WIDTH = { 0 };
+
+    ghost words = { hidden_words };
+
+    ghost of_words = { hidden_of };
+
+    ghost column_of = { column.Hidden };
+
+    ghost column_words_of = { λ v. refl };
+
+    ghost column_number_of = { λ v. refl };
+
+    ghost round_trip = { λ c. refl };
+
+    ghost round_trip_words = { λ w h. no_words w h };
+
+    ghost same_width = { λ c. refl };
+
+    ghost width_of_number = { refl };
+
+    const NUMBER: u32 = 11;
+
+    const WIDTH: usize = 0;
+
+    fn to_words(&self) -> Words {
+        Words::none()
+    }
+
+    fn from_words(_list: &[i64]) -> Self {
+        Hidden
+    }
+
+    fn into_value(self) -> Value {
+        Value::Hidden(self)
+    }
+
+    fn from_value(value: Value) -> Option<Self> {
+        match value {
+            Value::Hidden(component) => Some(component),
+            _ => None,
+        }
+    }
+
+    fn into_column(list: Vec<Self>) -> Column
+        ensures number { column_number result ≡ 11 }
+        ensures words { column_words result ≡ map hidden_words list.items }
+    {
+        Column::Hidden(list)
+    }
+
+    fn from_column(column: Column) -> Result<Vec<Self>, Column> {
+        match column {
+            Column::Hidden(items) => Ok(items),
+            other => Err(other),
+        }
+    }
+
+    fn in_column(column: &Column) -> Option<&Vec<Self>> {
+        match column {
+            Column::Hidden(items) => Some(items),
+            _ => None,
+        }
+    }
+
+    fn in_column_mut(column: &mut Column) -> Option<&mut Vec<Self>> {
+        match column {
+            Column::Hidden(lent) => Some(lent),
+            _ => None,
+        }
+    }
+}

@@ -1,0 +1,71 @@
+// The types of components, one for each kind.
+
+/// A place.
+#[derive(Clone, Copy, PartialEq, Eq, Debug)]
+pub struct Position {
+    pub x: i64,
+    pub y: i64,
+}
+
+/// A step.
+#[derive(Clone, Copy, PartialEq, Eq, Debug)]
+pub struct Velocity {
+    pub x: i64,
+    pub y: i64,
+}
+
+/// How much an entity can still take.
+#[derive(Clone, Copy, PartialEq, Eq, Debug)]
+pub struct Health {
+    pub v: i64,
+}
+
+/// How much an entity takes from others.
+#[derive(Clone, Copy, PartialEq, Eq, Debug)]
+pub struct Damage {
+    pub v: i64,
+}
+
+/// The number of the side on which an entity is.
+#[derive(Clone, Copy, PartialEq, Eq, Debug)]
+pub struct Team {
+    pub v: i64,
+}
+
+/// A count of time.
+#[derive(Clone, Copy, PartialEq, Eq, Debug)]
+pub struct Timer {
+    pub v: i64,
+}
+
+/// A count of points.
+#[derive(Clone, Copy, PartialEq, Eq, Debug)]
+pub struct Score {
+    pub v: i64,
+}
+
+/// How much an entity can spend.
+#[derive(Clone, Copy, PartialEq, Eq, Debug)]
+pub struct Energy {
+    pub v: i64,
+}
+
+/// How much is stored up.
+#[derive(Clone, Copy, PartialEq, Eq, Debug)]
+pub struct Charge {
+    pub v: i64,
+}
+
+/// The number of what an entity is after.
+#[derive(Clone, Copy, PartialEq, Eq, Debug)]
+pub struct Target {
+    pub v: i64,
+}
+
+/// A mark: the entity is frozen.
+#[derive(Clone, Copy, PartialEq, Eq, Debug)]
+pub struct Frozen;
+
+/// A mark: the entity is hidden.
+#[derive(Clone, Copy, PartialEq, Eq, Debug)]
+pub struct Hidden;
