@@ -1,0 +1,71 @@
+-- Cells of words and stamps, and edits of them.
+use Rattle.std.proofs.Common.{◌≡◌, ℕ, zero, suc, ◌<◌, ◌≤◌, ℤ, List, [], ◌∷◌, length, get_or, set, option_map, refl, ap, arith}
+use Rattle.std.specs.List.{insert, remove}
+use Rattle.std.specs.Prelude.{slice_get, Some}
+use Rattle.std.proofs.lemmas.List.Edits.{length-remove}
+use Rattle.change_ticks.specs.declared.stamp.Stamp.{Stamp}
+use Rattle.model.specs.State.{Cell}
+use Rattle.model.specs.Lists.{update_at}
+use Rattle.column_store.specs.Column.{cell_of, cells_of}
+use Rattle.column_store.specs.Cells.{changed_cell}
+
+-- as many cells as words
+pub length-cells_of : (ws : List (List ℤ)) (ss : List Stamp) → length ws ≡ length ss → length (cells_of ws ss) ≡ length ss
+length-cells_of [] ss h = h
+length-cells_of (w ∷ ws) [] h = absurd (omega arith)
+length-cells_of (w ∷ ws) (s ∷ ss) h = ap suc (length-cells_of ws ss (omega arith))
+
+-- the cell at a place
+pub get-cells_of : (ws : List (List ℤ)) (ss : List Stamp) (i : ℕ) (w : List ℤ) (s : Stamp) → slice_get ws i ≡ Some w → slice_get ss i ≡ Some s → slice_get (cells_of ws ss) i ≡ Some (cell_of w s)
+get-cells_of [] ss i w s h e = absurd (cc)
+get-cells_of (x ∷ ws) [] i w s h e = absurd (cc)
+get-cells_of (x ∷ ws) (y ∷ ss) zero w s h e = cc
+get-cells_of (x ∷ ws) (y ∷ ss) (suc i) w s h e = get-cells_of ws ss i w s h e
+
+set_first : (x w : List ℤ) (y s : Stamp) (tick : ℕ) (cs : List Cell) → s ≡ record y { changed = tick } → cell_of w s ∷ cs ≡ changed_cell w tick (cell_of x y) ∷ cs
+set_first x w y s tick cs e = cc
+
+-- a write of words and of the changed stamp
+pub cells_of-set : (ws : List (List ℤ)) (ss : List Stamp) (i : ℕ) (w : List ℤ) (tick : ℕ) (s d : Stamp) → length ws ≡ length ss → i < length ss →
+    s ≡ record (get_or ss i d) { changed = tick } → cells_of (set ws i w) (set ss i s) ≡ update_at i (changed_cell w tick) (cells_of ws ss)
+cells_of-set [] ss i w tick s d h l e = absurd (omega arith)
+cells_of-set (x ∷ ws) [] i w tick s d h l e = absurd (omega arith)
+cells_of-set (x ∷ ws) (y ∷ ss) zero w tick s d h l e = set_first x w y s tick (cells_of ws ss) e
+cells_of-set (x ∷ ws) (y ∷ ss) (suc i) w tick s d h l e = ap (λ cs. cell_of x y ∷ cs) (cells_of-set ws ss i w tick s d (omega arith) (omega arith) e)
+
+-- an insertion of both
+pub cells_of-insert : (ws : List (List ℤ)) (ss : List Stamp) (i : ℕ) (w : List ℤ) (s : Stamp) → length ws ≡ length ss → i ≤ length ss →
+    cells_of (insert ws i w) (insert ss i s) ≡ insert (cells_of ws ss) i (cell_of w s)
+cells_of-insert [] [] zero w s h l = refl
+cells_of-insert [] [] (suc i) w s h l = absurd (omega arith)
+cells_of-insert [] (y ∷ ss) i w s h l = absurd (omega arith)
+cells_of-insert (x ∷ ws) [] i w s h l = absurd (omega arith)
+cells_of-insert (x ∷ ws) (y ∷ ss) zero w s h l = refl
+cells_of-insert (x ∷ ws) (y ∷ ss) (suc i) w s h l = ap (λ cs. cell_of x y ∷ cs) (cells_of-insert ws ss i w s (omega arith) (omega arith))
+
+-- a removal of both
+pub cells_of-remove : (ws : List (List ℤ)) (ss : List Stamp) (i : ℕ) → length ws ≡ length ss → i < length ss →
+    cells_of (remove ws i) (remove ss i) ≡ remove (cells_of ws ss) i
+cells_of-remove [] ss i h l = absurd (omega arith)
+cells_of-remove (x ∷ ws) [] i h l = absurd (omega arith)
+cells_of-remove (x ∷ ws) (y ∷ ss) zero h l = refl
+cells_of-remove (x ∷ ws) (y ∷ ss) (suc i) h l = ap (λ cs. cell_of x y ∷ cs) (cells_of-remove ws ss i (omega arith) (omega arith))
+
+-- the words at a place
+pub words-cells_of : (ws : List (List ℤ)) (ss : List Stamp) (i : ℕ) (w : List ℤ) → length ws ≡ length ss → slice_get ws i ≡ Some w → option_map (λ (c : Cell). c.words) (slice_get (cells_of ws ss) i) ≡ Some w
+words-cells_of [] ss i w l h = absurd (cc)
+words-cells_of (x ∷ ws) [] i w l h = absurd (omega arith)
+words-cells_of (x ∷ ws) (y ∷ ss) zero w l h = cc
+words-cells_of (x ∷ ws) (y ∷ ss) (suc i) w l h = words-cells_of ws ss i w (omega arith) h
+
+-- an element that was read
+pub get-there : {A : Type 0} (xs : List A) (i : ℕ) (x : A) → i < length xs → x ≡ get_or xs i x → slice_get xs i ≡ Some x
+get-there [] i x l e = absurd (omega arith)
+get-there (y ∷ ys) zero x l e = cc
+get-there (y ∷ ys) (suc i) x l e = get-there ys i x (omega arith) e
+
+-- lists of one length have one length after a removal
+pub length-removed : {A B : Type 0} (xs : List A) (ys : List B) (i : ℕ) → length xs ≡ length ys → i < length ys → length (remove xs i) ≡ length (remove ys i)
+length-removed xs ys i h l = omega (arith, length-remove xs i (omega arith), length-remove ys i l)
+
+pub ruleset cell_edits = (length-cells_of, get-cells_of, cells_of-set, cells_of-insert, cells_of-remove, words-cells_of, get-there, length-removed)

@@ -1,0 +1,11 @@
+pub mod Lists
+pub mod Cells
+pub mod Rising
+pub mod Rows
+pub mod Columns
+pub mod Tables
+pub mod Kept
+pub mod Found
+pub mod Edited
+pub mod Made
+pub mod TheirComponents

@@ -1,0 +1,143 @@
+-- A table without rows, and the components of a row.
+use Rattle.std.proofs.Common.{◌≡◌, ℕ, zero, suc, ◌+◌, ◌<◌, ◌==◌, Bool, true, false, cond, ◌&&◌, ◌||◌, List, [], ◌∷◌, length, get_or, map, filter, Some, Result, Ok, Err, IfOk, refl, sym, ap, ap₂, subst, ◌∙◌, arith}
+use Rattle.std.proofs.lemmas.Bool.Decides.{nat_tests}
+use Rattle.std.specs.List.{list_any, AllByRecursion}
+use Rattle.kinds.specs.declared.kind.Kind.{Kind}
+use Rattle.kinds.specs.Kind.{kind_count, kind_number, numbers_from}
+use Rattle.model.specs.Lists.{has}
+use Rattle.model.specs.declared.entities.Entity.{Entity}
+use Rattle.column_store.specs.declared.place.Place.{Place}
+use Rattle.column_store.specs.declared.place.Place.TheVariants as place
+use Rattle.column_store.specs.declared.stamped.StampedValue.{StampedValue}
+use Rattle.column_store.specs.Cells.{stamped_number}
+use Rattle.column_store.specs.Order.{is_same}
+use Rattle.column_store.specs.Kinds.{in_order, AreBelow}
+use Rattle.column_store.specs.Places.{IsPlace}
+use Rattle.column_store.specs.Table.{TableRow, row_of, new_row, empty_table}
+use Rattle.column_store.specs.Table.Standing.{Owned}
+use Rattle.column_store.specs.Inside.{standing_in, kind_in, empty_column, rows_of, table_of, AreOfKinds, IsOfLength, HoldsRow, IsTable, AreReadAt}
+use Rattle.column_store.proofs.Rows.{row_of-place}
+use Rattle.column_store.proofs.Columns.{IsHome, get_or-rows_of, place-rows_of}
+use Rattle.column_store.proofs.Tables.{place-within}
+
+-- ---- kinds in order
+
+any-map : (n : ℕ) (ks : List Kind) → list_any (λ k. kind_number k == n) ks ≡ has n (map kind_number ks)
+any-map n [] = refl
+any-map n (k ∷ ks) = ap (λ b. (kind_number k == n) || b) (any-map n ks)
+
+kept_step : (b : Bool) (a : Kind) (xs : List Kind) (ys : List ℕ) → map kind_number xs ≡ ys → map kind_number (cond b (a ∷ xs) xs) ≡ cond b (kind_number a ∷ ys) ys
+kept_step true a xs ys h = ap (λ zs. kind_number a ∷ zs) h
+kept_step false a xs ys h = h
+
+numbers_kept : (all ks : List Kind) → map kind_number (filter (λ kind. list_any (λ k. kind_number k == kind_number kind) ks) all) ≡ filter (λ n. has n (map kind_number ks)) (map kind_number all)
+numbers_kept [] ks = refl
+numbers_kept (a ∷ all) ks =
+    kept_step (list_any (λ k. kind_number k == kind_number a) ks) a _ _ (numbers_kept all ks)
+    ∙ ap (λ b. cond b (kind_number a ∷ filter (λ n. has n (map kind_number ks)) (map kind_number all)) (filter (λ n. has n (map kind_number ks)) (map kind_number all)))
+    (any-map (kind_number a) ks)
+
+-- those of all kinds that are among some are these in order
+pub numbers_in_order : (all ks made : List Kind) → map kind_number all ≡ numbers_from 0 kind_count → made ≡ filter (λ kind. list_any (λ k. kind_number k == kind_number kind) ks) all →
+    map kind_number made ≡ in_order (map kind_number ks)
+numbers_in_order all ks made every h = ap (map kind_number) h ∙ numbers_kept all ks ∙ ap (filter (λ n. has n (map kind_number ks))) every
+
+above_from : (m n count : ℕ) → m < n → AllByRecursion (λ x. m < x) (numbers_from n count)
+above_from m n zero h = tt
+above_from m n (suc count) h = (h, above_from m (1 + n) count (omega arith))
+
+below_from : (n count : ℕ) → AreBelow (numbers_from n count)
+below_from n zero = tt
+below_from n (suc count) = (above_from n (1 + n) count (omega arith), below_from (1 + n) count)
+
+each_filter : (P : ℕ → Type 0) (p : ℕ → Bool) (xs : List ℕ) → AllByRecursion P xs → AllByRecursion P (filter p xs)
+each_filter P p [] h = tt
+each_filter P p (x ∷ xs) h = go (p x) (each_filter P p xs h.1)
+  where
+    go : (b : Bool) → AllByRecursion P (filter p xs) → AllByRecursion P (cond b (x ∷ filter p xs) (filter p xs))
+    go true k = (h.0, k)
+    go false k = k
+
+below_filter : (p : ℕ → Bool) (xs : List ℕ) → AreBelow xs → AreBelow (filter p xs)
+below_filter p [] h = tt
+below_filter p (x ∷ xs) h = go (p x) (each_filter (λ m. x < m) p xs h.0) (below_filter p xs h.1)
+  where
+    go : (b : Bool) → AllByRecursion (λ m. x < m) (filter p xs) → AreBelow (filter p xs) → AreBelow (cond b (x ∷ filter p xs) (filter p xs))
+    go true k l = (k, l)
+    go false k l = l
+
+-- ---- a table without rows
+
+empty_kinds : (ks : List Kind) → AreOfKinds (map kind_number ks) (map empty_column ks)
+empty_kinds [] = tt
+empty_kinds (k ∷ ks) = (refl, empty_kinds ks)
+
+empty_lengths : (ks : List Kind) → AllByRecursion (IsOfLength 0) (map empty_column ks)
+empty_lengths [] = tt
+empty_lengths (k ∷ ks) = (refl, empty_lengths ks)
+
+empty_standings : (ks : List Kind) → map standing_in (map empty_column ks) ≡ map (λ _. Owned) (map kind_number ks)
+empty_standings [] = refl
+empty_standings (k ∷ ks) = ap (λ ss. Owned ∷ ss) (empty_standings ks)
+
+empty_kept : (ks : List Kind) → AreBelow (map kind_number ks) → IsTable (map kind_number ks) [] (map empty_column ks)
+empty_kept ks h = record { below = h; rising = tt; of_kinds = empty_kinds ks; of_length = empty_lengths ks }
+
+pub made_kept : (ks given : List Kind) (es : List Entity) (ps : List Place) → map kind_number ks ≡ in_order (map kind_number given) → es ≡ [] → ps ≡ map empty_column ks →
+    IsTable (map kind_number ks) es ps
+made_kept ks given es ps k e p =
+    let below = subst AreBelow (sym k) (below_filter (λ n. has n (map kind_number given)) (numbers_from 0 kind_count) (below_from 0 kind_count)) in
+    subst (IsTable (map kind_number ks) es) (sym p) (subst (λ xs. IsTable (map kind_number ks) xs (map empty_column ks)) (sym e) (empty_kept ks below))
+
+pub made_view : (ks given : List Kind) (es : List Entity) (ps : List Place) → map kind_number ks ≡ in_order (map kind_number given) → es ≡ [] → ps ≡ map empty_column ks →
+    table_of (map kind_number ks) es ps ≡ empty_table (in_order (map kind_number given))
+made_view ks given es ps k e p =
+    ap₂ (table_of (map kind_number ks)) e p ∙ ap (λ ss. record (empty_table (map kind_number ks)) { standings = ss }) (empty_standings ks) ∙ ap empty_table k
+
+-- ---- the components of a row
+
+pub held_rows : (n i : ℕ) (ps : List Place) → i < n → AllByRecursion (IsHome n) ps → AllByRecursion (HoldsRow i) ps
+held_rows n i [] l h = tt
+held_rows n i (place.Home c ∷ ps) l h =
+    ((let k : length c.cells ≡ n = h.0 in let g : i < length c.cells = omega arith in g), held_rows n i ps l h.1)
+held_rows n i (place.Away ∷ ps) l h = absurd h.0
+
+same_numbers : (a b c d : ℕ) → ((a == c) && (b == d)) ≡ true → (a ≡ c) × (b ≡ d)
+same_numbers a b c d h = (grind (arith, nat_tests), grind (arith, nat_tests))
+
+same_entity : (x e : Entity) → is_same x e ≡ true → x ≡ e
+same_entity x e h = let p = same_numbers x.index x.generation e.index e.generation h in
+    ap₂ (λ i g. let y : Entity = record { index = i; generation = g } in y) p.0 p.1
+
+entity_at_place : (e : Entity) (es : List Entity) (i : ℕ) (d : Entity) → IsPlace (λ x. is_same x e) es i → get_or es i d ≡ e
+entity_at_place e [] i d p = absurd p
+entity_at_place e (x ∷ es) zero d p = same_entity x e p
+entity_at_place e (x ∷ es) (suc i) d p = entity_at_place e es i d p.1
+
+pub read_is_row : (e : Entity) (ss : List StampedValue) (es : List Entity) (ps : List Place) → AreReadAt e ss es ps → row_of e (rows_of es ps) ≡ Some (new_row e ss)
+read_is_row e ss es ps h =
+    let d = new_row e ss in
+    row_of-place e (rows_of es ps) h.row d (place-rows_of e es ps h.row h.place)
+    ∙ ap (λ r. Some r) (get_or-rows_of es ps h.row e d (place-within (λ x. is_same x e) es h.row h.place)
+    ∙ ap₂ (λ x cs. let r : TableRow = record { entity = x; cells = cs } in r) (entity_at_place e es h.row e h.place) (sym h.cells))
+
+numbers_read : (ns : List ℕ) (ps : List Place) (ss : List StampedValue) (n : ℕ) → AreOfKinds ns ps → AllByRecursion (IsHome n) ps → map (λ s. Some (stamped_number s)) ss ≡ map kind_in ps →
+    map stamped_number ss ≡ ns
+numbers_read [] [] [] n k h e = refl
+numbers_read [] [] (s ∷ ss) n k h e = absurd (cc)
+numbers_read [] (p ∷ ps) ss n k h e = absurd k
+numbers_read (m ∷ ns) [] ss n k h e = absurd k
+numbers_read (m ∷ ns) (p ∷ ps) [] n k h e = absurd (cc)
+numbers_read (m ∷ ns) (place.Home c ∷ ps) (s ∷ ss) n k h e =
+    let here : stamped_number s ≡ c.kind = cc in
+    ap₂ ◌∷◌ (here ∙ k.0) (numbers_read ns ps ss n k.1 h.1 (cc))
+numbers_read (m ∷ ns) (place.Away ∷ ps) (s ∷ ss) n k h e = absurd h.0
+
+pub read_numbers : (e : Entity) (ns : List ℕ) (ss : List StampedValue) (es : List Entity) (ps : List Place) (n : ℕ) → AreOfKinds ns ps → AllByRecursion (IsHome n) ps → AreReadAt e ss es ps →
+    map stamped_number ss ≡ ns
+read_numbers e ns ss es ps n k h r = numbers_read ns ps ss n k h r.kinds
+
+-- what holds of a result holds of what follows
+pub if_ok : {A E : Type 0} (r : Result A E) (P Q : A → Type 0) → ((x : A) → P x → Q x) → IfOk r P → IfOk r Q
+if_ok (Ok a) P Q f h = f a h
+if_ok (Err e) P Q f h = tt

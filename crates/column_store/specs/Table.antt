@@ -1,0 +1,112 @@
+-- What a table is: the rows of the entities of one archetype, and which of its columns are at home.
+use Rattle.std.specs.Prelude.{ℕ, ℤ, Bool, true, false, cond, List, [], ◌∷◌, map, Option, Some, None, option_map, option_and_then}
+use Rattle.model.specs.State.{Cell}
+use Rattle.model.specs.declared.entities.Entity.{Entity}
+use Rattle.column_store.specs.Order.{is_before, is_same}
+use Rattle.column_store.specs.Kinds.{at_kind, update_kind}
+use Rattle.column_store.specs.declared.stamped.StampedValue.{StampedValue}
+use Rattle.column_store.specs.Cells.{changed_cell, stamped_cell}
+use Rattle.column_store.specs.Column.{ColumnCells}
+
+-- where a column is: the table's alone, at home and read elsewhere too, or lent
+pub data Standing : Type 0 where
+  Owned Shared Away : Standing
+
+-- a row: an entity, and its cell of each of the table's kinds, none where the column is away
+pub record TableRow : Type 0 where
+  pub entity : Entity
+  pub cells : List (Option Cell)
+
+-- a table: the numbers of its kinds, rising, where the column of each is, and the rows
+pub record TableValue : Type 0 where
+  pub kinds : List ℕ
+  pub standings : List Standing
+  pub rows : List TableRow
+
+-- whether a column is at home
+abbrev pub is_home : Standing → Bool
+is_home Away = false
+is_home _ = true
+
+-- ---- rows
+
+-- the row of an entity with these components
+abbrev pub new_row : Entity → List StampedValue → TableRow
+new_row e components = record { entity = e; cells = map (λ s. Some (stamped_cell s)) components }
+
+-- the row of an entity
+abbrev pub row_of : Entity → List TableRow → Option TableRow
+row_of e [] = None
+row_of e (row ∷ rows) = cond (is_same row.entity e) (Some row) (row_of e rows)
+
+-- rows with a further one, before the first that doesn't come before it
+abbrev pub put_row : TableRow → List TableRow → List TableRow
+put_row new [] = new ∷ []
+put_row new (row ∷ rows) = cond (is_before row.entity new.entity) (row ∷ put_row new rows) (new ∷ row ∷ rows)
+
+-- rows without that of an entity
+abbrev pub without_row : Entity → List TableRow → List TableRow
+without_row e [] = []
+without_row e (row ∷ rows) = cond (is_same row.entity e) rows (row ∷ without_row e rows)
+
+-- rows with f applied to that of an entity
+abbrev pub update_row : Entity → (TableRow → TableRow) → List TableRow → List TableRow
+update_row e f [] = []
+update_row e f (row ∷ rows) = cond (is_same row.entity e) (f row ∷ rows) (row ∷ update_row e f rows)
+
+-- a row with f applied to its cell of a kind
+abbrev pub with_cell_at : List ℕ → ℕ → (Option Cell → Option Cell) → TableRow → TableRow
+with_cell_at kinds kind f row = record { entity = row.entity; cells = update_kind kinds kind f row.cells }
+
+-- the cell of a kind in a row, none where the kind isn't the table's or its column is away
+abbrev pub cell_of_kind : List ℕ → ℕ → TableRow → Option Cell
+cell_of_kind kinds kind row = option_and_then (λ cell. cell) (at_kind kinds kind row.cells)
+
+-- rows that take the cells of a column, one each
+abbrev pub filled_rows : List ℕ → ℕ → List Cell → List TableRow → List TableRow
+filled_rows kinds kind cells [] = []
+filled_rows kinds kind [] (row ∷ rows) = row ∷ rows
+filled_rows kinds kind (cell ∷ cells) (row ∷ rows) =
+    with_cell_at kinds kind (λ _. Some cell) row ∷ filled_rows kinds kind cells rows
+
+-- ---- a table
+
+-- the cell of a kind of an entity: there where the entity is there, the kind is the table's, and its column is at home
+abbrev pub cell_in : TableValue → Entity → ℕ → Option Cell
+cell_in t e kind = option_and_then (cell_of_kind t.kinds kind) (row_of e t.rows)
+
+-- where the column of a kind is
+abbrev pub standing_of : TableValue → ℕ → Option Standing
+standing_of t kind = at_kind t.kinds kind t.standings
+
+-- the cells of a kind, row by row
+abbrev pub kind_cells : TableValue → ℕ → List (Option Cell)
+kind_cells t kind = map (cell_of_kind t.kinds kind) t.rows
+
+-- the table after a write of a component at a tick: its added stamp stays
+abbrev pub write_cell : TableValue → Entity → ℕ → List ℤ → ℕ → TableValue
+write_cell t e kind words tick = record {
+  kinds = t.kinds;
+  standings = t.standings;
+  rows = update_row e (with_cell_at t.kinds kind (option_map (changed_cell words tick))) t.rows;
+}
+
+-- the table without the column of a kind
+abbrev pub lent : TableValue → ℕ → TableValue
+lent t kind = record {
+  kinds = t.kinds;
+  standings = update_kind t.kinds kind (λ _. Away) t.standings;
+  rows = map (with_cell_at t.kinds kind (λ _. None)) t.rows;
+}
+
+-- the table with a column home again
+abbrev pub homed : TableValue → ColumnCells → TableValue
+homed t column = record {
+  kinds = t.kinds;
+  standings = update_kind t.kinds column.kind (λ _. Owned) t.standings;
+  rows = filled_rows t.kinds column.kind column.cells t.rows;
+}
+
+-- the table of these kinds without rows
+abbrev pub empty_table : List ℕ → TableValue
+empty_table kinds = record { kinds = kinds; standings = map (λ _. Owned) kinds; rows = [] }

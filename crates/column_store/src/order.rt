@@ -1,0 +1,55 @@
+// The order of entities, and places in lists that are in order.
+
+ghost use Rattle.std.specs.Prelude.{◌≡◌, ◌==◌, MatchOption, position};
+ghost use Rattle.kinds.specs.Kind.{kind_number};
+ghost use Rattle.column_store.specs.Order.{is_before, is_same, AreRising};
+ghost use Rattle.column_store.specs.Places.{IsPlace, IsNowhere, IsGap};
+
+use entity_table::Entity;
+use kinds::kind::Kind;
+
+// Whether an id comes before another: by index, then by generation.
+pub(crate) fn is_before(one: Entity, other: Entity) -> bool
+    ensures { result ≡ is_before one other }
+{
+    one.index < other.index || (one.index == other.index && one.generation < other.generation)
+}
+
+// How many of the entities come before this one. Found by halving.
+pub(crate) fn gap_in(entities: &[Entity], e: Entity) -> usize
+    requires { AreRising entities.now }
+    ensures { IsGap e entities.now result }
+{
+    entities.partition_point(|x| is_before(*x, e))
+}
+
+// Whether two ids are one.
+fn is_same(one: Entity, other: Entity) -> bool
+    ensures { result ≡ is_same one other }
+{
+    one == other
+}
+
+// The place of an entity, found by halving.
+#[tactic(auto, using(crate::proofs::Rising::id_places))]
+pub(crate) fn row_in(entities: &[Entity], e: Entity) -> Option<usize>
+    requires { AreRising entities.now }
+    ensures { MatchOption result (IsNowhere (λ x. is_same x e) entities.now) (IsPlace (λ x. is_same x e) entities.now) }
+{
+    let row = gap_in(entities, e);
+    if row >= entities.len() {
+        return None;
+    }
+    if is_same(entities[row], e) {
+        Some(row)
+    } else {
+        None
+    }
+}
+
+// The place of the kind with this number.
+pub(crate) fn column_in(kinds: &[Kind], number: u32) -> Option<usize>
+    ensures { result ≡ position (λ kind. kind_number kind == number) kinds.now }
+{
+    kinds.iter().position(|kind| kind.number() == number)
+}

@@ -1,0 +1,139 @@
+// A column with the stamps of its components.
+
+ghost use Rattle.std.specs.Prelude.{◌≡◌, ◌<◌, ◌≤◌, [], Some, length, insert, remove, slice_get, option_map, OnOk, OnErr};
+ghost use Rattle.kinds.specs.Kind.{kind_number};
+ghost use Rattle.kinds.specs.Value.{value_number, value_words};
+ghost use Rattle.model.specs.Lists.{update_at};
+ghost use Rattle.column_store.specs.Cells.{stamped_number, stamped_cell, changed_cell};
+
+use crate::typed::{
+    component_at, empty, insert_value, remove_value, set_component, set_value, value_at,
+};
+use change_ticks::clock::Tick;
+use change_ticks::stamp::Stamp;
+use kinds::column::Column;
+use kinds::component::Component;
+use kinds::kind::Kind;
+use kinds::value::Value;
+use std::alloc::{AllocError, Global};
+use std::marker::Model;
+
+/// A component of any kind, with its stamp.
+#[derive(Clone, Copy, PartialEq, Eq, Debug)]
+pub struct StampedValue {
+    /// The component.
+    pub value: Value,
+    /// When it was added and last changed.
+    pub stamp: Stamp,
+}
+
+/// Components of one kind with their stamps. Contracts see the number of the kind and the cells.
+#[derive(Drop, Debug)]
+pub struct StampedColumn {
+    column: Column,
+    stamps: Vec<Stamp>,
+}
+
+impl Model for StampedColumn {
+    ghost use Rattle.std.specs.Prelude.{◌≡◌, length};
+    ghost use Rattle.kinds.specs.Column.{column_number, column_words};
+    ghost use Rattle.column_store.specs.Column.{ColumnCells, cells_of};
+
+    ghost Value = { ColumnCells };
+
+    ghost view = { λ c. record { kind = column_number c.column; cells = cells_of (column_words c.column) c.stamps.items } };
+
+    ghost invariant = { λ c. length (column_words c.column) ≡ length c.stamps.items };
+}
+
+#[tactic(auto, using(crate::proofs::Cells::cell_edits))]
+impl StampedColumn {
+    /// The column of a kind without components.
+    pub fn new(alloc: Global, kind: Kind) -> Self
+        ensures { result ≡ record { kind = kind_number kind; cells = [] } }
+    {
+        StampedColumn {
+            column: empty(alloc, kind),
+            stamps: Vec::new(alloc),
+        }
+    }
+
+    /// The kind of the components.
+    pub fn kind(&self) -> Kind
+        ensures { kind_number result ≡ self.now.kind }
+    {
+        self.column.kind()
+    }
+
+    /// How many components there are.
+    pub fn len(&self) -> usize
+        ensures { result ≡ length self.now.cells }
+    {
+        self.stamps.len()
+    }
+
+    /// The component at a place, with its stamp.
+    pub fn at(&self, place: usize) -> StampedValue
+        requires { place < length self.now.cells }
+        ensures number { stamped_number result ≡ self.now.kind }
+        ensures cell { slice_get self.now.cells place ≡ Some (stamped_cell result) }
+    {
+        StampedValue {
+            value: value_at(&self.column, place),
+            stamp: self.stamps[place],
+        }
+    }
+
+    /// The component at a place, of the column's type.
+    pub fn get<C: Component>(&self, place: usize) -> C
+        requires kind { self.now.kind ≡ C.NUMBER }
+        requires within { place < length self.now.cells }
+        ensures { option_map (λ c. c.words) (slice_get self.now.cells place) ≡ Some (C.words result) }
+    {
+        component_at(&self.column, place)
+    }
+
+    /// Replaces the component at a place, which counts as changed at this tick, also where the value stays.
+    pub fn set<C: Component>(&mut self, place: usize, component: C, tick: Tick)
+        requires kind { self.old.kind ≡ C.NUMBER }
+        requires within { place < length self.old.cells }
+        ensures { self.new ≡ record self.old { cells = update_at place (changed_cell (C.words component) tick) self.old.cells } }
+    {
+        set_component(&mut self.column, place, component);
+        self.stamps[place].changed = tick;
+    }
+
+    /// Replaces the component at a place by one of the column's kind, which counts as changed at this tick.
+    pub fn write(&mut self, place: usize, value: Value, tick: Tick)
+        requires kind { self.old.kind ≡ value_number value }
+        requires within { place < length self.old.cells }
+        ensures { self.new ≡ record self.old { cells = update_at place (changed_cell (value_words value) tick) self.old.cells } }
+    {
+        set_value(&mut self.column, place, value);
+        self.stamps[place].changed = tick;
+    }
+
+    /// Inserts a component of the column's kind before a place. Where memory is wanting the column stays as it was.
+    pub fn insert(&mut self, place: usize, component: StampedValue) -> Result<(), AllocError>
+        requires kind { self.old.kind ≡ stamped_number component }
+        requires within { place ≤ length self.old.cells }
+        ensures ok { OnOk result (self.new ≡ record self.old { cells = insert self.old.cells place (stamped_cell component) }) }
+        ensures err { OnErr result (self.new ≡ self.old) }
+    {
+        self.stamps.insert(place, component.stamp)?;
+        if insert_value(&mut self.column, place, component.value).is_err() {
+            self.stamps.remove(place);
+            return Err(AllocError);
+        }
+        Ok(())
+    }
+
+    /// Removes the component at a place.
+    pub fn remove(&mut self, place: usize)
+        requires { place < length self.old.cells }
+        ensures { self.new ≡ record self.old { cells = remove self.old.cells place } }
+    {
+        remove_value(&mut self.column, place);
+        self.stamps.remove(place);
+    }
+}

@@ -1,0 +1,307 @@
+// Tables.
+
+ghost use Rattle.std.specs.Prelude.{◌≡◌, ◌<◌, length, map, option_map, Some, IsSome, IsNone, IfSome, IfOk, OnOk, OnErr, IsTrue, slice_get, is_some};
+ghost use Rattle.std.specs.List.{list_all};
+ghost use Rattle.kinds.specs.Kind.{kind_number};
+ghost use Rattle.kinds.specs.Value.{value_number, value_words};
+ghost use Rattle.column_store.specs.Cells.{stamped_number, stamped_cell, stamp_of};
+ghost use Rattle.column_store.specs.Kinds.{in_order, AreBelow};
+ghost use Rattle.column_store.specs.Order.{AreRising};
+ghost use Rattle.column_store.specs.Table.{Standing, empty_table, is_home, row_of, put_row, new_row, without_row, cell_in, standing_of, kind_cells, write_cell, lent, homed};
+
+use crate::order::row_in;
+use crate::parts::{among, find_in, home_in, lend_in, put_in, read_in, remove_in, write_in};
+use crate::place::{Place, empty_columns};
+use crate::stamped::{StampedColumn, StampedValue};
+use change_ticks::clock::Tick;
+use change_ticks::stamp::Stamp;
+use entity_table::Entity;
+use kinds::component::Component;
+use kinds::kind::Kind;
+use kinds::value::Value;
+use std::alloc::{AllocError, Global};
+use std::marker::Model;
+
+/// The entities of one archetype with their components: a row for each entity, in rising ids, and a column for each kind, in rising
+/// kinds. A column can be lent, and its kind then has no cells until it comes home.
+#[derive(Drop, Debug)]
+pub struct Table {
+    kinds: Vec<Kind>,
+    entities: Vec<Entity>,
+    columns: Vec<Place>,
+}
+
+impl Model for Table {
+    ghost use Rattle.std.specs.Prelude.{map};
+    ghost use Rattle.kinds.specs.Kind.{kind_number};
+    ghost use Rattle.column_store.specs.Table.{TableValue};
+    ghost use Rattle.column_store.specs.Inside.{table_of, IsTable};
+
+    ghost Value = { TableValue };
+
+    ghost view = { λ t. table_of (map kind_number t.kinds.items) t.entities.items t.columns.items };
+
+    ghost invariant = { λ t. IsTable (map kind_number t.kinds.items) t.entities.items t.columns.items };
+}
+
+impl Table {
+    /// The table of these kinds without rows. It has each of them once, in rising numbers.
+    pub fn new(alloc: Global, kinds: &[Kind]) -> Result<Self, AllocError>
+        ensures { IfOk result (λ table. table ≡ empty_table (in_order (map kind_number kinds.now))) }
+    {
+        let kinds = among(alloc, Kind::every(), kinds)?;
+        let columns = empty_columns(alloc, &kinds)?;
+        Ok(Table {
+            kinds,
+            entities: Vec::new(alloc),
+            columns,
+        })
+    }
+
+    /// The kinds, in rising numbers.
+    pub fn kinds(&self) -> &[Kind]
+        ensures kinds { map kind_number result.now ≡ self.now.kinds }
+        ensures rising { AreBelow self.now.kinds }
+    {
+        self.kinds.as_slice()
+    }
+
+    /// The entities, row by row.
+    pub fn entities(&self) -> &[Entity]
+        ensures entities { result.now ≡ map (λ row. row.entity) self.now.rows }
+        ensures rising { AreRising result.now }
+    {
+        self.entities.as_slice()
+    }
+
+    /// How many rows there are.
+    pub fn len(&self) -> usize
+        ensures { result ≡ length self.now.rows }
+    {
+        self.entities().len()
+    }
+
+    /// The entity of a row.
+    pub fn entity_at(&self, row: usize) -> Entity
+        requires { row < length self.now.rows }
+        ensures { option_map (λ r. r.entity) (slice_get self.now.rows row) ≡ Some result }
+    {
+        self.entities()[row]
+    }
+
+    /// Whether an entity is there.
+    pub fn has(&self, e: Entity) -> bool
+        ensures { result ≡ is_some (row_of e self.now.rows) }
+    {
+        match row_in(self.entities(), e) {
+            None => false,
+            Some(_) => true,
+        }
+    }
+
+    /// The component of the kind with this number of an entity, where the entity is there, the kind is the table's, and its column
+    /// is at home.
+    pub fn find(&self, e: Entity, number: u32) -> Option<StampedValue>
+        ensures cell { option_map stamped_cell result ≡ cell_in self.now e number }
+        ensures number { IfSome result (λ s. stamped_number s ≡ number) }
+    {
+        find_in(&self.kinds, &self.entities, &self.columns, e, number)
+    }
+
+    /// The component of a kind of an entity.
+    pub fn value(&self, e: Entity, kind: Kind) -> Option<Value>
+        ensures words { option_map value_words result ≡ option_map (λ c. c.words) (cell_in self.now e (kind_number kind)) }
+        ensures number { IfSome result (λ value. value_number value ≡ kind_number kind) }
+    {
+        match self.find(e, kind.number()) {
+            None => None,
+            Some(component) => Some(component.value),
+        }
+    }
+
+    /// When the component of a kind of an entity was added and last changed.
+    pub fn stamp(&self, e: Entity, kind: Kind) -> Option<Stamp>
+        ensures { result ≡ option_map stamp_of (cell_in self.now e (kind_number kind)) }
+    {
+        match self.find(e, kind.number()) {
+            None => None,
+            Some(component) => Some(component.stamp),
+        }
+    }
+
+    /// The component of an entity.
+    pub fn get<C: Component>(&self, e: Entity) -> C
+        requires { IsSome (cell_in self.now e C.NUMBER) }
+        ensures { option_map (λ c. c.words) (cell_in self.now e C.NUMBER) ≡ Some (C.words result) }
+    {
+        match self.find(e, C::NUMBER) {
+            None => unreachable!(),
+            Some(component) => match C::from_value(component.value) {
+                None => unreachable!(),
+                Some(component) => component,
+            },
+        }
+    }
+
+    /// Replaces a component of an entity, which counts as changed at this tick, also where the value stays.
+    pub fn write(&mut self, e: Entity, value: Value, tick: Tick)
+        requires { IsSome (cell_in self.old e (value_number value)) }
+        ensures { self.new ≡ write_cell self.old e (value_number value) (value_words value) tick }
+    {
+        write_in(
+            &self.kinds,
+            &self.entities,
+            &mut self.columns,
+            e,
+            value,
+            tick,
+        );
+    }
+
+    /// Adds the row of an entity that isn't there, with its components in the order of the kinds. Where memory is wanting the table
+    /// stays as it was.
+    pub fn put(&mut self, e: Entity, components: &[StampedValue]) -> Result<(), AllocError>
+        requires absent { IsNone (row_of e self.old.rows) }
+        requires kinds { map stamped_number components.now ≡ self.old.kinds }
+        requires home { IsTrue (list_all is_home self.old.standings) }
+        ensures ok { OnOk result (self.new ≡ record self.old { rows = put_row (new_row e components.now) self.old.rows }) }
+        ensures err { OnErr result (self.new ≡ self.old) }
+    {
+        put_in(&mut self.entities, &mut self.columns, e, components)
+    }
+
+    /// Removes the row of an entity.
+    pub fn remove(&mut self, e: Entity)
+        requires there { IsSome (row_of e self.old.rows) }
+        requires home { IsTrue (list_all is_home self.old.standings) }
+        ensures { self.new ≡ record self.old { rows = without_row e self.old.rows } }
+    {
+        remove_in(&mut self.entities, &mut self.columns, e);
+    }
+
+    /// The components of an entity, in the order of the kinds.
+    pub fn components(&self, alloc: Global, e: Entity) -> Result<Vec<StampedValue>, AllocError>
+        requires there { IsSome (row_of e self.now.rows) }
+        requires home { IsTrue (list_all is_home self.now.standings) }
+        ensures row { IfOk result (λ components. row_of e self.now.rows ≡ Some (new_row e components.items)) }
+        ensures kinds { IfOk result (λ components. map stamped_number components.items ≡ self.now.kinds) }
+    {
+        read_in(alloc, &self.entities, &self.columns, e)
+    }
+
+    /// Removes the row of an entity, and gives its components, in the order of the kinds. Where memory is wanting the table stays as
+    /// it was.
+    pub fn take(&mut self, alloc: Global, e: Entity) -> Result<Vec<StampedValue>, AllocError>
+        requires there { IsSome (row_of e self.old.rows) }
+        requires home { IsTrue (list_all is_home self.old.standings) }
+        ensures row { IfOk result (λ components. row_of e self.old.rows ≡ Some (new_row e components.items)) }
+        ensures kinds { IfOk result (λ components. map stamped_number components.items ≡ self.old.kinds) }
+        ensures ok { OnOk result (self.new ≡ record self.old { rows = without_row e self.old.rows }) }
+        ensures err { OnErr result (self.new ≡ self.old) }
+    {
+        let components = self.components(alloc, e)?;
+        self.remove(e);
+        Ok(components)
+    }
+
+    /// Takes a column out of the table, as it is, until it comes home. Meanwhile its kind has no cells.
+    pub fn lend(&mut self, kind: Kind) -> StampedColumn
+        requires { standing_of self.old (kind_number kind) ≡ Some Standing.Owned }
+        ensures kind { result.kind ≡ kind_number kind }
+        ensures cells { map (λ cell. Some cell) result.cells ≡ kind_cells self.old (kind_number kind) }
+        ensures away { self.new ≡ lent self.old (kind_number kind) }
+    {
+        lend_in(&self.kinds, &self.entities, &mut self.columns, kind)
+    }
+
+    /// Puts a column that was lent back.
+    pub fn home(&mut self, column: StampedColumn)
+        requires away { standing_of self.old column.kind ≡ Some Standing.Away }
+        requires same_length { length column.cells ≡ length self.old.rows }
+        ensures { self.new ≡ homed self.old column }
+    {
+        home_in(&self.kinds, &self.entities, &mut self.columns, column);
+    }
+
+    /// Replaces a component of an entity, which counts as changed at this tick, also where the value stays.
+    pub fn set<C: Component>(&mut self, e: Entity, component: C, tick: Tick)
+        requires { IsSome (cell_in self.old e C.NUMBER) }
+        ensures { self.new ≡ write_cell self.old e C.NUMBER (C.words component) tick }
+    {
+        self.write(e, component.into_value(), tick);
+    }
+}
+
+#[cfg(test)]
+mod tests {
+    use super::*;
+    use kinds::types::{Frozen, Health, Position};
+    use std::test::Fail;
+
+    const FIRST: Entity = Entity {
+        index: 0,
+        generation: 1,
+    };
+
+    const SECOND: Entity = Entity {
+        index: 1,
+        generation: 3,
+    };
+
+    // A component that was added at tick 1.
+    fn added(value: Value) -> StampedValue
+        ensures number { stamped_number result ≡ value_number value }
+    {
+        let stamp = Stamp {
+            added: 1,
+            changed: 1,
+        };
+        StampedValue { value, stamp }
+    }
+
+    #[test]
+    fn rows_in_rising_ids(rt: HostRuntime) -> Result<(), Fail> {
+        let mut table = Table::new(rt.alloc(), &[Kind::Health, Kind::Position])?;
+        assert_eq!(rt; table.kinds(), [Kind::Position, Kind::Health].as_slice());
+        let position = added(Value::Position(Position { x: 1, y: 2 }));
+        table.put(SECOND, &[position, added(Value::Health(Health { v: 5 }))])?;
+        assert!(rt; !table.has(FIRST));
+        table.put(FIRST, &[position, added(Value::Health(Health { v: 7 }))])?;
+        assert_eq!(rt; table.entities(), [FIRST, SECOND].as_slice());
+        let health = Value::Health(Health { v: 5 });
+        assert_eq!(rt; table.value(SECOND, Kind::Health), Some(health));
+        assert_eq!(rt; table.value(SECOND, Kind::Frozen), None);
+        Ok(())
+    }
+
+    #[test]
+    fn a_row_is_taken(rt: HostRuntime) -> Result<(), Fail> {
+        let mut table = Table::new(rt.alloc(), &[Kind::Frozen])?;
+        table.put(SECOND, &[added(Value::Frozen(Frozen))])?;
+        assert!(rt; table.has(SECOND));
+        let components = table.components(rt.alloc(), SECOND)?;
+        let taken = table.take(rt.alloc(), SECOND)?;
+        assert_eq!(rt; taken.as_slice(), components.as_slice());
+        assert_eq!(rt; taken.as_slice(), [added(Value::Frozen(Frozen))].as_slice());
+        assert_eq!(rt; table.len(), 0);
+        Ok(())
+    }
+
+    #[test]
+    fn columns_leave_and_come_home(rt: HostRuntime) -> Result<(), Fail> {
+        let mut table = Table::new(rt.alloc(), &[Kind::Health])?;
+        table.put(FIRST, &[added(Value::Health(Health { v: 5 }))])?;
+        let mut column = table.lend(Kind::Health);
+        assert_eq!(rt; table.value(FIRST, Kind::Health), None);
+        assert_eq!(rt; column.len(), 1);
+        column.set(0, Health { v: 5 }, 4);
+        assert_eq!(rt; column.len(), table.len());
+        table.home(column);
+        let stamp = Stamp {
+            added: 1,
+            changed: 4,
+        };
+        assert_eq!(rt; table.stamp(FIRST, Kind::Health), Some(stamp));
+        Ok(())
+    }
+}

@@ -1,0 +1,157 @@
+// Columns as their own types: what is done to a column is written once over a type of components, and chosen by its kind.
+
+ghost use Rattle.std.specs.Prelude.{◌≡◌, ◌<◌, ◌≤◌, [], ◌∷◌, Some, length, insert, remove, slice_get, slice_set, OnOk, OnErr};
+ghost use Rattle.kinds.specs.Kind.{kind_number};
+ghost use Rattle.kinds.specs.Value.{value_number, value_words};
+ghost use Rattle.kinds.specs.Column.{column_number, column_words};
+
+use kinds::column::Column;
+use kinds::component::Component;
+use kinds::each_kind;
+use kinds::kind::Kind;
+use kinds::value::Value;
+use std::alloc::{AllocError, Global};
+
+// The column of a kind without components.
+pub(crate) fn empty(alloc: Global, kind: Kind) -> Column
+    ensures number { column_number result ≡ kind_number kind }
+    ensures words { column_words result ≡ [] }
+{
+    each_kind!(kind, K => { empty_of::<K>(alloc) })
+}
+
+fn empty_of<C: Component>(alloc: Global) -> Column
+    ensures number { column_number result ≡ C.NUMBER }
+    ensures words { column_words result ≡ [] }
+{
+    C::into_column(Vec::new(alloc))
+}
+
+// The component at a place of a column of its kind.
+pub(crate) fn component_at<C: Component>(column: &Column, place: usize) -> C
+    requires kind { column_number column.now ≡ C.NUMBER }
+    requires within { place < length (column_words column.now) }
+    ensures { slice_get (column_words column.now) place ≡ Some (C.words result) }
+{
+    match C::in_column(column) {
+        Some(items) => items[place],
+        None => unreachable!(),
+    }
+}
+
+// Replaces the component at a place of a column of its kind.
+#[tactic(auto, using(crate::proofs::Lists::edits))]
+pub(crate) fn set_component<C: Component>(column: &mut Column, place: usize, component: C)
+    requires kind { column_number column.old ≡ C.NUMBER }
+    requires within { place < length (column_words column.old) }
+    ensures number { column_number column.new ≡ column_number column.old }
+    ensures words { column_words column.new ≡ slice_set (column_words column.old) place (C.words component) }
+{
+    match C::in_column_mut(column) {
+        Some(items) => items[place] = component,
+        None => unreachable!(),
+    }
+}
+
+// The component at a place of a column.
+pub(crate) fn value_at(column: &Column, place: usize) -> Value
+    requires { place < length (column_words column.now) }
+    ensures number { value_number result ≡ column_number column.now }
+    ensures words { slice_get (column_words column.now) place ≡ Some (value_words result) }
+{
+    each_kind!(column.kind(), K => { value_of::<K>(column, place) })
+}
+
+fn value_of<C: Component>(column: &Column, place: usize) -> Value
+    requires kind { column_number column.now ≡ C.NUMBER }
+    requires within { place < length (column_words column.now) }
+    ensures number { value_number result ≡ C.NUMBER }
+    ensures words { slice_get (column_words column.now) place ≡ Some (value_words result) }
+{
+    component_at::<C>(column, place).into_value()
+}
+
+// Replaces the component at a place of a column of its kind.
+pub(crate) fn set_value(column: &mut Column, place: usize, value: Value)
+    requires kind { column_number column.old ≡ value_number value }
+    requires within { place < length (column_words column.old) }
+    ensures number { column_number column.new ≡ column_number column.old }
+    ensures words { column_words column.new ≡ slice_set (column_words column.old) place (value_words value) }
+{
+    each_kind!(value.kind(), K => { set_value_of::<K>(column, place, value) })
+}
+
+fn set_value_of<C: Component>(column: &mut Column, place: usize, value: Value)
+    requires kind { column_number column.old ≡ C.NUMBER }
+    requires value { value_number value ≡ C.NUMBER }
+    requires within { place < length (column_words column.old) }
+    ensures number { column_number column.new ≡ column_number column.old }
+    ensures words { column_words column.new ≡ slice_set (column_words column.old) place (value_words value) }
+{
+    let Some(component) = C::from_value(value) else {
+        unreachable!();
+    };
+    set_component(column, place, component);
+}
+
+// Inserts a component of the column's kind before a place. Where memory is wanting the column stays as it was.
+pub(crate) fn insert_value(
+    column: &mut Column,
+    place: usize,
+    value: Value,
+) -> Result<(), AllocError>
+    requires kind { column_number column.old ≡ value_number value }
+    requires within { place ≤ length (column_words column.old) }
+    ensures number { column_number column.new ≡ column_number column.old }
+    ensures ok { OnOk result (column_words column.new ≡ insert (column_words column.old) place (value_words value)) }
+    ensures err { OnErr result (column_words column.new ≡ column_words column.old) }
+{
+    each_kind!(value.kind(), K => { insert_value_of::<K>(column, place, value) })
+}
+
+#[tactic(auto, using(crate::proofs::Lists::edits))]
+fn insert_value_of<C: Component>(
+    column: &mut Column,
+    place: usize,
+    value: Value,
+) -> Result<(), AllocError>
+    requires kind { column_number column.old ≡ C.NUMBER }
+    requires value { value_number value ≡ C.NUMBER }
+    requires within { place ≤ length (column_words column.old) }
+    ensures number { column_number column.new ≡ column_number column.old }
+    ensures ok { OnOk result (column_words column.new ≡ insert (column_words column.old) place (value_words value)) }
+    ensures err { OnErr result (column_words column.new ≡ column_words column.old) }
+{
+    let Some(component) = C::from_value(value) else {
+        unreachable!();
+    };
+    match C::in_column_mut(column) {
+        Some(items) => items.insert(place, component)?,
+        None => unreachable!(),
+    }
+    Ok(())
+}
+
+// Removes the component at a place of a column.
+pub(crate) fn remove_value(column: &mut Column, place: usize)
+    requires { place < length (column_words column.old) }
+    ensures number { column_number column.new ≡ column_number column.old }
+    ensures words { column_words column.new ≡ remove (column_words column.old) place }
+{
+    each_kind!(column.kind(), K => { remove_value_of::<K>(column, place) })
+}
+
+#[tactic(auto, using(crate::proofs::Lists::edits))]
+fn remove_value_of<C: Component>(column: &mut Column, place: usize)
+    requires kind { column_number column.old ≡ C.NUMBER }
+    requires within { place < length (column_words column.old) }
+    ensures number { column_number column.new ≡ column_number column.old }
+    ensures words { column_words column.new ≡ remove (column_words column.old) place }
+{
+    match C::in_column_mut(column) {
+        Some(items) => {
+            items.remove(place);
+        }
+        None => unreachable!(),
+    }
+}
