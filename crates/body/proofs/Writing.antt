@@ -18,8 +18,9 @@ NoneBefore terms k d i = (j : ℕ) → j < i → is_number k (written (term_of (
 -- nor does the term at it, so none before the next place
 pub NoneBefore-next : (terms : List Term) (k i : ℕ) (d : Term) → NoneBefore terms k d i → is_number k (written (term_of (get_or terms i d))) ≡ false → NoneBefore terms k d (i + 1)
 NoneBefore-next terms k i d none here j m = elim (cases_lt j i) [
-      inl before ↦ none j before
-    | inr past ↦ let same : i ≡ j = omega arith in subst (λ at. is_number k (written (term_of (get_or terms at d))) ≡ false) same here ]
+  | inl before ↦ none j before
+  | inr past ↦ let same : i ≡ j = omega arith in subst (λ at. is_number k (written (term_of (get_or terms at d))) ≡ false) same here
+]
 
 choice : {A : Type 0} (b c : Bool) (x y : A) → b ≡ c → cond b x y ≡ cond c x y
 choice b c x y e = cc
