@@ -2,6 +2,7 @@
 #![tactic(auto)]
 
 pub mod fault;
+mod ids;
 mod resources;
 pub mod row;
 pub mod slot;
