@@ -1,4 +1,4 @@
 mod Rows
-pub mod Grants
 pub mod Edits
 mod Worlds
+mod SlotRows

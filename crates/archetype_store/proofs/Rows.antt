@@ -1,13 +1,13 @@
 -- Rows as lists of stored components.
 use Rattle.std.proofs.Common.{◌≡◌, ℕ, zero, suc, ◌+◌, ◌<◌, ◌≤◌, Bool, true, false, not, cond, ◌==◌, nat_lt, nat_le, ℤ, List, [], ◌∷◌, ◌++◌, length, get_or, set, map, sym, ◌∙◌, Option, Some, None, refl, ap, arith}
-use Rattle.std.specs.List.{position, position_or_len, insert}
+use Rattle.std.specs.List.{position, position_or_len, insert, remove}
 use Rattle.std.proofs.lemmas.List.{map-set, map-append, take-map, drop-map}
 use Rattle.std.proofs.lemmas.Bool.Decides.{nat_tests}
 use Rattle.kinds.specs.declared.value.Value.{Value}
 use Rattle.kinds.specs.Value.{value_number, value_words}
 use Rattle.model.specs.Overlay.{row_after, component_after, cell_after}
 use Rattle.model.specs.State.{Cell, Component}
-use Rattle.model.specs.Rows.{cell_at, new_component, changed_component, insert_component}
+use Rattle.model.specs.Rows.{cell_at, new_component, changed_component, insert_component, remove_component}
 use Rattle.archetype_store.specs.declared.row.Stored.{Stored}
 use Rattle.archetype_store.specs.Row.{component_of, only, added_at, changed_to, written_over}
 
@@ -156,3 +156,34 @@ put-new t v xs i x h e n =
 pub row_after-map : (t : ℕ) (v : Value) (xs : List Stored) → map component_of (map (written_over t v) xs) ≡ row_after t (only (value_number v) (value_words v)) (map component_of xs)
 row_after-map t v [] = refl
 row_after-map t v (x ∷ xs) = cons_same (component_after-written t v x) (row_after-map t v xs)
+
+-- ---- a removal
+
+here_step : (b : Bool) (p : ℕ) (r s : List Component) → 0 ≡ cond (not b) (1 + p) 0 → r ≡ cond b r s
+here_step true p r s h = refl
+here_step false p r s h = absurd (omega (arith, h))
+
+next_step : (b : Bool) (p i : ℕ) (x : Component) (a r s : List Component) → suc i ≡ cond (not b) (1 + p) 0 → (i ≡ p → r ≡ s) → x ∷ r ≡ cond b a (x ∷ s)
+next_step true p i x a r s h more = absurd (omega (arith, h))
+next_step false p i x a r s h more = ap (λ ys. x ∷ ys) (more (omega (arith, h)))
+
+absent_step : (b : Bool) (p l : ℕ) (x : Component) (a r : List Component) → cond (not b) (1 + p) 0 ≡ suc l → (p ≡ l → a ≡ r) → x ∷ a ≡ cond b a (x ∷ r)
+absent_step true p l x a r h more = absurd (omega (arith, h))
+absent_step false p l x a r h more = ap (λ ys. x ∷ ys) (more (omega (arith, h)))
+
+removed_at : (k : ℕ) (xs : List Stored) (i : ℕ) → i ≡ position_or_len (is_of k) xs → i < length xs → map component_of (remove xs i) ≡ remove_component k (map component_of xs)
+removed_at k [] i h l = absurd (omega arith)
+removed_at k (x ∷ xs) zero h l = here_step (is_of k x) _ _ _ h
+removed_at k (x ∷ xs) (suc i) h l = next_step (is_of k x) _ i _ _ _ _ h (λ e. removed_at k xs i e (omega arith))
+
+not_there : (k : ℕ) (xs : List Stored) → position_or_len (is_of k) xs ≡ length xs → map component_of xs ≡ remove_component k (map component_of xs)
+not_there k [] h = refl
+not_there k (x ∷ xs) h = absent_step (is_of k x) _ (length xs) _ _ _ h (λ e. not_there k xs e)
+
+-- the component that was found is removed
+pub remove-some : (k : ℕ) (xs : List Stored) (i : ℕ) → position (is_of k) xs ≡ Some i → map component_of (remove xs i) ≡ remove_component k (map component_of xs)
+remove-some k xs i h = let r = position-some (is_of k) xs i h in removed_at k xs i r.0 r.1
+
+-- none was found, and none is removed
+pub remove-none : (k : ℕ) (xs : List Stored) → position (is_of k) xs ≡ None → map component_of xs ≡ remove_component k (map component_of xs)
+remove-none k xs h = not_there k xs (position-none (is_of k) xs h)

@@ -1,32 +1,31 @@
 -- What keeps a world in its shape.
-use Rattle.std.proofs.Common.{◌≡◌, ℕ, zero, suc, ◌+◌, ◌-◌, ◌<◌, ◌≤◌, Bool, true, false, cond, ◌==◌, ◌&&◌, lit≤, ◌⊎◌, inl, inr, Result, Ok, Err, nat_lt, nat_le, ℤ, List, [], ◌∷◌, ◌++◌, length, get_or, map, replicate, count_by, Option, Some, None, refl, ap, sym, ◌∙◌, subst, arith}
+use Rattle.std.proofs.Common.{◌≡◌, ℕ, zero, suc, ◌<◌, ◌≤◌, Bool, true, false, cond, ◌==◌, ◌&&◌, ◌⊎◌, inl, inr, Result, Ok, Err, nat_lt, ℤ, List, [], ◌∷◌, length, get_or, map, Option, Some, None, refl, ap, sym, ◌∙◌, arith}
 use Rattle.std.specs.Prelude.{OnOk, OnErr, IsErrOf}
 use Rattle.std.specs.List.{AllByRecursion}
-use Rattle.std.proofs.lemmas.List.{get_or_default, append-nil, length-append, length-replicate}
-use Rattle.std.proofs.lemmas.List.Sums.{sum_by-cons}
+use Rattle.std.proofs.lemmas.List.{get_or_default}
 use Rattle.std.proofs.lemmas.Bool.Decides.{nat_tests}
 use Rattle.model.specs.declared.entities.Entity.{Entity}
 use Rattle.model.specs.Lists.{update_at}
-use Rattle.model.specs.State.{Component, Slot, Status, World, fresh_slot, is_living, is_vacant, is_granted, most_indices}
-use Rattle.model.specs.State.Status.{Vacant, Granted, Living, Retired}
-use Rattle.model.specs.Rows.{IsRising, insert_component}
-use Rattle.model.specs.Ids.{granted_slot, has_ids, grant}
-use Rattle.model.specs.Commands.{is_alive, spawned, with_row}
+use Rattle.model.specs.State.{Component, Slot, World, fresh_slot, is_living, is_granted, most_indices}
+use Rattle.model.specs.State.Status.{Living}
+use Rattle.model.specs.Rows.{IsRising, insert_component, remove_component}
+use Rattle.model.specs.Ids.{has_ids, grant}
+use Rattle.model.specs.Commands.{is_alive, spawned, freed, with_row, release}
 use Rattle.model.specs.Overlay.{cell_after, component_after, row_after, slot_after, resource_after}
 use Rattle.model.specs.Shape.{IsComponent, IsSlot, IsWorld}
 use Rattle.archetype_store.specs.Row.{only}
-use Rattle.archetype_store.specs.Ids.{first_granted}
 use Rattle.archetype_store.specs.Store.{with_slots, with_slot, with_resource}
-use Rattle.archetype_store.proofs.Edits.{length-update_at}
-use Rattle.archetype_store.proofs.Grants.{roomy, grant-is, has_ids-is}
+use Rattle.model.proofs.Lists.{length-update_at}
+use Rattle.model.proofs.SlotShapes.{slots-grant, length-grant, slots-release, length-release, slot-freed, slot-removed}
+use Rattle.entity_table.specs.Ids.{spawned_all, settled}
 
 -- ---- outcomes
 
 -- what a call has done that refuses where a test fails, and else only for want of memory
-pub settled : {T E : Type 0} (r : Result T E) (fault : E) (test : Bool) (P Q : Type 0) → OnOk r P → OnErr r Q → (test ≡ false → IsErrOf r fault) → ((test ≡ true) × P) ⊎ Q
-settled (Ok x) fault true P Q p q h = inl (refl, p)
-settled (Ok x) fault false P Q p q h = let e = h refl in cc
-settled (Err e) fault test P Q p q h = inr q
+pub outcome_of : {T E : Type 0} (r : Result T E) (fault : E) (test : Bool) (P Q : Type 0) → OnOk r P → OnErr r Q → (test ≡ false → IsErrOf r fault) → ((test ≡ true) × P) ⊎ Q
+outcome_of (Ok x) fault true P Q p q h = inl (refl, p)
+outcome_of (Ok x) fault false P Q p q h = let e = h refl in cc
+outcome_of (Err e) fault test P Q p q h = inr q
 
 -- ---- lists
 
@@ -131,54 +130,6 @@ slot-spawned W clock g s p = spawned_by (is_granted s.status && (s.generation ==
     spawned_by true = record { least = p.least; most = p.most; came_back = λ h. cc; retired = λ h. cc; no_row = λ h. refl; rising = tt; components = tt }
     spawned_by false = p
 
-vacant_is_dead : (s : Status) → is_vacant s ≡ true → is_living s ≡ false
-vacant_is_dead Vacant h = refl
-vacant_is_dead Granted h = refl
-vacant_is_dead Living h = cc
-vacant_is_dead Retired h = refl
-
-slot-granted : (W : ℕ → ℕ) (clock : ℕ) (s : Slot) → is_vacant s.status ≡ true → IsSlot W clock s → IsSlot W clock (granted_slot s)
-slot-granted W clock s v p = record {
-  least = p.least;
-  most = p.most;
-  came_back = λ h. cc;
-  retired = λ h. cc;
-  no_row = λ h. p.no_row (vacant_is_dead s.status v);
-  rising = p.rising;
-  components = p.components;
-}
-
--- fresh slots that are all granted
-slots-fresh : (W : ℕ → ℕ) (clock n m : ℕ) → m ≤ n → AllByRecursion (IsSlot W clock) (first_granted n (replicate m fresh_slot))
-slots-fresh W clock n zero l = tt
-slots-fresh W clock zero (suc m) l = absurd (omega arith)
-slots-fresh W clock (suc n) (suc m) l =
-    (record { least = omega arith; most = lit≤ tt; came_back = λ h. cc; retired = λ h. cc; no_row = λ h. refl; rising = tt; components = tt }, slots-fresh W clock n m (omega arith))
-
-slots-granted : (W : ℕ → ℕ) (clock n m : ℕ) (xs : List Slot) → m ≡ n - count_by (λ s. is_vacant s.status) xs → AllByRecursion (IsSlot W clock) xs → AllByRecursion (IsSlot W clock) (first_granted n (xs ++ replicate m fresh_slot))
-slots-granted W clock n m [] e p = slots-fresh W clock n m (omega arith)
-slots-granted W clock zero m (x ∷ xs) e p =
-    let none : m ≡ 0 = omega arith in
-    let same : xs ≡ xs ++ replicate m fresh_slot = sym (ap (λ k. xs ++ replicate k fresh_slot) none ∙ append-nil xs) in
-    let P : List Slot → Type 0 = AllByRecursion (IsSlot W clock) in
-    (p.0, subst P same p.1)
-slots-granted W clock (suc n) m (x ∷ xs) e p = granted_by (is_vacant x.status) refl (λ f. slots-granted W clock n m xs f p.1) (λ f. slots-granted W clock (suc n) m xs f p.1) (e ∙ ap (λ k. suc n - k) (sum_by-cons (λ s. cond (is_vacant s.status) 1 0) x xs))
-  where
-    granted_by : (b : Bool) → is_vacant x.status ≡ b →
-        (m ≡ n - count_by (λ s. is_vacant s.status) xs → AllByRecursion (IsSlot W clock) (first_granted n (xs ++ replicate m fresh_slot))) →
-        (m ≡ suc n - count_by (λ s. is_vacant s.status) xs → AllByRecursion (IsSlot W clock) (first_granted (suc n) (xs ++ replicate m fresh_slot))) → m ≡ suc n - (cond b 1 0 + count_by (λ s. is_vacant s.status) xs) → AllByRecursion (IsSlot W clock) (cond b (granted_slot x ∷ first_granted n (xs ++ replicate m fresh_slot)) (x ∷ first_granted (suc n) (xs ++ replicate m fresh_slot)))
-    granted_by true v few all f = (slot-granted W clock x v p.0, few (omega arith))
-    granted_by false v few all f = (p.0, all (omega arith))
-
-length-first_granted : (n : ℕ) (xs : List Slot) → length (first_granted n xs) ≡ length xs
-length-first_granted n [] = refl
-length-first_granted zero (x ∷ xs) = refl
-length-first_granted (suc n) (x ∷ xs) = granted_by (is_vacant x.status) (length-first_granted n xs) (length-first_granted (suc n) xs)
-  where
-    granted_by : (b : Bool) → length (first_granted n xs) ≡ length xs → length (first_granted (suc n) xs) ≡ length xs → length (cond b (granted_slot x ∷ first_granted n xs) (x ∷ first_granted (suc n) xs)) ≡ suc (length xs)
-    granted_by true few all = ap suc few
-    granted_by false few all = ap suc all
-
 -- ---- worlds
 
 -- a world with other slots of the shape
@@ -220,16 +171,22 @@ world-set W w n v t l p = record {
   clock_most = p.clock_most;
 }
 
-few_after : (k m : ℕ) → nat_le k m ≡ true → k ≤ m
-few_after k m h = grind (arith, nat_tests)
-
 pub world-grant : (W : ℕ → ℕ) (w : World) (n : ℕ) → has_ids n w.slots ≡ true → IsWorld W w → IsWorld W (with_slots (grant n) w)
-world-grant W w n h p =
-    let missing = n - count_by (λ s. is_vacant s.status) w.slots in
-    let all : AllByRecursion (IsSlot W w.clock) (first_granted n (roomy n w.slots)) = slots-granted W w.clock n missing w.slots refl p.slots in
-    let few : length w.slots + missing ≤ most_indices = few_after _ _ (sym (has_ids-is n w.slots) ∙ h) in
-    let len : length (first_granted n (roomy n w.slots)) ≡ length w.slots + missing = length-first_granted n (roomy n w.slots) ∙ length-append w.slots _ ∙ ap (λ k. length w.slots + k) (length-replicate _ fresh_slot) in
-    with-slots W w (grant n w.slots)
-    (rw (grant-is n w.slots) all)
-    (rw (grant-is n w.slots) (omega (arith, len, few)))
-    p
+world-grant W w n h p = with-slots W w (grant n w.slots) (slots-grant W w.clock n w.slots p.slots) (length-grant n w.slots h) p
+
+pub world-release : (W : ℕ → ℕ) (w : World) (ids : List Entity) → IsWorld W w → IsWorld W (with_slots (release ids) w)
+world-release W w ids p = with-slots W w (release ids w.slots) (slots-release W w.clock ids w.slots p.slots) (let e = length-release ids w.slots in omega (arith, p.few)) p
+
+world-spawn_all : (W : ℕ → ℕ) (w : World) (ids : List Entity) → IsWorld W w → IsWorld W (with_slots (spawned_all ids) w)
+world-spawn_all W w [] p = p
+world-spawn_all W w (e ∷ es) p = world-spawn_all W (with_slot e.index (spawned e.generation) w) es (world-spawn W w e p)
+
+pub world-settle : (W : ℕ → ℕ) (w : World) (used unused : List Entity) → IsWorld W w → IsWorld W (with_slots (settled used unused) w)
+world-settle W w used unused p = world-release W (with_slots (spawned_all used) w) unused (world-spawn_all W w used p)
+
+pub world-despawn : (W : ℕ → ℕ) (w : World) (e : Entity) → IsWorld W w → IsWorld W (with_slot e.index freed w)
+world-despawn W w e p = with-slot W w e.index freed (λ d within q. slot-freed W w.clock (get_or w.slots e.index d) q) p
+
+pub world-remove : (W : ℕ → ℕ) (w : World) (e : Entity) (k : ℕ) → is_alive w.slots e ≡ true → IsWorld W w → IsWorld W (with_slot e.index (with_row (remove_component k)) w)
+world-remove W w e k alive p = with-slot W w e.index (with_row (remove_component k))
+    (λ d within q. slot-removed W w.clock k (get_or w.slots e.index d) (ap (λ s. is_living s.status) (get_or_default w.slots e.index d fresh_slot within) ∙ and_first _ _ alive) q) p

@@ -1,5 +1,5 @@
 pub mod Row
 pub mod Slot
-pub mod Ids
+pub mod Slots
 pub mod Resources
 pub mod Store

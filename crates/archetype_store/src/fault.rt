@@ -1,30 +1,11 @@
 // Why a call of the store is refused.
 
 ghost use Rattle.std.specs.Prelude.{◌≡◌};
-ghost use Rattle.archetype_store.specs.declared.fault.GrantFault.TheVariants as grant_fault;
 ghost use Rattle.archetype_store.specs.declared.fault.StoreFault.TheVariants as store_fault;
 
+pub use entity_table::fault::GrantFault;
 use std::alloc::AllocError;
 use thiserror::Error;
-
-/// Why no ids are granted.
-#[derive(Clone, Copy, PartialEq, Eq, Debug, Error)]
-pub enum GrantFault {
-    /// Fewer indices are left than are asked for.
-    #[error("the ids are spent")]
-    IdsSpent,
-    /// Memory is wanting.
-    #[error("out of memory")]
-    Memory,
-}
-
-impl From<AllocError> for GrantFault {
-    ghost from_gives = { λ _ e. e ≡ grant_fault.Memory };
-
-    fn from(_error: AllocError) -> GrantFault {
-        GrantFault::Memory
-    }
-}
 
 /// Why a change of an entity is refused.
 #[derive(Clone, Copy, PartialEq, Eq, Debug, Error)]

@@ -2,7 +2,6 @@
 #![tactic(auto)]
 
 pub mod fault;
-mod ids;
 mod resources;
 pub mod row;
 pub mod slot;

@@ -2,7 +2,7 @@
 
 ghost use Rattle.std.specs.Prelude.{◌≡◌, [], ℕ, nat_le, ◌==◌, map, option_map, position, IfSome, OnOk, OnErr};
 ghost use Rattle.kinds.specs.Value.{value_number, value_words};
-ghost use Rattle.model.specs.Rows.{cell_at, insert_component};
+ghost use Rattle.model.specs.Rows.{cell_at, insert_component, remove_component};
 ghost use Rattle.model.specs.Overlay.{row_after};
 ghost use Rattle.archetype_store.specs.Row.{component_of, only, added_at, changed_to, written_over};
 
@@ -93,6 +93,18 @@ impl Row {
             }
         }
         Ok(())
+    }
+
+    /// Removes the component of the kind with this number, where the row has one.
+    pub fn remove(&mut self, number: u32)
+        ensures { self.new ≡ remove_component number self.old }
+    {
+        match index_of(self.components.as_slice(), number) {
+            Some(place) => {
+                let _removed = self.components.remove(place);
+            }
+            None => {}
+        }
     }
 
     /// Takes all components away.

@@ -1,60 +1,39 @@
 // One index: its generation, its status, and the row of its entity.
 
-ghost use Rattle.std.specs.Prelude.{◌≡◌, ◌≤◌, [], OnOk, OnErr};
-ghost use Rattle.kinds.specs.Value.{value_number, value_words};
-ghost use Rattle.model.specs.State.{fresh_slot, is_living, is_vacant};
-ghost use Rattle.model.specs.State.{Status as ModelStatus};
-ghost use Rattle.model.specs.Rows.{insert_component};
-ghost use Rattle.model.specs.Ids.{granted_slot};
-ghost use Rattle.model.specs.Commands.{with_row};
-ghost use Rattle.model.specs.Overlay.{slot_after};
-ghost use Rattle.archetype_store.specs.Row.{only};
+ghost use Rattle.std.specs.Prelude.{◌≡◌};
+ghost use Rattle.model.specs.State.{is_living, is_vacant};
+ghost use Rattle.entity_table.specs.Status.{status_of};
 
 use crate::row::Row;
-use change_ticks::clock::Tick;
-use kinds::value::Value;
-use std::alloc::{AllocError, Global};
+use entity_table::status::Status;
 use std::marker::Model;
 
-// What an index is.
-#[derive(Clone, Copy, PartialEq, Eq, Debug)]
-enum Status {
-    // It can be granted.
-    Vacant,
-    // It was granted, and its id is not settled.
-    Granted,
-    // Its entity lives.
-    Living,
-    // Its generation can't grow: it is never granted again.
-    Retired,
-}
-
-/// One index. Contracts see the generation, the status and the row.
+/// What the store has of one index. Contracts see the generation, the status and the row.
 #[derive(Drop, Debug)]
-pub struct Slot {
+pub struct Slot<'a> {
     generation: u32,
     status: Status,
-    row: Row,
+    row: &'a Row,
 }
 
-impl Model for Slot {
+impl<'a> Model for Slot<'a> {
     ghost use Rattle.model.specs.State.{Slot as ModelSlot};
-    ghost use Rattle.archetype_store.specs.Slot.{status_of};
+    ghost use Rattle.entity_table.specs.Status.{status_of};
 
     ghost Value = { ModelSlot };
 
-    ghost view = { λ s. record { generation = s.generation; status = status_of s.status; row = s.row } };
+    ghost view = { λ s. record { generation = s.generation; status = status_of s.status; row = s.row.now } };
 }
 
-impl Slot {
-    /// A vacant index at generation 1.
-    pub fn new(alloc: Global) -> Self
-        ensures { result ≡ fresh_slot }
+impl<'a> Slot<'a> {
+    /// The slot of these parts.
+    pub(crate) fn of(generation: u32, status: Status, row: &'a Row) -> Self
+        ensures { result ≡ record { generation = generation; status = status_of status; row = row.now } }
     {
         Slot {
-            generation: 1,
-            status: Status::Vacant,
-            row: Row::new(alloc),
+            generation,
+            status,
+            row,
         }
     }
 
@@ -80,39 +59,9 @@ impl Slot {
     }
 
     /// The components of the entity.
-    pub fn row(&self) -> &Row
+    pub fn row(&self) -> &'a Row
         ensures { result.now ≡ self.now.row }
     {
-        &self.row
-    }
-
-    /// Grants the index.
-    pub fn grant(&mut self)
-        ensures { self.new ≡ granted_slot self.old }
-    {
-        self.status = Status::Granted;
-    }
-
-    /// Makes the entity of the index live, without components.
-    pub fn spawn(&mut self)
-        ensures { self.new ≡ record { generation = self.old.generation; status = ModelStatus.Living; row = [] } }
-    {
-        self.status = Status::Living;
-        self.row.clear();
-    }
-
-    /// Inserts a component into the row at a tick. Where memory is wanting the slot stays as it was.
-    pub fn insert(&mut self, value: Value, tick: Tick) -> Result<(), AllocError>
-        ensures ok { OnOk result (self.new ≡ with_row (insert_component tick (value_number value) (value_words value)) self.old) }
-        ensures err { OnErr result (self.new ≡ self.old) }
-    {
-        self.row.insert(value, tick)
-    }
-
-    /// Writes the component of this value's kind at a tick, where the row has one.
-    pub fn write(&mut self, value: Value, tick: Tick)
-        ensures { self.new ≡ slot_after tick (only (value_number value) (value_words value)) self.old }
-    {
-        self.row.write(value, tick);
+        self.row
     }
 }

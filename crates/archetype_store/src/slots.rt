@@ -1,42 +1,49 @@
-// The slots by index: which entities live, their ids and their rows.
+// The slots by index: the id book, and the rows of the entities that live.
 
-ghost use Rattle.std.specs.Prelude.{◌≡◌, ◌≤◌, ◌<◌, ◌↔◌, ℕ, true, false, [], length, option_map, All, IsTrue, IfSome, IfNone, MatchOption, IfOk, OnOk, OnErr, IsErrOf};
+ghost use Rattle.std.specs.Prelude.{◌≡◌, ◌++◌, ◌≤◌, ◌<◌, ◌↔◌, ℕ, suc, true, false, [], length, max, option_map, All, IsTrue, IfSome, IfNone, MatchOption, IfOk, OnOk, OnErr, IsErrOf, IsOkUnless};
 ghost use Rattle.kinds.specs.Value.{value_number, value_words};
 ghost use Rattle.model.specs.Lists.{update_at};
-ghost use Rattle.model.specs.State.{most_indices};
-ghost use Rattle.model.specs.Rows.{insert_component};
+ghost use Rattle.model.specs.Rows.{row_at, insert_component, remove_component};
 ghost use Rattle.model.specs.Ids as ids;
-ghost use Rattle.model.specs.Commands.{is_alive, spawned, with_row};
+ghost use Rattle.model.specs.Commands as commands;
+ghost use Rattle.model.specs.Commands.{is_alive, spawned, freed, with_row};
 ghost use Rattle.model.specs.Overlay.{slot_after};
+ghost use Rattle.entity_table.specs.Ids.{slot_at, lives_at, IsGranted, AreApart, settled};
 ghost use Rattle.archetype_store.specs.Row.{component_of, only};
-ghost use Rattle.archetype_store.specs.Slot.{slot_at, lives_at, cell_of};
-ghost use Rattle.archetype_store.specs.Ids.{IsGranted};
+ghost use Rattle.archetype_store.specs.Slot.{cell_of};
+ghost use Rattle.archetype_store.specs.Slots.{row_of};
 
-use crate::fault::{GrantFault, StoreFault};
-use crate::ids::{MOST_INDICES, grant_first, grow, vacant_count, vacant_ids};
-use crate::row::Stored;
+use crate::fault::StoreFault;
+use crate::row::{Row, Stored};
 use crate::slot::Slot;
 use change_ticks::clock::Tick;
 use entity_table::Entity;
+use entity_table::fault::GrantFault;
+use entity_table::table::EntityTable;
 use kinds::value::Value;
 use std::alloc::{AllocError, Global};
 use std::marker::Model;
 
-/// The slots, which contracts see as a list by index. An index past the end is vacant at generation 1.
+/// The slots, which contracts see as a list by index. An index past the end is vacant at generation 1. An index has a row from its
+/// first component on.
 #[derive(Drop, Debug)]
 pub struct Slots {
-    by_index: Vec<Slot>,
+    book: EntityTable,
+    rows: Vec<Row>,
+    no_row: Row,
 }
 
 impl Model for Slots {
-    ghost use Rattle.std.specs.Prelude.{List, length, ◌≤◌};
-    ghost use Rattle.model.specs.State.{Slot as ModelSlot, most_indices};
+    ghost use Rattle.std.specs.Prelude.{List, [], ◌≡◌};
+    ghost use Rattle.model.specs.State.{Slot as ModelSlot};
+    ghost use Rattle.entity_table.specs.Rows.{with_rows};
+    ghost use Rattle.archetype_store.specs.Slots.{row_of, HasRows};
 
     ghost Value = { List ModelSlot };
 
-    ghost view = { λ s. s.by_index.items };
+    ghost view = { λ s. with_rows (row_of s.rows.items) s.book };
 
-    ghost invariant = { λ s. length s.by_index.items ≤ most_indices };
+    ghost invariant = { λ s. HasRows s.book s.rows.items × (s.no_row ≡ []) };
 }
 
 impl Slots {
@@ -45,7 +52,9 @@ impl Slots {
         ensures { result ≡ [] }
     {
         Slots {
-            by_index: Vec::new(alloc),
+            book: EntityTable::new(alloc),
+            rows: Vec::new(alloc),
+            no_row: Row::new(alloc),
         }
     }
 
@@ -53,14 +62,21 @@ impl Slots {
     pub fn len(&self) -> u32
         ensures { result ≡ length self.now }
     {
-        self.by_index.len() as u32
+        self.book.len()
     }
 
     /// The slot of an index, none past the end.
-    pub fn get(&self, index: u32) -> Option<&Slot>
-        ensures { MatchOption result (length self.now ≤ index) (λ slot. slot.now ≡ slot_at self.now index) }
+    pub fn get(&self, index: u32) -> Option<Slot<'_>>
+        ensures { MatchOption result (length self.now ≤ index) (λ slot. slot ≡ slot_at self.now index) }
     {
-        self.by_index.get(index as usize)
+        if index >= self.book.len() {
+            return None;
+        }
+        Some(Slot::of(
+            self.book.generation(index),
+            self.book.status(index),
+            self.row(index),
+        ))
     }
 
     /// Whether an entity lives.
@@ -68,10 +84,7 @@ impl Slots {
         ensures value { result ≡ is_alive self.now e }
         ensures within { IsTrue result → e.index < length self.now }
     {
-        match self.get(e.index) {
-            None => false,
-            Some(slot) => slot.is_living() && slot.generation() == e.generation,
-        }
+        self.book.lives(e)
     }
 
     /// The living entity of the least index from this one on.
@@ -80,7 +93,7 @@ impl Slots {
         ensures least { IfSome result (λ e. (k : ℕ) → from ≤ k → k < e.index → lives_at self.now k ≡ false) }
         ensures none { IfNone result ((k : ℕ) → from ≤ k → lives_at self.now k ≡ false) }
     {
-        next_living_in(self.by_index.as_slice(), from)
+        self.book.next_living(from)
     }
 
     /// The component of the kind with this number, where the entity lives and has one.
@@ -91,7 +104,7 @@ impl Slots {
         if !self.lives(e) {
             return None;
         }
-        self.by_index[e.index as usize].row().find(number)
+        self.row(e.index).find(number)
     }
 
     /// Grants so many ids: the least vacant indices, at their generations. After an error the slots are as they were.
@@ -99,25 +112,12 @@ impl Slots {
         ensures ok { IfOk result (λ granted. granted.items ≡ ids.granted_ids count self.old) }
         ensures granted { OnOk result (self.new ≡ ids.grant count self.old) }
         ensures each { IfOk result (λ granted. All (IsGranted self.new) granted.items) }
+        ensures apart { IfOk result (λ granted. AreApart granted.items) }
         ensures spent { IsErrOf result GrantFault.IdsSpent ↔ (ids.has_ids count self.old ≡ false) }
         ensures err { OnErr result (self.new ≡ self.old) }
     {
-        let had = self.by_index.len();
-        let missing = (count as usize).saturating_sub(vacant_count(self.by_index.as_slice()));
-        if MOST_INDICES < had + missing {
-            return Err(GrantFault::IdsSpent);
-        }
-        grow(&mut self.by_index, alloc, missing)?;
-        match vacant_ids(alloc, self.by_index.as_slice(), count) {
-            Ok(granted) => {
-                grant_first(&mut self.by_index, count);
-                Ok(granted)
-            }
-            Err(error) => {
-                self.by_index.truncate(had);
-                Err(GrantFault::from(error))
-            }
-        }
+        let granted = self.book.grant(alloc, count)?;
+        Ok(granted)
     }
 
     /// Makes the entity of a granted id live, without components.
@@ -125,8 +125,42 @@ impl Slots {
         requires { IsGranted self.old e }
         ensures { self.new ≡ update_at e.index (spawned e.generation) self.old }
     {
-        let slot = &mut self.by_index[e.index as usize];
-        slot.spawn();
+        self.book.spawn_at(e);
+    }
+
+    /// Settles granted ids, none of them named twice: the used ones live, the unused ones are freed.
+    pub fn settle(&mut self, used: &[Entity], unused: &[Entity])
+        requires used { All (IsGranted self.old) used.now }
+        requires unused { All (IsGranted self.old) unused.now }
+        requires apart { AreApart (used.now ++ unused.now) }
+        ensures { self.new ≡ settled used.now unused.now self.old }
+    {
+        self.book.settle(used, unused);
+    }
+
+    /// Frees each index named that is still granted.
+    pub fn release(&mut self, ids: &[Entity])
+        ensures { self.new ≡ commands.release ids.now self.old }
+    {
+        self.book.release(ids);
+    }
+
+    /// Frees the index of an entity, and drops its components.
+    pub fn despawn(&mut self, e: Entity) -> Result<(), StoreFault>
+        ensures ok { OnOk result (self.new ≡ update_at e.index freed self.old) }
+        ensures dead { IsErrOf result StoreFault.NotAlive ↔ (is_alive self.old e ≡ false) }
+        ensures other { IsOkUnless result StoreFault.NotAlive }
+        ensures err { OnErr result (self.new ≡ self.old) }
+    {
+        if !self.lives(e) {
+            return Err(StoreFault::NotAlive);
+        }
+        self.book.despawn(e);
+        if (e.index as usize) < self.rows.len() {
+            let row = &mut self.rows[e.index as usize];
+            row.clear();
+        }
+        Ok(())
     }
 
     /// Inserts a component into the row of an entity at a tick. After an error the slots are as they were.
@@ -138,8 +172,26 @@ impl Slots {
         if !self.lives(e) {
             return Err(StoreFault::NotAlive);
         }
-        let slot = &mut self.by_index[e.index as usize];
-        slot.insert(value, tick)?;
+        reach(&mut self.rows, e.index)?;
+        let row = &mut self.rows[e.index as usize];
+        row.insert(value, tick)?;
+        Ok(())
+    }
+
+    /// Removes the component of a kind from the row of an entity, where it has one. After an error the slots are as they were.
+    pub fn remove(&mut self, e: Entity, number: u32) -> Result<(), StoreFault>
+        ensures ok { OnOk result (self.new ≡ update_at e.index (with_row (remove_component number)) self.old) }
+        ensures dead { IsErrOf result StoreFault.NotAlive ↔ (is_alive self.old e ≡ false) }
+        ensures other { IsOkUnless result StoreFault.NotAlive }
+        ensures err { OnErr result (self.new ≡ self.old) }
+    {
+        if !self.lives(e) {
+            return Err(StoreFault::NotAlive);
+        }
+        if (e.index as usize) < self.rows.len() {
+            let row = &mut self.rows[e.index as usize];
+            row.remove(number);
+        }
         Ok(())
     }
 
@@ -147,28 +199,34 @@ impl Slots {
     pub fn write(&mut self, index: u32, value: Value, tick: Tick)
         ensures { self.new ≡ update_at index (slot_after tick (only (value_number value) (value_words value))) self.old }
     {
-        if (index as usize) < self.by_index.len() {
-            let slot = &mut self.by_index[index as usize];
-            slot.write(value, tick);
+        if (index as usize) < self.rows.len() {
+            let row = &mut self.rows[index as usize];
+            row.write(value, tick);
+        }
+    }
+
+    // The row of an index.
+    fn row(&self, index: u32) -> &Row
+        requires { index < length self.now }
+        ensures { result.now ≡ row_at self.now index }
+    {
+        if (index as usize) < self.rows.len() {
+            &self.rows[index as usize]
+        } else {
+            &self.no_row
         }
     }
 }
 
-// The living entity of the least index from this one on.
-fn next_living_in(slots: &[Slot], from: u32) -> Option<Entity>
-    requires { length slots.now ≤ most_indices }
-    ensures lives { IfSome result (λ e. (from ≤ e.index) × (is_alive slots.now e ≡ true)) }
-    ensures least { IfSome result (λ e. (k : ℕ) → from ≤ k → k < e.index → lives_at slots.now k ≡ false) }
-    ensures none { IfNone result ((k : ℕ) → from ≤ k → lives_at slots.now k ≡ false) }
+// Makes rows up to this index, without components. After an error some of them may be there, which no index can tell.
+fn reach(rows: &mut Vec<Row>, index: u32) -> Result<(), AllocError>
+    ensures same { (k : ℕ) → row_of rows.new.items k ≡ row_of rows.old.items k }
+    ensures few { length rows.new.items ≤ max (length rows.old.items) (suc index) }
+    ensures ok { OnOk result (index < length rows.new.items) }
 {
-    for index in from as usize..slots.len() {
-        let slot = &slots[index];
-        if slot.is_living() {
-            return Some(Entity {
-                index: index as u32,
-                generation: slot.generation(),
-            });
-        }
+    let alloc = *rows.allocator();
+    while rows.len() <= index as usize {
+        rows.push(Row::new(alloc))?;
     }
-    None
+    Ok(())
 }

@@ -1,6 +1,6 @@
 // The world: entities with their components, resources and the clock.
 
-ghost use Rattle.std.specs.Prelude.{◌≡◌, ◌+◌, ◌≤◌, ◌<◌, ◌↔◌, ℕ, true, false, length, map, option_map, is_some, All, IfSome, IfNone, IfOk, IsErr, OnOk, OnErr, IsErrOf};
+ghost use Rattle.std.specs.Prelude.{◌≡◌, ◌++◌, ◌+◌, ◌≤◌, ◌<◌, ◌↔◌, ℕ, true, false, length, map, option_map, is_some, All, IfSome, IfNone, IfOk, IsErr, OnOk, OnErr, IsErrOf, IsOkUnless};
 ghost use Rattle.kinds.specs.Kind.{kind_number};
 ghost use Rattle.kinds.specs.Value.{value_number, value_words};
 ghost use Rattle.model.specs.Lists.{update_at};
@@ -8,14 +8,15 @@ ghost use Rattle.kinds.specs.Res.{res_number};
 ghost use Rattle.kinds.specs.Components.{widths};
 ghost use Rattle.model.specs.State.{last_tick};
 ghost use Rattle.model.specs.Shape.{IsWorld};
-ghost use Rattle.model.specs.Rows.{insert_component, row_at};
+ghost use Rattle.model.specs.Rows.{insert_component, remove_component, row_at};
 ghost use Rattle.model.specs.Input.{value_of, words_of};
 ghost use Rattle.model.specs.Ids as ids;
-ghost use Rattle.model.specs.Commands.{is_alive, spawned, with_row};
+ghost use Rattle.model.specs.Commands as commands;
+ghost use Rattle.model.specs.Commands.{is_alive, spawned, freed, with_row};
 ghost use Rattle.model.specs.Overlay.{slot_after};
 ghost use Rattle.archetype_store.specs.Row.{component_of, only};
-ghost use Rattle.archetype_store.specs.Slot.{slot_at, lives_at, cell_of};
-ghost use Rattle.archetype_store.specs.Ids.{IsGranted};
+ghost use Rattle.entity_table.specs.Ids.{slot_at, lives_at, IsGranted, AreApart, settled};
+ghost use Rattle.archetype_store.specs.Slot.{cell_of};
 ghost use Rattle.archetype_store.specs.Resources.{changed_of};
 ghost use Rattle.archetype_store.specs.Store.{empty_world, with_slots, with_slot, with_resource, at_clock, stamp_of};
 
@@ -103,6 +104,7 @@ impl World {
         ensures ok { IfOk result (λ granted. granted.items ≡ ids.granted_ids count self.old.state.slots) }
         ensures granted { OnOk result (self.new.state ≡ with_slots (ids.grant count) self.old.state) }
         ensures each { IfOk result (λ granted. All (IsGranted self.new.state.slots) granted.items) }
+        ensures apart { IfOk result (λ granted. AreApart granted.items) }
         ensures spent { IsErrOf result GrantFault.IdsSpent ↔ (ids.has_ids count self.old.state.slots ≡ false) }
         ensures err { OnErr result (self.new ≡ self.old) }
     {
@@ -115,6 +117,33 @@ impl World {
         ensures { self.new.state ≡ with_slot e.index (spawned e.generation) self.old.state }
     {
         self.slots.spawn_at(e);
+    }
+
+    /// Settles granted ids, none of them named twice: the used ones live without components, the unused ones are freed.
+    pub fn settle(&mut self, used: &[Entity], unused: &[Entity])
+        requires used { All (IsGranted self.old.state.slots) used.now }
+        requires unused { All (IsGranted self.old.state.slots) unused.now }
+        requires apart { AreApart (used.now ++ unused.now) }
+        ensures { self.new.state ≡ with_slots (settled used.now unused.now) self.old.state }
+    {
+        self.slots.settle(used, unused);
+    }
+
+    /// Frees each index named that is still granted: it is vacant with one more generation, or retired where that can't grow.
+    pub fn release(&mut self, ids: &[Entity])
+        ensures { self.new.state ≡ with_slots (commands.release ids.now) self.old.state }
+    {
+        self.slots.release(ids);
+    }
+
+    /// Frees the index of an entity, so that its id names nothing, and drops its components. It takes no memory.
+    pub fn despawn(&mut self, e: Entity) -> Result<(), StoreFault>
+        ensures ok { OnOk result (self.new.state ≡ with_slot e.index freed self.old.state) }
+        ensures dead { IsErrOf result StoreFault.NotAlive ↔ (is_alive self.old.state.slots e ≡ false) }
+        ensures other { IsOkUnless result StoreFault.NotAlive }
+        ensures err { OnErr result (self.new ≡ self.old) }
+    {
+        self.slots.despawn(e)
     }
 
     /// Whether an entity lives.
@@ -147,6 +176,16 @@ impl World {
         ensures err { OnErr result (self.new ≡ self.old) }
     {
         self.slots.insert(e, component.into_value(), tick)
+    }
+
+    /// Removes the component of a kind of an entity. Where it has none, nothing changes. It takes no memory.
+    pub fn remove(&mut self, e: Entity, kind: Kind) -> Result<(), StoreFault>
+        ensures ok { OnOk result (self.new.state ≡ with_slot e.index (with_row (remove_component (kind_number kind))) self.old.state) }
+        ensures dead { IsErrOf result StoreFault.NotAlive ↔ (is_alive self.old.state.slots e ≡ false) }
+        ensures other { IsOkUnless result StoreFault.NotAlive }
+        ensures err { OnErr result (self.new ≡ self.old) }
+    {
+        self.slots.remove(e, kind.number())
     }
 
     /// The component of this kind of an entity that lives.
@@ -206,9 +245,9 @@ impl World {
     }
 
     /// The slot of an index.
-    pub fn slot_at(&self, index: u32) -> &Slot
+    pub fn slot_at(&self, index: u32) -> Slot<'_>
         requires { index < length self.now.state.slots }
-        ensures { result.now ≡ slot_at self.now.state.slots index }
+        ensures { result ≡ slot_at self.now.state.slots index }
     {
         match self.slots.get(index) {
             Some(slot) => slot,
@@ -352,6 +391,41 @@ mod tests {
             Err(StoreFault::NotAlive)
         );
         assert!(rt; !world.has(stale, Kind::Position));
+        Ok(())
+    }
+
+    #[test]
+    fn frees_what_is_despawned(rt: HostRuntime) -> Result<(), Fail> {
+        let mut world = World::new(rt.alloc(), Clock::at(4))?;
+        let ids = world.grant(rt.alloc(), 3)?;
+        assert_eq!(rt; ids.len(), 3);
+        world.spawn_at(ids[0]);
+        world.insert(FIRST, Position { x: 3, y: 5 }, 4)?;
+        world.release(ids.as_slice());
+        assert_eq!(rt; world.slot(1).generation, 2);
+        assert_eq!(rt; world.remove(FIRST, Kind::Velocity), Ok(()));
+        assert!(rt; world.has(FIRST, Kind::Position));
+        assert_eq!(rt; world.remove(FIRST, Kind::Position), Ok(()));
+        assert!(rt; world.lives(FIRST), "without components it still lives");
+        assert!(rt; !world.has(FIRST, Kind::Position));
+        assert_eq!(rt; world.despawn(FIRST), Ok(()));
+        assert_eq!(rt; world.despawn(FIRST), Err(StoreFault::NotAlive));
+        assert_eq!(rt;
+            world.remove(FIRST, Kind::Position),
+            Err(StoreFault::NotAlive)
+        );
+        Ok(())
+    }
+
+    #[test]
+    fn settles_by_use(rt: HostRuntime) -> Result<(), Fail> {
+        let mut world = World::new(rt.alloc(), Clock::at(1))?;
+        let ids = world.grant(rt.alloc(), 2)?;
+        world.settle(&[], ids.as_slice());
+        assert_eq!(rt; world.next_living(0), None);
+        let again = world.grant(rt.alloc(), 1)?;
+        assert_eq!(rt; again.len(), 1);
+        assert_eq!(rt; format!(in rt.alloc(); "{}", again[0])?.as_str(), "0v2");
         Ok(())
     }
 }

@@ -1,10 +1,5 @@
 pub mod Streams
 pub mod Fault
-pub mod Misfit
 pub mod Args
-pub mod Name
 pub mod World
-pub mod Readings
-pub mod Load
-pub mod Setup
 pub mod Served

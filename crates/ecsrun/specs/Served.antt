@@ -11,7 +11,7 @@ use Rattle.model.specs.Schedule.{Schedule}
 use Rattle.model.specs.State.{State}
 use Rattle.script.specs.declared.script_body.ScriptBody.{ScriptBody}
 use Rattle.engine.specs.EngineValue.{meanings}
-use Rattle.ecsrun.specs.Setup.{IsScheduleOf, AreScriptsOf}
+use Rattle.program_file.specs.Setup.{IsScheduleOf, AreScriptsOf}
 use Rattle.ecsrun.specs.Streams.{AppendsFront}
 use Rattle.ecsrun.specs.World.{world_text}
 

@@ -1,15 +1,13 @@
 // Why the program ends with another status than 0, each told by one line.
 
-ghost use Rattle.std.specs.Prelude.{◌≡◌, IfOk};
-ghost use Rattle.ecsrun.specs.Fault.{status_of, fault_of_read, IsScriptFault};
+ghost use Rattle.std.specs.Prelude.{◌≡◌};
+ghost use Rattle.ecsrun.specs.Fault.{status_of, fault_of_read, fault_of_content};
 ghost use Rattle.ecsrun.specs.declared.fault.Fault.TheVariants.{Memory, Write};
 
-use crate::place::Place;
 use crate::streams::{ReadFault, WriteFault};
-use archetype_store::fault::GrantFault;
+use program_file::fault::ContentFault;
 use schedule_builder::fault::BuildFault;
-use script::fault::{Cause, ScriptFault};
-use std::alloc::{AllocError, AllocFailed, Global};
+use std::alloc::{AllocError, AllocFailed};
 use thiserror::Error;
 
 /// Why the work is not done. It is printed as the line that the standard error gets, without its end.
@@ -18,29 +16,9 @@ pub enum Fault {
     /// The program file is longer than its limit.
     #[error("refused P4")]
     TooLong,
-    /// The program file is no TOML document.
-    #[error("refused P1")]
-    Document,
-    /// A key is unknown or missing, or its value is none that the key can have.
-    #[error("refused P2 {0}")]
-    Value(Place),
-    /// A query or an instruction is outside its grammar.
-    #[error("refused P3 {0}")]
-    Text(Place),
-    /// The schedule is refused, for another cause than memory.
+    /// The content of the program file is refused, for another cause than memory.
     #[error("{0}")]
-    Build(BuildFault),
-    /// The script of a system is refused.
-    #[error("refused {cause} {system} {block} {instruction}")]
-    Script {
-        cause: Cause,
-        system: String,
-        block: usize,
-        instruction: usize,
-    },
-    /// No ids are left for the entities of the file.
-    #[error("refused E3")]
-    IdsSpent,
+    Content(ContentFault),
     /// The clock has no next tick.
     #[error("refused E2")]
     ClockSpent,
@@ -56,31 +34,12 @@ pub enum Fault {
 }
 
 impl Fault {
-    /// The fault of the script of the system of this name.
-    pub fn of_script(alloc: Global, name: &str, fault: ScriptFault) -> Result<Fault, AllocError>
-        ensures { IfOk result (IsScriptFault name.now fault) }
-    {
-        Ok(Fault::Script {
-            cause: fault.cause,
-            system: String::from_str(alloc, name)?,
-            block: fault.block,
-            instruction: fault.instruction,
-        })
-    }
-
     /// The exit status: 1 where the content is refused, 3 where input, output or memory fail.
     pub fn status(&self) -> u8
         ensures { result ≡ status_of self.now }
     {
         match self {
-            Fault::TooLong
-            | Fault::Document
-            | Fault::Value(_)
-            | Fault::Text(_)
-            | Fault::Build(_)
-            | Fault::Script { .. }
-            | Fault::IdsSpent
-            | Fault::ClockSpent => 1,
+            Fault::TooLong | Fault::Content(_) | Fault::ClockSpent => 1,
             Fault::File | Fault::Write | Fault::Memory => 3,
         }
     }
@@ -114,21 +73,20 @@ impl From<ReadFault> for Fault {
     }
 }
 
-impl From<BuildFault> for Fault {
-    fn from(error: BuildFault) -> Fault {
+impl From<ContentFault> for Fault {
+    ghost from_gives = { λ error fault. fault ≡ fault_of_content error };
+
+    fn from(error: ContentFault) -> Fault {
         match error {
-            BuildFault::Memory => Fault::Memory,
-            error => Fault::Build(error),
+            ContentFault::Memory => Fault::Memory,
+            error => Fault::Content(error),
         }
     }
 }
 
-impl From<GrantFault> for Fault {
-    fn from(error: GrantFault) -> Fault {
-        match error {
-            GrantFault::IdsSpent => Fault::IdsSpent,
-            GrantFault::Memory => Fault::Memory,
-        }
+impl From<BuildFault> for Fault {
+    fn from(error: BuildFault) -> Fault {
+        Fault::from(ContentFault::from(error))
     }
 }
 
@@ -143,17 +101,19 @@ impl From<WriteFault> for Fault {
 #[cfg(test)]
 mod tests {
     use super::*;
+    use program_file::place::Place;
     use std::test::Fail;
 
     #[test]
     fn faults_are_told_in_one_line(rt: HostRuntime) -> Result<(), Fail> {
         for (fault, line, status) in [
             (Fault::TooLong, "refused P4", 1),
-            (Fault::Document, "refused P1", 1),
-            (Fault::Value(Place::Top), "refused P2 top", 1),
-            (Fault::Value(Place::Resources), "refused P2 resources", 1),
-            (Fault::Value(Place::Entity(0)), "refused P2 entity 0", 1),
-            (Fault::Text(Place::System(12)), "refused P3 system 12", 1),
+            (
+                Fault::from(ContentFault::Text(Place::System(12))),
+                "refused P3 system 12",
+                1,
+            ),
+            (Fault::from(ContentFault::Memory), "error memory", 3),
             (Fault::ClockSpent, "refused E2", 1),
             (Fault::File, "error file", 3),
             (Fault::Write, "error write", 3),

@@ -1,4 +1,4 @@
-// The program: its command line, its streams, what a program file says, and the texts that it prints.
+// The program: its command line, its streams, and the texts that it prints.
 #![tactic(auto)]
 
 mod args;
@@ -6,19 +6,11 @@ mod args;
 mod fakes;
 mod fault;
 mod file;
-mod keys;
-mod load;
-mod misfit;
-mod name;
 mod opened;
-mod place;
-mod readings;
 mod serve;
-mod setup;
 mod streams;
 #[cfg(test)]
 mod tests;
-mod tree;
 mod world;
 
 use args::{Args, LineFault};

@@ -3,7 +3,7 @@
 ghost use Rattle.std.specs.Prelude.{◌≡◌, ◌++◌, ◌<◌, ◌≤◌, map, length, OnOk, IfOk, string_bytes, codes};
 ghost use Rattle.kinds.specs.Value.{value_number, value_words};
 ghost use Rattle.archetype_store.specs.Row.{component_of};
-ghost use Rattle.archetype_store.specs.Slot.{slot_at};
+ghost use Rattle.entity_table.specs.Ids.{slot_at};
 ghost use Rattle.ecsrun.specs.World.{words_text, component_text, row_text, entity_line, slot_line, slot_lines, resource_line, lines_of, count_line, printed};
 
 use archetype_store::row::Stored;

@@ -31,29 +31,24 @@ pub struct QueryRow {
 }
 
 /// The rows of a query for an observer with this last run, in rising index: each with what every term fetches.
-pub fn plan(
-    alloc: Global,
-    query: &Query,
-    world: &World,
-    last_run: u64,
-) -> Result<Vec<QueryRow>, AllocError>
+pub fn plan(alloc: Global, query: &Query, world: &World, last_run: u64) -> Result<Vec<QueryRow>, AllocError>
     ensures rows { IfOk result (λ rows. map shown_of rows.items ≡ input.rows_of query.now last_run world.now.state.slots) }
     ensures fetched { IfOk result (λ rows. AllByRecursion (λ row. AreFetched query.now row.values.items) rows.items) }
 {
     let mut rows = Vec::new(alloc);
     for index in 0..world.slot_count() {
         let slot = world.slot_at(index);
-        if !is_row(query.terms(), slot, last_run) {
+        if !is_row(query.terms(), &slot, last_run) {
             continue;
         }
-        rows.push(row_of(alloc, query.terms(), index, slot)?)?;
+        rows.push(row_of(alloc, query.terms(), index, &slot)?)?;
     }
     Ok(rows)
 }
 
 // Whether a slot is a row of a query with these terms, for an observer with this last run.
 #[tactic(auto, using(crate::proofs::Rows::over_terms))]
-fn is_row(terms: &[Term], slot: &Slot, last_run: u64) -> bool
+fn is_row(terms: &[Term], slot: &Slot<'_>, last_run: u64) -> bool
     ensures { result ≡ input.is_row (map term_of terms.now) last_run slot.now }
 {
     slot.is_living() && matches_row(terms, slot.row()) && passes_all(terms, slot.row(), last_run)
@@ -87,11 +82,7 @@ fn admits(term: Term, row: &Row) -> bool
     match term {
         Term::Entity | Term::Opt(_) => true,
         Term::Without(kind) => !has(row, kind),
-        Term::Read(kind)
-        | Term::Mut(kind)
-        | Term::With(kind)
-        | Term::Added(kind)
-        | Term::Changed(kind) => has(row, kind),
+        Term::Read(kind) | Term::Mut(kind) | Term::With(kind) | Term::Added(kind) | Term::Changed(kind) => has(row, kind),
     }
 }
 
@@ -113,7 +104,7 @@ fn passes(term: Term, row: &Row, last_run: u64) -> bool
 }
 
 // The row of a slot that the terms match.
-fn row_of(alloc: Global, terms: &[Term], index: u32, slot: &Slot) -> Result<QueryRow, AllocError>
+fn row_of(alloc: Global, terms: &[Term], index: u32, slot: &Slot<'_>) -> Result<QueryRow, AllocError>
     ensures shown { IfOk result (λ row. shown_of row ≡ input.shown_row (map term_of terms.now) index slot.now) }
     ensures fetched { IfOk result (λ row. query.matches (map term_of terms.now) (kinds_of slot.now.row) ≡ true → AreFetched (map term_of terms.now) row.values.items) }
 {

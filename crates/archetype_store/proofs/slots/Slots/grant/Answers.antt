@@ -1,50 +1,42 @@
-use Rattle.std.proofs.Common.{◌≡◌, ◌-◌, ◌++◌, length, count_by, replicate, refl, ap, sym, ◌∙◌, arith, rules}
-use Rattle.std.proofs.lemmas.List.{with_items_is}
-use Rattle.model.specs.State.{fresh_slot, is_vacant}
-use Rattle.archetype_store.specs.Ids.{first_ids, first_granted}
-use Rattle.archetype_store.proofs.Grants.{roomy, has_ids-false, has_ids-true, granted_ids-is, grant-is, granted-each}
+use Rattle.std.proofs.Common.{◌≡◌, ap, sym, ◌∙◌, get_or, rules}
+use Rattle.model.specs.Ids.{has_ids, granted_ids, grant}
+use Rattle.entity_table.specs.Rows.{with_rows}
+use Rattle.entity_table.proofs.WithRows.{has_ids-with_rows, granted_ids-with_rows, grant-with_rows, IsGranted-with_rows}
+use Rattle.archetype_store.specs.Slots.{row_of}
+use Rattle.archetype_store.proofs.SlotRows.{past_bare, rows-grant}
 use Rattle.archetype_store.proofs.slots.Slots.grant.Goals as goal
+use Rattle.archetype_store.proofs.slots.Slots.grant.Goals.{After-grant}
 
-pub returns-then-had-missing-gt-MOST_INDICES-clause-spent : goal.returns-then-had-missing-gt-MOST_INDICES-clause-spent
-returns-then-had-missing-gt-MOST_INDICES-clause-spent c =
-    let had : c.len-had.result ≡ length c.args.self.now = (let v = c.self.inside.by_index.ok.0 in omega (arith, ap length c.self.view_is, c.len-had.ensures)) in
-    let missing : c.saturating_sub-missing.result ≡ c.args.count - count_by (λ s. is_vacant s.status) c.args.self.now = c.saturating_sub-missing.ensures ∙ ap (λ k. c.args.count - k) (c.vacant_count.ensures ∙ ap (count_by (λ s. is_vacant s.status)) (c.as_slice.ensures.value ∙ c.self.view_is)) in
-    let none = has_ids-false c.args.count c.len-had.result c.saturating_sub-missing.result c.args.self.now had missing c.if-had-missing-gt-MOST_INDICES.true in
-    (λ _. none, λ _. refl)
+-- whether there are ids
+same_ids : (c : After-grant) → has_ids c.args.count c.self.inside.book ≡ has_ids c.args.count c.args.self.now
+same_ids c = sym (has_ids-with_rows c.args.count (row_of c.self.inside.rows.items) c.self.inside.book) ∙ ap (has_ids c.args.count) c.self.view_is
 
-pub returns-in_err-grow-clause-spent : goal.returns-in_err-grow-clause-spent
-returns-in_err-grow-clause-spent c =
-    let had : c.len-had.result ≡ length c.args.self.now = (let v = c.self.inside.by_index.ok.0 in omega (arith, ap length c.self.view_is, c.len-had.ensures)) in
-    let missing : c.saturating_sub-missing.result ≡ c.args.count - count_by (λ s. is_vacant s.status) c.args.self.now = c.saturating_sub-missing.ensures ∙ ap (λ k. c.args.count - k) (c.vacant_count.ensures ∙ ap (count_by (λ s. is_vacant s.status)) (c.as_slice.ensures.value ∙ c.self.view_is)) in
-    let some = has_ids-true c.args.count c.len-had.result c.saturating_sub-missing.result c.args.self.now had missing c.if-had-missing-gt-MOST_INDICES.false in
+pub returns-in_err-granted-clause-spent : goal.returns-in_err-granted-clause-spent
+returns-in_err-granted-clause-spent c =
+    let same = same_ids (goal.at.returns-in_err-granted-clause-spent c).After-grant in
+    let spent = rw same at c.in_err-granted.ensures.spent in
     search rules
 
-pub returns-in-Ok-clause-ok : goal.returns-in-Ok-clause-ok
-returns-in-Ok-clause-ok c =
-    let missing : c.saturating_sub-missing.result ≡ c.args.count - count_by (λ s. is_vacant s.status) c.args.self.now = c.saturating_sub-missing.ensures ∙ ap (λ k. c.args.count - k) (c.vacant_count.ensures ∙ ap (count_by (λ s. is_vacant s.status)) (c.as_slice.ensures.value ∙ c.self.view_is)) in
-    let room : c.grow.new.slots.items ≡ roomy c.args.count c.args.self.now = c.in_ok-grow.ensures.ok ∙ ap (λ k. c.self.inside.by_index.items ++ replicate k fresh_slot) missing ∙ ap (λ xs. xs ++ replicate (c.args.count - count_by (λ s. is_vacant s.status) c.args.self.now) fresh_slot) c.self.view_is in
-    c.in-Ok.ensures ∙ ap (first_ids 0 c.args.count) (c.as_slice-2.ensures.value ∙ room) ∙ sym (granted_ids-is c.args.count c.args.self.now)
+pub invariant_of-self-2 : goal.invariant_of-self-2
+invariant_of-self-2 c = (rw c.in_ok-granted.ensures.granted (rows-grant c.args.count c.self.inside.book c.self.inside.rows.items c.self.invariant.0), c.self.invariant.1)
 
-pub returns-in-Ok-clause-granted : goal.returns-in-Ok-clause-granted
-returns-in-Ok-clause-granted c =
-    let missing : c.saturating_sub-missing.result ≡ c.args.count - count_by (λ s. is_vacant s.status) c.args.self.now = c.saturating_sub-missing.ensures ∙ ap (λ k. c.args.count - k) (c.vacant_count.ensures ∙ ap (count_by (λ s. is_vacant s.status)) (c.as_slice.ensures.value ∙ c.self.view_is)) in
-    let room : c.grow.new.slots.items ≡ roomy c.args.count c.args.self.now = c.in_ok-grow.ensures.ok ∙ ap (λ k. c.self.inside.by_index.items ++ replicate k fresh_slot) missing ∙ ap (λ xs. xs ++ replicate (c.args.count - count_by (λ s. is_vacant s.status) c.args.self.now) fresh_slot) c.self.view_is in
-    let same : length c.grant_first.new.slots ≡ c.grow.new.slots.len = (let a = c.grant_first.auto.slots in let v = c.grow.new.slots.ok.0 in omega (arith, c.deref_mut.ensures.len)) in
-    with_items_is c.grow.new.slots c.grant_first.new.slots same ∙ c.grant_first.ensures ∙ ap (first_granted c.args.count) (c.deref_mut.ensures.value ∙ room) ∙ sym (grant-is c.args.count c.args.self.now)
+pub returns-clause-ok : goal.returns-clause-ok
+returns-clause-ok c =
+    c.in_ok-granted.ensures.ok ∙ sym (granted_ids-with_rows c.args.count (row_of c.self.inside.rows.items) c.self.inside.book) ∙ ap (granted_ids c.args.count) c.self.view_is
 
-pub returns-in-Ok-clause-spent : goal.returns-in-Ok-clause-spent
-returns-in-Ok-clause-spent c =
-    let had : c.len-had.result ≡ length c.args.self.now = (let v = c.self.inside.by_index.ok.0 in omega (arith, ap length c.self.view_is, c.len-had.ensures)) in
-    let missing : c.saturating_sub-missing.result ≡ c.args.count - count_by (λ s. is_vacant s.status) c.args.self.now = c.saturating_sub-missing.ensures ∙ ap (λ k. c.args.count - k) (c.vacant_count.ensures ∙ ap (count_by (λ s. is_vacant s.status)) (c.as_slice.ensures.value ∙ c.self.view_is)) in
-    let some = has_ids-true c.args.count c.len-had.result c.saturating_sub-missing.result c.args.self.now had missing c.if-had-missing-gt-MOST_INDICES.false in
-    (λ h. cc, λ h. cc)
+pub returns-clause-granted : goal.returns-clause-granted
+returns-clause-granted c =
+    let rows = row_of c.self.inside.rows.items in
+    ap (with_rows rows) c.in_ok-granted.ensures.granted
+    ∙ sym (grant-with_rows c.args.count rows c.self.inside.book (past_bare c.self.inside.book c.self.inside.rows.items c.self.invariant.0))
+    ∙ ap (grant c.args.count) c.self.view_is
 
-pub returns-in-Err-clause-spent : goal.returns-in-Err-clause-spent
-returns-in-Err-clause-spent c =
-    let had : c.len-had.result ≡ length c.args.self.now = (let v = c.self.inside.by_index.ok.0 in omega (arith, ap length c.self.view_is, c.len-had.ensures)) in
-    let missing : c.saturating_sub-missing.result ≡ c.args.count - count_by (λ s. is_vacant s.status) c.args.self.now = c.saturating_sub-missing.ensures ∙ ap (λ k. c.args.count - k) (c.vacant_count.ensures ∙ ap (count_by (λ s. is_vacant s.status)) (c.as_slice.ensures.value ∙ c.self.view_is)) in
-    let some = has_ids-true c.args.count c.len-had.result c.saturating_sub-missing.result c.args.self.now had missing c.if-had-missing-gt-MOST_INDICES.false in
+pub returns-clause-each : goal.returns-clause-each
+returns-clause-each c = λ k d l.
+    IsGranted-with_rows (row_of c.self.inside.rows.items) c.grant.new.self (get_or c.in_ok-granted.granted.items k d) (c.in_ok-granted.ensures.each k d l)
+
+pub returns-clause-spent : goal.returns-clause-spent
+returns-clause-spent c =
+    let same = same_ids (goal.at.returns-clause-spent c).After-grant in
+    let spent = rw same at c.in_ok-granted.ensures.spent in
     search rules
-
-pub returns-in-Ok-clause-each : goal.returns-in-Ok-clause-each
-returns-in-Ok-clause-each c = rw (returns-in-Ok-clause-granted c, returns-in-Ok-clause-ok c) (granted-each c.args.count c.args.self.now)

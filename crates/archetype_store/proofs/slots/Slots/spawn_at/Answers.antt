@@ -1,14 +1,21 @@
-use Rattle.std.proofs.Common.{◌≡◌, ◌<◌, length, get_or, ap, sym, ◌∙◌}
-use Rattle.std.proofs.lemmas.List.{get_or_default}
-use Rattle.model.specs.State.{fresh_slot}
-use Rattle.archetype_store.proofs.Edits.{set-written, spawned-granted, granted-within}
+use Rattle.std.proofs.Common.{ap, sym, ◌∙◌}
+use Rattle.model.specs.Lists.{update_at}
+use Rattle.model.specs.Commands.{spawned}
+use Rattle.entity_table.specs.Rows.{with_rows}
+use Rattle.entity_table.proofs.WithRows.{IsGranted-without_rows, spawned-with_rows}
+use Rattle.archetype_store.specs.Slots.{row_of}
+use Rattle.archetype_store.proofs.SlotRows.{granted_bare, rows-spawned}
 use Rattle.archetype_store.proofs.slots.Slots.spawn_at.Goals as goal
+
+pub spawn_at-requires : goal.spawn_at-requires
+spawn_at-requires c = IsGranted-without_rows (row_of c.self.inside.rows.items) c.self.inside.book c.args.e (rw c.self.view_is c.requires)
+
+pub invariant_of-self : goal.invariant_of-self
+invariant_of-self c = (rw c.spawn_at.ensures (rows-spawned c.args.e.index c.args.e.generation c.self.inside.book c.self.inside.rows.items c.self.invariant.0), c.self.invariant.1)
 
 pub returns : goal.returns
 returns c =
-    let xs = c.self.inside.by_index.items in
-    let slot = c.index_mut-slot.result.now in
-    let within : c.args.e.index < length xs = rw c.self.view_is (granted-within c.args.self.now c.args.e.index c.requires.status) in
-    let same : slot ≡ get_or c.args.self.now c.args.e.index fresh_slot = c.index_mut-slot.ensures.value ∙ get_or_default xs c.args.e.index slot fresh_slot within ∙ ap (λ ys. get_or ys c.args.e.index fresh_slot) c.self.view_is in
-    let new = spawned-granted c.args.e.generation slot (ap (λ s. s.status) same ∙ c.requires.status) (ap (λ s. s.generation) same ∙ c.requires.generation) in
-    rw (← c.self.view_is) (set-written _ xs c.args.e.index slot _ within c.index_mut-slot.ensures.value (c.spawn.ensures ∙ sym new))
+    let rows = row_of c.self.inside.rows.items in
+    ap (with_rows rows) c.spawn_at.ensures
+    ∙ sym (spawned-with_rows c.args.e.index c.args.e.generation rows c.self.inside.book (granted_bare c.self.inside.book c.self.inside.rows.items c.self.invariant.0 c.args.e.index))
+    ∙ ap (update_at c.args.e.index (spawned c.args.e.generation)) c.self.view_is

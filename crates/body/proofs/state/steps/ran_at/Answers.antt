@@ -1,5 +1,5 @@
 use Rattle.body.specs.Steps.{memory_ran}
-use Rattle.archetype_store.proofs.Edits.{set-update_at}
+use Rattle.entity_table.proofs.Edits.{set-update_at}
 use Rattle.body.proofs.state.steps.ran_at.Goals as goal
 
 pub returns : goal.returns

@@ -1,0 +1,6 @@
+use Rattle.kinds.specs.Components.{widths}
+use Rattle.archetype_store.proofs.Worlds.{world-release}
+use Rattle.archetype_store.proofs.store.World.release.Goals as goal
+
+pub invariant_of-self : goal.invariant_of-self
+invariant_of-self c = rw c.release.ensures (world-release widths _ c.args.ids.now c.self.invariant)

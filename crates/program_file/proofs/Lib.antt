@@ -1,0 +1,3 @@
+pub mod Spelled
+pub mod Loading
+pub mod Fitting

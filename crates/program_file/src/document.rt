@@ -1,0 +1,22 @@
+// A program file as a document.
+
+ghost use Rattle.std.specs.Prelude.{◌≡◌, Some, None, IfOk, IsErrOf};
+ghost use Rattle.std.specs.Str.{IsUtf8};
+ghost use Rattle.toml.specs.Parse.{parse_document};
+ghost use Rattle.toml.specs.View.{table_view};
+
+use crate::fault::ContentFault;
+use std::alloc::Global;
+use toml::Table;
+
+/// The document that the bytes of a program file are. Bytes that are none are `Document`.
+pub fn document_of(alloc: Global, bytes: &[u8]) -> Result<Table, ContentFault>
+    ensures ok { IfOk result (λ table. IsUtf8 bytes.now × (parse_document bytes.now ≡ Some (table_view table))) }
+    ensures refused { IsErrOf result ContentFault.Document → IsUtf8 bytes.now → parse_document bytes.now ≡ None }
+{
+    match toml::table_from_slice(alloc, bytes) {
+        Ok(table) => Ok(table),
+        Err(error) if error.is_memory() => Err(ContentFault::Memory),
+        Err(_) => Err(ContentFault::Document),
+    }
+}

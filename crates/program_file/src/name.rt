@@ -1,0 +1,54 @@
+// The names of items.
+
+ghost use Rattle.std.specs.Prelude.{IsTrue, ◌↔◌};
+ghost use Rattle.program_file.specs.Name.{IsName, IsLetter, IsNameByte};
+
+const MOST_CHARACTERS: usize = 32;
+
+/// Whether a text is a name: 1 to 32 characters of `a` to `z`, `0` to `9` and `_`, the first a letter.
+pub fn is_name(text: &str) -> bool
+    ensures { IsTrue result ↔ IsName text.now }
+{
+    let bytes = text.as_bytes();
+    match bytes.first() {
+        None => false,
+        Some(first) => is_letter(*first)
+            && bytes.len() <= MOST_CHARACTERS
+            && bytes.iter().all(|b| is_name_byte(*b)),
+    }
+}
+
+fn is_letter(byte: u8) -> bool
+    ensures { IsTrue result ↔ IsLetter byte }
+{
+    byte.is_ascii_lowercase()
+}
+
+fn is_name_byte(byte: u8) -> bool
+    ensures { IsTrue result ↔ IsNameByte byte }
+{
+    byte.is_ascii_lowercase() || byte.is_ascii_digit() || byte == b'_'
+}
+
+#[cfg(test)]
+mod tests {
+    use super::*;
+
+    #[test]
+    fn names(rt: HostRuntime) {
+        for (text, want) in [
+            ("a", true),
+            ("move_2", true),
+            ("abcdefghijklmnopqrstuvwxyz_01234", true),
+            ("abcdefghijklmnopqrstuvwxyz_012345", false),
+            ("", false),
+            ("A", false),
+            ("_a", false),
+            ("2a", false),
+            ("a-b", false),
+            ("a ", false),
+        ] {
+            assert_eq!(rt; is_name(text), want, "at {text}");
+        }
+    }
+}

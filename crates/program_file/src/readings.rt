@@ -1,0 +1,37 @@
+// The texts of a place of a program file, read.
+
+ghost use Rattle.std.specs.Prelude.{◌≡◌, length, vec_len, map, Any, IfOk, IsErrOf};
+ghost use Rattle.texts.specs.Reads.{SpellsNone};
+ghost use Rattle.query_plan.specs.Grammar.{IsQuery};
+ghost use Rattle.script.specs.Instruction.{IsInstruction};
+ghost use Rattle.program_file.specs.Readings.{AreSpelled};
+
+use crate::misfit::Misfit;
+use query_plan::query::Query;
+use script::instruction::Instruction;
+use std::alloc::Global;
+
+/// The queries that texts spell, in order. `Text` tells of one that spells none.
+pub fn queries_of(alloc: Global, texts: &[&str]) -> Result<Vec<Query>, Misfit>
+    ensures ok { IfOk result (λ queries. AreSpelled IsQuery queries.items (map (λ text. text.now) texts.now)) }
+    ensures count { IfOk result (λ queries. vec_len queries ≡ length texts.now) }
+    ensures outside { IsErrOf result Misfit.Text → Any (λ text. SpellsNone IsQuery text.now) texts.now }
+{
+    let mut queries = Vec::new(alloc);
+    for text in texts {
+        queries.push(Query::read(alloc, text)?)?;
+    }
+    Ok(queries)
+}
+
+/// The instructions that texts spell, in order. `Text` tells of one that spells none.
+pub fn instructions_of(alloc: Global, texts: &[&str]) -> Result<Vec<Instruction>, Misfit>
+    ensures ok { IfOk result (λ code. AreSpelled IsInstruction code.items (map (λ text. text.now) texts.now)) }
+    ensures outside { IsErrOf result Misfit.Text → Any (λ text. SpellsNone IsInstruction text.now) texts.now }
+{
+    let mut code = Vec::new(alloc);
+    for text in texts {
+        code.push(Instruction::read(alloc, text)?)?;
+    }
+    Ok(code)
+}
