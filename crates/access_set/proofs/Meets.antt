@@ -10,12 +10,11 @@ use Rattle.model.specs.Conflict.Datum.{OfKind, OfResource, OfEvent}
 use Rattle.model.proofs.Lists.{list_any-IsIn, IsIn_from_any, has-IsIn, IsIn_from_has}
 use Rattle.model.proofs.Members.{number-of}
 use Rattle.model.proofs.Tests.{test-queries, conflict-queries}
+use Rattle.query_plan.proofs.Terms.{list_any-map}
 use Rattle.access_set.specs.Meets.{MeetAtKind, MeetAtResource, MeetAtEvent, meets_at, queries_meet}
 
 -- a test of numbers is a test of what has them
-pub any_of_numbers : {A : Type 0} (test : ℕ → Bool) (number : A → ℕ) (xs : List A) → list_any test (map number xs) ≡ list_any (λ x. test (number x)) xs
-any_of_numbers test number [] = refl
-any_of_numbers test number (x ∷ xs) = ap (λ b. test (number x) || b) (any_of_numbers test number xs)
+pub ruleset any_of_numbers = (list_any-map)
 
 -- ---- kinds
 

@@ -241,4 +241,33 @@ mod tests {
         assert!(rt; !conflicts(&reading, &reading));
         Ok(())
     }
+
+    #[test]
+    fn terms_of_every_sort_meet(rt: HostRuntime) -> Result<(), Fail> {
+        let frozen = access(
+            rt.alloc(),
+            &[Term::Mut(Kind::Health), Term::With(Kind::Frozen)],
+        )?;
+        let hidden = access(
+            rt.alloc(),
+            &[
+                Term::Read(Kind::Health),
+                Term::With(Kind::Hidden),
+                Term::Without(Kind::Frozen),
+            ],
+        )?;
+        let writing = access(
+            rt.alloc(),
+            &[Term::Mut(Kind::Health), Term::Mut(Kind::Score)],
+        )?;
+        let optional = access(
+            rt.alloc(),
+            &[Term::Read(Kind::Score), Term::Opt(Kind::Health)],
+        )?;
+        assert!(rt; !conflicts(&frozen, &hidden));
+        assert!(rt; !conflicts(&hidden, &frozen));
+        assert!(rt; conflicts(&writing, &optional));
+        assert!(rt; conflicts(&optional, &writing));
+        Ok(())
+    }
 }

@@ -1,13 +1,10 @@
 -- The rows of an id book.
-use Rattle.std.specs.Prelude.{ℕ, ◌≡◌, ◌≤◌, false, List, [], length, get_or}
-use Rattle.model.specs.State.{Component, Slot}
-use Rattle.entity_table.specs.Ids.{lives_at}
+use Rattle.std.specs.Prelude.{◌≡◌, ℕ, true, List, [], Some, None}
+use Rattle.model.specs.State.{Slot}
+use Rattle.model.specs.Commands.{is_alive}
+use Rattle.archetype_store.specs.Archetypes.{ArchetypesValue, row_of, holder_of}
 
--- the row of an index: none past the end
-abbrev pub row_of : List (List Component) → ℕ → List Component
-row_of rows index = get_or rows index []
-
--- rows of the indices of a book: there are no more of them, and an index whose entity doesn't live has none
-pub record HasRows (book : List Slot) (rows : List (List Component)) : Type 0 where
-  pub few : length rows ≤ length book
-  pub bare : (index : ℕ) → lives_at book index ≡ false → row_of rows index ≡ []
+-- rows of the indices of a book: who has one lives, and an index of which nobody has one has none
+pub record HasRows (book : List Slot) (archetypes : ArchetypesValue) : Type 0 where
+  pub live : (index generation : ℕ) → holder_of archetypes.holders index ≡ Some generation → is_alive book (record { index = index; generation = generation }) ≡ true
+  pub bare : (index : ℕ) → holder_of archetypes.holders index ≡ None → row_of archetypes.rows index ≡ []

@@ -1,39 +1,95 @@
 // One index: its generation, its status, and the row of its entity.
 
-ghost use Rattle.std.specs.Prelude.{◌≡◌};
+ghost use Rattle.std.specs.Prelude.{◌≡◌, option_map, IfSome};
 ghost use Rattle.model.specs.State.{is_living, is_vacant};
+ghost use Rattle.model.specs.Rows.{cell_at, kinds_of};
+ghost use Rattle.column_store.specs.Cells.{stamped_number};
 ghost use Rattle.entity_table.specs.Status.{status_of};
+ghost use Rattle.archetype_store.specs.Row.{component_of};
+ghost use Rattle.archetype_store.specs.Archetypes.{row_of};
 
-use crate::row::Row;
+use crate::archetypes::Archetypes;
+use column_store::stamped::StampedValue;
 use entity_table::status::Status;
 use std::marker::Model;
+
+/// The components of one entity, which contracts see as a list in rising kinds.
+#[derive(Drop, Debug)]
+pub struct RowView<'a> {
+    archetypes: &'a Archetypes,
+    index: u32,
+}
+
+impl<'a> Model for RowView<'a> {
+    ghost use Rattle.std.specs.Prelude.{List};
+    ghost use Rattle.model.specs.State.{Component};
+    ghost use Rattle.archetype_store.specs.Archetypes.{row_of};
+
+    ghost Value = { List Component };
+
+    ghost view = { λ r. row_of r.archetypes.now.rows r.index };
+}
+
+impl<'a> RowView<'a> {
+    // The row of an index.
+    pub(crate) fn of(archetypes: &'a Archetypes, index: u32) -> Self
+        ensures { result ≡ row_of archetypes.now.rows index }
+    {
+        RowView { archetypes, index }
+    }
+
+    /// The component of the kind with this number.
+    pub fn find(&self, number: u32) -> Option<StampedValue>
+        ensures cell { option_map (λ s. (component_of s).cell) result ≡ cell_at self.now number }
+        ensures number { IfSome result (λ s. stamped_number s ≡ number) }
+    {
+        let archetypes = self.archetypes;
+        archetypes.find(self.index, number)
+    }
+
+    /// Whether the row has a component of the kind with this number.
+    pub fn has(&self, number: u32) -> bool
+        ensures { result ≡ kinds_of self.now number }
+    {
+        let archetypes = self.archetypes;
+        archetypes.has(self.index, number)
+    }
+}
 
 /// What the store has of one index. Contracts see the generation, the status and the row.
 #[derive(Drop, Debug)]
 pub struct Slot<'a> {
     generation: u32,
     status: Status,
-    row: &'a Row,
+    archetypes: &'a Archetypes,
+    index: u32,
 }
 
 impl<'a> Model for Slot<'a> {
     ghost use Rattle.model.specs.State.{Slot as ModelSlot};
     ghost use Rattle.entity_table.specs.Status.{status_of};
+    ghost use Rattle.archetype_store.specs.Archetypes.{row_of};
 
     ghost Value = { ModelSlot };
 
-    ghost view = { λ s. record { generation = s.generation; status = status_of s.status; row = s.row.now } };
+    ghost view = { λ s. record { generation = s.generation; status = status_of s.status; row = row_of s.archetypes.now.rows s.index } };
 }
 
 impl<'a> Slot<'a> {
-    /// The slot of these parts.
-    pub(crate) fn of(generation: u32, status: Status, row: &'a Row) -> Self
-        ensures { result ≡ record { generation = generation; status = status_of status; row = row.now } }
+    // The slot of an index, of these parts.
+    pub(crate) fn of(
+        generation: u32,
+        status: Status,
+        archetypes: &'a Archetypes,
+        index: u32,
+    ) -> Self
+        ensures { result ≡ record { generation = generation; status = status_of status; row = row_of archetypes.now.rows index } }
     {
         Slot {
             generation,
             status,
-            row,
+            archetypes,
+            index,
         }
     }
 
@@ -59,9 +115,9 @@ impl<'a> Slot<'a> {
     }
 
     /// The components of the entity.
-    pub fn row(&self) -> &'a Row
-        ensures { result.now ≡ self.now.row }
+    pub fn row(&self) -> RowView<'a>
+        ensures { result ≡ self.now.row }
     {
-        self.row
+        RowView::of(self.archetypes, self.index)
     }
 }

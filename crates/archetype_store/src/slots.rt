@@ -1,6 +1,6 @@
 // The slots by index: the id book, and the rows of the entities that live.
 
-ghost use Rattle.std.specs.Prelude.{◌≡◌, ◌++◌, ◌≤◌, ◌<◌, ◌↔◌, ℕ, suc, true, false, [], length, max, option_map, All, IsTrue, IfSome, IfNone, MatchOption, IfOk, OnOk, OnErr, IsErrOf, IsOkUnless};
+ghost use Rattle.std.specs.Prelude.{◌≡◌, ◌++◌, ◌≤◌, ◌<◌, ◌↔◌, ℕ, true, false, [], length, map, option_map, All, IsTrue, IfSome, IfNone, MatchOption, IfOk, OnOk, OnErr, IsErrOf, IsOkUnless};
 ghost use Rattle.kinds.specs.Value.{value_number, value_words};
 ghost use Rattle.model.specs.Lists.{update_at};
 ghost use Rattle.model.specs.Rows.{row_at, insert_component, remove_component};
@@ -8,15 +8,17 @@ ghost use Rattle.model.specs.Ids as ids;
 ghost use Rattle.model.specs.Commands as commands;
 ghost use Rattle.model.specs.Commands.{is_alive, spawned, freed, with_row};
 ghost use Rattle.model.specs.Overlay.{slot_after};
+ghost use Rattle.column_store.specs.Cells.{stamped_number};
 ghost use Rattle.entity_table.specs.Ids.{slot_at, lives_at, IsGranted, AreApart, settled};
 ghost use Rattle.archetype_store.specs.Row.{component_of, only};
 ghost use Rattle.archetype_store.specs.Slot.{cell_of};
-ghost use Rattle.archetype_store.specs.Slots.{row_of};
+ghost use Rattle.archetype_store.specs.Archetypes.{row_of};
 
+use crate::archetypes::Archetypes;
 use crate::fault::StoreFault;
-use crate::row::{Row, Stored};
 use crate::slot::Slot;
 use change_ticks::clock::Tick;
+use column_store::stamped::StampedValue;
 use entity_table::Entity;
 use entity_table::fault::GrantFault;
 use entity_table::table::EntityTable;
@@ -24,26 +26,25 @@ use kinds::value::Value;
 use std::alloc::{AllocError, Global};
 use std::marker::Model;
 
-/// The slots, which contracts see as a list by index. An index past the end is vacant at generation 1. An index has a row from its
-/// first component on.
+/// The slots, which contracts see as a list by index. An index past the end is vacant at generation 1.
 #[derive(Drop, Debug)]
 pub struct Slots {
     book: EntityTable,
-    rows: Vec<Row>,
-    no_row: Row,
+    archetypes: Archetypes,
 }
 
 impl Model for Slots {
-    ghost use Rattle.std.specs.Prelude.{List, [], ◌≡◌};
+    ghost use Rattle.std.specs.Prelude.{List};
     ghost use Rattle.model.specs.State.{Slot as ModelSlot};
     ghost use Rattle.entity_table.specs.Rows.{with_rows};
-    ghost use Rattle.archetype_store.specs.Slots.{row_of, HasRows};
+    ghost use Rattle.archetype_store.specs.Archetypes.{row_of};
+    ghost use Rattle.archetype_store.specs.Slots.{HasRows};
 
     ghost Value = { List ModelSlot };
 
-    ghost view = { λ s. with_rows (row_of s.rows.items) s.book };
+    ghost view = { λ s. with_rows (row_of s.archetypes.rows) s.book };
 
-    ghost invariant = { λ s. HasRows s.book s.rows.items × (s.no_row ≡ []) };
+    ghost invariant = { λ s. HasRows s.book s.archetypes };
 }
 
 impl Slots {
@@ -53,8 +54,7 @@ impl Slots {
     {
         Slots {
             book: EntityTable::new(alloc),
-            rows: Vec::new(alloc),
-            no_row: Row::new(alloc),
+            archetypes: Archetypes::new(alloc),
         }
     }
 
@@ -75,7 +75,8 @@ impl Slots {
         Some(Slot::of(
             self.book.generation(index),
             self.book.status(index),
-            self.row(index),
+            &self.archetypes,
+            index,
         ))
     }
 
@@ -97,14 +98,14 @@ impl Slots {
     }
 
     /// The component of the kind with this number, where the entity lives and has one.
-    pub fn find(&self, e: Entity, number: u32) -> Option<Stored>
+    pub fn find(&self, e: Entity, number: u32) -> Option<StampedValue>
         ensures cell { option_map (λ s. (component_of s).cell) result ≡ cell_of self.now e number }
-        ensures number { IfSome result (λ s. value_number s.value ≡ number) }
+        ensures number { IfSome result (λ s. stamped_number s ≡ number) }
     {
         if !self.lives(e) {
             return None;
         }
-        self.row(e.index).find(number)
+        self.archetypes.find(e.index, number)
     }
 
     /// Grants so many ids: the least vacant indices, at their generations. After an error the slots are as they were.
@@ -155,11 +156,8 @@ impl Slots {
         if !self.lives(e) {
             return Err(StoreFault::NotAlive);
         }
+        self.archetypes.clear(e);
         self.book.despawn(e);
-        if (e.index as usize) < self.rows.len() {
-            let row = &mut self.rows[e.index as usize];
-            row.clear();
-        }
         Ok(())
     }
 
@@ -172,9 +170,7 @@ impl Slots {
         if !self.lives(e) {
             return Err(StoreFault::NotAlive);
         }
-        reach(&mut self.rows, e.index)?;
-        let row = &mut self.rows[e.index as usize];
-        row.insert(value, tick)?;
+        self.archetypes.insert(e, value, tick)?;
         Ok(())
     }
 
@@ -182,16 +178,12 @@ impl Slots {
     pub fn remove(&mut self, e: Entity, number: u32) -> Result<(), StoreFault>
         ensures ok { OnOk result (self.new ≡ update_at e.index (with_row (remove_component number)) self.old) }
         ensures dead { IsErrOf result StoreFault.NotAlive ↔ (is_alive self.old e ≡ false) }
-        ensures other { IsOkUnless result StoreFault.NotAlive }
         ensures err { OnErr result (self.new ≡ self.old) }
     {
         if !self.lives(e) {
             return Err(StoreFault::NotAlive);
         }
-        if (e.index as usize) < self.rows.len() {
-            let row = &mut self.rows[e.index as usize];
-            row.remove(number);
-        }
+        self.archetypes.remove(e, number)?;
         Ok(())
     }
 
@@ -199,34 +191,17 @@ impl Slots {
     pub fn write(&mut self, index: u32, value: Value, tick: Tick)
         ensures { self.new ≡ update_at index (slot_after tick (only (value_number value) (value_words value))) self.old }
     {
-        if (index as usize) < self.rows.len() {
-            let row = &mut self.rows[index as usize];
-            row.write(value, tick);
-        }
+        let e = Entity {
+            index,
+            generation: self.book.generation(index),
+        };
+        self.archetypes.write(e, value, tick);
     }
 
-    // The row of an index.
-    fn row(&self, index: u32) -> &Row
-        requires { index < length self.now }
-        ensures { result.now ≡ row_at self.now index }
+    /// The components of an index, in rising kinds.
+    pub fn components(&self, alloc: Global, index: u32) -> Result<Vec<StampedValue>, AllocError>
+        ensures { IfOk result (λ components. map component_of components.items ≡ row_at self.now index) }
     {
-        if (index as usize) < self.rows.len() {
-            &self.rows[index as usize]
-        } else {
-            &self.no_row
-        }
+        self.archetypes.components(alloc, index)
     }
-}
-
-// Makes rows up to this index, without components. After an error some of them may be there, which no index can tell.
-fn reach(rows: &mut Vec<Row>, index: u32) -> Result<(), AllocError>
-    ensures same { (k : ℕ) → row_of rows.new.items k ≡ row_of rows.old.items k }
-    ensures few { length rows.new.items ≤ max (length rows.old.items) (suc index) }
-    ensures ok { OnOk result (index < length rows.new.items) }
-{
-    let alloc = *rows.allocator();
-    while rows.len() <= index as usize {
-        rows.push(Row::new(alloc))?;
-    }
-    Ok(())
 }

@@ -22,11 +22,11 @@ ghost use Rattle.archetype_store.specs.Store.{empty_world, with_slots, with_slot
 
 use crate::fault::{GrantFault, StoreFault};
 use crate::resources::Resources;
-use crate::row::Stored;
 use crate::slot::Slot;
 use crate::slots::Slots;
 use change_ticks::clock::{Clock, ClockSpent, Tick};
 use change_ticks::stamp::Stamp;
+use column_store::stamped::StampedValue;
 use entity_table::Entity;
 use kinds::component::Component;
 use kinds::kind::Kind;
@@ -38,13 +38,11 @@ use std::marker::Model;
 
 /// What a reader sees of one index.
 #[derive(Clone, Copy, Debug)]
-pub struct SlotView<'a> {
+pub struct SlotView {
     /// The generation; 1 past the last index.
     pub generation: u32,
     /// Whether the entity lives.
     pub living: bool,
-    /// The components in rising kinds, none unless the entity lives.
-    pub components: &'a [Stored],
 }
 
 /// The world. Contracts see its state: slots by index, resources by number, the clock.
@@ -178,11 +176,10 @@ impl World {
         self.slots.insert(e, component.into_value(), tick)
     }
 
-    /// Removes the component of a kind of an entity. Where it has none, nothing changes. It takes no memory.
+    /// Removes the component of a kind of an entity. Where it has none, nothing changes. After an error nothing has changed.
     pub fn remove(&mut self, e: Entity, kind: Kind) -> Result<(), StoreFault>
         ensures ok { OnOk result (self.new.state ≡ with_slot e.index (with_row (remove_component (kind_number kind))) self.old.state) }
         ensures dead { IsErrOf result StoreFault.NotAlive ↔ (is_alive self.old.state.slots e ≡ false) }
-        ensures other { IsOkUnless result StoreFault.NotAlive }
         ensures err { OnErr result (self.new ≡ self.old) }
     {
         self.slots.remove(e, kind.number())
@@ -256,23 +253,27 @@ impl World {
     }
 
     /// What a reader sees of an index.
-    pub fn slot(&self, index: u32) -> SlotView<'_>
+    pub fn slot(&self, index: u32) -> SlotView
         ensures generation { result.generation ≡ (slot_at self.now.state.slots index).generation }
         ensures living { result.living ≡ lives_at self.now.state.slots index }
-        ensures components { map component_of result.components.now ≡ row_at self.now.state.slots index }
     {
         match self.slots.get(index) {
             Some(slot) => SlotView {
                 generation: slot.generation(),
                 living: slot.is_living(),
-                components: slot.row().components(),
             },
             None => SlotView {
                 generation: 1,
                 living: false,
-                components: &[],
             },
         }
+    }
+
+    /// The components of an index, in rising kinds: none unless an entity of it lives.
+    pub fn components(&self, alloc: Global, index: u32) -> Result<Vec<StampedValue>, AllocError>
+        ensures { IfOk result (λ components. map component_of components.items ≡ row_at self.now.state.slots index) }
+    {
+        self.slots.components(alloc, index)
     }
 
     /// Writes one component at a tick: its value and its changed stamp. A kind that the row doesn't have is not written.
@@ -297,135 +298,4 @@ impl World {
 }
 
 #[cfg(test)]
-mod tests {
-    use super::*;
-    use kinds::component::{Position, Velocity};
-    use std::test::Fail;
-
-    const FIRST: Entity = Entity {
-        index: 0,
-        generation: 1,
-    };
-
-    #[test]
-    fn starts_empty(rt: HostRuntime) -> Result<(), Fail> {
-        let mut world = World::new(rt.alloc(), Clock::at(1))?;
-        assert_eq!(rt; world.slot_count(), 0);
-        assert_eq!(rt;
-            (world.res(Res::Step), world.res_changed(Res::Step)),
-            (0, 1)
-        );
-        assert_eq!(rt; world.next()?, 2);
-        world.set_res(Res::Step, 7, 2);
-        assert_eq!(rt;
-            (world.res(Res::Step), world.res_changed(Res::Step)),
-            (7, 2)
-        );
-        Ok(())
-    }
-
-    #[test]
-    fn grants_the_least_vacant(rt: HostRuntime) -> Result<(), Fail> {
-        let mut world = World::new(rt.alloc(), Clock::at(1))?;
-        let ids = world.grant(rt.alloc(), 2)?;
-        assert_eq!(rt; ids.len(), 2);
-        assert_eq!(rt;
-            format!(in rt.alloc(); "{} {}", ids[0], ids[1])?.as_str(),
-            "0v1 1v1"
-        );
-        assert_eq!(rt; world.grant(rt.alloc(), 1)?.len(), 1);
-        assert_eq!(rt; world.slot_count(), 3);
-        assert!(rt; !world.lives(FIRST), "a granted id does not live yet");
-        assert_eq!(rt;
-            world.grant(rt.alloc(), 1_048_574).err(),
-            Some(GrantFault::IdsSpent)
-        );
-        Ok(())
-    }
-
-    #[test]
-    fn stamps_an_insert(rt: HostRuntime) -> Result<(), Fail> {
-        let mut world = World::new(rt.alloc(), Clock::at(4))?;
-        let ids = world.grant(rt.alloc(), 1)?;
-        assert_eq!(rt; ids.as_slice(), [FIRST].as_slice());
-        world.spawn_at(ids[0]);
-        world.insert(FIRST, Velocity { x: 0, y: 1 }, 2)?;
-        world.insert(FIRST, Position { x: 3, y: 5 }, 3)?;
-        world.insert(FIRST, Velocity { x: 1, y: 1 }, 4)?;
-        assert_eq!(rt; world.next_living(0), Some(FIRST));
-        assert_eq!(rt; world.get::<Velocity>(FIRST), Some(Velocity { x: 1, y: 1 }));
-        assert_eq!(rt;
-            world.stamp(FIRST, Kind::Velocity),
-            Some(Stamp {
-                added: 2,
-                changed: 4
-            })
-        );
-        assert_eq!(rt;
-            world.stamp(FIRST, Kind::Position),
-            Some(Stamp {
-                added: 3,
-                changed: 3
-            })
-        );
-        world.write_words(0, Kind::Position, &Words::two(8, 9), 4);
-        assert_eq!(rt;
-            world.stamp(FIRST, Kind::Position),
-            Some(Stamp {
-                added: 3,
-                changed: 4
-            })
-        );
-        let components = world.slot(0).components;
-        assert_eq!(rt; components.len(), 2, "kinds rise");
-        assert_eq!(rt;
-            components[0].value,
-            Value::Position(Position { x: 8, y: 9 })
-        );
-        let stale = Entity {
-            index: 0,
-            generation: 2,
-        };
-        assert_eq!(rt;
-            world.insert(stale, Position { x: 0, y: 0 }, 4),
-            Err(StoreFault::NotAlive)
-        );
-        assert!(rt; !world.has(stale, Kind::Position));
-        Ok(())
-    }
-
-    #[test]
-    fn frees_what_is_despawned(rt: HostRuntime) -> Result<(), Fail> {
-        let mut world = World::new(rt.alloc(), Clock::at(4))?;
-        let ids = world.grant(rt.alloc(), 3)?;
-        assert_eq!(rt; ids.len(), 3);
-        world.spawn_at(ids[0]);
-        world.insert(FIRST, Position { x: 3, y: 5 }, 4)?;
-        world.release(ids.as_slice());
-        assert_eq!(rt; world.slot(1).generation, 2);
-        assert_eq!(rt; world.remove(FIRST, Kind::Velocity), Ok(()));
-        assert!(rt; world.has(FIRST, Kind::Position));
-        assert_eq!(rt; world.remove(FIRST, Kind::Position), Ok(()));
-        assert!(rt; world.lives(FIRST), "without components it still lives");
-        assert!(rt; !world.has(FIRST, Kind::Position));
-        assert_eq!(rt; world.despawn(FIRST), Ok(()));
-        assert_eq!(rt; world.despawn(FIRST), Err(StoreFault::NotAlive));
-        assert_eq!(rt;
-            world.remove(FIRST, Kind::Position),
-            Err(StoreFault::NotAlive)
-        );
-        Ok(())
-    }
-
-    #[test]
-    fn settles_by_use(rt: HostRuntime) -> Result<(), Fail> {
-        let mut world = World::new(rt.alloc(), Clock::at(1))?;
-        let ids = world.grant(rt.alloc(), 2)?;
-        world.settle(&[], ids.as_slice());
-        assert_eq!(rt; world.next_living(0), None);
-        let again = world.grant(rt.alloc(), 1)?;
-        assert_eq!(rt; again.len(), 1);
-        assert_eq!(rt; format!(in rt.alloc(); "{}", again[0])?.as_str(), "0v2");
-        Ok(())
-    }
-}
+mod tests;

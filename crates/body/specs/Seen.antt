@@ -3,7 +3,7 @@ use Rattle.std.specs.Prelude.{ℕ, ℤ, Bool, cond, List, [], ◌∷◌, get_or,
 use Rattle.std.specs.List.{list_any}
 use Rattle.model.specs.Lists.{first_some, is_number, update_at}
 use Rattle.model.specs.Query.{Term, written}
-use Rattle.model.specs.Query.Term.{Read, Mut, Opt}
+pub use Rattle.model.specs.QueryFaults.{fetched}
 use Rattle.model.specs.Access.{Params}
 use Rattle.model.specs.Input.{ShownRow, Shown}
 use Rattle.model.specs.Outcome.{Outcome, words_in_row}
@@ -13,13 +13,6 @@ pub record Seen : Type 0 where
   pub params : Params
   pub shown : Shown
   pub outcome : Outcome
-
--- the kind that a term fetches
-abbrev pub fetched : Term → Option ℕ
-fetched (Read k) = Some k
-fetched (Mut k) = Some k
-fetched (Opt k) = Some k
-fetched _ = None
 
 -- whether a query fetches a kind
 abbrev pub fetches : List Term → ℕ → Bool

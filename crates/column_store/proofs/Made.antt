@@ -22,7 +22,8 @@ use Rattle.column_store.proofs.Tables.{place-within}
 
 -- ---- kinds in order
 
-any-map : (n : ℕ) (ks : List Kind) → list_any (λ k. kind_number k == n) ks ≡ has n (map kind_number ks)
+-- whether a number is among those of kinds
+pub any-map : (n : ℕ) (ks : List Kind) → list_any (λ k. kind_number k == n) ks ≡ has n (map kind_number ks)
 any-map n [] = refl
 any-map n (k ∷ ks) = ap (λ b. (kind_number k == n) || b) (any-map n ks)
 
@@ -105,7 +106,7 @@ held_rows n i (place.Away ∷ ps) l h = absurd h.0
 same_numbers : (a b c d : ℕ) → ((a == c) && (b == d)) ≡ true → (a ≡ c) × (b ≡ d)
 same_numbers a b c d h = (grind (arith, nat_tests), grind (arith, nat_tests))
 
-same_entity : (x e : Entity) → is_same x e ≡ true → x ≡ e
+pub same_entity : (x e : Entity) → is_same x e ≡ true → x ≡ e
 same_entity x e h = let p = same_numbers x.index x.generation e.index e.generation h in
     ap₂ (λ i g. let y : Entity = record { index = i; generation = g } in y) p.0 p.1
 

@@ -1,6 +1,6 @@
 // The command line.
 
-ghost use Rattle.std.specs.Prelude.{◌≡◌, ◌≤◌};
+ghost use Rattle.std.specs.Prelude.{◌≡◌, ◌≤◌, IfOk};
 ghost use Rattle.ecsrun.specs.Args.{line_status_of, line_text_of};
 
 use clap::error::ErrorKind;
@@ -33,7 +33,9 @@ const MOST_TIMES: u32 = 1_000_000;
 impl<'a> Args<'a> {
     /// Reads the words of a command line, of which the first is the program's own name: `run FILE [--times N]`, where N is from 0
     /// to 1,000,000, and 1 if it is left out.
-    pub fn read(alloc: Global, words: &'a [String]) -> Result<Args<'a>, LineFault> {
+    pub fn read(alloc: Global, words: &'a [String]) -> Result<Args<'a>, LineFault>
+        ensures { IfOk result (λ args. args.times ≤ 1000000) }
+    {
         let matches = match command(alloc)?.try_get_matches_from(words) {
             Ok(matches) => matches,
             Err(error) => return Err(LineFault::of(alloc, &error)),

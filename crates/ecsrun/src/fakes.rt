@@ -13,7 +13,8 @@ pub struct Source<'a> {
 }
 
 impl<'a> Source<'a> {
-    pub fn new(left: &'a [u8], at_once: usize, until_failure: usize) -> Self {
+    /// The reader of these bytes, some at once.
+    pub(crate) fn new(left: &'a [u8], at_once: usize, until_failure: usize) -> Self {
         Source {
             left,
             at_once,
@@ -38,13 +39,15 @@ impl Read for Source<'_> {
 /// A writer that keeps what it takes, and fails where so many writes were made.
 #[derive(Drop)]
 pub struct Sink {
+    /// What it has taken.
     pub taken: Vec<u8>,
     at_once: usize,
     until_failure: usize,
 }
 
 impl Sink {
-    pub fn new(alloc: Global, at_once: usize, until_failure: usize) -> Self {
+    /// A writer that has taken nothing, and takes some bytes at once.
+    pub(crate) fn new(alloc: Global, at_once: usize, until_failure: usize) -> Self {
         Sink {
             taken: Vec::new(alloc),
             at_once,

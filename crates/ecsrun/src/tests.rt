@@ -98,6 +98,26 @@ fn an_entity_moves(rt: HostRuntime) -> Result<(), Fail> {
 }
 
 #[test]
+fn who_is_frozen_is_left_out(rt: HostRuntime) -> Result<(), Fail> {
+    let frost = serve_file(
+        rt.alloc(),
+        "ecsrun run examples/frost.toml --times 2",
+        "[[entity]]\nHealth = [9]\nDamage = [4]\n[[entity]]\nHealth = [9]\nDamage = [4]\nFrozen = []\n[[entity]]\nHealth = [9]\n[[system]]\nname = \"burn\"\nquery = [\"mut Health, read Damage, without Frozen\"]\n[[system.do]]\neach = 0\ncode = [\"sub Health.v Damage.v\"]\n[[system]]\nname = \"heal\"\nquery = [\"entity, mut Health, with Frozen\"]\n[[system.do]]\neach = 0\ncode = [\"add Health.v 1\"]\n",
+    )?;
+    assert_eq!(rt; frost.status, 0);
+    assert_eq!(rt;
+        frost.out.as_slice(),
+        world(
+            rt.alloc(),
+            2,
+            "0v1 Health 1 Damage 4\n1v1 Health 11 Damage 4 Frozen\n2v1 Health 9\n"
+        )?
+        .as_bytes()
+    );
+    Ok(())
+}
+
+#[test]
 fn the_examples_are_run(rt: HostRuntime) -> Result<(), Fail> {
     let fall = serve_file(
         rt.alloc(),
@@ -163,6 +183,39 @@ fn the_greatest_health_stays(rt: HostRuntime) -> Result<(), Fail> {
 }
 
 #[test]
+fn filters_choose_rows(rt: HostRuntime) -> Result<(), Fail> {
+    for (query, code, entities) in [
+        (
+            "mut Health, with Frozen",
+            "sub Health.v 3",
+            "0v1 Health 5 Score 1\n1v1 Health 5 Score 2 Frozen\n2v1 Score 3\n",
+        ),
+        (
+            "entity, mut Health, without Frozen",
+            "sub Health.v 3",
+            "0v1 Health 2 Score 1\n1v1 Health 8 Score 2 Frozen\n2v1 Score 3\n",
+        ),
+        (
+            "mut Score, opt Health",
+            "add Score.v Health.v",
+            "0v1 Health 5 Score 6\n1v1 Health 8 Score 10 Frozen\n2v1 Score 3\n",
+        ),
+    ] {
+        let file = format!(in rt.alloc();
+            "[[entity]]\nHealth = [5]\nScore = [1]\n[[entity]]\nHealth = [8]\nScore = [2]\nFrozen = []\n[[entity]]\nScore = [3]\n[[system]]\nname = \"a\"\nquery = [\"{query}\"]\n[[system.do]]\neach = 0\ncode = [\"{code}\"]\n"
+        )?;
+        let answer = serve_file(rt.alloc(), "ecsrun run a.toml", file.as_str())?;
+        assert_eq!(rt; answer.status, 0, "at {query}");
+        assert_eq!(rt;
+            answer.out.as_slice(),
+            world(rt.alloc(), 1, entities)?.as_bytes(),
+            "at {query}"
+        );
+    }
+    Ok(())
+}
+
+#[test]
 fn schedules_and_scripts_are_refused(rt: HostRuntime) -> Result<(), Fail> {
     for (file, line) in [
         (
@@ -184,6 +237,14 @@ fn schedules_and_scripts_are_refused(rt: HostRuntime) -> Result<(), Fail> {
         (
             "system = [{ name = \"a\", query = [\"mut Position, read Position\"] }]",
             "refused B10 a 0 2\n",
+        ),
+        (
+            "system = [{ name = \"a\", query = [\"opt Health, without Health\"] }]",
+            "refused B10 a 0 3\n",
+        ),
+        (
+            "system = [{ name = \"a\", query = [\"read Health, without Health, opt Health\"] }]",
+            "refused B10 a 0 1\n",
         ),
         (
             "system = [{ name = \"a\" }, { name = \"b\", do = [{ each = 0, code = [] }] }]",

@@ -6,8 +6,8 @@ ghost use Rattle.archetype_store.specs.Row.{component_of};
 ghost use Rattle.entity_table.specs.Ids.{slot_at};
 ghost use Rattle.ecsrun.specs.World.{words_text, component_text, row_text, entity_line, slot_line, slot_lines, resource_line, lines_of, count_line, printed};
 
-use archetype_store::row::Stored;
 use archetype_store::store::World;
+use column_store::stamped::StampedValue;
 use kinds::res::Res;
 use kinds::value::Value;
 use std::alloc::{AllocError, Global};
@@ -25,7 +25,7 @@ pub fn text_of(
     let mut text = String::new(alloc);
     push_count(&mut text, "runs", u64::from(runs))?;
     push_resources(&mut text, world, Res::ALL.as_slice())?;
-    push_entities(&mut text, world)?;
+    push_entities(alloc, &mut text, world)?;
     push_count(&mut text, "passed", passed_over)?;
     Ok(text)
 }
@@ -55,22 +55,23 @@ fn push_resource(text: &mut String, res: Res, value: i64) -> Result<(), AllocErr
 }
 
 // Adds the line of each entity that lives.
-fn push_entities(text: &mut String, world: &World) -> Result<(), AllocError>
+fn push_entities(alloc: Global, text: &mut String, world: &World) -> Result<(), AllocError>
     ensures { OnOk result (string_bytes text.new ≡ string_bytes text.old ++ slot_lines 0 world.now.state.slots) }
 {
     for index in 0..world.slot_count() {
-        push_slot(text, index, world)?;
+        push_slot(alloc, text, index, world)?;
     }
     Ok(())
 }
 
 // Adds the line of an index, if its entity lives.
-fn push_slot(text: &mut String, index: u32, world: &World) -> Result<(), AllocError>
+fn push_slot(alloc: Global, text: &mut String, index: u32, world: &World) -> Result<(), AllocError>
     ensures { OnOk result (string_bytes text.new ≡ string_bytes text.old ++ slot_line index (slot_at world.now.state.slots index)) }
 {
     let slot = world.slot(index);
     if slot.living {
-        push_entity(text, index, slot.generation, slot.components)
+        let components = world.components(alloc, index)?;
+        push_entity(text, index, slot.generation, &components)
     } else {
         Ok(())
     }
@@ -81,7 +82,7 @@ fn push_entity(
     text: &mut String,
     index: u32,
     generation: u32,
-    components: &[Stored],
+    components: &[StampedValue],
 ) -> Result<(), AllocError>
     ensures { OnOk result (string_bytes text.new ≡ string_bytes text.old ++ entity_line index generation (map component_of components.now)) }
 {
@@ -91,7 +92,7 @@ fn push_entity(
 }
 
 // Adds the components of an entity.
-fn push_row(text: &mut String, components: &[Stored]) -> Result<(), AllocError>
+fn push_row(text: &mut String, components: &[StampedValue]) -> Result<(), AllocError>
     ensures { OnOk result (string_bytes text.new ≡ string_bytes text.old ++ row_text (map component_of components.now)) }
 {
     for component in components {
@@ -151,11 +152,11 @@ mod tests {
             changed: 4,
         };
         let row = [
-            Stored {
+            StampedValue {
                 value: Value::Position(Position { x: 3, y: -6 }),
                 stamp,
             },
-            Stored {
+            StampedValue {
                 value: Value::Velocity(Velocity { x: 1, y: -2 }),
                 stamp,
             },

@@ -15,7 +15,7 @@ use Rattle.model.specs.Lawful.{IsLawful, IsComplete, May, MayStart, MaySkip, May
 use Rattle.model.specs.Ready.{IsReady, step_of}
 use Rattle.model.specs.Widths.{IsNextSingle, just_started}
 use Rattle.model.specs.RunState.{between, begin_run, has_tick, has_ids_to_start, started_system, after_start}
-use Rattle.model.specs.Meaning.{serial, serial_step}
+use Rattle.model.specs.Meaning.{interleaved, serial, serial_step, IsTrueAnswer}
 use Rattle.model.specs.Causes.{Cause, unless, serial_cause, serial_cause_of, serial_cause_at, cause_of_finish}
 use Rattle.model.specs.Causes.Cause.{NoTick, NoIds}
 use Rattle.model.specs.Runs.{IsSingleRun, AreSingleRuns, IsStopped}
@@ -107,10 +107,12 @@ no_cause o x (Some cause) lacks e = absurd (let none : o ≡ None = lacks.1 refl
 
 -- at what is ready, where that stops
 pub stops_at : (s : Schedule) (bodies : List BodyMeaning) (start : State) (h : List Step) (w : State) (r : Ready) → Stage s bodies start h w →
-    IsReady s h (Some r) → serial_cause_of s bodies (step_of r false) (between w) ≡ Some NoTick → Stops s bodies start NoTick
-stops_at s bodies start h w r stage is e = record {
+    IsReady s h (Some r) → IsTrueAnswer s (step_of r false) (interleaved s bodies start h) →
+    serial_cause_of s bodies (step_of r false) (between w) ≡ Some NoTick → Stops s bodies start NoTick
+stops_at s bodies start h w r stage is answer e = record {
   front = step_of r false ∷ h;
   single = (chosen s h r stage.settled is, stage.single);
+  answers = (answer, stage.answers);
   stops = ap (λ c. first_some c (serial_cause_at s bodies (step_of r false) (serial s bodies start h)))
       (no_cause (serial s bodies start h) (between w) (serial_cause s bodies start h) (lacks-serial s bodies start h) stage.meaning)
       ∙ ap (λ o. serial_cause_at s bodies (step_of r false) o) stage.meaning ∙ e;
@@ -119,18 +121,18 @@ stops_at s bodies start h w r stage is e = record {
 -- a start without a tick
 pub stops_start : (s : Schedule) (bodies : List BodyMeaning) (start : State) (h : List Step) (w : State) (n : ℕ) → Stage s bodies start h w →
     IsReady s h (Some (ready.Start n)) → has_tick w ≡ false → Stops s bodies start NoTick
-stops_start s bodies start h w n stage is spent = stops_at s bodies start h w (ready.Start n) stage is
+stops_start s bodies start h w n stage is spent = stops_at s bodies start h w (ready.Start n) stage is tt
     (ap (λ t. first_some (first_some (unless t NoTick) (unless (has_ids_to_start s n (between w)) NoIds))
     (cause_of_finish s bodies (started_system s n (between w)) (after_start s n (between w)))) spent)
 
 -- a sync point without a tick
 pub stops_sync : (s : Schedule) (bodies : List BodyMeaning) (start : State) (h : List Step) (w : State) (k : ℕ) → Stage s bodies start h w →
     IsReady s h (Some (ready.Sync k)) → has_tick w ≡ false → Stops s bodies start NoTick
-stops_sync s bodies start h w k stage is spent = stops_at s bodies start h w (ready.Sync k) stage is (ap (λ t. unless t NoTick) spent)
+stops_sync s bodies start h w k stage is spent = stops_at s bodies start h w (ready.Sync k) stage is tt (ap (λ t. unless t NoTick) spent)
 
 -- an opening without a tick
 pub stops_open : (s : Schedule) (bodies : List BodyMeaning) (start : State) → has_tick start ≡ false → Stops s bodies start NoTick
-stops_open s bodies start spent = record { front = []; single = tt; stops = ap (λ t. unless t NoTick) spent }
+stops_open s bodies start spent = record { front = []; single = tt; answers = tt; stops = ap (λ t. unless t NoTick) spent }
 
 -- ---- several runs
 
@@ -150,6 +152,7 @@ stopped s bodies times w hs middle cause ran fewer stops = record {
   ran = ran;
   front = stops.front;
   single = stops.single;
+  answers = stops.answers;
   stops = stops.stops;
 }
 

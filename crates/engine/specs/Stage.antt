@@ -18,8 +18,9 @@ pub record Stage (s : Schedule) (bodies : List BodyMeaning) (start : State) (h :
   pub answers : HasTrueAnswers s bodies start h
   pub meaning : serial s bodies start h ≡ Some (between state)
 
--- a front of the single-threaded list on which the serial meaning stops for this cause
+-- a front of the single-threaded list with true answers, on which the serial meaning stops for this cause
 pub record Stops (s : Schedule) (bodies : List BodyMeaning) (start : State) (cause : Cause) : Type 0 where
   pub front : List Step
   pub single : IsSingle s front
+  pub answers : HasTrueAnswers s bodies start front
   pub stops : serial_cause s bodies start front ≡ Some cause

@@ -1,7 +1,7 @@
 // The engine: a built schedule with a body for each system, over a state.
 
-ghost use Rattle.std.specs.Prelude.{◌≡◌, ◌↔◌, ℕ, length, map, false, true, Err, IfOk, IsErr, IsErrOf, IsTrue};
-ghost use Rattle.model.specs.Runs.{AreSingleRuns, AreSoundRuns, IsStopped};
+ghost use Rattle.std.specs.Prelude.{◌≡◌, ◌↔◌, ◌⊎◌, ℕ, length, map, false, true, Err, IfOk, IsOk, IsErr, IsErrOf, IsTrue};
+ghost use Rattle.model.specs.Runs.{AreSingleRuns, AreSoundRuns, HasRuns, IsStopped};
 ghost use Rattle.model.specs.Causes.{Cause};
 ghost use Rattle.engine.specs.EngineValue.{meanings};
 ghost use Rattle.engine.specs.Fits.{Miscounts, IsFirstMisfit};
@@ -13,7 +13,7 @@ use crate::mode::Single;
 use crate::turns::run_times;
 use body::state::State;
 use executor_core::Trace;
-use model::single_runs_are_sound;
+use model::{single_runs_are_one, single_runs_are_sound};
 use schedule_builder::built::Built;
 use script::script_body::ScriptBody;
 use std::alloc::Global;
@@ -75,12 +75,13 @@ impl Engine {
     }
 
     /// Runs the schedule so many times, in the mode: each run opens, does what is ready until nothing is, and answers its trace.
-    /// `Memory` where memory is wanting, `ClockSpent` where a step has no next tick; each spoils the engine, and from then on
-    /// every run answers `Spoiled` and changes nothing.
+    /// `Memory` where memory is wanting, `ClockSpent` where a step has no next tick, and so not where so many runs have a meaning;
+    /// each spoils the engine, and from then on every run answers `Spoiled` and changes nothing.
     pub fn run(&mut self, alloc: Global, times: u32, _mode: &Single) -> Result<Vec<Trace>, RunFault>
         ensures ran { IfOk result (λ traces. (length traces.items ≡ times) × AreSingleRuns self.old.schedule (meanings self.old.schedule self.old.bodies) self.old.state (map history_of traces.items) self.new.state) }
         ensures sound { IfOk result (λ traces. AreSoundRuns self.old.schedule (meanings self.old.schedule self.old.bodies) self.old.state (map history_of traces.items) self.new.state) }
         ensures clock { result ≡ Err RunFault.ClockSpent → IsStopped self.old.schedule (meanings self.old.schedule self.old.bodies) times self.old.state Cause.NoTick }
+        ensures defined { HasRuns self.old.schedule (meanings self.old.schedule self.old.bodies) times self.old.state → IsOk result ⊎ IsErrOf result RunFault.Memory ⊎ IsErrOf result RunFault.Spoiled }
         ensures spoiled { IsErrOf result RunFault.Spoiled ↔ IsTrue self.old.spoiled }
         ensures spoils { IsTrue self.new.spoiled ↔ IsErr result }
         ensures unchanged { result ≡ Err RunFault.Spoiled → self.new ≡ self.old }
@@ -91,6 +92,7 @@ impl Engine {
             return Err(RunFault::Spoiled);
         }
         self.spoiled = true;
+        single_runs_are_one();
         let traces = run_times(alloc, &self.built, &mut self.bodies, &mut self.state, times)?;
         single_runs_are_sound();
         self.spoiled = false;

@@ -116,12 +116,16 @@ fn moves(rt: HostRuntime) -> Result<(), Fail> {
 #[test]
 fn spoils(rt: HostRuntime) -> Result<(), Fail> {
     let alloc = rt.alloc();
-    let state = state(alloc, Clock::at(LAST_TICK - 2))?;
-    let mut engine = Engine::new(alloc, schedule(alloc)?, movement(alloc)?, state)?;
-    let first = engine.run(alloc, 1, &Single).err().ok_or("no fault")?;
-    assert_eq!(rt; first, RunFault::ClockSpent);
-    let second = engine.run(alloc, 0, &Single).err().ok_or("no fault")?;
-    assert_eq!(rt; second, RunFault::Spoiled);
+    for now in [LAST_TICK - 2, LAST_TICK - 1, LAST_TICK] {
+        let state = state(alloc, Clock::at(now))?;
+        let mut engine = Engine::new(alloc, schedule(alloc)?, movement(alloc)?, state)?;
+        let first = engine.run(alloc, 1, &Single).err().ok_or("no fault")?;
+        assert_eq!(rt; first, RunFault::ClockSpent);
+        let second = engine.run(alloc, 1, &Single).err().ok_or("no fault")?;
+        assert_eq!(rt; second, RunFault::Spoiled);
+        let third = engine.run(alloc, 0, &Single).err().ok_or("no fault")?;
+        assert_eq!(rt; third, RunFault::Spoiled);
+    }
     Ok(())
 }
 

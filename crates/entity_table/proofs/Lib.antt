@@ -4,4 +4,5 @@ pub mod Grants
 pub mod Frees
 pub mod Releases
 pub mod Keeping
+pub mod Living
 pub mod WithRows

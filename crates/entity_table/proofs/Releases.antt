@@ -113,6 +113,15 @@ lives_at-release ids xs i = ap (λ (s : Slot). is_living s.status) (release-at i
     go true e false = refl
     go false e n = refl
 
+-- a release leaves the slots of those that live
+pub living-release : (ids : List Entity) (xs : List Slot) (i : ℕ) → lives_at xs i ≡ true → slot_at (release ids xs) i ≡ slot_at xs i
+unfolding released
+living-release ids xs i h = release-at ids xs i ∙ go (is_granted (slot_at xs i).status) refl (names_index i ids)
+  where
+    go : (g : Bool) → is_granted (slot_at xs i).status ≡ g → (n : Bool) → cond (g && n) (freed (slot_at xs i)) (slot_at xs i) ≡ slot_at xs i
+    go true e n = absurd (false≢true (sym (granted-lives xs i e) ∙ h))
+    go false e n = refl
+
 -- who doesn't live once an id is spawned didn't live before
 pub lives_at-spawned : (i generation : ℕ) (xs : List Slot) (j : ℕ) → lives_at (update_at i (spawned generation) xs) j ≡ false → lives_at xs j ≡ false
 lives_at-spawned i generation [] j e = e

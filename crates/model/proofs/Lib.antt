@@ -47,4 +47,5 @@ pub mod Timed
 pub mod Quiet
 pub mod Followed
 pub mod Sound
+pub mod One
 pub mod examples

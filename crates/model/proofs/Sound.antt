@@ -19,7 +19,7 @@ woven_of None run e = cc
 woven_of (Some w) run e = (w, cc, cc)
 
 -- one run
-sound_run : (s : Schedule) (bodies : List BodyMeaning) (w : State) (h : List Step) (w' : State) → IsSingleRun s bodies w h w' → IsSoundRun s bodies w h w'
+pub sound_run : (s : Schedule) (bodies : List BodyMeaning) (w : State) (h : List Step) (w' : State) → IsSingleRun s bodies w h w' → IsSoundRun s bodies w h w'
 sound_run s bodies w h w' r =
     let found : (end : Interleaved) × (interleaved s bodies w h ≡ Some end) × (end.run ≡ r.end) =
     woven_of (interleaved s bodies w h) r.end (interleaved_serial s bodies w h r.lawful r.complete ∙ r.meaning) in

@@ -1,6 +1,7 @@
 pub mod Bodies
 pub mod Moves
 pub mod Accesses
+pub mod Queries
 pub mod Commands
 pub mod Conditions
 pub mod Filters
@@ -8,3 +9,4 @@ pub mod Lawful
 pub mod Orders
 pub mod Agreement
 pub mod Single
+pub mod One

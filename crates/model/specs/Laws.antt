@@ -20,10 +20,10 @@ use Rattle.model.specs.Ready.{IsReady, OnlyFinish, step_of}
 use Rattle.model.specs.Widths.{IsSingle, IsWide}
 use Rattle.model.specs.RunState.{RunState, started_system, asked_of, answer_of}
 use Rattle.model.specs.Meaning.{Interleaved, serial, interleaved}
-use Rattle.model.specs.Causes.{serial_cause, interleaved_cause}
+use Rattle.model.specs.Causes.{Cause, serial_cause, interleaved_cause}
 use Rattle.model.specs.Ambiguity.{Settled, Before}
 use Rattle.model.specs.Shape.{IsStateOf, IsRunStateOf, BodiesKeepWithin}
-use Rattle.model.specs.Runs.{AreSingleRuns, AreSoundRuns}
+use Rattle.model.specs.Runs.{IsSingleRun, AreSingleRuns, HasRuns, IsStopped, AreSoundRuns}
 use Rattle.model.specs.Agreement.{AreRuns, Agrees, after_runs}
 
 -- ---- order
@@ -160,3 +160,18 @@ CausesAreExact = (s : Schedule) (bodies : List BodyMeaning) (start : State) (h :
 abbrev pub SingleRunsAreSound : Type 0
 SingleRunsAreSound = (s : Schedule) (bodies : List BodyMeaning) (w : State) (hs : List (List Step)) (w' : State) →
     AreSingleRuns s bodies w hs w' → AreSoundRuns s bodies w hs w'
+
+-- the list of a run on one thread is one, and so is its end
+abbrev pub SingleRunIsOne : Type 0
+SingleRunIsOne = (s : Schedule) (bodies : List BodyMeaning) (w : State) (h g : List Step) (w' v' : State) →
+    IsSingleRun s bodies w h w' → IsSingleRun s bodies w g v' → (h ≡ g) × (w' ≡ v')
+
+-- so are the lists and the end of as many runs
+abbrev pub SingleRunsAreOne : Type 0
+SingleRunsAreOne = (s : Schedule) (bodies : List BodyMeaning) (w : State) (hs gs : List (List Step)) (w' v' : State) →
+    length hs ≡ length gs → AreSingleRuns s bodies w hs w' → AreSingleRuns s bodies w gs v' → (hs ≡ gs) × (w' ≡ v')
+
+-- where so many runs have a meaning none of them stops, for any cause
+abbrev pub DefinedRunsGoThrough : Type 0
+DefinedRunsGoThrough = (s : Schedule) (bodies : List BodyMeaning) (times : ℕ) (w : State) (cause : Cause) →
+    HasRuns s bodies times w → IsStopped s bodies times w cause → ⊥

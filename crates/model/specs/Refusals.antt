@@ -3,7 +3,7 @@ use Rattle.std.specs.Prelude.{ℕ, ◌<◌, ◌≤◌, ◌≡◌, ◌⊎◌, ◌
 use Rattle.std.specs.List.{filter_map}
 use Rattle.model.specs.Lists.{has, IsIn, head_or}
 use Rattle.model.specs.Query.{Term}
-pub use Rattle.model.specs.QueryFaults.{fetches_twice}
+pub use Rattle.model.specs.QueryFaults.{query_fault}
 use Rattle.model.specs.Declarations.{Declared, declared_at, name_of, HasItem, looked_up, declared_orders, IsOrdered}
 
 -- a refusal, with what it tells
@@ -86,18 +86,17 @@ IsToldCycle d told = (items : List ℕ) × IsCycle d items × ((n : ℕ) → has
 abbrev pub query_of : Declared → ℕ → ℕ → List Term
 query_of d n number = get_or (declared_at d n).params.queries number []
 
--- no query fetches a kind twice
+-- nothing is wrong with any query
 abbrev pub HasGoodQueries : Declared → Type 0
-HasGoodQueries d = (n number : ℕ) → fetches_twice (query_of d n number) ≡ false
+HasGoodQueries d = (n number : ℕ) → query_fault (query_of d n number) ≡ None
 
--- the first system and query that fetches a kind twice, which is the second fault of queries
+-- the first system with a query at fault, its first query at fault, and the least fault of that query
 pub record IsBadQuery (d : Declared) (owner : List ℕ) (number fault : ℕ) : Type 0 where
   pub item : ℕ
-  pub twice : fetches_twice (query_of d item number) ≡ true
-  pub systems_before : (m k : ℕ) → m < item → fetches_twice (query_of d m k) ≡ false
-  pub queries_before : (k : ℕ) → k < number → fetches_twice (query_of d item k) ≡ false
+  pub least : query_fault (query_of d item number) ≡ Some fault
+  pub systems_before : (m k : ℕ) → m < item → query_fault (query_of d m k) ≡ None
+  pub queries_before : (k : ℕ) → k < number → query_fault (query_of d item k) ≡ None
   pub told : owner ≡ name_of d item
-  pub second : fault ≡ 2
 
 -- ---- limits
 

@@ -30,7 +30,15 @@ abbrev pub AreSingleRuns : Schedule → List BodyMeaning → State → List (Lis
 AreSingleRuns s bodies w [] w' = w ≡ w'
 AreSingleRuns s bodies w (h ∷ hs) w' = (middle : State) × IsSingleRun s bodies w h middle × AreSingleRuns s bodies middle hs w'
 
--- after fewer than so many complete runs, a front of the single-threaded list on which the serial meaning stops for this cause
+-- so many runs have a meaning on one thread
+pub record HasRuns (s : Schedule) (bodies : List BodyMeaning) (times : ℕ) (w : State) : Type 0 where
+  pub runs : List (List Step)
+  pub count : length runs ≡ times
+  pub end : State
+  pub ran : AreSingleRuns s bodies w runs end
+
+-- after fewer than so many complete runs, a front of the single-threaded list with true answers, on which the serial meaning
+-- stops for this cause
 pub record IsStopped (s : Schedule) (bodies : List BodyMeaning) (times : ℕ) (w : State) (cause : Cause) : Type 0 where
   pub complete_runs : List (List Step)
   pub fewer : length complete_runs < times
@@ -38,6 +46,7 @@ pub record IsStopped (s : Schedule) (bodies : List BodyMeaning) (times : ℕ) (w
   pub ran : AreSingleRuns s bodies w complete_runs middle
   pub front : List Step
   pub single : IsSingle s front
+  pub answers : HasTrueAnswers s bodies middle front
   pub stops : serial_cause s bodies middle front ≡ Some cause
 
 -- ---- what one may rest on

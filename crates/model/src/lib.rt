@@ -1,7 +1,7 @@
 // The meaning of a schedule's run, in definitions that every other crate cites, and its laws.
 #![tactic(auto)]
 
-ghost use Rattle.model.specs.Laws.{NoneConflict, EdgesKept, SyncsKept, OrderIsTopological, ListsGoOn, ListsEnd, ListsComplete, ReadyIsAccepted, FaultsAreExact, FaultsAreComputed, ListsAreComputed, SingleIsWide, SameIsShown, InterleavedIsSerial, ConflictsAreTested, AnswersAreAsked, CausesAreExact, InterleavedKeepsShape, SerialKeepsShape, LoadedHasShape, SingleRunsAreSound, RunsAgree};
+ghost use Rattle.model.specs.Laws.{NoneConflict, EdgesKept, SyncsKept, OrderIsTopological, ListsGoOn, ListsEnd, ListsComplete, ReadyIsAccepted, FaultsAreExact, FaultsAreComputed, ListsAreComputed, SingleIsWide, SameIsShown, InterleavedIsSerial, ConflictsAreTested, AnswersAreAsked, CausesAreExact, InterleavedKeepsShape, SerialKeepsShape, LoadedHasShape, SingleRunsAreSound, SingleRunIsOne, SingleRunsAreOne, DefinedRunsGoThrough, RunsAgree};
 
 pub mod entities;
 pub mod steps;
@@ -51,6 +51,14 @@ pub fn single_is_wide()
 /// of starts is topological, and the interleaved and the serial meaning are the state where the next one begins.
 pub fn single_runs_are_sound()
     ensures { SingleRunsAreSound }
+{}
+
+/// The single-threaded list is one: runs on one thread from the same state have the same steps and the same end, and where so many
+/// runs have a meaning none of them stops.
+pub fn single_runs_are_one()
+    ensures run { SingleRunIsOne }
+    ensures runs { SingleRunsAreOne }
+    ensures defined { DefinedRunsGoThrough }
 {}
 
 /// A run keeps the shape of a state.

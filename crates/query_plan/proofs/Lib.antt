@@ -1,4 +1,5 @@
 pub mod QueryTexts
+pub mod Named
 pub mod Fetches
 pub mod Terms
 pub mod Fetching

@@ -5,10 +5,14 @@ use Rattle.model.specs.Query.{Term as ModelTerm}
 use Rattle.query_plan.specs.declared.query.Term.{Term}
 use Rattle.query_plan.specs.Term.{term_of}
 
+-- a test of some of what a function gives
+pub list_any-map : {A B : Type 0} (test : B → Bool) (f : A → B) (xs : List A) → list_any test (map f xs) ≡ list_any (λ x. test (f x)) xs
+list_any-map test f [] = refl
+list_any-map test f (x ∷ xs) = ap (λ b. test (f x) || b) (list_any-map test f xs)
+
 -- for some term
 pub any_of_terms : (test : ModelTerm → Bool) (terms : List Term) → list_any test (map term_of terms) ≡ list_any (λ t. test (term_of t)) terms
-any_of_terms test [] = refl
-any_of_terms test (t ∷ terms) = ap (λ b. test (term_of t) || b) (any_of_terms test terms)
+any_of_terms test terms = list_any-map test term_of terms
 
 -- for each term
 pub all_of_terms : (test : ModelTerm → Bool) (terms : List Term) → list_all test (map term_of terms) ≡ list_all (λ t. test (term_of t)) terms

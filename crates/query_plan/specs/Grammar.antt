@@ -6,13 +6,17 @@ use Rattle.texts.specs.Reads.{SpellsSeen}
 use Rattle.texts.specs.Words.{AreSpaces, ByWords}
 use Rattle.texts.specs.Parts.{ByParts}
 use Rattle.query_plan.specs.declared.query.Term.{Term}
-use Rattle.query_plan.specs.declared.query.Term.TheVariants.{Read, Mut}
+use Rattle.query_plan.specs.declared.query.Term.TheVariants.{Entity, Read, Mut, Opt, With, Without}
 use Rattle.query_plan.specs.Term.{term_of}
 
--- the words are those of a term: `read K` and `mut K`, K the name of a kind
+-- the words are those of a term: `entity`, or the word of the term and the name of its kind
 abbrev pub AreTerm : Term → List (List ℕ) → Type 0
+AreTerm Entity (word ∷ []) = word ≡ codes "entity"
 AreTerm (Read kind) (word ∷ name ∷ []) = (word ≡ codes "read") × IsKind kind name
 AreTerm (Mut kind) (word ∷ name ∷ []) = (word ≡ codes "mut") × IsKind kind name
+AreTerm (Opt kind) (word ∷ name ∷ []) = (word ≡ codes "opt") × IsKind kind name
+AreTerm (With kind) (word ∷ name ∷ []) = (word ≡ codes "with") × IsKind kind name
+AreTerm (Without kind) (word ∷ name ∷ []) = (word ≡ codes "without") × IsKind kind name
 AreTerm _ _ = ⊥
 
 -- the text is that of a term

@@ -1,4 +1,5 @@
 pub mod Term
+pub mod Named
 pub mod BadQuery
 pub mod Grammar
 pub mod Fetched

@@ -3,5 +3,7 @@
 
 pub mod check;
 pub mod plan;
+#[cfg(test)]
+mod plan_tests;
 pub mod query;
 pub mod reading;

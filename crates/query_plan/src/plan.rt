@@ -12,8 +12,7 @@ ghost use Rattle.query_plan.specs.Fetched.{IsFetched, AreFetched, words_fetched}
 ghost use Rattle.query_plan.specs.QueryRow.{shown_of};
 
 use crate::query::{Query, Term};
-use archetype_store::row::Row;
-use archetype_store::slot::Slot;
+use archetype_store::slot::{RowView, Slot};
 use archetype_store::store::World;
 use change_ticks::stamp::newer;
 use entity_table::Entity;
@@ -31,7 +30,12 @@ pub struct QueryRow {
 }
 
 /// The rows of a query for an observer with this last run, in rising index: each with what every term fetches.
-pub fn plan(alloc: Global, query: &Query, world: &World, last_run: u64) -> Result<Vec<QueryRow>, AllocError>
+pub fn plan(
+    alloc: Global,
+    query: &Query,
+    world: &World,
+    last_run: u64,
+) -> Result<Vec<QueryRow>, AllocError>
     ensures rows { IfOk result (λ rows. map shown_of rows.items ≡ input.rows_of query.now last_run world.now.state.slots) }
     ensures fetched { IfOk result (λ rows. AllByRecursion (λ row. AreFetched query.now row.values.items) rows.items) }
 {
@@ -51,43 +55,48 @@ pub fn plan(alloc: Global, query: &Query, world: &World, last_run: u64) -> Resul
 fn is_row(terms: &[Term], slot: &Slot<'_>, last_run: u64) -> bool
     ensures { result ≡ input.is_row (map term_of terms.now) last_run slot.now }
 {
-    slot.is_living() && matches_row(terms, slot.row()) && passes_all(terms, slot.row(), last_run)
+    let row = slot.row();
+    slot.is_living() && matches_row(terms, &row) && passes_all(terms, &row, last_run)
 }
 
 // Whether a query with these terms matches a row.
-fn matches_row(terms: &[Term], row: &Row) -> bool
+fn matches_row(terms: &[Term], row: &RowView<'_>) -> bool
     ensures { result ≡ list_all (λ term. query.admits (kinds_of row.now) (term_of term)) terms.now }
 {
     terms.iter().all(|term| admits(*term, row))
 }
 
 // Whether a row passes the filters of these terms.
-fn passes_all(terms: &[Term], row: &Row, last_run: u64) -> bool
+fn passes_all(terms: &[Term], row: &RowView<'_>, last_run: u64) -> bool
     ensures { result ≡ list_all (λ term. input.passes last_run row.now (term_of term)) terms.now }
 {
     terms.iter().all(|term| passes(*term, row, last_run))
 }
 
 // Whether a row has a component of this kind.
-fn has(row: &Row, kind: Kind) -> bool
+fn has(row: &RowView<'_>, kind: Kind) -> bool
     ensures { result ≡ kinds_of row.now (kind_number kind) }
 {
-    row.find(kind.number()).is_some()
+    row.has(kind.number())
 }
 
 // Whether a term admits the kinds of a row.
-fn admits(term: Term, row: &Row) -> bool
+fn admits(term: Term, row: &RowView<'_>) -> bool
     ensures { result ≡ query.admits (kinds_of row.now) (term_of term) }
 {
     match term {
         Term::Entity | Term::Opt(_) => true,
         Term::Without(kind) => !has(row, kind),
-        Term::Read(kind) | Term::Mut(kind) | Term::With(kind) | Term::Added(kind) | Term::Changed(kind) => has(row, kind),
+        Term::Read(kind)
+        | Term::Mut(kind)
+        | Term::With(kind)
+        | Term::Added(kind)
+        | Term::Changed(kind) => has(row, kind),
     }
 }
 
 // Whether a row passes the filter of a term.
-fn passes(term: Term, row: &Row, last_run: u64) -> bool
+fn passes(term: Term, row: &RowView<'_>, last_run: u64) -> bool
     ensures { result ≡ input.passes last_run row.now (term_of term) }
 {
     match term {
@@ -104,13 +113,19 @@ fn passes(term: Term, row: &Row, last_run: u64) -> bool
 }
 
 // The row of a slot that the terms match.
-fn row_of(alloc: Global, terms: &[Term], index: u32, slot: &Slot<'_>) -> Result<QueryRow, AllocError>
+fn row_of(
+    alloc: Global,
+    terms: &[Term],
+    index: u32,
+    slot: &Slot<'_>,
+) -> Result<QueryRow, AllocError>
     ensures shown { IfOk result (λ row. shown_of row ≡ input.shown_row (map term_of terms.now) index slot.now) }
     ensures fetched { IfOk result (λ row. query.matches (map term_of terms.now) (kinds_of slot.now.row) ≡ true → AreFetched (map term_of terms.now) row.values.items) }
 {
+    let row = slot.row();
     let mut values = Vec::with_capacity(alloc, terms.len())?;
     for term in terms {
-        values.push(fetch(*term, slot.row()))?;
+        values.push(fetch(*term, &row))?;
     }
     Ok(QueryRow {
         entity: Entity {
@@ -122,7 +137,7 @@ fn row_of(alloc: Global, terms: &[Term], index: u32, slot: &Slot<'_>) -> Result<
 }
 
 // What a term fetches of a row.
-fn fetch(term: Term, row: &Row) -> Option<Value>
+fn fetch(term: Term, row: &RowView<'_>) -> Option<Value>
     ensures words { words_fetched result ≡ input.fetch row.now (term_of term) }
     ensures fetched { query.admits (kinds_of row.now) (term_of term) ≡ true → IsFetched (term_of term) result }
 {
@@ -133,7 +148,7 @@ fn fetch(term: Term, row: &Row) -> Option<Value>
 }
 
 // The component of a kind in a row.
-fn value_in(row: &Row, kind: Kind) -> Option<Value>
+fn value_in(row: &RowView<'_>, kind: Kind) -> Option<Value>
     ensures words { words_fetched result ≡ input.words_of (cell_at row.now (kind_number kind)) }
     ensures kind { IfSome result (λ value. value_number value ≡ kind_number kind) }
 {

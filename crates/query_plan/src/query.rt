@@ -158,14 +158,14 @@ fn any_writes(terms: &[Term], kind: Kind) -> bool
 }
 
 // Whether some of the terms requires the kind.
-fn any_requires(terms: &[Term], kind: Kind) -> bool
+pub(crate) fn any_requires(terms: &[Term], kind: Kind) -> bool
     ensures { result ≡ list_any (λ t. is_number (kind_number kind) (required (term_of t))) terms.now }
 {
     terms.iter().any(|term| is_kind(kind, term.required()))
 }
 
 // Whether the kind is the named one.
-fn is_kind(kind: Kind, named: Option<Kind>) -> bool
+pub(crate) fn is_kind(kind: Kind, named: Option<Kind>) -> bool
     ensures { result ≡ is_number (kind_number kind) (option_map kind_number named) }
 {
     match named {

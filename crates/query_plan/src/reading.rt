@@ -1,7 +1,8 @@
 // Queries read from texts.
 
-ghost use Rattle.std.specs.Prelude.{map};
+ghost use Rattle.std.specs.Prelude.{map, [], ◌∷◌};
 ghost use Rattle.std.specs.List.{AllZip};
+ghost use Rattle.kinds.specs.Kind.{kind_name};
 ghost use Rattle.texts.specs.Reads.{Reads, ReadsUnlessMemory, SpellsSeen};
 ghost use Rattle.query_plan.specs.Term.{term_of};
 ghost use Rattle.query_plan.specs.Grammar.{AreTerm, IsTerm, IsQuery};
@@ -14,7 +15,8 @@ use texts::read_error::ReadError;
 use texts::words::{is_blank, words_of};
 
 impl Term {
-    /// Reads a term: `read K` or `mut K`, with one or more spaces between the words and any number at either end.
+    /// Reads a term: `entity`, `read K`, `mut K`, `opt K`, `with K` or `without K`, with one or more spaces between the words
+    /// and any number at either end.
     pub fn read(alloc: Global, text: &str) -> Result<Term, ReadError>
         ensures { ReadsUnlessMemory IsTerm text.now result }
     {
@@ -29,13 +31,33 @@ impl Term {
     fn of_words(words: &[&str]) -> Option<Term>
         ensures { Reads AreTerm (map (λ word. word.now) words.now) result }
     {
-        let [word, name] = words else {
-            return None;
-        };
-        let kind = Kind::named(name)?;
-        match *word {
+        match words {
+            [word] => Term::of_word(word),
+            [word, name] => Term::of_kind(word, Kind::named(name)?),
+            _ => None,
+        }
+    }
+
+    // The term that a word is by itself.
+    fn of_word(word: &str) -> Option<Term>
+        ensures { Reads AreTerm (word.now ∷ []) result }
+    {
+        match word {
+            "entity" => Some(Term::Entity),
+            _ => None,
+        }
+    }
+
+    // The term that a word makes of a kind.
+    fn of_kind(word: &str, kind: Kind) -> Option<Term>
+        ensures { Reads AreTerm (word.now ∷ kind_name kind ∷ []) result }
+    {
+        match word {
             "read" => Some(Term::Read(kind)),
             "mut" => Some(Term::Mut(kind)),
+            "opt" => Some(Term::Opt(kind)),
+            "with" => Some(Term::With(kind)),
+            "without" => Some(Term::Without(kind)),
             _ => None,
         }
     }
@@ -78,6 +100,20 @@ mod tests {
             query.terms(),
             [Term::Read(Kind::Position), Term::Mut(Kind::Velocity)].as_slice()
         );
+        let every = Query::read(
+            rt.alloc(),
+            "entity,opt Health,with Frozen , without  Hidden ",
+        )?;
+        assert_eq!(rt;
+            every.terms(),
+            [
+                Term::Entity,
+                Term::Opt(Kind::Health),
+                Term::With(Kind::Frozen),
+                Term::Without(Kind::Hidden)
+            ]
+            .as_slice()
+        );
         let empty = Query::read(rt.alloc(), "  ")?;
         assert_eq!(rt; empty.terms().len(), 0);
         for text in [
@@ -87,6 +123,13 @@ mod tests {
             "read\tPosition",
             "mut",
             "write Position",
+            "entity Position",
+            "entities",
+            "opt",
+            "opt Round",
+            "with Frozen Hidden",
+            "added Health",
+            "changed Health",
         ] {
             assert_eq!(rt;
                 Query::read(rt.alloc(), text).err(),

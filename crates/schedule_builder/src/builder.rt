@@ -102,7 +102,7 @@ fn check_orders(alloc: Global, systems: &[SystemDesc], orders: &[Order]) -> Resu
     }
 }
 
-/// Refuses a query that fetches a kind twice.
+/// Refuses a query at fault.
 fn check_queries(alloc: Global, systems: &[SystemDesc]) -> Result<(), BuildFault>
     requires known { KnowsNames (items_of systems.now) }
     requires distinct { HasDistinctNames (items_of systems.now) }
@@ -113,13 +113,9 @@ fn check_queries(alloc: Global, systems: &[SystemDesc]) -> Result<(), BuildFault
 {
     match first_bad(systems) {
         None => Ok(()),
-        Some((item, query)) => {
+        Some((item, query, case)) => {
             let owner = name_at(alloc, systems, item)?;
-            Err(BuildFault::BadQuery {
-                owner,
-                query,
-                case: 2,
-            })
+            Err(BuildFault::BadQuery { owner, query, case })
         }
     }
 }
@@ -159,7 +155,7 @@ fn scheduled(
 
 /// The schedule of declared systems: an edge for each declared order, one level with one sync point, and the schedule order.
 /// Nothing is built where something is at fault; the first fault is told: a name that no item has, an item with an earlier
-/// item's name, an item ordered with itself, a cycle of orders, a query that fetches a kind twice, more than 256 systems.
+/// item's name, an item ordered with itself, a cycle of orders, a query at fault, more than 256 systems.
 pub fn build(alloc: Global, desc: ScheduleDesc) -> Result<Built, BuildFault>
     ensures buildable { OnOk result (IsBuildable desc) }
     ensures systems { IfOk result (HasDeclaredSystems desc) }
@@ -248,19 +244,68 @@ mod tests {
         Ok(())
     }
 
-    #[test]
-    fn tells_a_bad_query(rt: HostRuntime) -> Result<(), Fail> {
-        let alloc = rt.alloc();
+    /// What is told of a system with a query without terms and one with these terms, behind a system without queries.
+    fn told_of_query(alloc: Global, terms: &[Term]) -> Result<String, AllocError> {
         let mut query = Query::new(alloc);
-        query.push(Term::Mut(Kind::Position))?;
-        query.push(Term::Read(Kind::Position))?;
+        for term in terms {
+            query.push(*term)?;
+        }
         let mut params = Params::new(alloc);
         params.add_query(Query::new(alloc))?;
         params.add_query(query)?;
         let mut desc = ScheduleDesc::new(alloc);
         desc.add_system(system(alloc, "first", "", "")?)?;
         desc.add_system(SystemDesc::new(alloc, String::from_str(alloc, "second")?, params))?;
-        assert_eq!(rt; answer(alloc, desc)?.as_str(), "refused B10 second 1 2");
+        answer(alloc, desc)
+    }
+
+    #[test]
+    fn tells_a_bad_query(rt: HostRuntime) -> Result<(), Fail> {
+        let alloc = rt.alloc();
+        let twice = [Term::Mut(Kind::Position), Term::Read(Kind::Position)];
+        assert_eq!(rt;
+            told_of_query(alloc, &twice)?.as_str(),
+            "refused B10 second 1 2"
+        );
+        let opt = [Term::Opt(Kind::Health), Term::Without(Kind::Health)];
+        assert_eq!(rt;
+            told_of_query(alloc, &opt)?.as_str(),
+            "refused B10 second 1 3"
+        );
+        let read = [Term::Read(Kind::Health), Term::Without(Kind::Health)];
+        assert_eq!(rt;
+            told_of_query(alloc, &read)?.as_str(),
+            "refused B10 second 1 1"
+        );
+        let all = [
+            Term::Read(Kind::Health),
+            Term::Without(Kind::Health),
+            Term::Opt(Kind::Health),
+        ];
+        assert_eq!(rt;
+            told_of_query(alloc, &all)?.as_str(),
+            "refused B10 second 1 1"
+        );
+        let good = [Term::Mut(Kind::Health), Term::With(Kind::Frozen)];
+        assert_eq!(rt; told_of_query(alloc, &good)?.as_str(), "[0, 1]");
+        Ok(())
+    }
+
+    #[test]
+    fn tells_the_first_bad_query(rt: HostRuntime) -> Result<(), Fail> {
+        let alloc = rt.alloc();
+        let mut desc = ScheduleDesc::new(alloc);
+        for name in ["a", "b"] {
+            let mut params = Params::new(alloc);
+            for excluding in [Term::Opt(Kind::Health), Term::With(Kind::Health)] {
+                let mut query = Query::new(alloc);
+                query.push(excluding)?;
+                query.push(Term::Without(Kind::Health))?;
+                params.add_query(query)?;
+            }
+            desc.add_system(SystemDesc::new(alloc, String::from_str(alloc, name)?, params))?;
+        }
+        assert_eq!(rt; answer(alloc, desc)?.as_str(), "refused B10 a 0 3");
         Ok(())
     }
 

@@ -18,7 +18,8 @@ pub enum BuildFault {
     DependencyLoop(String),
     /// B6: a cycle of orders, from its least declared item, each item once.
     DependencyCycle(Vec<String>),
-    /// B10: the first query at fault: its system, its number, and the fault (2: a kind is fetched twice).
+    /// B10: the first query at fault: its system, its number, and the least fault that holds (1: a kind is required and
+    /// excluded; 2: a kind is fetched twice; 3: an `opt` term has an excluded kind).
     BadQuery {
         owner: String,
         query: usize,

@@ -1,42 +1,42 @@
-// Queries that fetch a kind twice.
+// Queries at fault.
 
-ghost use Rattle.std.specs.Prelude.{◌≡◌, ℕ, ◌<◌, true, false, map, length, get_or, [], ◌++◌, IfOk, IfSome, IfNone, IsTrue};
-ghost use Rattle.model.specs.QueryFaults.{fetches_twice};
-ghost use Rattle.schedule_builder.specs.Queries.{TellsTwice, TellsFirstTwice};
+ghost use Rattle.std.specs.Prelude.{◌≡◌};
+ghost use Rattle.model.specs.QueryFaults.{query_fault};
+ghost use Rattle.schedule_builder.specs.Queries.{TellsFault, TellsFirstFault};
 
 use crate::desc::SystemDesc;
-use query_plan::check::BadQuery;
 use query_plan::query::Query;
 
-/// Whether a query fetches a kind twice.
-fn is_twice(query: &Query) -> bool
-    ensures { result ≡ fetches_twice query.now }
+/// The number of the least fault of a query.
+fn fault_of(query: &Query) -> Option<u32>
+    ensures { result ≡ query_fault query.now }
 {
     match query.check() {
-        Ok(()) => false,
-        Err(BadQuery::FetchedTwice) => true,
+        Ok(()) => None,
+        Err(fault) => Some(fault.number()),
     }
 }
 
-/// The first of these queries that fetches a kind twice, by its number.
-fn first_twice(queries: &[Query]) -> Option<usize>
-    ensures { TellsTwice queries.now result }
+/// The first of these queries at fault, by its number, with its least fault.
+fn first_at_fault(queries: &[Query]) -> Option<(usize, u32)>
+    ensures { TellsFault queries.now result }
 {
     for (number, query) in queries.iter().enumerate() {
-        if is_twice(query) {
-            return Some(number);
+        if let Some(case) = fault_of(query) {
+            return Some((number, case));
         }
     }
     None
 }
 
-/// The first system and query of it that fetches a kind twice, by their numbers.
-pub(crate) fn first_bad(systems: &[SystemDesc]) -> Option<(usize, usize)>
-    ensures { TellsFirstTwice systems.now result }
+/// The first system with a query at fault and its first such query, by their numbers, with the least fault of that query.
+pub(crate) fn first_bad(systems: &[SystemDesc]) -> Option<(usize, usize, u32)>
+    ensures { TellsFirstFault systems.now result }
 {
     for (item, system) in systems.iter().enumerate() {
-        if let Some(number) = first_twice(system.params().queries()) {
-            return Some((item, number));
+        match first_at_fault(system.params().queries()) {
+            None => {}
+            Some((number, case)) => return Some((item, number, case)),
         }
     }
     None

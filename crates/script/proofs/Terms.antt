@@ -1,10 +1,5 @@
 -- Tests of the terms of a query.
-use Rattle.std.proofs.Common.{◌≡◌, Bool, ◌||◌, List, [], ◌∷◌, map, refl, ap}
-use Rattle.std.specs.List.{list_any}
-
-pub list_any-map : {X Y : Type 0} (p : X → Bool) (h : Y → X) (ys : List Y) → list_any p (map h ys) ≡ list_any (λ y. p (h y)) ys
-list_any-map p h [] = refl
-list_any-map p h (y ∷ ys) = ap (λ b. p (h y) || b) (list_any-map p h ys)
+use Rattle.query_plan.proofs.Terms.{list_any-map}
 
 -- a test of each term, as the definitions have them
 pub ruleset over_terms = (list_any-map)

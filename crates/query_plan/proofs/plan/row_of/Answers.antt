@@ -9,9 +9,9 @@ use Rattle.query_plan.proofs.plan.row_of.Goals as goal
 
 pub loop-term-preserved : goal.loop-term-preserved
 loop-term-preserved c = record {
-  words = rw (c.in_ok-push.ensures.items) (words-more c.args.slot.now.row c.args.terms.now _ c.loop-term.term-index _ _ c.loop-term-test.true (rw c.row.ensures at c.fetch.ensures.words) c.loop-term.invariant.words);
+  words = rw (c.in_ok-push.ensures.items) (words-more c.args.slot.now.row c.args.terms.now _ c.loop-term.term-index _ _ c.loop-term-test.true (rw c.row-row.ensures at c.fetch.ensures.words) c.loop-term.invariant.words);
   fetched = λ m. rw (c.in_ok-push.ensures.items) (fetched-more c.args.terms.now _ c.loop-term.term-index _ _ c.loop-term-test.true (c.loop-term.invariant.fetched m)
-      (c.fetch.ensures.fetched (rw c.row.ensures (admits-each (kinds_of c.args.slot.now.row) c.args.terms.now c.loop-term.term-index _ c.loop-term-test.true m))));
+      (c.fetch.ensures.fetched (rw c.row-row.ensures (admits-each (kinds_of c.args.slot.now.row) c.args.terms.now c.loop-term.term-index _ c.loop-term-test.true m))));
 }
 
 pub returns-clause-shown : goal.returns-clause-shown

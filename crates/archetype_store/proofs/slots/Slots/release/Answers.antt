@@ -1,17 +1,18 @@
 use Rattle.std.proofs.Common.{ap, sym, ◌∙◌}
 use Rattle.model.specs.Commands.{release}
 use Rattle.entity_table.specs.Rows.{with_rows}
+use Rattle.entity_table.proofs.Living.{alive-release}
 use Rattle.entity_table.proofs.WithRows.{release-with_rows}
-use Rattle.archetype_store.specs.Slots.{row_of}
-use Rattle.archetype_store.proofs.SlotRows.{granted_bare, rows-release}
+use Rattle.archetype_store.specs.Archetypes.{row_of}
+use Rattle.archetype_store.proofs.SlotRows.{granted_bare, rows-kept}
 use Rattle.archetype_store.proofs.slots.Slots.release.Goals as goal
 
 pub invariant_of-self : goal.invariant_of-self
-invariant_of-self c = (rw c.release.ensures (rows-release c.args.ids.now c.self.inside.book c.self.inside.rows.items c.self.invariant.0), c.self.invariant.1)
+invariant_of-self c = rw c.release.ensures (rows-kept c.self.inside.book (release c.args.ids.now c.self.inside.book) c.self.inside.archetypes (alive-release c.args.ids.now c.self.inside.book) c.self.invariant)
 
 pub returns : goal.returns
 returns c =
-    let rows = row_of c.self.inside.rows.items in
+    let rows = row_of c.self.inside.archetypes.rows in
     ap (with_rows rows) c.release.ensures
-    ∙ sym (release-with_rows c.args.ids.now rows c.self.inside.book (granted_bare c.self.inside.book c.self.inside.rows.items c.self.invariant.0))
+    ∙ sym (release-with_rows c.args.ids.now rows c.self.inside.book (granted_bare c.self.inside.book c.self.inside.archetypes c.self.invariant))
     ∙ ap (release c.args.ids.now) c.self.view_is

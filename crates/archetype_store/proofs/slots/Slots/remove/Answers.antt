@@ -1,22 +1,24 @@
-use Rattle.std.proofs.Common.{◌<◌, ◌≤◌, length, [], refl, ap, ◌∙◌, rules}
-use Rattle.std.proofs.lemmas.List.{get_or_default}
+use Rattle.std.proofs.Common.{◌≡◌, true, refl, ap, ◌∙◌, rules}
 use Rattle.model.specs.Lists.{update_at}
 use Rattle.model.specs.Rows.{remove_component}
-use Rattle.model.specs.Commands.{with_row}
-use Rattle.archetype_store.proofs.SlotRows.{slots-written, slots-unwritten}
+use Rattle.model.specs.Commands.{is_alive, with_row}
+use Rattle.archetype_store.specs.Archetypes.{row_of}
+use Rattle.archetype_store.proofs.SlotRows.{alive_in_book, holder_lives, rows-written, slots-written}
 use Rattle.archetype_store.proofs.slots.Slots.remove.Goals as goal
 
-pub returns-then-e-len-clause-ok : goal.returns-then-e-len-clause-ok
-returns-then-e-len-clause-ok c =
-    let rows = c.self.inside.rows.items in
-    let f = remove_component c.args.number in
-    let within : c.args.e.index < length rows = search rules in
-    slots-written c.self.inside.book rows c.args.e.index f c.remove.new.self within
-    (c.remove.ensures ∙ ap f (c.index_mut-row.ensures.value ∙ get_or_default rows c.args.e.index c.index_mut-row.result.now [] within))
-    ∙ ap (update_at c.args.e.index (with_row f)) c.self.view_is
+pub remove-requires : goal.remove-requires
+remove-requires c =
+    let alive = alive_in_book c.self.inside.book (row_of c.self.inside.archetypes.rows) c.args.self.now c.args.e c.self.view_is (search rules) in
+    holder_lives c.self.inside.book c.self.inside.archetypes c.self.invariant c.args.e alive
 
-pub returns-else-e-len-clause-ok : goal.returns-else-e-len-clause-ok
-returns-else-e-len-clause-ok c =
-    let rows = c.self.inside.rows.items in
-    let past : length rows ≤ c.args.e.index = search rules in
-    rw (← c.self.view_is) (slots-unwritten c.self.inside.book rows c.args.e.index (remove_component c.args.number) past refl)
+pub invariant_of-self-2 : goal.invariant_of-self-2
+invariant_of-self-2 c =
+    let alive : is_alive c.self.inside.book c.args.e ≡ true =
+    alive_in_book c.self.inside.book (row_of c.self.inside.archetypes.rows) c.args.self.now c.args.e c.self.view_is (search rules) in
+    rows-written c.self.inside.book c.self.inside.archetypes c.remove.new.self c.args.e _ c.in_ok-remove.ensures.ok (λ there. alive) c.self.invariant
+
+pub returns-clause-ok : goal.returns-clause-ok
+returns-clause-ok c =
+    let f = remove_component c.args.number in
+    slots-written c.self.inside.book c.self.inside.archetypes c.remove.new.self c.args.e (f (row_of c.self.inside.archetypes.rows c.args.e.index)) c.in_ok-remove.ensures.ok f refl
+    ∙ ap (update_at c.args.e.index (with_row f)) c.self.view_is

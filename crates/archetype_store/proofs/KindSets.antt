@@ -1,0 +1,158 @@
+-- Tables by their kinds, and kinds in order.
+use Rattle.std.proofs.Common.{◌≡◌, ◌≢◌, ℕ, zero, suc, ◌+◌, ◌<◌, ◌≤◌, Bool, true, false, cond, ◌==◌, ◌&&◌, ◌||◌, List, [], ◌∷◌, ◌++◌, map, filter, position, Some, None, refl, sym, ap, ap₂, subst, ◌∙◌, arith}
+use Rattle.std.proofs.lemmas.Bool.{eqb-true, eq-eqb, and_parts}
+use Rattle.std.proofs.lemmas.Bool.Decides.{nat_tests}
+use Rattle.std.specs.List.{list_all, AllByRecursion}
+use Rattle.kinds.specs.declared.kind.Kind.{Kind}
+use Rattle.kinds.specs.declared.kind.Kind.TheVariants.{Position, Velocity, Health, Damage, Team, Timer, Score, Energy, Charge, Target, Frozen, Hidden}
+use Rattle.kinds.specs.Kind.{kind_count, kind_number, numbers_from}
+use Rattle.model.specs.Lists.{has}
+use Rattle.column_store.specs.declared.stamped.StampedValue.{StampedValue}
+use Rattle.column_store.specs.Cells.{stamped_number}
+use Rattle.column_store.specs.Kinds.{in_order, AreBelow}
+use Rattle.column_store.specs.Places.{IsPlace, IsNowhere}
+use Rattle.column_store.specs.Table.{TableValue, empty_table, is_home}
+use Rattle.column_store.proofs.Rows.{place_from_position, nowhere_from_position}
+use Rattle.archetype_store.specs.Tables.{kinds_at, are_same, AreShaped, AreUnlike, IsGrown}
+use Rattle.archetype_store.proofs.Held.{grown_more}
+
+-- ---- two lists of kinds
+
+same_kinds : (ns ms : List ℕ) → are_same ns ms ≡ true → ns ≡ ms
+same_kinds [] [] h = refl
+same_kinds [] (m ∷ ms) h = absurd (cc)
+same_kinds (n ∷ ns) [] h = absurd (cc)
+same_kinds (n ∷ ns) (m ∷ ms) h = let p = and_parts (n == m) (are_same ns ms) h in ap₂ ◌∷◌ (eqb-true n m p.0) (same_kinds ns ms p.1)
+
+kinds_same : (ns : List ℕ) → are_same ns ns ≡ true
+kinds_same [] = refl
+kinds_same (n ∷ ns) = ap (λ b. b && are_same ns ns) (eq-eqb n n refl) ∙ kinds_same ns
+
+-- ---- the table of a list of kinds
+
+kinds_of_place : (ns : List ℕ) (tables : List TableValue) (i : ℕ) → IsPlace (λ ks. are_same ks ns) (map (λ (t : TableValue). t.kinds) tables) i → kinds_at tables i ≡ ns
+kinds_of_place ns [] i h = absurd h
+kinds_of_place ns (t ∷ ts) zero h = same_kinds t.kinds ns h
+kinds_of_place ns (t ∷ ts) (suc i) h = kinds_of_place ns ts i h.1
+
+-- one that was found
+pub kinds_found : (ns : List ℕ) (tables : List TableValue) (i : ℕ) → position (λ (t : TableValue). are_same t.kinds ns) tables ≡ Some i → kinds_at tables i ≡ ns
+kinds_found ns tables i h = kinds_of_place ns tables i (place_from_position (λ (t : TableValue). t.kinds) (λ ks. are_same ks ns) tables i h)
+
+others : (ns : List ℕ) (tables : List TableValue) → IsNowhere (λ ks. are_same ks ns) (map (λ (t : TableValue). t.kinds) tables) → AllByRecursion (λ t. t.kinds ≢ ns) tables
+others ns [] h = tt
+others ns (t ∷ ts) h = (λ same. (let both : are_same ns ns ≡ false = ap (λ ks. are_same ks ns) (sym same) ∙ h.0 in let self = kinds_same ns in absurd (let e : true ≡ false = sym self ∙ both in cc)), others ns ts h.1)
+
+-- ---- kinds in order
+
+kind_below : (k : Kind) → kind_number k < kind_count
+kind_below Position = omega arith
+kind_below Velocity = omega arith
+kind_below Health = omega arith
+kind_below Damage = omega arith
+kind_below Team = omega arith
+kind_below Timer = omega arith
+kind_below Score = omega arith
+kind_below Energy = omega arith
+kind_below Charge = omega arith
+kind_below Target = omega arith
+kind_below Frozen = omega arith
+kind_below Hidden = omega arith
+
+each_below : (ks : List Kind) → AllByRecursion (λ n. n < kind_count) (map kind_number ks)
+each_below [] = tt
+each_below (k ∷ ks) = (kind_below k, each_below ks)
+
+not_equal : (n m : ℕ) → n < m → (n == m) ≡ false
+not_equal n m l = grind (arith, nat_tests)
+
+not_equal_from : (n m : ℕ) → n < m → (m == n) ≡ false
+not_equal_from n m l = grind (arith, nat_tests)
+
+above_has : (n : ℕ) (ns : List ℕ) → AllByRecursion (λ m. n < m) ns → has n ns ≡ false
+above_has n [] h = refl
+above_has n (m ∷ ms) h = ap (λ b. b || has n ms) (not_equal_from n m h.0) ∙ above_has n ms h.1
+
+-- among numbers from a greater one on a number is passed over
+passed : (n first count : ℕ) (ns : List ℕ) → n < first → filter (λ m. has m (n ∷ ns)) (numbers_from first count) ≡ filter (λ m. has m ns) (numbers_from first count)
+passed n first zero ns l = refl
+passed n first (suc count) ns l =
+    let e : has first (n ∷ ns) ≡ has first ns = ap (λ b. b || has first ns) (not_equal n first l) in
+    ap₂ (λ (b : Bool) rest. cond b (first ∷ rest) rest) e (passed n (1 + first) count ns (omega arith))
+
+lower : (n first : ℕ) → first ≤ n → (ns : List ℕ) → AllByRecursion (λ k. n < k) ns → AllByRecursion (λ k. 1 + first ≤ k) ns
+lower n first l [] h = tt
+lower n first l (k ∷ ks) h = ((let e : n < k = h.0 in let f : 1 + first ≤ k = omega arith in f), lower n first l ks h.1)
+
+above_each : (n first : ℕ) → first ≤ n → (ns : List ℕ) → AllByRecursion (λ k. n < k) ns → AllByRecursion (λ k. first < k) ns
+above_each n first l [] h = tt
+above_each n first l (k ∷ ks) h = ((let e : n < k = h.0 in let f : first < k = omega arith in f), above_each n first l ks h.1)
+
+upper : (first count : ℕ) (ns : List ℕ) → AllByRecursion (λ n. n < first + suc count) ns → AllByRecursion (λ n. n < (1 + first) + count) ns
+upper first count [] h = tt
+upper first count (k ∷ ks) h = ((let e : k < first + suc count = h.0 in let f : k < (1 + first) + count = omega arith in f), upper first count ks h.1)
+
+above_first : (first n : ℕ) → first ≤ n → (first == n) ≡ false → 1 + first ≤ n
+above_first first n l h = grind (arith, nat_tests)
+
+-- rising numbers of a range are what is among them of the range
+in_order_from : (first count : ℕ) (ns : List ℕ) → AreBelow ns → AllByRecursion (λ n. first ≤ n) ns → AllByRecursion (λ n. n < first + count) ns → filter (λ m. has m ns) (numbers_from first count) ≡ ns
+in_order_from first zero [] b l u = refl
+in_order_from first zero (n ∷ ns) b l u = absurd (let e : first ≤ n = l.0 in let f : n < first + 0 = u.0 in omega arith)
+in_order_from first (suc count) [] b l u = in_order_from (1 + first) count [] tt tt tt
+in_order_from first (suc count) (n ∷ ns) b l u =
+    go (first == n) refl (λ low. in_order_from (1 + first) count ns b.1 low (upper first count ns u.1)) (λ low. in_order_from (1 + first) count (n ∷ ns) b low (upper first count (n ∷ ns) u))
+  where
+    go : (e : Bool) → (first == n) ≡ e →
+        (AllByRecursion (λ k. 1 + first ≤ k) ns → filter (λ m. has m ns) (numbers_from (1 + first) count) ≡ ns) →
+        (AllByRecursion (λ k. 1 + first ≤ k) (n ∷ ns) → filter (λ m. has m (n ∷ ns)) (numbers_from (1 + first) count) ≡ n ∷ ns) →
+        filter (λ m. has m (n ∷ ns)) (numbers_from first (suc count)) ≡ n ∷ ns
+    go true h here later =
+        let same : first ≡ n = eqb-true first n h in
+        let rest = filter (λ m. has m (n ∷ ns)) (numbers_from (1 + first) count) in
+        let there : has first (n ∷ ns) ≡ true = ap (λ b. b || has first ns) (ap (λ m. n == m) same ∙ eq-eqb n n refl) in
+        let low : first ≤ n = l.0 in
+        ap (λ (b : Bool). cond b (first ∷ rest) rest) there
+        ∙ ap₂ ◌∷◌ same (passed n (1 + first) count ns (omega arith) ∙ here (lower n first low ns b.0))
+    go false h here later =
+        let rest = filter (λ m. has m (n ∷ ns)) (numbers_from (1 + first) count) in
+        let low : 1 + first ≤ n = above_first first n l.0 h in
+        let more : first ≤ n = l.0 in
+        let below : first < n = omega arith in
+        let not_there : has first (n ∷ ns) ≡ false = above_has first (n ∷ ns) (below, above_each n first more ns b.0) in
+        ap (λ (b : Bool). cond b (first ∷ rest) rest) not_there ∙ later (low, lower n first more ns b.0)
+
+each_from_zero : (ns : List ℕ) → AllByRecursion (λ n. 0 ≤ n) ns
+each_from_zero [] = tt
+each_from_zero (n ∷ ns) = (omega arith, each_from_zero ns)
+
+each_below_count : (ns : List ℕ) → AllByRecursion (λ n. n < kind_count) ns → AllByRecursion (λ n. n < 0 + kind_count) ns
+each_below_count [] h = tt
+each_below_count (n ∷ ns) h = ((let e : n < kind_count = h.0 in let f : n < 0 + kind_count = omega arith in f), each_below_count ns h.1)
+
+-- kinds that rise are in order
+in_order_kinds : (ks : List Kind) → AreBelow (map kind_number ks) → in_order (map kind_number ks) ≡ map kind_number ks
+in_order_kinds ks b = in_order_from 0 kind_count (map kind_number ks) b (each_from_zero (map kind_number ks)) (each_below_count (map kind_number ks) (each_below ks))
+
+-- ---- a table that is made
+
+home_new : (kinds : List ℕ) → list_all is_home (empty_table kinds).standings ≡ true
+home_new [] = refl
+home_new (k ∷ ks) = home_new ks
+
+-- the table of kinds that rise
+pub made_is : (made : TableValue) (ks : List Kind) (ns : List ℕ) → map kind_number ks ≡ ns → AreBelow ns → made ≡ empty_table (in_order (map kind_number ks)) → made ≡ empty_table ns
+made_is made ks ns kinds below is = is ∙ ap empty_table (in_order_kinds ks (subst AreBelow (sym kinds) below) ∙ kinds)
+
+module _ (tables new : List TableValue) (ns : List ℕ) where
+  pub grown_by_made : AreBelow ns → ns ≢ [] → position (λ (t : TableValue). are_same t.kinds ns) tables ≡ None → new ≡ tables ++ empty_table ns ∷ [] →
+      AreShaped tables → AreUnlike tables → IsGrown tables new
+  grown_by_made below some none pushed shaped unlike =
+      subst (IsGrown tables) (sym pushed)
+      (grown_more tables ns (record { below = below; some = some; home = home_new ns })
+      (others ns tables (nowhere_from_position (λ (t : TableValue). t.kinds) (λ ks. are_same ks ns) tables none)) shaped unlike)
+
+-- components have kinds
+pub some_numbers : (ss : List StampedValue) → ss ≢ [] → map stamped_number ss ≢ []
+some_numbers [] h = λ e. h refl
+some_numbers (s ∷ ss) h = λ e. cc

@@ -1,0 +1,151 @@
+-- What the steps of one row come to: insertions, removals and writes of a kind.
+use Rattle.std.proofs.Common.{◌≡◌, ◌≢◌, ℕ, zero, suc, ◌<◌, true, false, ℤ, List, [], ◌∷◌, length, set, map, Option, Some, None, option_map, is_some, refl, sym, ap, subst, ◌∙◌, arith}
+use Rattle.model.specs.Lists.{is_there}
+use Rattle.model.specs.State.{Component}
+use Rattle.model.specs.declared.entities.Entity.{Entity}
+use Rattle.model.specs.Rows.{cell_at, IsRising, insert_component, remove_component}
+use Rattle.model.specs.Overlay.{row_after}
+use Rattle.model.proofs.RowShapes.{rising-insert, rising-remove}
+use Rattle.column_store.specs.declared.stamped.StampedValue.{StampedValue}
+use Rattle.column_store.specs.Cells.{stamped_number}
+use Rattle.column_store.specs.Kinds.{AreBelow}
+use Rattle.column_store.specs.Table.{TableValue}
+use Rattle.archetype_store.specs.declared.places.Place.{Place}
+use Rattle.archetype_store.specs.Row.{component_of, only}
+use Rattle.archetype_store.specs.Tables.{kinds_at, held_at, row_or_none, IsHeldNow, IsLeft, IsGrown}
+use Rattle.archetype_store.specs.Archetypes.{archetypes_of, place_of, row_in, holder_in, IsHolder, AreArchetypes, HasRow}
+use Rattle.archetype_store.proofs.Held.{held_within, shape_at}
+use Rattle.archetype_store.proofs.Laid.{moved_whole, moved_row, somewhere, kinds_there, row_there}
+use Rattle.archetype_store.proofs.Moves.{moved_laid, moved_cleared, moved_written, row_placed, grown_whole, grown_alike, row_from_alike}
+use Rattle.archetype_store.proofs.RowEdits.{there-inserted, kinds-written, kinds-components, below_from_rising, rising_from_below}
+
+-- ---- places
+
+-- no place, where it is none
+pub none_of : {A : Type 0} (o : Option A) → ((x : A) → o ≡ Some x → ⊥) → o ≡ None
+none_of None h = refl
+none_of (Some x) h = absurd (h x refl)
+
+some_of_none : (p : Place) → None ≡ Some p → ⊥
+some_of_none p h = cc
+
+-- an index with a place is there
+placed_within : (P : List (Option Place)) (i : ℕ) (p : Place) → place_of P i ≡ Some p → i < length P
+placed_within [] i p h = absurd (some_of_none p h)
+placed_within (o ∷ P) zero p h = omega arith
+placed_within (o ∷ P) (suc i) p h = let l = placed_within P i p h in omega arith
+
+-- ---- a row that is laid
+
+some_components : (ss : List StampedValue) → ss ≢ [] → is_there (map component_of ss) ≡ true
+some_components [] h = absurd (h refl)
+some_components (s ∷ ss) h = refl
+
+module _ (T T₁ T₂ T₃ : List TableValue) (P : List (Option Place)) (e : Entity) (table : ℕ) (ss : List StampedValue) where
+  pub laid : AreArchetypes T P → e.index < length P → IsHolder e.generation (holder_in (place_of P e.index)) → ss ≢ [] →
+      ((p : Place) → place_of P e.index ≡ Some p → kinds_at T p.table ≢ map stamped_number ss) → IsGrown T T₁ → kinds_at T₁ table ≡ map stamped_number ss →
+      IsHeldNow T₁ T₂ table e (Some (map component_of ss)) → IsLeft T₂ T₃ (place_of P e.index) e →
+      AreArchetypes T₃ (set P e.index (Some (record { generation = e.generation; table = table })))
+      × HasRow (archetypes_of T P) e (map component_of ss) (archetypes_of T₃ (set P e.index (Some (record { generation = e.generation; table = table }))))
+  laid h within fits some other grown kinds put left =
+      let whole = grown_whole T T₁ P grown h in
+      let moved = moved_laid T₁ T₂ T₃ P e table (map component_of ss) whole within apart (kinds-components ss ∙ sym kinds) (some_components ss some) put left in (
+        moved_whole T₁ T₃ P (set P e.index (Some (record { generation = e.generation; table = table }))) e (Some table) (map component_of ss) whole fits moved,
+        row_from_alike (archetypes_of T P) (archetypes_of T₁ P) (archetypes_of T₃ (set P e.index (Some (record { generation = e.generation; table = table })))) e (map component_of ss)
+            (grown_alike T T₁ P grown) (moved_row T₁ T₃ P (set P e.index (Some (record { generation = e.generation; table = table }))) e (Some table) (map component_of ss) moved),
+      )
+    where
+      apart : (p : Place) → place_of P e.index ≡ Some p → kinds_at T₁ p.table ≢ kinds_at T₁ table
+      apart p at same =
+          let gen : p.generation ≡ e.generation = subst (λ o. IsHolder e.generation (holder_in o)) at fits in
+          other p at (sym (grown.kinds p.table (held_within T p.table e (somewhere T P h e p at gen))) ∙ same ∙ kinds)
+
+-- ---- where an entity has a place
+
+module _ (T : List TableValue) (P : List (Option Place)) (e : Entity) (p : Place) (h : AreArchetypes T P) (fits : IsHolder e.generation (holder_in (place_of P e.index)))
+    (at : place_of P e.index ≡ Some p) where
+  -- it is of the generation there
+  gen_there : p.generation ≡ e.generation
+  gen_there = subst (λ o. IsHolder e.generation (holder_in o)) at fits
+
+  is_held : is_some (held_at T p.table e) ≡ true
+  is_held = somewhere T P h e p at gen_there
+
+  -- its row
+  pub row_is : row_in T e.index (place_of P e.index) ≡ row_or_none (held_at T p.table e)
+  row_is = ap (row_in T e.index) at ∙ row_placed T P e h fits p at gen_there
+
+  kinds_or_none : (o : Option (List Component)) → held_at T p.table e ≡ o → is_some o ≡ true → map (λ (c : Component). c.kind) (row_or_none o) ≡ kinds_at T p.table
+  kinds_or_none None k s = absurd (cc)
+  kinds_or_none (Some row) k s = kinds_there T P h e p.table row k
+
+  -- the kinds of its row
+  kinds_held : map (λ (c : Component). c.kind) (row_or_none (held_at T p.table e)) ≡ kinds_at T p.table
+  kinds_held = kinds_or_none (held_at T p.table e) refl is_held
+
+  below_held : AreBelow (kinds_at T p.table)
+  below_held = (shape_at T p.table (held_within T p.table e is_held) h.shaped).below
+
+  -- its row rises
+  rising_held : IsRising (row_or_none (held_at T p.table e))
+  rising_held = rising_from_below (row_or_none (held_at T p.table e)) (subst AreBelow (sym kinds_held) below_held)
+
+  -- it is taken away
+  pub cleared : (T' : List TableValue) → IsHeldNow T T' p.table e None →
+      AreArchetypes T' (set P e.index None) × HasRow (archetypes_of T P) e [] (archetypes_of T' (set P e.index None))
+  cleared T' now =
+      let moved = moved_cleared T T' P e p h at (placed_within P e.index p at) now in
+      (moved_whole T T' P (set P e.index None) e None [] h fits moved, moved_row T T' P (set P e.index None) e None [] moved)
+
+  -- a component is written
+  pub written : (T' : List TableValue) (t k : ℕ) (w : List ℤ) → IsHeldNow T T' p.table e (Some (row_after t (only k w) (row_or_none (held_at T p.table e)))) →
+      AreArchetypes T' P × HasRow (archetypes_of T P) e (row_after t (only k w) (row_in T e.index (place_of P e.index))) (archetypes_of T' P)
+  written T' t k w now =
+      let row = row_after t (only k w) (row_or_none (held_at T p.table e)) in
+      let kinds = kinds-written t (only k w) (row_or_none (held_at T p.table e)) ∙ kinds_held in
+      let moved = moved_written T T' P e p h at row gen_there kinds (row_there T P h e p.table row is_held kinds) now in (
+        moved_whole T T' P P e (Some p.table) row h fits moved,
+        subst (λ r. HasRow (archetypes_of T P) e (row_after t (only k w) r) (archetypes_of T' P)) (sym row_is) (moved_row T T' P P e (Some p.table) row moved),
+      )
+
+  -- an insertion of a kind that is there is a write
+  pub inserted_there : (t k : ℕ) (w : List ℤ) → is_some (cell_at (row_or_none (held_at T p.table e)) k) ≡ true →
+      insert_component t k w (row_in T e.index (place_of P e.index)) ≡ row_after t (only k w) (row_in T e.index (place_of P e.index))
+  inserted_there t k w some = ap (insert_component t k w) row_is ∙ there-inserted t k w (row_or_none (held_at T p.table e)) rising_held some ∙ sym (ap (row_after t (only k w)) row_is)
+
+  -- its components
+  pub row_read : (ss : List StampedValue) → held_at T p.table e ≡ Some (map component_of ss) → row_in T e.index (place_of P e.index) ≡ map component_of ss
+  row_read ss k = row_is ∙ ap row_or_none k
+
+  rising_read : (ss : List StampedValue) → held_at T p.table e ≡ Some (map component_of ss) → IsRising (map component_of ss)
+  rising_read ss k = subst IsRising (ap row_or_none k) rising_held
+
+  -- with one more their kinds rise
+  pub below_inserted : (ss more : List StampedValue) (t k : ℕ) (w : List ℤ) → held_at T p.table e ≡ Some (map component_of ss) →
+      map component_of more ≡ insert_component t k w (map component_of ss) → AreBelow (map stamped_number more)
+  below_inserted ss more t k w at_is is = subst AreBelow (ap (map (λ (c : Component). c.kind)) (sym is) ∙ kinds-components more)
+      (below_from_rising (insert_component t k w (map component_of ss)) (rising-insert t k w (map component_of ss) (rising_read ss at_is)))
+
+  -- with one less too
+  pub below_removed : (ss less : List StampedValue) (k : ℕ) → held_at T p.table e ≡ Some (map component_of ss) →
+      map component_of less ≡ remove_component k (map component_of ss) → AreBelow (map stamped_number less)
+  below_removed ss less k at_is is = subst AreBelow (ap (map (λ (c : Component). c.kind)) (sym is) ∙ kinds-components less)
+      (below_from_rising (remove_component k (map component_of ss)) (rising-remove k (map component_of ss) (rising_read ss at_is)))
+
+-- the kinds of the row of an index are those of its table
+pub kinds_at_place : (T : List TableValue) (P : List (Option Place)) → AreArchetypes T P → (i : ℕ) (p : Place) → place_of P i ≡ Some p →
+    map (λ (c : Component). c.kind) (row_in T i (place_of P i)) ≡ kinds_at T p.table
+kinds_at_place T P h i p at =
+    let e : Entity = record { index = i; generation = p.generation } in
+    let fits : IsHolder e.generation (holder_in (place_of P e.index)) = subst (λ o. IsHolder p.generation (holder_in o)) (sym at) refl in
+    ap (map (λ (c : Component). c.kind)) (row_is T P e p h fits at) ∙ kinds_held T P e p h fits at
+
+-- a result that is there, by what it is seen as
+pub some_seen : {A B : Type 0} (f : A → B) (o : Option A) (x : Option B) → option_map f o ≡ x → is_some o ≡ true → is_some x ≡ true
+some_seen f None x h s = absurd (cc)
+some_seen f (Some a) x h s = ap is_some (sym h)
+
+-- one that isn't
+pub none_seen : {A B : Type 0} (f : A → B) (o : Option A) (x : Option B) → option_map f o ≡ x → is_some o ≡ false → x ≡ None
+none_seen f None x h s = sym h
+none_seen f (Some a) x h s = absurd (cc)

@@ -1,0 +1,77 @@
+-- The rows by index that tables of archetypes hold, and what a change of one row leaves.
+use Rattle.std.specs.Prelude.{◌≡◌, ℕ, Bool, false, cond, ◌==◌, ◌&&◌, List, [], get_or, map, Option, Some, None, option_map, is_some}
+use Rattle.model.specs.Lists.{map_index, with_at, is_there}
+use Rattle.model.specs.State.{Component}
+use Rattle.model.specs.declared.entities.Entity.{Entity}
+use Rattle.column_store.specs.Table.{TableValue}
+use Rattle.archetype_store.specs.declared.places.Place.{Place}
+use Rattle.archetype_store.specs.Tables.{kinds_at, held_at, row_or_none, AreShaped, AreUnlike}
+
+-- rows by index, and of each index that has a row the generation of its entity
+pub record ArchetypesValue : Type 0 where
+  pub rows : List (List Component)
+  pub holders : List (Option ℕ)
+
+-- the row of an index: none past the end
+abbrev pub row_of : List (List Component) → ℕ → List Component
+row_of rows index = get_or rows index []
+
+-- the generation of the entity that has the row of an index
+abbrev pub holder_of : List (Option ℕ) → ℕ → Option ℕ
+holder_of holders index = get_or holders index None
+
+-- nobody, or an entity of this generation
+abbrev pub IsHolder : ℕ → Option ℕ → Type 0
+IsHolder generation None = Unit {0}
+IsHolder generation (Some g) = g ≡ generation
+
+-- who has a row: nobody where it is empty
+abbrev pub holder_if : List Component → ℕ → Option ℕ
+holder_if row generation = cond (is_there row) (Some generation) None
+
+-- rows that are alike at each index, of the same entities
+pub record AreAlike (old new : ArchetypesValue) : Type 0 where
+  pub rows : (i : ℕ) → row_of new.rows i ≡ row_of old.rows i
+  pub holders : (i : ℕ) → holder_of new.holders i ≡ holder_of old.holders i
+
+-- an entity has this row now, and each other index what it had
+pub record HasRow (old : ArchetypesValue) (e : Entity) (row : List Component) (new : ArchetypesValue) : Type 0 where
+  pub rows : (i : ℕ) → row_of new.rows i ≡ with_at e.index row (row_of old.rows) i
+  pub holders : (i : ℕ) → holder_of new.holders i ≡ with_at e.index (holder_if row e.generation) (holder_of old.holders) i
+
+-- ---- tables and places
+
+-- where the entity of an index is
+abbrev pub place_of : List (Option Place) → ℕ → Option Place
+place_of places index = get_or places index None
+
+-- whether a place is that of an entity of this generation in this table
+abbrev pub is_place : Option Place → ℕ → ℕ → Bool
+is_place None generation table = false
+is_place (Some p) generation table = (p.generation == generation) && (p.table == table)
+
+-- the row of the entity of an index that is at a place
+abbrev pub row_in : List TableValue → ℕ → Option Place → List Component
+row_in tables index None = []
+row_in tables index (Some p) = row_or_none (held_at tables p.table (record { index = index; generation = p.generation }))
+
+-- the generation at a place
+abbrev pub holder_in : Option Place → Option ℕ
+holder_in place = option_map (λ p. p.generation) place
+
+-- what tables and places are to contracts
+abbrev pub archetypes_of : List TableValue → List (Option Place) → ArchetypesValue
+archetypes_of tables places = record { rows = map_index (row_in tables) places; holders = map holder_in places }
+
+-- a row that is there has the kinds of its table
+abbrev pub IsOfKinds : List ℕ → Option (List Component) → Type 0
+IsOfKinds kinds None = Unit {0}
+IsOfKinds kinds (Some row) = map (λ c. c.kind) row ≡ kinds
+
+-- what holds of tables and places: an entity has a row in a table just where its index has its place there, its components are of the
+-- table's kinds, and no two tables have the same kinds
+pub record AreArchetypes (tables : List TableValue) (places : List (Option Place)) : Type 0 where
+  pub agree : (t : ℕ) (e : Entity) → is_some (held_at tables t e) ≡ is_place (place_of places e.index) e.generation t
+  pub of_kinds : (t : ℕ) (e : Entity) → IsOfKinds (kinds_at tables t) (held_at tables t e)
+  pub shaped : AreShaped tables
+  pub unlike : AreUnlike tables

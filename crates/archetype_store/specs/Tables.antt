@@ -1,0 +1,87 @@
+-- Tables of archetypes: what they hold of an entity, and what a change of one row leaves.
+use Rattle.std.specs.Prelude.{◌≡◌, ◌≢◌, ℕ, ◌<◌, Bool, true, false, cond, ◌==◌, ◌&&◌, List, [], ◌∷◌, length, get_or, map, Option, Some, None, option_map}
+use Rattle.std.specs.List.{list_all, AllByRecursion}
+use Rattle.model.specs.State.{Component}
+use Rattle.model.specs.declared.entities.Entity.{Entity}
+use Rattle.archetype_store.specs.declared.places.Place.{Place}
+use Rattle.column_store.specs.Order.{is_same}
+use Rattle.column_store.specs.Kinds.{AreBelow}
+use Rattle.column_store.specs.Components.{components_of}
+use Rattle.column_store.specs.Table.{Standing, TableValue, empty_table, is_home, row_of}
+
+-- the table of a number: past the end one without kinds
+abbrev pub table_at : List TableValue → ℕ → TableValue
+table_at tables table = get_or tables table (empty_table [])
+
+-- the kinds of a table
+abbrev pub kinds_at : List TableValue → ℕ → List ℕ
+kinds_at tables table = (table_at tables table).kinds
+
+-- ---- what is held
+
+-- the components of an entity in a table
+abbrev pub held_in : TableValue → Entity → Option (List Component)
+held_in t e = option_map (components_of t.kinds) (row_of e t.rows)
+
+-- the components of an entity in the table of a number
+abbrev pub held_at : List TableValue → ℕ → Entity → Option (List Component)
+held_at tables table e = held_in (table_at tables table) e
+
+-- a row that may not be there
+abbrev pub row_or_none : Option (List Component) → List Component
+row_or_none None = []
+row_or_none (Some row) = row
+
+-- whether two lists of kinds are one
+abbrev pub are_same : List ℕ → List ℕ → Bool
+are_same [] [] = true
+are_same [] (m ∷ ms) = false
+are_same (n ∷ ns) [] = false
+are_same (n ∷ ns) (m ∷ ms) = (n == m) && are_same ns ms
+
+-- ---- what holds of the tables
+
+-- the kinds of a table rise, it has one, and all its columns are at home
+pub record IsShape (kinds : List ℕ) (standings : List Standing) : Type 0 where
+  pub below : AreBelow kinds
+  pub some : kinds ≢ []
+  pub home : list_all is_home standings ≡ true
+
+-- each table is of this shape
+abbrev pub AreShaped : List TableValue → Type 0
+AreShaped tables = AllByRecursion (λ t. IsShape t.kinds t.standings) tables
+
+-- no two tables have the same kinds
+abbrev pub AreUnlike : List TableValue → Type 0
+AreUnlike [] = Unit {0}
+AreUnlike (t ∷ ts) = AllByRecursion (λ u. t.kinds ≢ u.kinds) ts × AreUnlike ts
+
+-- a table without its rows
+abbrev pub shape_of : TableValue → TableValue
+shape_of t = record { kinds = t.kinds; standings = t.standings; rows = [] }
+
+-- ---- a change
+
+-- what tables hold of one entity in one table is this now, and nothing else has changed
+pub record IsHeldNow (old new : List TableValue) (table : ℕ) (e : Entity) (held : Option (List Component)) : Type 0 where
+  pub others : (t : ℕ) (x : Entity) → is_same e x ≡ false → held_at new t x ≡ held_at old t x
+  pub here : (t : ℕ) → held_at new t e ≡ cond (t == table) held (held_at old t e)
+  pub shapes : map shape_of new ≡ map shape_of old
+
+-- there may be one more table, without rows
+pub record IsGrown (old new : List TableValue) : Type 0 where
+  pub held : (t : ℕ) (x : Entity) → held_at new t x ≡ held_at old t x
+  pub kinds : (t : ℕ) → t < length old → kinds_at new t ≡ kinds_at old t
+  pub shaped : AreShaped new
+  pub unlike : AreUnlike new
+
+-- whether a place is in a table
+abbrev pub is_in : Option Place → ℕ → Bool
+is_in None table = false
+is_in (Some p) table = table == p.table
+
+-- the row of an entity is no longer where it was, and nothing else has changed
+pub record IsLeft (old new : List TableValue) (place : Option Place) (e : Entity) : Type 0 where
+  pub others : (t : ℕ) (x : Entity) → is_same e x ≡ false → held_at new t x ≡ held_at old t x
+  pub here : (t : ℕ) → held_at new t e ≡ cond (is_in place t) None (held_at old t e)
+  pub shapes : map shape_of new ≡ map shape_of old

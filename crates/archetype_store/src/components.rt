@@ -1,0 +1,71 @@
+// The components of a row as a list, in strictly rising kinds.
+
+ghost use Rattle.std.specs.Prelude.{◌≡◌, ◌==◌, nat_le, suc, length, map, position, None, IsSome, OnOk, OnErr};
+ghost use Rattle.kinds.specs.Value.{value_number, value_words};
+ghost use Rattle.model.specs.Rows.{cell_at, insert_component, remove_component};
+ghost use Rattle.archetype_store.specs.Row.{component_of, added_at};
+
+use change_ticks::clock::Tick;
+use change_ticks::stamp::Stamp;
+use column_store::stamped::StampedValue;
+use kinds::value::Value;
+use std::alloc::AllocError;
+
+// A component that is added at this tick.
+pub(crate) fn added(value: Value, tick: Tick) -> StampedValue
+    ensures { result ≡ added_at tick value }
+{
+    StampedValue {
+        value,
+        stamp: Stamp {
+            added: tick,
+            changed: tick,
+        },
+    }
+}
+
+// The place of the component of the kind with this number.
+fn index_of(components: &[StampedValue], number: u32) -> Option<usize>
+    ensures { result ≡ position (λ s. value_number s.value == number) components.now }
+{
+    components.iter().position(|s| s.value.number() == number)
+}
+
+// The place of the first component whose kind's number is not less.
+fn place_of(components: &[StampedValue], number: u32) -> Option<usize>
+    ensures { result ≡ position (λ s. nat_le number (value_number s.value)) components.now }
+{
+    components.iter().position(|s| number <= s.value.number())
+}
+
+// Adds a component at a tick to those of a row that has none of its kind.
+pub(crate) fn insert_new(
+    components: &mut Vec<StampedValue>,
+    value: Value,
+    tick: Tick,
+) -> Result<(), AllocError>
+    requires { cell_at (map component_of components.old.items) (value_number value) ≡ None }
+    ensures row { OnOk result (map component_of components.new.items
+        ≡ insert_component tick (value_number value) (value_words value) (map component_of components.old.items)) }
+    ensures more { OnOk result (length components.new.items ≡ suc (length components.old.items)) }
+{
+    match place_of(components, value.number()) {
+        None => components.push(added(value, tick))?,
+        Some(place) => components.insert(place, added(value, tick))?,
+    }
+    Ok(())
+}
+
+// Takes the component of the kind with this number from those of a row that has one.
+pub(crate) fn take_out(components: &mut Vec<StampedValue>, number: u32)
+    requires { IsSome (cell_at (map component_of components.old.items) number) }
+    ensures row { map component_of components.new.items ≡ remove_component number (map component_of components.old.items) }
+    ensures fewer { suc (length components.new.items) ≡ length components.old.items }
+{
+    match index_of(components, number) {
+        None => unreachable!(),
+        Some(place) => {
+            components.remove(place);
+        }
+    }
+}

@@ -1,0 +1,299 @@
+// What the store does in a row of calls.
+
+ghost use Rattle.std.specs.Prelude.{◌≡◌, All};
+ghost use Rattle.entity_table.specs.Ids.{IsGranted, AreApart};
+
+use super::*;
+use kinds::component::{Frozen, Health, Position, Velocity};
+use std::test::Fail;
+
+const FIRST: Entity = Entity {
+    index: 0,
+    generation: 1,
+};
+
+const SECOND: Entity = Entity {
+    index: 1,
+    generation: 1,
+};
+
+const THIRD: Entity = Entity {
+    index: 2,
+    generation: 1,
+};
+
+// Makes so many entities live, at indices from the first one on.
+fn spawn(alloc: Global, world: &mut World, count: u32) -> Result<(), Fail> {
+    let ids = world.grant(alloc, count)?;
+    settle_used(world, ids.as_slice());
+    Ok(())
+}
+
+// Settles all of these granted ids as used.
+fn settle_used(world: &mut World, ids: &[Entity])
+    requires granted { All (IsGranted world.old.state.slots) ids.now }
+    requires apart { AreApart ids.now }
+{
+    world.settle(ids, &[]);
+}
+
+// Three entities: the first is frozen, the second has health, the third both. All were added at tick 1.
+fn three(alloc: Global) -> Result<World, Fail> {
+    let mut world = World::new(alloc, Clock::at(4))?;
+    spawn(alloc, &mut world, 3)?;
+    world.insert(FIRST, Frozen, 1)?;
+    world.insert(SECOND, Health { v: 3 }, 1)?;
+    world.insert(THIRD, Health { v: 4 }, 1)?;
+    world.insert(THIRD, Frozen, 1)?;
+    Ok(world)
+}
+
+#[test]
+fn starts_empty(rt: HostRuntime) -> Result<(), Fail> {
+    let mut world = World::new(rt.alloc(), Clock::at(1))?;
+    assert_eq!(rt; world.slot_count(), 0);
+    assert_eq!(rt;
+        (world.res(Res::Step), world.res_changed(Res::Step)),
+        (0, 1)
+    );
+    assert_eq!(rt; world.next()?, 2);
+    world.set_res(Res::Step, 7, 2);
+    assert_eq!(rt;
+        (world.res(Res::Step), world.res_changed(Res::Step)),
+        (7, 2)
+    );
+    Ok(())
+}
+
+#[test]
+fn grants_the_least_vacant(rt: HostRuntime) -> Result<(), Fail> {
+    let mut world = World::new(rt.alloc(), Clock::at(1))?;
+    let ids = world.grant(rt.alloc(), 2)?;
+    assert_eq!(rt; ids.len(), 2);
+    assert_eq!(rt;
+        format!(in rt.alloc(); "{} {}", ids[0], ids[1])?.as_str(),
+        "0v1 1v1"
+    );
+    assert_eq!(rt; world.grant(rt.alloc(), 1)?.len(), 1);
+    assert_eq!(rt; world.slot_count(), 3);
+    assert!(rt; !world.lives(FIRST), "a granted id does not live yet");
+    assert_eq!(rt;
+        world.grant(rt.alloc(), 1_048_574).err(),
+        Some(GrantFault::IdsSpent)
+    );
+    Ok(())
+}
+
+#[test]
+fn stamps_an_insert(rt: HostRuntime) -> Result<(), Fail> {
+    let mut world = World::new(rt.alloc(), Clock::at(4))?;
+    let ids = world.grant(rt.alloc(), 1)?;
+    assert_eq!(rt; ids.as_slice(), [FIRST].as_slice());
+    world.spawn_at(ids[0]);
+    world.insert(FIRST, Velocity { x: 0, y: 1 }, 2)?;
+    world.insert(FIRST, Position { x: 3, y: 5 }, 3)?;
+    world.insert(FIRST, Velocity { x: 1, y: 1 }, 4)?;
+    assert_eq!(rt; world.next_living(0), Some(FIRST));
+    assert_eq!(rt; world.get::<Velocity>(FIRST), Some(Velocity { x: 1, y: 1 }));
+    assert_eq!(rt;
+        world.stamp(FIRST, Kind::Velocity),
+        Some(Stamp {
+            added: 2,
+            changed: 4
+        })
+    );
+    assert_eq!(rt;
+        world.stamp(FIRST, Kind::Position),
+        Some(Stamp {
+            added: 3,
+            changed: 3
+        })
+    );
+    world.write_words(0, Kind::Position, &Words::two(8, 9), 4);
+    assert_eq!(rt;
+        world.stamp(FIRST, Kind::Position),
+        Some(Stamp {
+            added: 3,
+            changed: 4
+        })
+    );
+    let components = world.components(rt.alloc(), 0)?;
+    assert_eq!(rt; components.len(), 2, "kinds rise");
+    assert_eq!(rt;
+        components[0].value,
+        Value::Position(Position { x: 8, y: 9 })
+    );
+    let stale = Entity {
+        index: 0,
+        generation: 2,
+    };
+    assert_eq!(rt;
+        world.insert(stale, Position { x: 0, y: 0 }, 4),
+        Err(StoreFault::NotAlive)
+    );
+    assert!(rt; !world.has(stale, Kind::Position));
+    Ok(())
+}
+
+#[test]
+fn frees_what_is_despawned(rt: HostRuntime) -> Result<(), Fail> {
+    let mut world = World::new(rt.alloc(), Clock::at(4))?;
+    let ids = world.grant(rt.alloc(), 3)?;
+    assert_eq!(rt; ids.len(), 3);
+    world.spawn_at(ids[0]);
+    world.insert(FIRST, Position { x: 3, y: 5 }, 4)?;
+    world.release(ids.as_slice());
+    assert_eq!(rt; world.slot(1).generation, 2);
+    assert_eq!(rt; world.remove(FIRST, Kind::Velocity), Ok(()));
+    assert!(rt; world.has(FIRST, Kind::Position));
+    assert_eq!(rt; world.remove(FIRST, Kind::Position), Ok(()));
+    assert!(rt; world.lives(FIRST), "without components it still lives");
+    assert!(rt; !world.has(FIRST, Kind::Position));
+    assert_eq!(rt; world.despawn(FIRST), Ok(()));
+    assert_eq!(rt; world.despawn(FIRST), Err(StoreFault::NotAlive));
+    assert_eq!(rt;
+        world.remove(FIRST, Kind::Position),
+        Err(StoreFault::NotAlive)
+    );
+    Ok(())
+}
+
+#[test]
+fn settles_by_use(rt: HostRuntime) -> Result<(), Fail> {
+    let mut world = World::new(rt.alloc(), Clock::at(1))?;
+    let ids = world.grant(rt.alloc(), 2)?;
+    world.settle(&[], ids.as_slice());
+    assert_eq!(rt; world.next_living(0), None);
+    let again = world.grant(rt.alloc(), 1)?;
+    assert_eq!(rt; again.len(), 1);
+    assert_eq!(rt; format!(in rt.alloc(); "{}", again[0])?.as_str(), "0v2");
+    Ok(())
+}
+
+#[test]
+fn moves_between_archetypes(rt: HostRuntime) -> Result<(), Fail> {
+    let mut world = three(rt.alloc())?;
+    let now = world.now();
+    world.insert(FIRST, Health { v: 9 }, now)?;
+    assert_eq!(rt; world.get::<Health>(FIRST), Some(Health { v: 9 }));
+    assert_eq!(rt; world.get::<Frozen>(FIRST), Some(Frozen));
+    assert_eq!(rt;
+        world.stamp(FIRST, Kind::Frozen),
+        Some(Stamp {
+            added: 1,
+            changed: 1
+        })
+    );
+    assert_eq!(rt;
+        world.stamp(FIRST, Kind::Health),
+        Some(Stamp {
+            added: 4,
+            changed: 4
+        })
+    );
+    assert_eq!(rt; world.get::<Health>(SECOND), Some(Health { v: 3 }));
+    assert_eq!(rt; world.get::<Health>(THIRD), Some(Health { v: 4 }));
+    assert!(rt; world.has(THIRD, Kind::Frozen));
+    let row = world.components(rt.alloc(), 0)?;
+    assert_eq!(rt; row.len(), 2);
+    assert_eq!(rt;
+        (row[0].value, row[1].value),
+        (Value::Health(Health { v: 9 }), Value::Frozen(Frozen))
+    );
+    assert_eq!(rt; world.components(rt.alloc(), 7)?.len(), 0);
+    Ok(())
+}
+
+#[test]
+fn leaves_the_rows_beside_it(rt: HostRuntime) -> Result<(), Fail> {
+    let mut world = three(rt.alloc())?;
+    let now = world.now();
+    world.insert(FIRST, Health { v: 9 }, now)?;
+    assert_eq!(rt; world.remove(THIRD, Kind::Frozen), Ok(()));
+    assert_eq!(rt; world.get::<Health>(THIRD), Some(Health { v: 4 }));
+    assert!(rt; !world.has(THIRD, Kind::Frozen));
+    assert_eq!(rt; world.get::<Health>(SECOND), Some(Health { v: 3 }));
+    assert_eq!(rt; world.get::<Health>(FIRST), Some(Health { v: 9 }));
+    assert_eq!(rt; world.despawn(SECOND), Ok(()));
+    assert_eq!(rt; world.get::<Health>(SECOND), None);
+    assert_eq!(rt; world.get::<Health>(THIRD), Some(Health { v: 4 }));
+    assert_eq!(rt; world.remove(THIRD, Kind::Health), Ok(()));
+    assert_eq!(rt; world.components(rt.alloc(), 2)?.len(), 0);
+    assert!(rt; world.lives(THIRD));
+    assert_eq!(rt; world.get::<Health>(FIRST), Some(Health { v: 9 }));
+    Ok(())
+}
+
+// The first entity of an index.
+fn entity(index: u32) -> Entity {
+    Entity {
+        index,
+        generation: 1,
+    }
+}
+
+// Whether an entity has this health, and whether it is frozen.
+fn is_so(world: &World, index: u32, health: Option<i64>, frozen: bool) -> bool {
+    world.get::<Health>(entity(index)) == health.map(|v| Health { v })
+        && world.has(entity(index), Kind::Frozen) == frozen
+}
+
+// Gives each of so many entities its index as health.
+fn fill(world: &mut World, count: u32) -> Result<(), Fail> {
+    for index in 0..count {
+        let now = world.now();
+        world.insert(
+            entity(index),
+            Health {
+                v: i64::from(index),
+            },
+            now,
+        )?;
+    }
+    Ok(())
+}
+
+#[test]
+fn holds_many(rt: HostRuntime) -> Result<(), Fail> {
+    let count = 100_000;
+    let mut world = World::new(rt.alloc(), Clock::at(4))?;
+    spawn(rt.alloc(), &mut world, count)?;
+    fill(&mut world, count)?;
+    assert!(rt; is_so(&world, 0, Some(0), false));
+    assert!(rt; is_so(&world, 99_999, Some(99_999), false));
+    for back in 0..count {
+        world.remove(entity(count - 1 - back), Kind::Health)?;
+    }
+    assert!(rt; is_so(&world, 50_000, None, false));
+    fill(&mut world, count)?;
+    for back in 0..count {
+        world.despawn(entity(count - 1 - back))?;
+    }
+    assert_eq!(rt; world.next_living(0), None);
+    assert!(rt; is_so(&world, 0, None, false));
+    Ok(())
+}
+
+#[test]
+fn moves_many(rt: HostRuntime) -> Result<(), Fail> {
+    let count = 4_000;
+    let mut world = World::new(rt.alloc(), Clock::at(4))?;
+    spawn(rt.alloc(), &mut world, count)?;
+    fill(&mut world, count)?;
+    for turn in 0..count {
+        let now = world.now();
+        // 1,999 has no factor in common with 4,000: each index has its turn.
+        world.insert(entity(turn * 1_999 % count), Frozen, now)?;
+    }
+    assert!(rt; is_so(&world, 0, Some(0), true));
+    assert!(rt; is_so(&world, 3_999, Some(3_999), true));
+    for back in 0..count {
+        world.remove(entity(count - 1 - back), Kind::Health)?;
+    }
+    assert!(rt; is_so(&world, 2_000, None, true));
+    for index in 0..count {
+        world.despawn(entity(index))?;
+    }
+    assert_eq!(rt; world.next_living(0), None);
+    Ok(())
+}

@@ -1,0 +1,175 @@
+// The tables of archetypes, and what is done in them to the row of one entity.
+
+ghost use Rattle.std.specs.Prelude.{◌≡◌, ◌≢◌, ◌==◌, ◌<◌, [], length, map, option_map, position, None, Some, IsSome, IfSome, IfOk, OnOk, OnErr};
+ghost use Rattle.std.specs.List.{list_any};
+ghost use Rattle.kinds.specs.Kind.{kind_number};
+ghost use Rattle.kinds.specs.Value.{value_number, value_words};
+ghost use Rattle.model.specs.Lists.{has};
+ghost use Rattle.model.specs.Rows.{cell_at};
+ghost use Rattle.model.specs.Overlay.{row_after};
+ghost use Rattle.column_store.specs.Cells.{stamped_number};
+ghost use Rattle.column_store.specs.Kinds.{AreBelow};
+ghost use Rattle.column_store.specs.Table.{empty_table};
+ghost use Rattle.archetype_store.specs.Row.{component_of, only};
+ghost use Rattle.archetype_store.specs.Tables.{kinds_at, held_at, row_or_none, are_same, AreShaped, AreUnlike, IsHeldNow, IsGrown};
+
+use change_ticks::clock::Tick;
+use column_store::stamped::StampedValue;
+use column_store::table::Table;
+use entity_table::Entity;
+use kinds::kind::Kind;
+use kinds::value::Value;
+use std::alloc::{AllocError, Global};
+
+// Whether these are the kinds of the components, one for each.
+fn are_kinds(kinds: &[Kind], components: &[StampedValue]) -> bool
+    ensures { result ≡ are_same (map kind_number kinds.now) (map stamped_number components.now) }
+{
+    let Some((kind, other_kinds)) = kinds.split_first() else {
+        return components.is_empty();
+    };
+    let Some((component, other_components)) = components.split_first() else {
+        return false;
+    };
+    kind.number() == component.value.number() && are_kinds(other_kinds, other_components)
+}
+
+// The table of the kinds of these components.
+fn table_of(tables: &[Table], components: &[StampedValue]) -> Option<usize>
+    ensures { result ≡ position (λ t. are_same t.kinds (map stamped_number components.now)) tables.now }
+{
+    tables
+        .iter()
+        .position(|table| are_kinds(table.kinds(), components))
+}
+
+// The kinds of components.
+fn kinds_of(alloc: Global, components: &[StampedValue]) -> Result<Vec<Kind>, AllocError>
+    ensures { IfOk result (λ kinds. map kind_number kinds.items ≡ map stamped_number components.now) }
+{
+    let mut kinds = Vec::new(alloc);
+    for component in components {
+        kinds.push(component.value.kind())?;
+    }
+    Ok(kinds)
+}
+
+// A table of the kinds of these components, without rows.
+fn made_for(alloc: Global, components: &[StampedValue]) -> Result<Table, AllocError>
+    requires { AreBelow (map stamped_number components.now) }
+    ensures { IfOk result (λ table. table ≡ empty_table (map stamped_number components.now)) }
+{
+    let kinds = kinds_of(alloc, components)?;
+    let table = Table::new(alloc, &kinds)?;
+    Ok(table)
+}
+
+// The table of the kinds of these components. Where there was none, it is made.
+pub(crate) fn table_for(
+    tables: &mut Vec<Table>,
+    components: &[StampedValue],
+) -> Result<usize, AllocError>
+    requires shaped { AreShaped tables.old.items }
+    requires unlike { AreUnlike tables.old.items }
+    requires below { AreBelow (map stamped_number components.now) }
+    requires some { components.now ≢ [] }
+    ensures within { IfOk result (λ table. table < length tables.new.items) }
+    ensures kinds { IfOk result (λ table. kinds_at tables.new.items table ≡ map stamped_number components.now) }
+    ensures grown { IsGrown tables.old.items tables.new.items }
+{
+    match table_of(tables, components) {
+        Some(table) => Ok(table),
+        None => {
+            let made = made_for(*tables.allocator(), components)?;
+            let table = tables.len();
+            tables.push(made)?;
+            Ok(table)
+        }
+    }
+}
+
+// The component of the kind with this number of an entity that is in a table.
+pub(crate) fn find_at(
+    tables: &[Table],
+    table: usize,
+    e: Entity,
+    number: u32,
+) -> Option<StampedValue>
+    requires there { IsSome (held_at tables.now table e) }
+    requires shaped { AreShaped tables.now }
+    ensures cell { option_map (λ s. (component_of s).cell) result ≡ cell_at (row_or_none (held_at tables.now table e)) number }
+    ensures number { IfSome result (λ s. stamped_number s ≡ number) }
+{
+    tables[table].find(e, number)
+}
+
+// Whether one of the kinds has this number.
+fn has_kind(kinds: &[Kind], number: u32) -> bool
+    ensures { result ≡ list_any (λ kind. kind_number kind == number) kinds.now }
+{
+    kinds.iter().any(|kind| kind.number() == number)
+}
+
+// Whether one of the kinds of a table has this number.
+pub(crate) fn has_at(tables: &[Table], table: usize, number: u32) -> bool
+    requires { table < length tables.now }
+    ensures { result ≡ has number (kinds_at tables.now table) }
+{
+    has_kind(tables[table].kinds(), number)
+}
+
+// The components of an entity that is in a table, in the order of its kinds.
+pub(crate) fn components_at(
+    alloc: Global,
+    tables: &[Table],
+    table: usize,
+    e: Entity,
+) -> Result<Vec<StampedValue>, AllocError>
+    requires there { IsSome (held_at tables.now table e) }
+    requires shaped { AreShaped tables.now }
+    ensures row { IfOk result (λ components. held_at tables.now table e ≡ Some (map component_of components.items)) }
+    ensures kinds { IfOk result (λ components. map stamped_number components.items ≡ kinds_at tables.now table) }
+{
+    tables[table].components(alloc, e)
+}
+
+// Writes a component that an entity has in a table.
+pub(crate) fn write_at(tables: &mut Vec<Table>, table: usize, e: Entity, value: Value, tick: Tick)
+    requires shaped { AreShaped tables.old.items }
+    requires there { IsSome (cell_at (row_or_none (held_at tables.old.items table e)) (value_number value)) }
+    ensures { IsHeldNow tables.old.items tables.new.items table e
+        (Some (row_after tick (only (value_number value) (value_words value)) (row_or_none (held_at tables.old.items table e)))) }
+{
+    let there = &mut tables[table];
+    there.write(e, value, tick);
+}
+
+// Adds the row of an entity that isn't in the table. Where memory is wanting the tables stay as they were.
+pub(crate) fn put_at(
+    tables: &mut Vec<Table>,
+    table: usize,
+    e: Entity,
+    components: &[StampedValue],
+) -> Result<(), AllocError>
+    requires shaped { AreShaped tables.old.items }
+    requires within { table < length tables.old.items }
+    requires absent { held_at tables.old.items table e ≡ None }
+    requires kinds { kinds_at tables.old.items table ≡ map stamped_number components.now }
+    ensures ok { OnOk result (IsHeldNow tables.old.items tables.new.items table e (Some (map component_of components.now))) }
+    ensures err { OnErr result (tables.new.items ≡ tables.old.items) }
+{
+    let there = &mut tables[table];
+    there.put(e, components)
+}
+
+// Removes the row of an entity.
+pub(crate) fn remove_at(tables: &mut Vec<Table>, table: usize, e: Entity)
+    requires shaped { AreShaped tables.old.items }
+    requires there { IsSome (held_at tables.old.items table e) }
+    ensures { IsHeldNow tables.old.items tables.new.items table e None }
+{
+    let there = &mut tables[table];
+    // Tells that ids rise, so that none of them is there twice.
+    let _entities = there.entities();
+    there.remove(e);
+}

@@ -1,0 +1,63 @@
+// The rows of queries in a small world.
+
+use crate::plan::plan;
+use crate::query::Query;
+use archetype_store::store::World;
+use change_ticks::clock::Clock;
+use entity_table::Entity;
+use kinds::component::{Frozen, Health};
+use std::alloc::Global;
+use std::test::Fail;
+
+// The first entity of an index.
+fn entity(index: u32) -> Entity {
+    Entity {
+        index,
+        generation: 1,
+    }
+}
+
+// The rows of a query: each entity, with what each term fetches behind it.
+fn planned(alloc: Global, world: &World, text: &str) -> Result<String, Fail> {
+    let query = Query::read(alloc, text)?;
+    let mut shown = String::new(alloc);
+    for row in plan(alloc, &query, world, 0)? {
+        write!(shown, "{}", row.entity)?;
+        for value in &row.values {
+            match value {
+                None => write!(shown, " none")?,
+                Some(value) => write!(shown, " {} {:?}", value.kind(), value.words().as_slice())?,
+            }
+        }
+        write!(shown, ";")?;
+    }
+    Ok(shown)
+}
+
+#[test]
+fn filters_choose_rows(rt: HostRuntime) -> Result<(), Fail> {
+    let mut world = World::new(rt.alloc(), Clock::at(1))?;
+    for _entity in 0..3 {
+        let ids = world.grant(rt.alloc(), 1)?;
+        assert_eq!(rt; ids.len(), 1);
+        world.spawn_at(ids[0]);
+    }
+    let now = world.now();
+    world.insert(entity(0), Frozen, now)?;
+    world.insert(entity(1), Health { v: 3 }, now)?;
+    world.insert(entity(2), Health { v: 4 }, now)?;
+    world.insert(entity(2), Frozen, now)?;
+    let reading = planned(rt.alloc(), &world, "read Health")?;
+    assert_eq!(rt; reading.as_str(), "1v1 Health [3];2v1 Health [4];");
+    let thawed = planned(rt.alloc(), &world, "entity, without Frozen")?;
+    assert_eq!(rt; thawed.as_str(), "1v1 none none;");
+    let frozen = planned(rt.alloc(), &world, "opt Health, with Frozen")?;
+    assert_eq!(rt; frozen.as_str(), "0v1 none none;2v1 Health [4] none;");
+    world.insert(entity(0), Health { v: 9 }, now)?;
+    let more = planned(rt.alloc(), &world, "read Health")?;
+    assert_eq!(rt;
+        more.as_str(),
+        "0v1 Health [9];1v1 Health [3];2v1 Health [4];"
+    );
+    Ok(())
+}
