@@ -7,7 +7,6 @@ use Rattle.archetype_store.specs.declared.places.Place.{Place}
 use Rattle.column_store.specs.Order.{is_same}
 use Rattle.column_store.specs.Kinds.{AreBelow}
 use Rattle.column_store.specs.Components.{components_of}
-use Rattle.archetype_store.specs.Layout.{layout_of}
 use Rattle.column_store.specs.Table.{Standing, TableValue, empty_table, is_home, row_of}
 
 -- the table of a number: past the end one without kinds
@@ -75,7 +74,6 @@ pub record IsGrown (old new : List TableValue) : Type 0 where
   pub kinds : (t : ℕ) → t < length old → kinds_at new t ≡ kinds_at old t
   pub shaped : AreShaped new
   pub unlike : AreUnlike new
-  pub layout : layout_of new ≡ layout_of old
 
 -- whether a place is in a table
 abbrev pub is_in : Option Place → ℕ → Bool

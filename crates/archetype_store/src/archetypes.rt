@@ -6,12 +6,11 @@ ghost use Rattle.model.specs.Rows.{cell_at, kinds_of, insert_component, remove_c
 ghost use Rattle.model.specs.Overlay.{row_after};
 ghost use Rattle.column_store.specs.Cells.{stamped_number};
 ghost use Rattle.archetype_store.specs.Row.{component_of, only};
-ghost use Rattle.archetype_store.specs.View.{kinds_seen, entities_seen};
-ghost use Rattle.archetype_store.specs.Archetypes.{row_of, holder_of, IsHolder, AreAlike, HasRow, IsLaidOut};
+ghost use Rattle.archetype_store.specs.Archetypes.{row_of, holder_of, IsHolder, AreAlike, HasRow};
 
 use crate::lay::{clear_in, insert_in, remove_in, write_in};
 use crate::places::{Place, place_at, reach};
-use crate::tables::{ArchetypeView, components_at, find_at, has_at, views_of};
+use crate::tables::{components_at, find_at, has_at};
 use change_ticks::clock::Tick;
 use column_store::stamped::StampedValue;
 use column_store::table::Table;
@@ -21,8 +20,7 @@ use std::alloc::{AllocError, Global};
 use std::marker::Model;
 
 /// The components of entities, one entity at most for each index. An entity that has some has its row in the table of just their kinds,
-/// and no two tables have the same kinds. Contracts see the rows by index, the generations of the entities
-/// that have one, and the archetypes that have entities.
+/// and no two tables have the same kinds. Contracts see the rows by index, and the generations of the entities that have one.
 #[derive(Drop, Debug)]
 pub struct Archetypes {
     tables: Vec<Table>,
@@ -42,7 +40,7 @@ impl Model for Archetypes {
 impl Archetypes {
     /// No entity has components.
     pub fn new(alloc: Global) -> Self
-        ensures { result ≡ record { rows = []; holders = []; layout = [] } }
+        ensures { result ≡ record { rows = []; holders = [] } }
     {
         Archetypes {
             tables: Vec::new(alloc),
@@ -79,22 +77,6 @@ impl Archetypes {
             None => Ok(Vec::new(alloc)),
             Some(place) => components_at(alloc, &self.tables, place.table, entity_of(index, place)),
         }
-    }
-
-    /// The archetypes that have entities.
-    pub fn archetypes(&self, alloc: Global) -> Result<Vec<ArchetypeView<'_>>, AllocError>
-        ensures kinds { IfOk result (λ views. map kinds_seen views.items ≡ map (λ a. a.kinds) self.now.layout) }
-        ensures entities { IfOk result (λ views. map entities_seen views.items ≡ map (λ a. a.entities) self.now.layout) }
-    {
-        views_of(alloc, &self.tables)
-    }
-
-    /// The layout is that of the rows.
-    pub(crate) fn laid(&self)
-        ensures { IsLaidOut self.now }
-    {
-        // Tells how tables and places agree.
-        let _tables = self.tables.len();
     }
 
     /// Inserts a component of an entity at a tick: where its kind is there the value is replaced and counts as changed, else it is added.

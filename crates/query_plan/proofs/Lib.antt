@@ -4,4 +4,3 @@ pub mod Fetches
 pub mod Terms
 pub mod Fetching
 pub mod Rows
-pub mod Picking

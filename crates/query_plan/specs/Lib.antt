@@ -4,4 +4,3 @@ pub mod BadQuery
 pub mod Grammar
 pub mod Fetched
 pub mod QueryRow
-pub mod Picks

@@ -2,10 +2,8 @@
 #![tactic(auto)]
 
 pub mod check;
-pub mod picks;
 pub mod plan;
 #[cfg(test)]
 mod plan_tests;
-pub mod planned;
 pub mod query;
 pub mod reading;

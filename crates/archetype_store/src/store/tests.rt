@@ -297,15 +297,3 @@ fn moves_many(rt: HostRuntime) -> Result<(), Fail> {
     assert_eq!(rt; world.next_living(0), None);
     Ok(())
 }
-
-#[test]
-fn shows_who_has_which_kinds(rt: HostRuntime) -> Result<(), Fail> {
-    let mut world = three(rt.alloc())?;
-    assert_eq!(rt; world.archetypes(rt.alloc())?.len(), 3);
-    world.insert(FIRST, Health { v: 9 }, 2)?;
-    let views = world.archetypes(rt.alloc())?;
-    assert_eq!(rt; views.len(), 2, "nobody is left who is frozen alone");
-    assert!(rt; views.iter().any(|view| view.entities.len() == 2));
-    assert!(rt; views.iter().any(|view| view.entities.len() == 1));
-    Ok(())
-}
