@@ -1,10 +1,11 @@
 -- What a change of one row leaves in tables.
-use Rattle.std.proofs.Common.{◌≡◌, ◌≢◌, ℕ, zero, suc, ◌<◌, Bool, true, false, cond, ◌==◌, ◌&&◌, ◌⊎◌, inl, inr, List, [], ◌∷◌, ◌++◌, length, set, map, Option, Some, None, option_map, is_some, option_and_then, ℤ, Result, Ok, Err, IfOk, refl, sym, ap, ◌∙◌, arith}
+use Rattle.std.proofs.Common.{◌≡◌, ◌≢◌, ℕ, zero, suc, ◌<◌, Bool, true, false, cond, ◌==◌, ◌&&◌, ◌⊎◌, inl, inr, List, [], ◌∷◌, ◌++◌, length, set, map, Option, Some, None, option_map, is_some, option_and_then, ℤ, Result, Ok, Err, IfOk, refl, sym, ap, ap₂, ◌∙◌, arith}
 use Rattle.std.proofs.lemmas.Bool.Decides.{nat_tests}
 use Rattle.std.proofs.lemmas.Bool.{cases_eq, eq-eqb, ne_eqb}
 use Rattle.std.proofs.lemmas.List.{get_or-set_same, get_or-set_other}
 use Rattle.std.proofs.Math.Seq.{map-set_same}
 use Rattle.std.specs.List.{AllByRecursion}
+use Rattle.model.specs.Lists.{is_there}
 use Rattle.model.specs.State.{Component}
 use Rattle.model.specs.Rows.{cell_at}
 use Rattle.model.specs.Overlay.{row_after}
@@ -21,7 +22,8 @@ use Rattle.column_store.proofs.Rising.{before_apart, after_apart}
 use Rattle.column_store.proofs.Rows.{row_of-no_entity}
 use Rattle.column_store.proofs.TheirComponents.{cells_are_theirs, writes_are_theirs}
 use Rattle.archetype_store.specs.Row.{component_of, only}
-use Rattle.archetype_store.specs.Tables.{table_at, kinds_at, held_in, held_at, row_or_none, shape_of, IsShape, AreShaped, AreUnlike, IsHeldNow, IsGrown}
+use Rattle.archetype_store.specs.Layout.{IsShape, archetype_of, layout_of}
+use Rattle.archetype_store.specs.Tables.{table_at, kinds_at, held_in, held_at, row_or_none, shape_of, AreShaped, AreUnlike, IsHeldNow, IsGrown}
 
 -- ---- rows of one table
 
@@ -160,6 +162,10 @@ unlike_more : (tables : List TableValue) (kinds : List ℕ) → AllByRecursion (
 unlike_more [] kinds new h = (tt, tt)
 unlike_more (u ∷ us) kinds new h = (each_more (λ t. u.kinds ≢ t.kinds) us (empty_table kinds) h.0 new.0, unlike_more us kinds new.1 h.1)
 
+layout_more : (tables : List TableValue) (kinds : List ℕ) → layout_of (tables ++ empty_table kinds ∷ []) ≡ layout_of tables
+layout_more [] kinds = refl
+layout_more (t ∷ ts) kinds = ap₂ (cond (is_there t.rows)) (ap (λ us. archetype_of t ∷ us) (layout_more ts kinds)) (layout_more ts kinds)
+
 -- a table of other kinds is made
 pub grown_more : (tables : List TableValue) (kinds : List ℕ) → IsShape kinds (empty_table kinds).standings → AllByRecursion (λ t. t.kinds ≢ kinds) tables → AreShaped tables → AreUnlike tables →
     IsGrown tables (tables ++ empty_table kinds ∷ [])
@@ -168,6 +174,7 @@ grown_more tables kinds s new shaped unlike = record {
   kinds = kinds_more tables kinds;
   shaped = shaped_more tables kinds s shaped;
   unlike = unlike_more tables kinds new unlike;
+  layout = layout_more tables kinds;
 }
 
 -- ---- what is done to the row of one entity

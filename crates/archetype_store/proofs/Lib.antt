@@ -6,5 +6,6 @@ pub mod Laid
 pub mod Moves
 pub mod Steps
 pub mod SlotRows
+pub mod Layouts
 pub mod Edits
 mod Worlds

@@ -156,6 +156,7 @@ module _ (T T' : List TableValue) (P : List (Option Place)) (g : IsGrown T T') w
   grown_alike = record {
     rows = λ i. row_seen T' P i ∙ row_grown i (place_of P i) ∙ sym (row_seen T P i);
     holders = λ i. holder_seen T' P i ∙ sym (holder_seen T P i);
+    layout = g.layout;
   }
 
 -- what an entity has now, from alike rows
@@ -166,13 +167,14 @@ row_from_alike A B C e row alike h = record {
 }
 
 pub alike_trans : (A B C : ArchetypesValue) → AreAlike A B → AreAlike B C → AreAlike A C
-alike_trans A B C h k = record { rows = λ i. k.rows i ∙ h.rows i; holders = λ i. k.holders i ∙ h.holders i }
+alike_trans A B C h k = record { rows = λ i. k.rows i ∙ h.rows i; holders = λ i. k.holders i ∙ h.holders i; layout = k.layout ∙ h.layout }
 
 -- places that are alike
 pub reached_alike : (T : List TableValue) (P P' : List (Option Place)) → ((i : ℕ) → place_of P' i ≡ place_of P i) → AreAlike (archetypes_of T P) (archetypes_of T P')
 reached_alike T P P' same = record {
   rows = λ i. row_seen T P' i ∙ ap (row_in T i) (same i) ∙ sym (row_seen T P i);
   holders = λ i. holder_seen T P' i ∙ ap holder_in (same i) ∙ sym (holder_seen T P i);
+  layout = refl;
 }
 
 -- what holds anyway holds of an error

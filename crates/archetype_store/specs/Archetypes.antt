@@ -1,16 +1,19 @@
 -- The rows by index that tables of archetypes hold, and what a change of one row leaves.
-use Rattle.std.specs.Prelude.{◌≡◌, ℕ, Bool, false, cond, ◌==◌, ◌&&◌, List, [], get_or, map, Option, Some, None, option_map, is_some}
+use Rattle.std.specs.Prelude.{◌≡◌, ℕ, Bool, true, false, cond, ◌==◌, ◌&&◌, List, [], get_or, map, Option, Some, None, option_map, is_some}
+use Rattle.std.specs.List.{AllByRecursion}
 use Rattle.model.specs.Lists.{map_index, with_at, is_there}
 use Rattle.model.specs.State.{Component}
 use Rattle.model.specs.declared.entities.Entity.{Entity}
 use Rattle.column_store.specs.Table.{TableValue}
 use Rattle.archetype_store.specs.declared.places.Place.{Place}
+use Rattle.archetype_store.specs.Layout.{Archetype, layout_of, archetype_at, is_in_archetype, IsArchetype, AreOfOtherKinds}
 use Rattle.archetype_store.specs.Tables.{kinds_at, held_at, row_or_none, AreShaped, AreUnlike}
 
--- rows by index, and of each index that has a row the generation of its entity
+-- rows by index, of each index that has a row the generation of its entity, and how the rows are laid out
 pub record ArchetypesValue : Type 0 where
   pub rows : List (List Component)
   pub holders : List (Option ℕ)
+  pub layout : List Archetype
 
 -- the row of an index: none past the end
 abbrev pub row_of : List (List Component) → ℕ → List Component
@@ -29,15 +32,25 @@ IsHolder generation (Some g) = g ≡ generation
 abbrev pub holder_if : List Component → ℕ → Option ℕ
 holder_if row generation = cond (is_there row) (Some generation) None
 
--- rows that are alike at each index, of the same entities
+-- rows that are alike at each index, of the same entities, laid out alike
 pub record AreAlike (old new : ArchetypesValue) : Type 0 where
   pub rows : (i : ℕ) → row_of new.rows i ≡ row_of old.rows i
   pub holders : (i : ℕ) → holder_of new.holders i ≡ holder_of old.holders i
+  pub layout : new.layout ≡ old.layout
 
 -- an entity has this row now, and each other index what it had
 pub record HasRow (old : ArchetypesValue) (e : Entity) (row : List Component) (new : ArchetypesValue) : Type 0 where
   pub rows : (i : ℕ) → row_of new.rows i ≡ with_at e.index row (row_of old.rows) i
   pub holders : (i : ℕ) → holder_of new.holders i ≡ with_at e.index (holder_if row e.generation) (holder_of old.holders) i
+
+-- the layout is that of the rows: who is in an archetype has a row of just its kinds, who has a row is in one, none is without
+-- entities, and no two have the same kinds
+pub record IsLaidOut (a : ArchetypesValue) : Type 0 where
+  pub theirs : (n : ℕ) (e : Entity) → is_in_archetype e (archetype_at a.layout n) ≡ true →
+      (holder_of a.holders e.index ≡ Some e.generation) × (map (λ c. c.kind) (row_of a.rows e.index) ≡ (archetype_at a.layout n).kinds)
+  pub every : (e : Entity) → holder_of a.holders e.index ≡ Some e.generation → (n : ℕ) × (is_in_archetype e (archetype_at a.layout n) ≡ true)
+  pub each : AllByRecursion IsArchetype a.layout
+  pub unlike : AreOfOtherKinds a.layout
 
 -- ---- tables and places
 
@@ -61,7 +74,7 @@ holder_in place = option_map (λ p. p.generation) place
 
 -- what tables and places are to contracts
 abbrev pub archetypes_of : List TableValue → List (Option Place) → ArchetypesValue
-archetypes_of tables places = record { rows = map_index (row_in tables) places; holders = map holder_in places }
+archetypes_of tables places = record { rows = map_index (row_in tables) places; holders = map holder_in places; layout = layout_of tables }
 
 -- a row that is there has the kinds of its table
 abbrev pub IsOfKinds : List ℕ → Option (List Component) → Type 0

@@ -1,7 +1,9 @@
 pub mod Row
+pub mod Layout
 pub mod Tables
 pub mod Archetypes
 pub mod Slot
 pub mod Slots
 pub mod Resources
 pub mod Store
+pub mod View

@@ -1,8 +1,14 @@
--- The rows of an id book.
+-- Slots by index, and the rows of an id book.
 use Rattle.std.specs.Prelude.{◌≡◌, ℕ, true, List, [], Some, None}
 use Rattle.model.specs.State.{Slot}
 use Rattle.model.specs.Commands.{is_alive}
+use Rattle.archetype_store.specs.Layout.{Archetype}
 use Rattle.archetype_store.specs.Archetypes.{ArchetypesValue, row_of, holder_of}
+
+-- slots by index, and the archetypes that have entities
+pub record SlotsValue : Type 0 where
+  pub slots : List Slot
+  pub layout : List Archetype
 
 -- rows of the indices of a book: who has one lives, and an index of which nobody has one has none
 pub record HasRows (book : List Slot) (archetypes : ArchetypesValue) : Type 0 where

@@ -4,11 +4,13 @@ use Rattle.model.specs.Lists.{update_at}
 use Rattle.model.specs.State.{Cell, Slot, World, resource_count}
 use Rattle.model.specs.Loaded.{resource_given}
 use Rattle.model.specs.Overlay.{resource_after}
+use Rattle.archetype_store.specs.Layout.{Archetype}
 use Rattle.change_ticks.specs.declared.stamp.Stamp.{Stamp}
 
--- a store: its state
+-- a store: its state, and beside it the archetypes that have entities
 pub record StoreValue : Type 0 where
   pub state : World
+  pub layout : List Archetype
 
 -- the world without entities, at a clock: each resource is 0 and was changed at tick 1
 abbrev pub empty_world : ℕ → World

@@ -7,6 +7,7 @@ use Rattle.archetype_store.specs.declared.places.Place.{Place}
 use Rattle.column_store.specs.Order.{is_same}
 use Rattle.column_store.specs.Kinds.{AreBelow}
 use Rattle.column_store.specs.Components.{components_of}
+use Rattle.archetype_store.specs.Layout.{layout_of, IsShape}
 use Rattle.column_store.specs.Table.{Standing, TableValue, empty_table, is_home, row_of}
 
 -- the table of a number: past the end one without kinds
@@ -41,12 +42,6 @@ are_same (n ∷ ns) (m ∷ ms) = (n == m) && are_same ns ms
 
 -- ---- what holds of the tables
 
--- the kinds of a table rise, it has one, and all its columns are at home
-pub record IsShape (kinds : List ℕ) (standings : List Standing) : Type 0 where
-  pub below : AreBelow kinds
-  pub some : kinds ≢ []
-  pub home : list_all is_home standings ≡ true
-
 -- each table is of this shape
 abbrev pub AreShaped : List TableValue → Type 0
 AreShaped tables = AllByRecursion (λ t. IsShape t.kinds t.standings) tables
@@ -74,6 +69,7 @@ pub record IsGrown (old new : List TableValue) : Type 0 where
   pub kinds : (t : ℕ) → t < length old → kinds_at new t ≡ kinds_at old t
   pub shaped : AreShaped new
   pub unlike : AreUnlike new
+  pub layout : layout_of new ≡ layout_of old
 
 -- whether a place is in a table
 abbrev pub is_in : Option Place → ℕ → Bool

@@ -6,11 +6,12 @@ ghost use Rattle.model.specs.Rows.{cell_at, kinds_of, insert_component, remove_c
 ghost use Rattle.model.specs.Overlay.{row_after};
 ghost use Rattle.column_store.specs.Cells.{stamped_number};
 ghost use Rattle.archetype_store.specs.Row.{component_of, only};
-ghost use Rattle.archetype_store.specs.Archetypes.{row_of, holder_of, IsHolder, AreAlike, HasRow};
+ghost use Rattle.archetype_store.specs.View.{kinds_seen, entities_seen};
+ghost use Rattle.archetype_store.specs.Archetypes.{row_of, holder_of, IsHolder, AreAlike, HasRow, IsLaidOut};
 
 use crate::lay::{clear_in, insert_in, remove_in, write_in};
 use crate::places::{Place, place_at, reach};
-use crate::tables::{components_at, find_at, has_at};
+use crate::tables::{ArchetypeView, components_at, find_at, has_at, views_of};
 use change_ticks::clock::Tick;
 use column_store::stamped::StampedValue;
 use column_store::table::Table;
@@ -20,7 +21,8 @@ use std::alloc::{AllocError, Global};
 use std::marker::Model;
 
 /// The components of entities, one entity at most for each index. An entity that has some has its row in the table of just their kinds,
-/// and no two tables have the same kinds. Contracts see the rows by index, and the generations of the entities that have one.
+/// and no two tables have the same kinds. Contracts see the rows by index, the generations of the entities
+/// that have one, and the archetypes that have entities.
 #[derive(Drop, Debug)]
 pub struct Archetypes {
     tables: Vec<Table>,
@@ -40,7 +42,7 @@ impl Model for Archetypes {
 impl Archetypes {
     /// No entity has components.
     pub fn new(alloc: Global) -> Self
-        ensures { result ≡ record { rows = []; holders = [] } }
+        ensures { result ≡ record { rows = []; holders = []; layout = [] } }
     {
         Archetypes {
             tables: Vec::new(alloc),
@@ -77,6 +79,22 @@ impl Archetypes {
             None => Ok(Vec::new(alloc)),
             Some(place) => components_at(alloc, &self.tables, place.table, entity_of(index, place)),
         }
+    }
+
+    /// The archetypes that have entities.
+    pub fn archetypes(&self, alloc: Global) -> Result<Vec<ArchetypeView<'_>>, AllocError>
+        ensures kinds { IfOk result (λ views. map kinds_seen views.items ≡ map (λ a. a.kinds) self.now.layout) }
+        ensures entities { IfOk result (λ views. map entities_seen views.items ≡ map (λ a. a.entities) self.now.layout) }
+    {
+        views_of(alloc, &self.tables)
+    }
+
+    /// The layout is that of the rows.
+    pub(crate) fn laid(&self)
+        ensures { IsLaidOut self.now }
+    {
+        // Tells how tables and places agree.
+        let _tables = self.tables.len();
     }
 
     /// Inserts a component of an entity at a tick: where its kind is there the value is replaced and counts as changed, else it is added.

@@ -13,10 +13,13 @@ ghost use Rattle.entity_table.specs.Ids.{slot_at, lives_at, IsGranted, AreApart,
 ghost use Rattle.archetype_store.specs.Row.{component_of, only};
 ghost use Rattle.archetype_store.specs.Slot.{cell_of};
 ghost use Rattle.archetype_store.specs.Archetypes.{row_of};
+ghost use Rattle.archetype_store.specs.Layout.{IsLayoutOf};
+ghost use Rattle.archetype_store.specs.View.{kinds_seen, entities_seen};
 
 use crate::archetypes::Archetypes;
 use crate::fault::StoreFault;
 use crate::slot::Slot;
+use crate::tables::ArchetypeView;
 use change_ticks::clock::Tick;
 use column_store::stamped::StampedValue;
 use entity_table::Entity;
@@ -26,7 +29,8 @@ use kinds::value::Value;
 use std::alloc::{AllocError, Global};
 use std::marker::Model;
 
-/// The slots, which contracts see as a list by index. An index past the end is vacant at generation 1.
+/// The slots, which contracts see as a list by index, and the archetypes that have entities. An index past the end is vacant at
+/// generation 1.
 #[derive(Drop, Debug)]
 pub struct Slots {
     book: EntityTable,
@@ -34,15 +38,13 @@ pub struct Slots {
 }
 
 impl Model for Slots {
-    ghost use Rattle.std.specs.Prelude.{List};
-    ghost use Rattle.model.specs.State.{Slot as ModelSlot};
     ghost use Rattle.entity_table.specs.Rows.{with_rows};
     ghost use Rattle.archetype_store.specs.Archetypes.{row_of};
-    ghost use Rattle.archetype_store.specs.Slots.{HasRows};
+    ghost use Rattle.archetype_store.specs.Slots.{SlotsValue, HasRows};
 
-    ghost Value = { List ModelSlot };
+    ghost Value = { SlotsValue };
 
-    ghost view = { λ s. with_rows (row_of s.archetypes.rows) s.book };
+    ghost view = { λ s. record { slots = with_rows (row_of s.archetypes.rows) s.book; layout = s.archetypes.layout } };
 
     ghost invariant = { λ s. HasRows s.book s.archetypes };
 }
@@ -50,7 +52,7 @@ impl Model for Slots {
 impl Slots {
     /// No slots.
     pub fn new(alloc: Global) -> Self
-        ensures { result ≡ [] }
+        ensures { result ≡ record { slots = []; layout = [] } }
     {
         Slots {
             book: EntityTable::new(alloc),
@@ -60,14 +62,14 @@ impl Slots {
 
     /// How many slots there are.
     pub fn len(&self) -> u32
-        ensures { result ≡ length self.now }
+        ensures { result ≡ length self.now.slots }
     {
         self.book.len()
     }
 
     /// The slot of an index, none past the end.
     pub fn get(&self, index: u32) -> Option<Slot<'_>>
-        ensures { MatchOption result (length self.now ≤ index) (λ slot. slot ≡ slot_at self.now index) }
+        ensures { MatchOption result (length self.now.slots ≤ index) (λ slot. slot ≡ slot_at self.now.slots index) }
     {
         if index >= self.book.len() {
             return None;
@@ -82,24 +84,24 @@ impl Slots {
 
     /// Whether an entity lives.
     pub fn lives(&self, e: Entity) -> bool
-        ensures value { result ≡ is_alive self.now e }
-        ensures within { IsTrue result → e.index < length self.now }
+        ensures value { result ≡ is_alive self.now.slots e }
+        ensures within { IsTrue result → e.index < length self.now.slots }
     {
         self.book.lives(e)
     }
 
     /// The living entity of the least index from this one on.
     pub fn next_living(&self, from: u32) -> Option<Entity>
-        ensures lives { IfSome result (λ e. (from ≤ e.index) × (is_alive self.now e ≡ true)) }
-        ensures least { IfSome result (λ e. (k : ℕ) → from ≤ k → k < e.index → lives_at self.now k ≡ false) }
-        ensures none { IfNone result ((k : ℕ) → from ≤ k → lives_at self.now k ≡ false) }
+        ensures lives { IfSome result (λ e. (from ≤ e.index) × (is_alive self.now.slots e ≡ true)) }
+        ensures least { IfSome result (λ e. (k : ℕ) → from ≤ k → k < e.index → lives_at self.now.slots k ≡ false) }
+        ensures none { IfNone result ((k : ℕ) → from ≤ k → lives_at self.now.slots k ≡ false) }
     {
         self.book.next_living(from)
     }
 
     /// The component of the kind with this number, where the entity lives and has one.
     pub fn find(&self, e: Entity, number: u32) -> Option<StampedValue>
-        ensures cell { option_map (λ s. (component_of s).cell) result ≡ cell_of self.now e number }
+        ensures cell { option_map (λ s. (component_of s).cell) result ≡ cell_of self.now.slots e number }
         ensures number { IfSome result (λ s. stamped_number s ≡ number) }
     {
         if !self.lives(e) {
@@ -108,13 +110,28 @@ impl Slots {
         self.archetypes.find(e.index, number)
     }
 
+    /// The archetypes that have entities.
+    pub fn archetypes(&self, alloc: Global) -> Result<Vec<ArchetypeView<'_>>, AllocError>
+        ensures kinds { IfOk result (λ views. map kinds_seen views.items ≡ map (λ a. a.kinds) self.now.layout) }
+        ensures entities { IfOk result (λ views. map entities_seen views.items ≡ map (λ a. a.entities) self.now.layout) }
+    {
+        self.archetypes.archetypes(alloc)
+    }
+
+    /// The layout is that of the slots.
+    pub(crate) fn laid(&self)
+        ensures { IsLayoutOf self.now.slots self.now.layout }
+    {
+        self.archetypes.laid();
+    }
+
     /// Grants so many ids: the least vacant indices, at their generations. After an error the slots are as they were.
     pub fn grant(&mut self, alloc: Global, count: u32) -> Result<Vec<Entity>, GrantFault>
-        ensures ok { IfOk result (λ granted. granted.items ≡ ids.granted_ids count self.old) }
-        ensures granted { OnOk result (self.new ≡ ids.grant count self.old) }
-        ensures each { IfOk result (λ granted. All (IsGranted self.new) granted.items) }
+        ensures ok { IfOk result (λ granted. granted.items ≡ ids.granted_ids count self.old.slots) }
+        ensures granted { OnOk result (self.new.slots ≡ ids.grant count self.old.slots) }
+        ensures each { IfOk result (λ granted. All (IsGranted self.new.slots) granted.items) }
         ensures apart { IfOk result (λ granted. AreApart granted.items) }
-        ensures spent { IsErrOf result GrantFault.IdsSpent ↔ (ids.has_ids count self.old ≡ false) }
+        ensures spent { IsErrOf result GrantFault.IdsSpent ↔ (ids.has_ids count self.old.slots ≡ false) }
         ensures err { OnErr result (self.new ≡ self.old) }
     {
         let granted = self.book.grant(alloc, count)?;
@@ -123,33 +140,33 @@ impl Slots {
 
     /// Makes the entity of a granted id live, without components.
     pub fn spawn_at(&mut self, e: Entity)
-        requires { IsGranted self.old e }
-        ensures { self.new ≡ update_at e.index (spawned e.generation) self.old }
+        requires { IsGranted self.old.slots e }
+        ensures { self.new.slots ≡ update_at e.index (spawned e.generation) self.old.slots }
     {
         self.book.spawn_at(e);
     }
 
     /// Settles granted ids, none of them named twice: the used ones live, the unused ones are freed.
     pub fn settle(&mut self, used: &[Entity], unused: &[Entity])
-        requires used { All (IsGranted self.old) used.now }
-        requires unused { All (IsGranted self.old) unused.now }
+        requires used { All (IsGranted self.old.slots) used.now }
+        requires unused { All (IsGranted self.old.slots) unused.now }
         requires apart { AreApart (used.now ++ unused.now) }
-        ensures { self.new ≡ settled used.now unused.now self.old }
+        ensures { self.new.slots ≡ settled used.now unused.now self.old.slots }
     {
         self.book.settle(used, unused);
     }
 
     /// Frees each index named that is still granted.
     pub fn release(&mut self, ids: &[Entity])
-        ensures { self.new ≡ commands.release ids.now self.old }
+        ensures { self.new.slots ≡ commands.release ids.now self.old.slots }
     {
         self.book.release(ids);
     }
 
     /// Frees the index of an entity, and drops its components.
     pub fn despawn(&mut self, e: Entity) -> Result<(), StoreFault>
-        ensures ok { OnOk result (self.new ≡ update_at e.index freed self.old) }
-        ensures dead { IsErrOf result StoreFault.NotAlive ↔ (is_alive self.old e ≡ false) }
+        ensures ok { OnOk result (self.new.slots ≡ update_at e.index freed self.old.slots) }
+        ensures dead { IsErrOf result StoreFault.NotAlive ↔ (is_alive self.old.slots e ≡ false) }
         ensures other { IsOkUnless result StoreFault.NotAlive }
         ensures err { OnErr result (self.new ≡ self.old) }
     {
@@ -163,8 +180,8 @@ impl Slots {
 
     /// Inserts a component into the row of an entity at a tick. After an error the slots are as they were.
     pub fn insert(&mut self, e: Entity, value: Value, tick: Tick) -> Result<(), StoreFault>
-        ensures ok { OnOk result (self.new ≡ update_at e.index (with_row (insert_component tick (value_number value) (value_words value))) self.old) }
-        ensures dead { IsErrOf result StoreFault.NotAlive ↔ (is_alive self.old e ≡ false) }
+        ensures ok { OnOk result (self.new.slots ≡ update_at e.index (with_row (insert_component tick (value_number value) (value_words value))) self.old.slots) }
+        ensures dead { IsErrOf result StoreFault.NotAlive ↔ (is_alive self.old.slots e ≡ false) }
         ensures err { OnErr result (self.new ≡ self.old) }
     {
         if !self.lives(e) {
@@ -176,8 +193,8 @@ impl Slots {
 
     /// Removes the component of a kind from the row of an entity, where it has one. After an error the slots are as they were.
     pub fn remove(&mut self, e: Entity, number: u32) -> Result<(), StoreFault>
-        ensures ok { OnOk result (self.new ≡ update_at e.index (with_row (remove_component number)) self.old) }
-        ensures dead { IsErrOf result StoreFault.NotAlive ↔ (is_alive self.old e ≡ false) }
+        ensures ok { OnOk result (self.new.slots ≡ update_at e.index (with_row (remove_component number)) self.old.slots) }
+        ensures dead { IsErrOf result StoreFault.NotAlive ↔ (is_alive self.old.slots e ≡ false) }
         ensures err { OnErr result (self.new ≡ self.old) }
     {
         if !self.lives(e) {
@@ -189,7 +206,7 @@ impl Slots {
 
     /// Writes the component of this value's kind in the row of an index at a tick, where the row has one.
     pub fn write(&mut self, index: u32, value: Value, tick: Tick)
-        ensures { self.new ≡ update_at index (slot_after tick (only (value_number value) (value_words value))) self.old }
+        ensures { self.new.slots ≡ update_at index (slot_after tick (only (value_number value) (value_words value))) self.old.slots }
     {
         let e = Entity {
             index,
@@ -200,7 +217,7 @@ impl Slots {
 
     /// The components of an index, in rising kinds.
     pub fn components(&self, alloc: Global, index: u32) -> Result<Vec<StampedValue>, AllocError>
-        ensures { IfOk result (λ components. map component_of components.items ≡ row_at self.now index) }
+        ensures { IfOk result (λ components. map component_of components.items ≡ row_at self.now.slots index) }
     {
         self.archetypes.components(alloc, index)
     }

@@ -17,6 +17,8 @@ ghost use Rattle.model.specs.Overlay.{slot_after};
 ghost use Rattle.archetype_store.specs.Row.{component_of, only};
 ghost use Rattle.entity_table.specs.Ids.{slot_at, lives_at, IsGranted, AreApart, settled};
 ghost use Rattle.archetype_store.specs.Slot.{cell_of};
+ghost use Rattle.archetype_store.specs.Layout.{IsLayoutOf};
+ghost use Rattle.archetype_store.specs.View.{kinds_seen, entities_seen};
 ghost use Rattle.archetype_store.specs.Resources.{changed_of};
 ghost use Rattle.archetype_store.specs.Store.{empty_world, with_slots, with_slot, with_resource, at_clock, stamp_of};
 
@@ -24,6 +26,7 @@ use crate::fault::{GrantFault, StoreFault};
 use crate::resources::Resources;
 use crate::slot::Slot;
 use crate::slots::Slots;
+pub use crate::tables::ArchetypeView;
 use change_ticks::clock::{Clock, ClockSpent, Tick};
 use change_ticks::stamp::Stamp;
 use column_store::stamped::StampedValue;
@@ -45,7 +48,8 @@ pub struct SlotView {
     pub living: bool,
 }
 
-/// The world. Contracts see its state: slots by index, resources by number, the clock.
+/// The world. Contracts see its state (slots by index, resources by number, the clock) and beside it how components are laid out: the
+/// archetypes that have entities.
 #[derive(Drop, Debug)]
 pub struct World {
     slots: Slots,
@@ -60,9 +64,9 @@ impl Model for World {
 
     ghost Value = { StoreValue };
 
-    ghost view = { λ w. record { state = record { slots = w.slots; resources = w.resources; clock = w.clock } } };
+    ghost view = { λ w. record { state = record { slots = w.slots.slots; resources = w.resources; clock = w.clock }; layout = w.slots.layout } };
 
-    ghost invariant = { λ w. IsWorld widths (record { slots = w.slots; resources = w.resources; clock = w.clock }) };
+    ghost invariant = { λ w. IsWorld widths (record { slots = w.slots.slots; resources = w.resources; clock = w.clock }) };
 }
 
 impl World {
@@ -95,6 +99,22 @@ impl World {
         ensures err { OnErr result (self.new ≡ self.old) }
     {
         self.clock.next()
+    }
+
+    /// The archetypes that have entities: the kinds of each, and its entities in the order of their rows.
+    pub fn archetypes(&self, alloc: Global) -> Result<Vec<ArchetypeView<'_>>, AllocError>
+        ensures kinds { IfOk result (λ views. map kinds_seen views.items ≡ map (λ a. a.kinds) self.now.layout) }
+        ensures entities { IfOk result (λ views. map entities_seen views.items ≡ map (λ a. a.entities) self.now.layout) }
+    {
+        self.slots.archetypes(alloc)
+    }
+
+    /// The layout is that of the state: who is in an archetype lives with just its kinds, who lives with components is in one, none is
+    /// without entities, and no two have the same kinds.
+    pub fn laid(&self)
+        ensures { IsLayoutOf self.now.state.slots self.now.layout }
+    {
+        self.slots.laid();
     }
 
     /// Grants so many ids: the least vacant indices, at their generations. After an error nothing has changed.
@@ -279,7 +299,7 @@ impl World {
     /// Writes one component at a tick: its value and its changed stamp. A kind that the row doesn't have is not written.
     pub fn write(&mut self, index: u32, value: Value, tick: Tick)
         requires { tick ≤ self.old.state.clock }
-        ensures { self.new ≡ record { state = record self.old.state { slots = update_at index (slot_after tick (only (value_number value) (value_words value))) self.old.state.slots } } }
+        ensures { self.new.state ≡ with_slot index (slot_after tick (only (value_number value) (value_words value))) self.old.state }
     {
         let words = value.words();
         self.write_words(index, value.kind(), &words, tick);

@@ -11,6 +11,8 @@ ghost use Rattle.column_store.specs.Cells.{stamped_number};
 ghost use Rattle.column_store.specs.Kinds.{AreBelow};
 ghost use Rattle.column_store.specs.Table.{empty_table};
 ghost use Rattle.archetype_store.specs.Row.{component_of, only};
+ghost use Rattle.archetype_store.specs.Layout.{layout_of};
+ghost use Rattle.archetype_store.specs.View.{kinds_seen, entities_seen};
 ghost use Rattle.archetype_store.specs.Tables.{kinds_at, held_at, row_or_none, are_same, AreShaped, AreUnlike, IsHeldNow, IsGrown};
 
 use change_ticks::clock::Tick;
@@ -20,6 +22,37 @@ use entity_table::Entity;
 use kinds::kind::Kind;
 use kinds::value::Value;
 use std::alloc::{AllocError, Global};
+
+/// An archetype that has entities.
+#[derive(Clone, Copy, Debug)]
+pub struct ArchetypeView<'a> {
+    /// Its kinds, in rising numbers.
+    pub kinds: &'a [Kind],
+    /// Its entities, in the order of their rows.
+    pub entities: &'a [Entity],
+}
+
+// The archetypes of the tables that have rows.
+pub(crate) fn views_of(
+    alloc: Global,
+    tables: &[Table],
+) -> Result<Vec<ArchetypeView<'_>>, AllocError>
+    ensures kinds { IfOk result (λ views. map kinds_seen views.items ≡ map (λ a. a.kinds) (layout_of tables.now)) }
+    ensures entities { IfOk result (λ views. map entities_seen views.items ≡ map (λ a. a.entities) (layout_of tables.now)) }
+{
+    let mut views = Vec::new(alloc);
+    for table in tables {
+        let entities = table.entities();
+        if entities.is_empty() {
+            continue;
+        }
+        views.push(ArchetypeView {
+            kinds: table.kinds(),
+            entities,
+        })?;
+    }
+    Ok(views)
+}
 
 // Whether these are the kinds of the components, one for each.
 fn are_kinds(kinds: &[Kind], components: &[StampedValue]) -> bool

@@ -2,7 +2,7 @@
 use Rattle.std.proofs.Common.{◌≡◌, ◌≢◌, ℕ, zero, suc, ◌<◌, Bool, true, false, cond, ◌==◌, ℤ, List, [], ◌∷◌, length, get_or, map, drop, Option, Some, None, refl, sym, ap, ap₂, ◌∙◌, subst, arith}
 use Rattle.std.proofs.lemmas.Bool.{eq-eqb, ne_eqb, eqb-true}
 use Rattle.model.specs.Lists.{first_some, is_number, update_at}
-use Rattle.model.specs.State.{Cell, Component, Slot}
+use Rattle.model.specs.State.{Cell, Component, Slot, World}
 use Rattle.model.specs.Query.{written}
 use Rattle.model.specs.Query as query
 use Rattle.model.specs.Outcome.{words_in_row, words_in_query, words_written}
@@ -10,7 +10,6 @@ use Rattle.model.specs.Overlay.{cell_after, row_after, slot_after, slots_after}
 use Rattle.kinds.specs.declared.value.Value.{Value}
 use Rattle.kinds.specs.Value.{value_number, value_words}
 use Rattle.archetype_store.specs.Row.{only}
-use Rattle.archetype_store.specs.Store.{StoreValue}
 use Rattle.query_plan.specs.declared.query.Term.{Term}
 use Rattle.query_plan.specs.Term.{term_of}
 use Rattle.query_plan.specs.Fetched.{words_fetched}
@@ -80,14 +79,14 @@ write-at_index t n g slots = write-one t n g (at_index n g) slots
     (λ i k d. choice (n == i) false (g k) None (ne_eqb n i (λ e. d (sym e)))) (λ k. sym (choice (n == n) true (g k) None (eq-eqb n n refl)))
 
 -- a world laid over again
-pub laid-again : (t : ℕ) (g f h : ℕ → ℕ → Option (List ℤ)) (first world last : StoreValue) → ((i k : ℕ) → h i k ≡ first_some (g i k) (f i k)) →
-    world ≡ with_slots first (slots_after t f first.state.slots) → last ≡ with_slots world (slots_after t g world.state.slots) → last ≡ with_slots first (slots_after t h first.state.slots)
+pub laid-again : (t : ℕ) (g f h : ℕ → ℕ → Option (List ℤ)) (first world last : World) → ((i k : ℕ) → h i k ≡ first_some (g i k) (f i k)) →
+    world ≡ with_slots first (slots_after t f first.slots) → last ≡ with_slots world (slots_after t g world.slots) → last ≡ with_slots first (slots_after t h first.slots)
 laid-again t g f h first world last e a b =
-    b ∙ ap (λ (w : StoreValue). with_slots w (slots_after t g w.state.slots)) a ∙ ap (with_slots first) (slots-twice t g f h first.state.slots e)
+    b ∙ ap (λ (w : World). with_slots w (slots_after t g w.slots)) a ∙ ap (with_slots first) (slots-twice t g f h first.slots e)
 
 -- a world not laid over
-pub laid-none : (t : ℕ) (f : ℕ → ℕ → Option (List ℤ)) (world : StoreValue) → ((i k : ℕ) → f i k ≡ None) → world ≡ with_slots world (slots_after t f world.state.slots)
-laid-none t f world e = λ i. with_slots world (sym (slots-none t f world.state.slots e) i)
+pub laid-none : (t : ℕ) (f : ℕ → ℕ → Option (List ℤ)) (world : World) → ((i k : ℕ) → f i k ≡ None) → world ≡ with_slots world (slots_after t f world.slots)
+laid-none t f world e = λ i. with_slots world (sym (slots-none t f world.slots e) i)
 
 -- ---- the writes from a place on
 

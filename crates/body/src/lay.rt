@@ -21,7 +21,7 @@ fn lay_row(terms: &[Term], cells: &[Option<Value>], index: u32, world: &mut Worl
     requires same { length terms.now ≡ length cells.now }
     requires written { AreWritten (map term_of terms.now) cells.now }
     requires past { tick ≤ world.old.state.clock }
-    ensures { world.new ≡ with_slots world.old (slots_after tick (at_index index (words_in_row (map term_of terms.now) (map words_fetched cells.now))) world.old.state.slots) }
+    ensures { world.new.state ≡ with_slots world.old.state (slots_after tick (at_index index (words_in_row (map term_of terms.now) (map words_fetched cells.now))) world.old.state.slots) }
 {
     let mut left = cells.len();
     while left > 0 {
@@ -37,7 +37,7 @@ fn lay_row(terms: &[Term], cells: &[Option<Value>], index: u32, world: &mut Worl
 fn lay_query(query: &ViewQuery, world: &mut World, tick: Tick)
     requires rows { AreRows query.now }
     requires past { tick ≤ world.old.state.clock }
-    ensures { world.new ≡ with_slots world.old (slots_after tick (words_in_query (terms_of query.now) (shown_rows query.now) (query_cells query.now)) world.old.state.slots) }
+    ensures { world.new.state ≡ with_slots world.old.state (slots_after tick (words_in_query (terms_of query.now) (shown_rows query.now) (query_cells query.now)) world.old.state.slots) }
 {
     let mut left = query.rows.len();
     while left > 0 {
@@ -57,7 +57,7 @@ fn lay_query(query: &ViewQuery, world: &mut World, tick: Tick)
 pub(crate) fn lay_queries(queries: &[ViewQuery], world: &mut World, tick: Tick)
     requires rows { AllByRecursion AreRows queries.now }
     requires past { tick ≤ world.old.state.clock }
-    ensures { world.new ≡ with_slots world.old (slots_after tick (words_written (map terms_of queries.now) (map shown_rows queries.now) (map query_cells queries.now)) world.old.state.slots) }
+    ensures { world.new.state ≡ with_slots world.old.state (slots_after tick (words_written (map terms_of queries.now) (map shown_rows queries.now) (map query_cells queries.now)) world.old.state.slots) }
 {
     let mut left = queries.len();
     while left > 0 {

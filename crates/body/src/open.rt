@@ -55,7 +55,11 @@ fn open_query(
     ensures rows { IfOk result AreRows }
 {
     let terms = Vec::from_slice(alloc, query.terms())?;
-    let rows = untouched_in(alloc, query.terms(), plan(alloc, query, world, last_run)?)?;
+    let rows = untouched_in(
+        alloc,
+        query.terms(),
+        plan(alloc, query, world, last_run)?.rows,
+    )?;
     Ok(ViewQuery { terms, rows })
 }
 

@@ -135,7 +135,7 @@ impl View {
     /// Lays what was written over a world at a tick, the tick of the system's start. All else of the world stays.
     pub fn close(self, world: &mut World, tick: Tick)
         requires { tick ≤ world.old.state.clock }
-        ensures { world.new ≡ with_slots world.old (slots_after tick (words_written self.params.queries self.shown.rows self.outcome.cells) world.old.state.slots) }
+        ensures { world.new.state ≡ with_slots world.old.state (slots_after tick (words_written self.params.queries self.shown.rows self.outcome.cells) world.old.state.slots) }
     {
         lay_queries(self.queries.as_slice(), world, tick);
     }

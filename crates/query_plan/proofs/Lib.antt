@@ -4,3 +4,4 @@ pub mod Fetches
 pub mod Terms
 pub mod Fetching
 pub mod Rows
+pub mod Picking

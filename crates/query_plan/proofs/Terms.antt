@@ -18,3 +18,6 @@ any_of_terms test terms = list_any-map test term_of terms
 pub all_of_terms : (test : ModelTerm → Bool) (terms : List Term) → list_all test (map term_of terms) ≡ list_all (λ t. test (term_of t)) terms
 all_of_terms test [] = refl
 all_of_terms test (t ∷ terms) = ap (λ b. test (term_of t) && b) (all_of_terms test terms)
+
+-- a test of numbers is one of the kinds that have them
+pub ruleset of_kinds = (list_any-map)

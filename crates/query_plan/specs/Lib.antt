@@ -4,3 +4,4 @@ pub mod BadQuery
 pub mod Grammar
 pub mod Fetched
 pub mod QueryRow
+pub mod Picks

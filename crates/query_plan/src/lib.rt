@@ -2,8 +2,10 @@
 #![tactic(auto)]
 
 pub mod check;
+pub mod picks;
 pub mod plan;
 #[cfg(test)]
 mod plan_tests;
+pub mod planned;
 pub mod query;
 pub mod reading;

@@ -10,7 +10,10 @@ ghost use Rattle.kinds.specs.Value.{value_number};
 ghost use Rattle.query_plan.specs.Term.{term_of};
 ghost use Rattle.query_plan.specs.Fetched.{IsFetched, AreFetched, words_fetched};
 ghost use Rattle.query_plan.specs.QueryRow.{shown_of};
+ghost use Rattle.query_plan.specs.Picks.{picks_of, pick_seen};
 
+use crate::picks::picks;
+use crate::planned::Plan;
 use crate::query::{Query, Term};
 use archetype_store::slot::{RowView, Slot};
 use archetype_store::store::World;
@@ -29,8 +32,21 @@ pub struct QueryRow {
     pub values: Vec<Option<Value>>,
 }
 
-/// The rows of a query for an observer with this last run, in rising index: each with what every term fetches.
-pub fn plan(
+/// The plan of a query for an observer with this last run: its rows, in rising index, each with what every term fetches, and the
+/// columns that it picks.
+pub fn plan(alloc: Global, query: &Query, world: &World, last_run: u64) -> Result<Plan, AllocError>
+    ensures rows { IfOk result (λ plan. map shown_of plan.rows.items ≡ input.rows_of query.now last_run world.now.state.slots) }
+    ensures fetched { IfOk result (λ plan. AllByRecursion (λ row. AreFetched query.now row.values.items) plan.rows.items) }
+    ensures picks { IfOk result (λ plan. map pick_seen plan.picks.items ≡ picks_of query.now world.now.layout) }
+{
+    Ok(Plan {
+        rows: rows_in(alloc, query, world, last_run)?,
+        picks: picks(alloc, query, world)?,
+    })
+}
+
+// The rows of a query for an observer with this last run, in rising index: each with what every term fetches.
+fn rows_in(
     alloc: Global,
     query: &Query,
     world: &World,

@@ -6,6 +6,7 @@ use archetype_store::store::World;
 use change_ticks::clock::Clock;
 use entity_table::Entity;
 use kinds::component::{Frozen, Health};
+use kinds::kind::Kind;
 use std::alloc::Global;
 use std::test::Fail;
 
@@ -21,7 +22,7 @@ fn entity(index: u32) -> Entity {
 fn planned(alloc: Global, world: &World, text: &str) -> Result<String, Fail> {
     let query = Query::read(alloc, text)?;
     let mut shown = String::new(alloc);
-    for row in plan(alloc, &query, world, 0)? {
+    for row in plan(alloc, &query, world, 0)?.rows {
         write!(shown, "{}", row.entity)?;
         for value in &row.values {
             match value {
@@ -59,5 +60,33 @@ fn filters_choose_rows(rt: HostRuntime) -> Result<(), Fail> {
         more.as_str(),
         "0v1 Health [9];1v1 Health [3];2v1 Health [4];"
     );
+    Ok(())
+}
+
+#[test]
+fn columns_are_picked(rt: HostRuntime) -> Result<(), Fail> {
+    let mut world = World::new(rt.alloc(), Clock::at(1))?;
+    for _entity in 0..2 {
+        let ids = world.grant(rt.alloc(), 1)?;
+        assert_eq!(rt; ids.len(), 1);
+        world.spawn_at(ids[0]);
+    }
+    let now = world.now();
+    world.insert(entity(0), Health { v: 3 }, now)?;
+    world.insert(entity(1), Health { v: 4 }, now)?;
+    world.insert(entity(1), Frozen, now)?;
+    let thawed = Query::read(rt.alloc(), "mut Health, without Frozen")?;
+    let picked = plan(rt.alloc(), &thawed, &world, 0)?.picks;
+    assert_eq!(rt; picked.len(), 1);
+    assert_eq!(rt;
+        (picked[0].kind, picked[0].is_written),
+        (Kind::Health, true)
+    );
+    let all = Query::read(rt.alloc(), "read Health, opt Frozen")?;
+    let picked = plan(rt.alloc(), &all, &world, 0)?.picks;
+    assert_eq!(rt; picked.len(), 3);
+    assert!(rt; picked.iter().all(|pick| !pick.is_written));
+    let none = Query::read(rt.alloc(), "read Position")?;
+    assert_eq!(rt; plan(rt.alloc(), &none, &world, 0)?.picks.len(), 0);
     Ok(())
 }

@@ -297,3 +297,40 @@ fn moves_many(rt: HostRuntime) -> Result<(), Fail> {
     assert_eq!(rt; world.next_living(0), None);
     Ok(())
 }
+
+#[test]
+fn shows_who_has_which_kinds(rt: HostRuntime) -> Result<(), Fail> {
+    let mut world = three(rt.alloc())?;
+    assert_eq!(rt; world.archetypes(rt.alloc())?.len(), 3);
+    let now = world.now();
+    world.insert(FIRST, Health { v: 9 }, now)?;
+    let views = world.archetypes(rt.alloc())?;
+    assert_eq!(rt; views.len(), 2, "nobody is left who is frozen alone");
+    assert!(rt; views.iter().any(|view| view.entities.len() == 2));
+    assert!(rt; views.iter().any(|view| view.entities.len() == 1));
+    Ok(())
+}
+
+// Under `rt try --test --fail-alloc N`, for N in turn, each allocation of these inserts is refused: the first moves a row to a table
+// that is there, the second to a new one.
+#[test]
+fn a_refused_insert_leaves_all(rt: HostRuntime) -> Result<(), Fail> {
+    let mut world = three(rt.alloc())?;
+    let now = world.now();
+    let there = world.insert(FIRST, Health { v: 9 }, now);
+    assert!(rt; there != Err(StoreFault::NotAlive));
+    let health = there.ok().map(|_| Health { v: 9 });
+    assert_eq!(rt; world.get::<Health>(FIRST), health);
+    let new = world.insert(FIRST, Velocity { x: 1, y: 2 }, now);
+    assert!(rt; new != Err(StoreFault::NotAlive));
+    let velocity = new.ok().map(|_| Velocity { x: 1, y: 2 });
+    assert_eq!(rt; world.get::<Velocity>(FIRST), velocity);
+    assert_eq!(rt; world.get::<Health>(FIRST), health);
+    assert_eq!(rt; world.get::<Frozen>(FIRST), Some(Frozen));
+    assert_eq!(rt; world.get::<Health>(SECOND), Some(Health { v: 3 }));
+    assert_eq!(rt; world.get::<Health>(THIRD), Some(Health { v: 4 }));
+    assert!(rt; world.has(THIRD, Kind::Frozen));
+    there?;
+    new?;
+    Ok(())
+}

@@ -3,7 +3,8 @@ use Rattle.std.proofs.lemmas.List.{get_or_default}
 use Rattle.kinds.specs.Value.{value_number, value_words}
 use Rattle.model.specs.Rows.{cell_at}
 use Rattle.column_store.specs.Table.{TableValue, empty_table}
-use Rattle.archetype_store.specs.Tables.{table_at, held_in, row_or_none, IsShape}
+use Rattle.archetype_store.specs.Layout.{IsShape}
+use Rattle.archetype_store.specs.Tables.{table_at, held_in, row_or_none}
 use Rattle.archetype_store.proofs.Held.{written_within, shape_at, cell_held, held_written}
 use Rattle.archetype_store.proofs.tables.write_at.Goals as goal
 

@@ -9,7 +9,7 @@ use Rattle.body.proofs.lay.lay_queries.Goals as goal
 pub loop-left-init : goal.loop-left-init
 loop-left-init c = record {
   left = omega arith;
-  laid = laid-none c.args.tick (queries_words (drop (length c.args.queries.now) c.args.queries.now)) c.args.world.now (λ i k. queries_words-end c.args.queries.now (length c.args.queries.now) i k refl);
+  laid = laid-none c.args.tick (queries_words (drop (length c.args.queries.now) c.args.queries.now)) c.args.world.now.state (λ i k. queries_words-end c.args.queries.now (length c.args.queries.now) i k refl);
 }
 
 pub loop-left-preserved : goal.loop-left-preserved
@@ -22,7 +22,7 @@ loop-left-preserved c =
     let one = words_in_query (terms_of query) (shown_rows query) (query_cells query) in
     record {
       left = (let b = c.loop-left.invariant.left in omega arith);
-      laid = laid-again c.args.tick one (queries_words (drop n queries)) (queries_words (drop (n - 1) queries)) c.args.world.now c.loop-left.world c.lay_query.new.world
+      laid = laid-again c.args.tick one (queries_words (drop n queries)) (queries_words (drop (n - 1) queries)) c.args.world.now.state c.loop-left.world.state c.lay_query.new.world.state
           (λ i k. queries_words-drop queries (n - 1) query i k here
           ∙ ap (λ (q : ViewQuery). first_some (words_in_query (terms_of q) (shown_rows q) (query_cells q) i k) (queries_words (drop (suc (n - 1)) queries) i k)) (sym c.index-queries-left.is)
           ∙ ap (λ m. first_some (one i k) (queries_words (drop m queries) i k)) next)

@@ -7,7 +7,7 @@ use Rattle.body.proofs.lay.lay_queries.Given as goal
 abbrev pub invariant-loop-left : goal.invariant-loop-left
 invariant-loop-left l = record {
   left : l.left ≤ length l.queries;
-  laid : l.world ≡ with_slots l.fn.world (slots_after l.tick (queries_words (drop l.left l.queries)) l.fn.world.state.slots);
+  laid : l.world.state ≡ with_slots l.fn.world.state (slots_after l.tick (queries_words (drop l.left l.queries)) l.fn.world.state.slots);
 }
 
 abbrev pub decreases-loop-left : goal.decreases-loop-left

@@ -16,7 +16,7 @@ loop-left-init c =
     let e : length rows ≡ c.len-left.result = (let n = c.len-left.ensures in omega arith) in
     record {
       left = omega arith;
-      laid = laid-none c.args.tick (rows_words (terms_of c.args.query.now) (drop c.len-left.result rows)) c.args.world.now
+      laid = laid-none c.args.tick (rows_words (terms_of c.args.query.now) (drop c.len-left.result rows)) c.args.world.now.state
           (λ i k. rows_words-end (terms_of c.args.query.now) rows c.len-left.result i k e);
     }
 
@@ -40,7 +40,7 @@ loop-left-preserved c =
     let one = at_index row.shown.entity.index (words_in_row terms (row_cells row)) in
     record {
       left = (let b = c.loop-left.invariant.left in omega arith);
-      laid = laid-again c.args.tick one (rows_words terms (drop n rows)) (rows_words terms (drop (n - 1) rows)) c.args.world.now c.loop-left.world c.lay_row.new.world
+      laid = laid-again c.args.tick one (rows_words terms (drop n rows)) (rows_words terms (drop (n - 1) rows)) c.args.world.now.state c.loop-left.world.state c.lay_row.new.world.state
           (λ i k. rows_words-drop terms rows (n - 1) row i k here
           ∙ ap (λ (r : ViewRow). first_some (at_index r.shown.entity.index (words_in_row terms (row_cells r)) i k) (rows_words terms (drop (suc (n - 1)) rows) i k)) (sym c.index-row.ensures)
           ∙ ap (λ m. first_some (one i k) (rows_words terms (drop m rows) i k)) next)

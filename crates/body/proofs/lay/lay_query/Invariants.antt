@@ -8,7 +8,7 @@ use Rattle.body.proofs.lay.lay_query.Given as goal
 abbrev pub invariant-loop-left : goal.invariant-loop-left
 invariant-loop-left l = record {
   left : l.left ≤ length l.query.rows.items;
-  laid : l.world ≡ with_slots l.fn.world (slots_after l.tick (rows_words (terms_of l.query) (drop l.left l.query.rows.items)) l.fn.world.state.slots);
+  laid : l.world.state ≡ with_slots l.fn.world.state (slots_after l.tick (rows_words (terms_of l.query) (drop l.left l.query.rows.items)) l.fn.world.state.slots);
 }
 
 abbrev pub decreases-loop-left : goal.decreases-loop-left

@@ -14,7 +14,7 @@ loop-left-init c =
     let cells = c.args.cells.now in
     record {
       left = omega arith;
-      laid = laid-none c.args.tick (at_index c.args.index (row_words terms cells (length cells))) c.args.world.now (at_index-none c.args.index (row_words terms cells (length cells)) (λ k. row_words-end terms cells (length cells) k refl));
+      laid = laid-none c.args.tick (at_index c.args.index (row_words terms cells (length cells))) c.args.world.now.state (at_index-none c.args.index (row_words terms cells (length cells)) (λ k. row_words-end terms cells (length cells) k refl));
     }
 
 pub loop-left-preserved : goal.loop-left-preserved
@@ -27,7 +27,7 @@ loop-left-preserved c =
     let same = fun_ext (λ k. row_words-None terms cells (n - 1) k None here c.requires.same c.in-None.is ∙ ap (λ m. row_words terms cells m k) next) in
     record {
       left = (let b = c.loop-left.invariant.left in omega arith);
-      laid = c.loop-left.invariant.laid ∙ ap (λ f. with_slots c.args.world.now (slots_after c.args.tick (at_index c.args.index f) c.args.world.now.state.slots)) (sym same);
+      laid = c.loop-left.invariant.laid ∙ ap (λ f. with_slots c.args.world.now.state (slots_after c.args.tick (at_index c.args.index f) c.args.world.now.state.slots)) (sym same);
     }
 
 pub loop-left-preserved-in-Some : goal.loop-left-preserved-in-Some
@@ -42,9 +42,9 @@ loop-left-preserved-in-Some c =
     record {
       left = (let b = c.loop-left.invariant.left in omega arith);
       laid = laid-again c.args.tick (at_index c.args.index one) (at_index c.args.index (row_words terms cells n)) (at_index c.args.index (row_words terms cells (n - 1)))
-          c.args.world.now c.loop-left.world c.write.new.self
+          c.args.world.now.state c.loop-left.world.state c.write.new.self.state
           (at_index-more c.args.index (row_words terms cells (n - 1)) one (row_words terms cells n)
           (λ k. row_words-Some terms cells (n - 1) k None v here c.requires.written c.in-Some.is ∙ ap (λ m. first_some (one k) (row_words terms cells m k)) next))
           c.loop-left.invariant.laid
-          (c.write.ensures ∙ ap (with_slots c.loop-left.world) (write-at_index c.args.tick c.args.index one c.loop-left.world.state.slots));
+          (c.write.ensures ∙ ap (with_slots c.loop-left.world.state) (write-at_index c.args.tick c.args.index one c.loop-left.world.state.slots));
     }

@@ -7,7 +7,7 @@ use Rattle.body.proofs.lay.lay_row.Given as goal
 abbrev pub invariant-loop-left : goal.invariant-loop-left
 invariant-loop-left l = record {
   left : l.left ≤ length l.cells;
-  laid : l.world ≡ with_slots l.fn.world (slots_after l.tick (at_index l.index (row_words l.terms l.cells l.left)) l.fn.world.state.slots);
+  laid : l.world.state ≡ with_slots l.fn.world.state (slots_after l.tick (at_index l.index (row_words l.terms l.cells l.left)) l.fn.world.state.slots);
 }
 
 abbrev pub decreases-loop-left : goal.decreases-loop-left

@@ -4,13 +4,14 @@ use Rattle.entity_table.specs.Rows.{with_rows}
 use Rattle.entity_table.proofs.Living.{alive-grant}
 use Rattle.entity_table.proofs.WithRows.{has_ids-with_rows, granted_ids-with_rows, grant-with_rows, IsGranted-with_rows}
 use Rattle.archetype_store.specs.Archetypes.{row_of}
+use Rattle.archetype_store.specs.Slots.{SlotsValue}
 use Rattle.archetype_store.proofs.SlotRows.{past_bare, rows-kept}
 use Rattle.archetype_store.proofs.slots.Slots.grant.Goals as goal
 use Rattle.archetype_store.proofs.slots.Slots.grant.Goals.{After-grant}
 
 -- whether there are ids
-same_ids : (c : After-grant) → has_ids c.args.count c.self.inside.book ≡ has_ids c.args.count c.args.self.now
-same_ids c = sym (has_ids-with_rows c.args.count (row_of c.self.inside.archetypes.rows) c.self.inside.book) ∙ ap (has_ids c.args.count) c.self.view_is
+same_ids : (c : After-grant) → has_ids c.args.count c.self.inside.book ≡ has_ids c.args.count c.args.self.now.slots
+same_ids c = sym (has_ids-with_rows c.args.count (row_of c.self.inside.archetypes.rows) c.self.inside.book) ∙ ap (has_ids c.args.count) (ap (λ (v : SlotsValue). v.slots) c.self.view_is)
 
 pub returns-in_err-granted-clause-spent : goal.returns-in_err-granted-clause-spent
 returns-in_err-granted-clause-spent c =
@@ -23,14 +24,14 @@ invariant_of-self-2 c = rw c.in_ok-granted.ensures.granted (rows-kept c.self.ins
 
 pub returns-clause-ok : goal.returns-clause-ok
 returns-clause-ok c =
-    c.in_ok-granted.ensures.ok ∙ sym (granted_ids-with_rows c.args.count (row_of c.self.inside.archetypes.rows) c.self.inside.book) ∙ ap (granted_ids c.args.count) c.self.view_is
+    c.in_ok-granted.ensures.ok ∙ sym (granted_ids-with_rows c.args.count (row_of c.self.inside.archetypes.rows) c.self.inside.book) ∙ ap (granted_ids c.args.count) (ap (λ (v : SlotsValue). v.slots) c.self.view_is)
 
 pub returns-clause-granted : goal.returns-clause-granted
 returns-clause-granted c =
     let rows = row_of c.self.inside.archetypes.rows in
     ap (with_rows rows) c.in_ok-granted.ensures.granted
     ∙ sym (grant-with_rows c.args.count rows c.self.inside.book (past_bare c.self.inside.book c.self.inside.archetypes c.self.invariant))
-    ∙ ap (grant c.args.count) c.self.view_is
+    ∙ ap (grant c.args.count) (ap (λ (v : SlotsValue). v.slots) c.self.view_is)
 
 pub returns-clause-each : goal.returns-clause-each
 returns-clause-each c = λ k d l.

@@ -4,6 +4,7 @@ use Rattle.entity_table.specs.Rows.{with_rows}
 use Rattle.entity_table.proofs.Living.{alive-release}
 use Rattle.entity_table.proofs.WithRows.{release-with_rows}
 use Rattle.archetype_store.specs.Archetypes.{row_of}
+use Rattle.archetype_store.specs.Slots.{SlotsValue}
 use Rattle.archetype_store.proofs.SlotRows.{granted_bare, rows-kept}
 use Rattle.archetype_store.proofs.slots.Slots.release.Goals as goal
 
@@ -15,4 +16,4 @@ returns c =
     let rows = row_of c.self.inside.archetypes.rows in
     ap (with_rows rows) c.release.ensures
     ∙ sym (release-with_rows c.args.ids.now rows c.self.inside.book (granted_bare c.self.inside.book c.self.inside.archetypes c.self.invariant))
-    ∙ ap (release c.args.ids.now) c.self.view_is
+    ∙ ap (release c.args.ids.now) (ap (λ (v : SlotsValue). v.slots) c.self.view_is)

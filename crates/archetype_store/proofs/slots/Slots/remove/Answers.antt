@@ -3,22 +3,23 @@ use Rattle.model.specs.Lists.{update_at}
 use Rattle.model.specs.Rows.{remove_component}
 use Rattle.model.specs.Commands.{is_alive, with_row}
 use Rattle.archetype_store.specs.Archetypes.{row_of}
+use Rattle.archetype_store.specs.Slots.{SlotsValue}
 use Rattle.archetype_store.proofs.SlotRows.{alive_in_book, holder_lives, rows-written, slots-written}
 use Rattle.archetype_store.proofs.slots.Slots.remove.Goals as goal
 
 pub remove-requires : goal.remove-requires
 remove-requires c =
-    let alive = alive_in_book c.self.inside.book (row_of c.self.inside.archetypes.rows) c.args.self.now c.args.e c.self.view_is (search rules) in
+    let alive = alive_in_book c.self.inside.book (row_of c.self.inside.archetypes.rows) c.args.self.now.slots c.args.e (ap (λ (v : SlotsValue). v.slots) c.self.view_is) (search rules) in
     holder_lives c.self.inside.book c.self.inside.archetypes c.self.invariant c.args.e alive
 
 pub invariant_of-self-2 : goal.invariant_of-self-2
 invariant_of-self-2 c =
     let alive : is_alive c.self.inside.book c.args.e ≡ true =
-    alive_in_book c.self.inside.book (row_of c.self.inside.archetypes.rows) c.args.self.now c.args.e c.self.view_is (search rules) in
+    alive_in_book c.self.inside.book (row_of c.self.inside.archetypes.rows) c.args.self.now.slots c.args.e (ap (λ (v : SlotsValue). v.slots) c.self.view_is) (search rules) in
     rows-written c.self.inside.book c.self.inside.archetypes c.remove.new.self c.args.e _ c.in_ok-remove.ensures.ok (λ there. alive) c.self.invariant
 
 pub returns-clause-ok : goal.returns-clause-ok
 returns-clause-ok c =
     let f = remove_component c.args.number in
     slots-written c.self.inside.book c.self.inside.archetypes c.remove.new.self c.args.e (f (row_of c.self.inside.archetypes.rows c.args.e.index)) c.in_ok-remove.ensures.ok f refl
-    ∙ ap (update_at c.args.e.index (with_row f)) c.self.view_is
+    ∙ ap (update_at c.args.e.index (with_row f)) (ap (λ (v : SlotsValue). v.slots) c.self.view_is)

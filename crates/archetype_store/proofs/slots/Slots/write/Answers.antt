@@ -4,6 +4,7 @@ use Rattle.model.specs.Lists.{update_at}
 use Rattle.model.specs.Overlay.{row_after, slot_after}
 use Rattle.archetype_store.specs.Row.{only}
 use Rattle.archetype_store.specs.Archetypes.{row_of}
+use Rattle.archetype_store.specs.Slots.{SlotsValue}
 use Rattle.archetype_store.proofs.SlotRows.{holder_there, there_lives, rows-written, slots-written}
 use Rattle.archetype_store.proofs.slots.Slots.write.Goals as goal
 
@@ -24,4 +25,4 @@ returns c =
     let f = row_after c.args.tick words in
     slots-written c.self.inside.book c.self.inside.archetypes c.write.new.self (record { index = c.args.index; generation = c.generation.result })
     (f (row_of c.self.inside.archetypes.rows c.args.index)) c.write.ensures f refl
-    ∙ ap (update_at c.args.index (slot_after c.args.tick words)) c.self.view_is
+    ∙ ap (update_at c.args.index (slot_after c.args.tick words)) (ap (λ (v : SlotsValue). v.slots) c.self.view_is)

@@ -11,7 +11,7 @@ invariant_of-self g c =
     let in_time : c.args.tick ≤ c.self.inside.clock = omega (arith, c.requires, ap (λ w. w.state.clock) c.self.view_is) in
     let width : length (value_words c.into_value.result) ≡ widths (value_number c.into_value.result) =
     ap length c.into_value.ensures.words ∙ g.met.C.Component.same_width c.args.component ∙ sym g.met.C.Component.width_of_number ∙ ap widths (sym c.into_value.ensures.number) in
-    elim (outcome_of c.insert.result fault.NotAlive (is_alive c.self.inside.slots c.args.e) _ _ c.insert.ensures.ok c.insert.ensures.err c.insert.ensures.dead.1) [
+    elim (outcome_of c.insert.result fault.NotAlive (is_alive c.self.inside.slots.slots c.args.e) _ _ c.insert.ensures.ok c.insert.ensures.err c.insert.ensures.dead.1) [
       | inl done ↦ rw done.1 (world-insert widths _ c.args.e c.args.tick (value_number c.into_value.result) (value_words c.into_value.result) width in_time done.0 c.self.invariant)
       | inr kept ↦ rw kept c.self.invariant
     ]

@@ -7,7 +7,7 @@ use Rattle.archetype_store.proofs.store.World.remove.Goals as goal
 
 pub invariant_of-self : goal.invariant_of-self
 invariant_of-self c =
-    elim (outcome_of c.remove.result fault.NotAlive (is_alive c.self.inside.slots c.args.e) _ _ c.remove.ensures.ok c.remove.ensures.err c.remove.ensures.dead.1) [
+    elim (outcome_of c.remove.result fault.NotAlive (is_alive c.self.inside.slots.slots c.args.e) _ _ c.remove.ensures.ok c.remove.ensures.err c.remove.ensures.dead.1) [
       | inl done ↦ rw done.1 (world-remove widths _ c.args.e c.number.result done.0 c.self.invariant)
       | inr kept ↦ rw kept c.self.invariant
     ]

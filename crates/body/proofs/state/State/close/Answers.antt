@@ -3,9 +3,8 @@ use Rattle.std.proofs.lemmas.List.{with_items_is}
 use Rattle.std.specs.List.{AllByRecursion}
 use Rattle.std.specs.Vec.{with_items}
 use Rattle.model.specs.Lists.{update_at}
-use Rattle.model.specs.State.{Memory, State}
+use Rattle.model.specs.State.{Memory, State, World}
 use Rattle.model.proofs.Lists.{length-update_at}
-use Rattle.archetype_store.specs.Store.{StoreValue}
 use Rattle.body.specs.Steps.{memory_ran}
 use Rattle.body.proofs.Times.{ran_in_time}
 use Rattle.body.proofs.state.State.close.Goals as goal
@@ -16,7 +15,7 @@ invariant_of-self c =
     let tick = c.args.tick in
     let before = c.self.inside.systems in
     let clock = c.self.inside.world.state.clock in
-    let same : c.close.new.world.state.clock ≡ clock = ap (λ (w : StoreValue). w.state.clock) c.close.ensures in
+    let same : c.close.new.world.state.clock ≡ clock = ap (λ (w : World). w.clock) c.close.ensures in
     let now : clock ≡ c.args.self.now.world.clock = ap (λ (s : State). s.world.clock) c.self.view_is in
     let past : tick ≤ clock = let p = c.requires.past in omega arith in
     let after : c.ran_at.new.memories ≡ update_at n (memory_ran tick) before.items

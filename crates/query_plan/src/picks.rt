@@ -1,0 +1,132 @@
+// The columns that the rows of a query are in.
+
+ghost use Rattle.std.specs.Prelude.{◌≡◌, ◌==◌, ◌++◌, map, IfOk, OnOk};
+ghost use Rattle.std.specs.List.{list_any, list_all};
+ghost use Rattle.kinds.specs.Kind.{kind_number};
+ghost use Rattle.model.specs.Lists.{has};
+ghost use Rattle.model.specs.Query.{matches, admits as term_admits};
+ghost use Rattle.archetype_store.specs.View.{kinds_seen};
+ghost use Rattle.query_plan.specs.Term.{term_of};
+ghost use Rattle.query_plan.specs.Picks.{picked_in, picked_of, picked_from, picks_of, pick_seen};
+
+use crate::query::{Query, Term};
+use archetype_store::store::{ArchetypeView, World};
+use kinds::kind::Kind;
+use std::alloc::{AllocError, Global};
+
+/// A column that the rows of a query are in.
+#[derive(Clone, Copy, PartialEq, Eq, Debug)]
+pub struct Pick {
+    /// The number of its archetype among those that have entities, from 0.
+    pub archetype: usize,
+    /// The kind of its components.
+    pub kind: Kind,
+    /// Whether the query writes it.
+    pub is_written: bool,
+}
+
+/// The columns that the rows of a query are in: of each archetype that has entities and that the query matches those of the kinds
+/// that it touches, in the order of the archetypes and then of the kinds.
+pub fn picks(alloc: Global, query: &Query, world: &World) -> Result<Vec<Pick>, AllocError>
+    ensures { IfOk result (λ picks. map pick_seen picks.items ≡ picks_of query.now world.now.layout) }
+{
+    let views = world.archetypes(alloc)?;
+    picks_in(alloc, query, &views)
+}
+
+// The columns of these archetypes.
+fn picks_in(
+    alloc: Global,
+    query: &Query,
+    views: &[ArchetypeView<'_>],
+) -> Result<Vec<Pick>, AllocError>
+    ensures { IfOk result (λ picks. map pick_seen picks.items ≡ picked_from query.now 0 (map kinds_seen views.now)) }
+{
+    let mut picks = Vec::new(alloc);
+    for archetype in 0..views.len() {
+        pick_of(&mut picks, query, archetype, views[archetype].kinds)?;
+    }
+    Ok(picks)
+}
+
+// Picks the columns of an archetype of these kinds.
+fn pick_of(
+    picks: &mut Vec<Pick>,
+    query: &Query,
+    archetype: usize,
+    kinds: &[Kind],
+) -> Result<(), AllocError>
+    ensures { OnOk result (map pick_seen picks.new.items ≡ map pick_seen picks.old.items ++ picked_of query.now archetype (map kind_number kinds.now)) }
+{
+    if matches_kinds(query, kinds) {
+        pick_in(picks, query, archetype, kinds)?;
+    }
+    Ok(())
+}
+
+// Picks the columns of these kinds that a query touches.
+fn pick_in(
+    picks: &mut Vec<Pick>,
+    query: &Query,
+    archetype: usize,
+    kinds: &[Kind],
+) -> Result<(), AllocError>
+    ensures { OnOk result (map pick_seen picks.new.items ≡ map pick_seen picks.old.items ++ picked_in query.now archetype (map kind_number kinds.now)) }
+{
+    for kind in kinds {
+        if !query.touches(*kind) {
+            continue;
+        }
+        picks.push(Pick {
+            archetype,
+            kind: *kind,
+            is_written: query.writes(*kind),
+        })?;
+    }
+    Ok(())
+}
+
+// Whether a query matches these kinds.
+#[tactic(auto, using(crate::proofs::Rows::over_terms))]
+fn matches_kinds(query: &Query, kinds: &[Kind]) -> bool
+    ensures { result ≡ matches query.now (λ kind. has kind (map kind_number kinds.now)) }
+{
+    admit_all(query.terms(), kinds)
+}
+
+// Whether each of the terms admits these kinds.
+fn admit_all(terms: &[Term], kinds: &[Kind]) -> bool
+    ensures { result ≡ list_all (λ term. term_admits (λ kind. has kind (map kind_number kinds.now)) (term_of term)) terms.now }
+{
+    terms.iter().all(|term| admits(*term, kinds))
+}
+
+// Whether a term admits these kinds.
+fn admits(term: Term, kinds: &[Kind]) -> bool
+    ensures { result ≡ term_admits (λ kind. has kind (map kind_number kinds.now)) (term_of term) }
+{
+    match term {
+        Term::Entity | Term::Opt(_) => true,
+        Term::Without(kind) => !is_among(kind, kinds),
+        Term::Read(kind)
+        | Term::Mut(kind)
+        | Term::With(kind)
+        | Term::Added(kind)
+        | Term::Changed(kind) => is_among(kind, kinds),
+    }
+}
+
+// Whether a kind is among these.
+#[tactic(auto, using(crate::proofs::Terms::of_kinds))]
+fn is_among(kind: Kind, kinds: &[Kind]) -> bool
+    ensures { result ≡ has (kind_number kind) (map kind_number kinds.now) }
+{
+    any_is(kind, kinds)
+}
+
+// Whether one of these kinds is this one.
+fn any_is(kind: Kind, kinds: &[Kind]) -> bool
+    ensures { result ≡ list_any (λ other. kind_number other == kind_number kind) kinds.now }
+{
+    kinds.iter().any(|other| other.number() == kind.number())
+}

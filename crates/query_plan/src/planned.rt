@@ -1,0 +1,13 @@
+// What is planned of a query.
+
+use crate::picks::Pick;
+use crate::plan::QueryRow;
+
+/// What a query asks of a world: its rows, and the columns that they are in.
+#[derive(Drop, Debug)]
+pub struct Plan {
+    /// The rows, in rising index.
+    pub rows: Vec<QueryRow>,
+    /// The columns, of archetypes that have entities alone.
+    pub picks: Vec<Pick>,
+}
