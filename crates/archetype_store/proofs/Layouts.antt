@@ -1,11 +1,10 @@
 -- The layout of tables is that of the rows that they hold.
-use Rattle.std.proofs.Common.{◌≡◌, ◌≢◌, ℕ, zero, suc, ◌+◌, ◌<◌, Bool, true, false, cond, ◌==◌, ◌&&◌, ◌||◌, List, [], ◌∷◌, ◌++◌, length, take, get_or, map, Option, Some, None, option_map, is_some, refl, sym, ap, ap₂, subst, ◌∙◌, arith}
+use Rattle.std.proofs.Common.{◌≡◌, ◌≢◌, ℕ, zero, suc, ◌+◌, ◌<◌, Bool, true, false, cond, ◌==◌, ◌||◌, List, [], ◌∷◌, ◌++◌, length, take, get_or, map, Option, Some, None, option_map, is_some, refl, sym, ap, ap₂, ◌∙◌, arith}
 use Rattle.std.proofs.lemmas.List.{take_more, append-nil, map-append}
 use Rattle.std.proofs.lemmas.Bool.{and_parts, eqb-true}
 use Rattle.std.specs.List.{list_any, AllByRecursion}
 use Rattle.model.specs.Lists.{is_there}
 use Rattle.model.specs.State.{Component, Slot}
-use Rattle.model.specs.Commands.{is_alive}
 use Rattle.model.specs.declared.entities.Entity.{Entity}
 use Rattle.column_store.specs.Order.{is_same}
 use Rattle.column_store.specs.Table.{TableRow, TableValue, row_of as row_in_table}
@@ -13,7 +12,7 @@ use Rattle.entity_table.specs.Rows.{with_rows}
 use Rattle.entity_table.proofs.WithRows.{is_alive-with_rows}
 use Rattle.archetype_store.specs.declared.places.Place.{Place}
 use Rattle.archetype_store.specs.Layout.{Archetype, archetype_of, layout_of, archetype_at, is_in_archetype, IsShape, IsArchetype, AreOfOtherKinds, IsLayoutOf}
-use Rattle.archetype_store.specs.Tables.{table_at, kinds_at, held_in, held_at, AreShaped, AreUnlike}
+use Rattle.archetype_store.specs.Tables.{table_at, kinds_at, held_at, AreShaped, AreUnlike}
 use Rattle.archetype_store.specs.Archetypes.{ArchetypesValue, archetypes_of, row_of, holder_of, place_of, row_in, holder_in, is_place, IsHolder, AreArchetypes, IsLaidOut}
 use Rattle.archetype_store.specs.Slots.{HasRows}
 use Rattle.archetype_store.proofs.Laid.{row_seen, holder_seen, somewhere}

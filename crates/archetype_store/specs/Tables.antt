@@ -1,14 +1,13 @@
 -- Tables of archetypes: what they hold of an entity, and what a change of one row leaves.
 use Rattle.std.specs.Prelude.{◌≡◌, ◌≢◌, ℕ, ◌<◌, Bool, true, false, cond, ◌==◌, ◌&&◌, List, [], ◌∷◌, length, get_or, map, Option, Some, None, option_map}
-use Rattle.std.specs.List.{list_all, AllByRecursion}
+use Rattle.std.specs.List.{AllByRecursion}
 use Rattle.model.specs.State.{Component}
 use Rattle.model.specs.declared.entities.Entity.{Entity}
 use Rattle.archetype_store.specs.declared.places.Place.{Place}
 use Rattle.column_store.specs.Order.{is_same}
-use Rattle.column_store.specs.Kinds.{AreBelow}
 use Rattle.column_store.specs.Components.{components_of}
 use Rattle.archetype_store.specs.Layout.{layout_of, IsShape}
-use Rattle.column_store.specs.Table.{Standing, TableValue, empty_table, is_home, row_of}
+use Rattle.column_store.specs.Table.{TableValue, empty_table, row_of}
 
 -- the table of a number: past the end one without kinds
 abbrev pub table_at : List TableValue → ℕ → TableValue

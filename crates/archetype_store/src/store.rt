@@ -39,15 +39,6 @@ use kinds::words::Words;
 use std::alloc::{AllocError, Global};
 use std::marker::Model;
 
-/// What a reader sees of one index.
-#[derive(Clone, Copy, Debug)]
-pub struct SlotView {
-    /// The generation; 1 past the last index.
-    pub generation: u32,
-    /// Whether the entity lives.
-    pub living: bool,
-}
-
 /// The world. Contracts see its state (slots by index, resources by number, the clock) and beside it how components are laid out: the
 /// archetypes that have entities.
 #[derive(Drop, Debug)]
@@ -269,23 +260,6 @@ impl World {
         match self.slots.get(index) {
             Some(slot) => slot,
             None => unreachable!(),
-        }
-    }
-
-    /// What a reader sees of an index.
-    pub fn slot(&self, index: u32) -> SlotView
-        ensures generation { result.generation ≡ (slot_at self.now.state.slots index).generation }
-        ensures living { result.living ≡ lives_at self.now.state.slots index }
-    {
-        match self.slots.get(index) {
-            Some(slot) => SlotView {
-                generation: slot.generation(),
-                living: slot.is_living(),
-            },
-            None => SlotView {
-                generation: 1,
-                living: false,
-            },
         }
     }
 

@@ -1,4 +1,2 @@
-pub mod Parts
-pub mod Lines
 pub mod Starting
 pub mod Serving

@@ -2,8 +2,8 @@
 use Rattle.std.specs.Prelude.{ℕ}
 use Rattle.ecsrun.specs.declared.fault.Fault.{Fault}
 use Rattle.ecsrun.specs.declared.fault.Fault.TheVariants.{TooLong, Content, ClockSpent, File, Write, Memory}
-use Rattle.ecsrun.specs.declared.streams.ReadFault.{ReadFault}
-use Rattle.ecsrun.specs.declared.streams.ReadFault.TheVariants as read
+use Rattle.streams.specs.declared.reading.ReadFault.{ReadFault}
+use Rattle.streams.specs.declared.reading.ReadFault.TheVariants as read
 use Rattle.program_file.specs.declared.fault.ContentFault.{ContentFault}
 use Rattle.program_file.specs.declared.fault.ContentFault.TheVariants as content
 

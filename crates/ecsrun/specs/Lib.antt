@@ -1,5 +1,2 @@
-pub mod Streams
 pub mod Fault
-pub mod Args
-pub mod World
 pub mod Served

@@ -12,8 +12,8 @@ use Rattle.model.specs.State.{State}
 use Rattle.script.specs.declared.script_body.ScriptBody.{ScriptBody}
 use Rattle.engine.specs.EngineValue.{meanings}
 use Rattle.program_file.specs.Setup.{IsScheduleOf, AreScriptsOf}
-use Rattle.ecsrun.specs.Streams.{AppendsFront}
-use Rattle.ecsrun.specs.World.{world_text}
+use Rattle.streams.specs.Writing.{AppendsFront}
+use Rattle.world_text.specs.WorldText.{world_text}
 
 -- the text of a state that so many complete runs of a schedule leave
 pub record IsTextOfRuns (s : Schedule) (bodies : List BodyMeaning) (start : State) (times : ℕ) (text : List ℕ) : Type 0 where
@@ -58,9 +58,3 @@ pub record IsRefusal (status : ℕ) (old new : Option (List ℕ)) : Type 0 where
 -- what the output of a command is, by its status
 abbrev pub IsServed : ℕ → ℕ → Option (List ℕ) → Option (List ℕ) → Type 0
 IsServed times status old new = IsDone times status old new ⊎ (IsCutOff times status old new ⊎ IsRefusal status old new)
-
--- a writer took one line, or a beginning of one
-pub record GainsLine (old new : Option (List ℕ)) : Type 0 where
-  pub line : List ℕ
-  pub one : All (λ byte. byte ≢ 10) line
-  pub written : AppendsFront old new (line ++ 10 ∷ [])

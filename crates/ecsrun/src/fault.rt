@@ -4,10 +4,11 @@ ghost use Rattle.std.specs.Prelude.{◌≡◌};
 ghost use Rattle.ecsrun.specs.Fault.{status_of, fault_of_read, fault_of_content};
 ghost use Rattle.ecsrun.specs.declared.fault.Fault.TheVariants.{Memory, Write};
 
-use crate::streams::{ReadFault, WriteFault};
 use program_file::fault::ContentFault;
 use schedule_builder::fault::BuildFault;
 use std::alloc::{AllocError, AllocFailed};
+use streams::reading::ReadFault;
+use streams::writing::WriteFault;
 use thiserror::Error;
 
 /// Why the work is not done. It is printed as the line that the standard error gets, without its end.

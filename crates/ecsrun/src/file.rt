@@ -3,9 +3,9 @@
 ghost use Rattle.std.specs.Prelude.{◌≡◌, ◌<◌, ◌≤◌, length, vec_len, IfOk, IfSome, IsErrOf};
 
 use crate::fault::Fault;
-use crate::streams::read_whole;
 use std::alloc::Global;
 use std::io::Read;
+use streams::reading::read_whole;
 
 const MOST_BYTES: usize = 1_048_576;
 

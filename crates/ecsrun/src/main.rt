@@ -1,19 +1,16 @@
 // The program: its command line, its streams, and the texts that it prints.
 #![tactic(auto)]
 
-mod args;
 #[cfg(test)]
 mod fakes;
 mod fault;
 mod file;
 mod opened;
 mod serve;
-mod streams;
 #[cfg(test)]
 mod tests;
-mod world;
 
-use args::{Args, LineFault};
+use command_line::args::{Args, LineFault};
 use engine::Single;
 use fault::Fault;
 use opened::open;
@@ -21,10 +18,10 @@ use serve::{serve, tell};
 use std::alloc::Global;
 use std::io::Write;
 use std::process::ExitCode;
-use streams::write_whole;
+use streams::writing::write_whole;
 
 // Tells of a line that asks for no work.
-fn tell_line<O: Write, E: Write>(
+fn tell_line_fault<O: Write, E: Write>(
     alloc: Global,
     out: &mut O,
     faults: &mut E,
@@ -51,7 +48,7 @@ fn main(rt: HostRuntime) -> ExitCode {
     };
     let args = match Args::read(rt.alloc(), words.as_slice()) {
         Ok(args) => args,
-        Err(fault) => return ExitCode::from(tell_line(
+        Err(fault) => return ExitCode::from(tell_line_fault(
             rt.alloc(),
             &mut rt.stdout(),
             &mut rt.stderr(),

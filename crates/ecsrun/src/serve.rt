@@ -3,16 +3,15 @@
 ghost use Rattle.std.specs.Prelude.{◌≡◌, length, string_bytes, IfOk};
 ghost use Rattle.engine.specs.EngineValue.{meanings};
 ghost use Rattle.ecsrun.specs.Fault.{status_of};
-ghost use Rattle.ecsrun.specs.Served.{IsRunText, IsServed, IsTextOfRuns, GainsLine};
+ghost use Rattle.ecsrun.specs.Served.{IsRunText, IsServed, IsTextOfRuns};
 ghost use Rattle.program_file.specs.Setup.{AreScriptsOf, start_of};
+ghost use Rattle.streams.specs.Writing.{GainsLine};
 
-use crate::args::Args;
 use crate::fault::Fault;
 use crate::file::bytes_of;
-use crate::streams::{write_line, write_whole};
-use crate::world::text_of;
 use archetype_store::store::World;
 use body::state::State;
+use command_line::args::Args;
 use engine::{Engine, NewFault, RunFault, Single};
 use program_file::document::document_of;
 use program_file::load::world_of;
@@ -23,6 +22,8 @@ use schedule_builder::built::Built;
 use script::script_body::ScriptBody;
 use std::alloc::Global;
 use std::io::{Read, Write};
+use streams::writing::{write_line, write_whole};
+use world_text::text::text_of;
 
 /// Does the work of a command line: reads the program file, runs its schedule so many times in the mode, and writes the world to
 /// `out`. What goes wrong is told to `faults` in one line. Gives the exit status: 0 where the work is done, 1 where the content
@@ -101,8 +102,15 @@ pub fn tell<E: Write>(alloc: Global, faults: &mut E, fault: &Fault) -> u8
     ensures line { GainsLine (E.contents faults.old) (E.contents faults.new) }
 {
     match fault.to_string(alloc) {
-        Ok(line) => write_line(faults, line.as_str()),
-        Err(_) => write_line(faults, "error memory"),
+        Ok(line) => tell_line(faults, line.as_str()),
+        Err(_) => tell_line(faults, "error memory"),
     }
     fault.status()
+}
+
+// Writes the first line of a text, as far as the writer takes it.
+fn tell_line<E: Write>(faults: &mut E, text: &str)
+    ensures { GainsLine (E.contents faults.old) (E.contents faults.new) }
+{
+    let _ = write_line(faults, text);
 }

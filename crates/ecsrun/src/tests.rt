@@ -1,8 +1,8 @@
 // Command lines from file to output.
 
-use crate::args::Args;
 use crate::fakes::{Sink, Source};
 use crate::serve::serve;
+use command_line::args::Args;
 use engine::Single;
 use std::alloc::{AllocError, Global};
 use std::test::Fail;

@@ -47,7 +47,7 @@ pub target-command : (widths : ℕ → ℕ) (tick count : ℕ) (target : Command
     → IsTarget widths tick count target → IsTarget widths tick count (apply_command tick target command)
 target-command widths tick count target (Spawn e) w h = target-changed widths tick count target e.index (spawned e.generation)
     (slot-spawned widths tick e.generation (get_or target.slots e.index fresh_slot)) h
-target-command widths tick count target (Insert e kind words) w h = target-if_alive widths tick count target e (with_row (insert_component tick kind words)) (slot-inserted widths tick kind words w) h
+target-command widths tick count target (Insert e kind words) w h = target-if_alive widths tick count target e (with_row (insert_component tick kind words)) (slot-inserted widths tick tick kind words (omega arith) w) h
 target-command widths tick count target (Remove e kind) w h = target-if_alive widths tick count target e (with_row (remove_component kind)) (slot-removed widths tick kind) h
 target-command widths tick count target (Despawn e) w h = target-if_alive widths tick count target e freed (λ slot living. slot-freed widths tick slot) h
 

@@ -21,7 +21,7 @@ components-given : (widths : ℕ → ℕ) (given : List Given) (row : List Compo
     → AllByRecursion (IsComponent widths 1) row → AllByRecursion (IsComponent widths 1) (fold (λ row g. insert_component 1 g.kind g.words row) row given)
 components-given widths [] row w h = h
 components-given widths (g ∷ gs) row w h = components-given widths gs (insert_component 1 g.kind g.words row) w.1
-    (each-insert (IsComponent widths 1) 1 g.kind g.words row (component-new widths 1 g.kind g.words w.0) (component-changed widths 1 g.kind g.words w.0) h)
+    (each-insert (IsComponent widths 1) 1 g.kind g.words row (component-new widths 1 1 g.kind g.words (omega arith) w.0) (component-changed widths 1 1 g.kind g.words (omega arith) w.0) h)
 
 -- an entity
 slot-given : (widths : ℕ → ℕ) (given : List Given) → AllByRecursion (λ g. length g.words ≡ widths g.kind) given → IsSlot widths 1 (slot_given given)

@@ -70,13 +70,13 @@ component-later widths clock later le c h = let a = h.added in let b = h.changed
     record { width = h.width; added = omega (arith, a); changed = omega (arith, b) }
 
 -- a new component
-pub component-new : (widths : ℕ → ℕ) (tick kind : ℕ) (words : List ℤ) → length words ≡ widths kind → IsComponent widths tick (new_component tick kind words)
-component-new widths tick kind words w = record { width = w; added = omega arith; changed = omega arith }
+pub component-new : (widths : ℕ → ℕ) (clock tick kind : ℕ) (words : List ℤ) → tick ≤ clock → length words ≡ widths kind → IsComponent widths clock (new_component tick kind words)
+component-new widths clock tick kind words le w = record { width = w; added = le; changed = le }
 
 -- a component with another value
-pub component-changed : (widths : ℕ → ℕ) (tick kind : ℕ) (words : List ℤ) → length words ≡ widths kind → (c : Component) → c.kind ≡ kind
-    → IsComponent widths tick c → IsComponent widths tick (changed_component tick words c)
-component-changed widths tick kind words w c same h = record { width = w ∙ ap widths (sym same); added = h.added; changed = omega arith }
+pub component-changed : (widths : ℕ → ℕ) (clock tick kind : ℕ) (words : List ℤ) → tick ≤ clock → length words ≡ widths kind → (c : Component) → c.kind ≡ kind
+    → IsComponent widths clock c → IsComponent widths clock (changed_component tick words c)
+component-changed widths clock tick kind words le w c same h = record { width = w ∙ ap widths (sym same); added = h.added; changed = le }
 
 -- a component after a write
 pub component-after : (widths : ℕ → ℕ) (clock tick : ℕ) (words : ℕ → Option (List ℤ)) → tick ≤ clock

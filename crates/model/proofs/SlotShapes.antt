@@ -98,11 +98,11 @@ slot-with_row widths clock f slot living rising components h = record {
 }
 
 -- a living slot after an insertion
-pub slot-inserted : (widths : ℕ → ℕ) (tick kind : ℕ) (words : List ℤ) → length words ≡ widths kind → (slot : Slot) → is_living slot.status ≡ true
-    → IsSlot widths tick slot → IsSlot widths tick (with_row (insert_component tick kind words) slot)
-slot-inserted widths tick kind words w slot living h = slot-with_row widths tick (insert_component tick kind words) slot living
+pub slot-inserted : (widths : ℕ → ℕ) (clock tick kind : ℕ) (words : List ℤ) → tick ≤ clock → length words ≡ widths kind → (slot : Slot) → is_living slot.status ≡ true
+    → IsSlot widths clock slot → IsSlot widths clock (with_row (insert_component tick kind words) slot)
+slot-inserted widths clock tick kind words le w slot living h = slot-with_row widths clock (insert_component tick kind words) slot living
     (rising-insert tick kind words slot.row h.rising)
-    (each-insert (IsComponent widths tick) tick kind words slot.row (component-new widths tick kind words w) (component-changed widths tick kind words w) h.components) h
+    (each-insert (IsComponent widths clock) tick kind words slot.row (component-new widths clock tick kind words le w) (component-changed widths clock tick kind words le w) h.components) h
 
 -- a living slot after a removal
 pub slot-removed : (widths : ℕ → ℕ) (clock kind : ℕ) (slot : Slot) → is_living slot.status ≡ true

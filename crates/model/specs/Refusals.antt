@@ -1,7 +1,6 @@
 -- Why declared items are refused, each refusal in its own words, and which one is told.
-use Rattle.std.specs.Prelude.{ℕ, ◌<◌, ◌≤◌, ◌≡◌, ◌⊎◌, ◌++◌, Bool, true, false, ◌||◌, List, [], ◌∷◌, Option, Some, None, length, map, take, get_or}
-use Rattle.std.specs.List.{filter_map}
-use Rattle.model.specs.Lists.{has, IsIn, head_or}
+use Rattle.std.specs.Prelude.{ℕ, ◌<◌, ◌≤◌, ◌≡◌, ◌⊎◌, ◌++◌, true, false, List, [], ◌∷◌, Some, None, length, map, take, get_or}
+use Rattle.model.specs.Lists.{has, head_or}
 use Rattle.model.specs.Query.{Term}
 pub use Rattle.model.specs.QueryFaults.{query_fault}
 use Rattle.model.specs.Declarations.{Declared, declared_at, name_of, HasItem, looked_up, declared_orders, IsOrdered}

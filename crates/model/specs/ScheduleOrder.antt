@@ -1,5 +1,5 @@
 -- The schedule that declared items stand for: its edges, its level, its sync point and its schedule order.
-use Rattle.std.specs.Prelude.{ℕ, ◌<◌, ◌≡◌, ◌↔◌, true, false, List, [], ◌∷◌, ◌++◌, length, map}
+use Rattle.std.specs.Prelude.{ℕ, ◌<◌, ◌≡◌, ◌↔◌, true, false, List, ◌∷◌, ◌++◌, length, map}
 use Rattle.model.specs.Lists.{has}
 use Rattle.model.specs.Schedule.{Schedule, ScheduledSystem, has_edge, level_of}
 use Rattle.model.specs.Declarations.{Declared, DeclaredSystem, IsOrdered}

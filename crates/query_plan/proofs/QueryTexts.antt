@@ -1,5 +1,6 @@
 -- How the text of a query is read: its parts, and what they spell.
-use Rattle.std.proofs.Common.{◌≡◌, ◌≢◌, ◌<◌, ◌+◌, ℕ, Bor, List, [], ◌∷◌, ◌++◌, map, length, take, get_or, Result, Ok, Err, refl, arith, subst}
+use Rattle.std.proofs.Common.{◌≡◌, ◌≢◌, ◌<◌, ◌+◌, ℕ, Bor, List, [], ◌∷◌, ◌++◌, map, length, take, get_or, Result, Ok, Err, refl, arith, subst, Bool, IsTrue, IsFalse}
+use Rattle.std.proofs.lemmas.Bool.{both_ways}
 use Rattle.std.proofs.lemmas.List.{take_more, map-append, length-map, get_or-map}
 use Rattle.std.specs.List.{AllZip}
 use Rattle.model.specs.Query.{Term as ModelTerm}
@@ -105,3 +106,8 @@ query_of_parts (Err Outside) text parts are full h = none (none_by_parts IsSeenT
   none k [] q = full q
   none k (term ∷ terms) q = k (term ∷ terms) q
 query_of_parts (Err Memory) text parts are full h = tt
+
+-- what is read of the parts of another text
+pub read_parts : (blank : Bool) (r : Result (List ModelTerm) ReadError) (text : List ℕ) (parts : List (List ℕ)) → ArePartsOf parts text → (AreSpaces text → IsTrue blank) → IsFalse blank
+    → ReadsUnlessMemory (AllZip IsSeenTerm) parts r → ReadsUnlessMemory IsQuery text r
+read_parts blank r text parts are full unset h = query_of_parts r text parts are (λ spaces. both_ways blank unset (full spaces)) h

@@ -66,6 +66,7 @@ impl Term {
 impl Query {
     /// Reads a query: terms with commas between. The empty text, or one of spaces alone, is the query without terms. Elsewhere
     /// each part needs a term: a last comma is refused.
+    #[tactic(auto, using(crate::proofs::QueryTexts::read_parts))]
     pub fn read(alloc: Global, text: &str) -> Result<Query, ReadError>
         ensures { ReadsUnlessMemory IsQuery text.now result }
     {

@@ -143,7 +143,9 @@ fn frees_what_is_despawned(rt: HostRuntime) -> Result<(), Fail> {
     world.spawn_at(ids[0]);
     world.insert(FIRST, Position { x: 3, y: 5 }, 4)?;
     world.release(ids.as_slice());
-    assert_eq!(rt; world.slot(1).generation, 2);
+    let again = world.grant(rt.alloc(), 1)?;
+    assert_eq!(rt; again.len(), 1);
+    assert_eq!(rt; format!(in rt.alloc(); "{}", again[0])?.as_str(), "1v2");
     assert_eq!(rt; world.remove(FIRST, Kind::Velocity), Ok(()));
     assert!(rt; world.has(FIRST, Kind::Position));
     assert_eq!(rt; world.remove(FIRST, Kind::Position), Ok(()));

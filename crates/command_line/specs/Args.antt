@@ -1,0 +1,16 @@
+-- What a command line may ask for, and the exit status of one that is at fault.
+use Rattle.std.specs.Prelude.{ℕ, List, [], ◌∷◌, ◌++◌, codes, string_bytes}
+use Rattle.command_line.specs.declared.args.LineFault.{LineFault}
+use Rattle.command_line.specs.declared.args.LineFault.TheVariants.{Help, Usage, Memory}
+
+-- 0 where help was asked for, 2 where the line is at fault, 3 where memory is wanting
+abbrev pub line_status_of : LineFault → ℕ
+line_status_of (Help text) = 0
+line_status_of (Usage text) = 2
+line_status_of Memory = 3
+
+-- what is told: the text of the parser, or one line
+abbrev pub line_text_of : LineFault → List ℕ
+line_text_of (Help text) = string_bytes text
+line_text_of (Usage text) = string_bytes text
+line_text_of Memory = codes "error memory" ++ 10 ∷ []

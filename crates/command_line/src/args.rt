@@ -1,0 +1,167 @@
+// The command line.
+
+ghost use Rattle.std.specs.Prelude.{◌≡◌, ◌≤◌, IfOk};
+ghost use Rattle.command_line.specs.Args.{line_status_of, line_text_of};
+
+use clap::error::ErrorKind;
+use clap::{Arg, Command, Error, value_parser};
+use std::alloc::{AllocError, Global};
+
+/// What a command line asks for: so many runs of the schedule that a file declares.
+#[derive(Clone, Copy, PartialEq, Eq, Debug)]
+pub struct Args<'a> {
+    /// The path of the program file.
+    pub file: &'a str,
+    /// How many runs, at most 1,000,000.
+    pub times: u32,
+    ghost within: { times ≤ 1000000 },
+}
+
+/// A command line that asks for no work.
+#[derive(Debug, Drop)]
+pub enum LineFault {
+    /// Help is asked for.
+    Help(String),
+    /// The line is outside what the program takes.
+    Usage(String),
+    /// Memory is wanting.
+    Memory,
+}
+
+const MOST_TIMES: u32 = 1_000_000;
+
+impl<'a> Args<'a> {
+    /// Reads the words of a command line, of which the first is the program's own name: `run FILE [--times N]`, where N is from 0
+    /// to 1,000,000, and 1 if it is left out.
+    pub fn read(alloc: Global, words: &'a [String]) -> Result<Args<'a>, LineFault>
+        ensures { IfOk result (λ args. args.times ≤ 1000000) }
+    {
+        let matches = match command(alloc)?.try_get_matches_from(words) {
+            Ok(matches) => matches,
+            Err(error) => return Err(LineFault::of(alloc, &error)),
+        };
+        let Some(matches) = matches.subcommand_matches("run") else {
+            return Err(LineFault::Memory);
+        };
+        Ok(Args {
+            file: matches.get_str("file").unwrap_or(""),
+            times: matches.get_one::<u32>("times").unwrap_or(1).min(MOST_TIMES),
+        })
+    }
+}
+
+impl LineFault {
+    /// The text that is told, some lines of it.
+    pub fn text(&self) -> &str
+        ensures { result.now ≡ line_text_of self.now }
+    {
+        match self {
+            LineFault::Help(text) | LineFault::Usage(text) => text.as_str(),
+            LineFault::Memory => "error memory\n",
+        }
+    }
+
+    /// The exit status: 0 for help, 2 for a line at fault, 3 where memory is wanting.
+    pub fn status(&self) -> u8
+        ensures { result ≡ line_status_of self.now }
+    {
+        match self {
+            LineFault::Help(_) => 0,
+            LineFault::Usage(_) => 2,
+            LineFault::Memory => 3,
+        }
+    }
+
+    // What an answer of the parser without matches is here.
+    fn of(alloc: Global, error: &Error) -> LineFault {
+        if error.kind() == ErrorKind::OutOfMemory {
+            return LineFault::Memory;
+        }
+        match error.to_string(alloc) {
+            Ok(text) if error.use_stderr() => LineFault::Usage(text),
+            Ok(text) => LineFault::Help(text),
+            Err(_) => LineFault::Memory,
+        }
+    }
+}
+
+impl From<AllocError> for LineFault {
+    fn from(_error: AllocError) -> LineFault {
+        LineFault::Memory
+    }
+}
+
+// What the program takes.
+fn command<'a>(alloc: Global) -> Result<Command<'a>, AllocError> {
+    let file = Arg::new(alloc, "file")
+        .value_name("FILE")
+        .required(true)
+        .help("the program file");
+    let times = Arg::new(alloc, "times")
+        .long("times")
+        .value_name("N")
+        .value_parser(value_parser!(u32).range(0..=1_000_000))
+        .help("how many runs, 0 to 1000000, 1 if left out");
+    let run = Command::new(alloc, "run")
+        .about("runs the schedule of a program file and prints the world")
+        .arg(file)?
+        .arg(times)?;
+    Command::new(alloc, "ecsrun")
+        .bin_name("ecsrun")?
+        .subcommand_required(true)
+        .subcommand(run)
+}
+
+#[cfg(test)]
+mod tests {
+    use super::*;
+    use std::test::Fail;
+
+    fn words_of(alloc: Global, line: &str) -> Result<Vec<String>, AllocError> {
+        line.split(' ')
+            .map(|word| String::from_str(alloc, word))
+            .try_collect(alloc)
+    }
+
+    #[test]
+    fn lines_are_read(rt: HostRuntime) -> Result<(), Fail> {
+        for (line, file, times) in [
+            ("ecsrun run world.toml", "world.toml", 1),
+            ("ecsrun run world.toml --times 3", "world.toml", 3),
+            ("ecsrun run --times=0 a.toml", "a.toml", 0),
+            ("ecsrun run a.toml --times 1000000", "a.toml", 1_000_000),
+        ] {
+            let words = words_of(rt.alloc(), line)?;
+            let args = Args::read(rt.alloc(), words.as_slice())?;
+            assert_eq!(rt; args.file, file, "at {line}");
+            assert_eq!(rt; args.times, times, "at {line}");
+        }
+        Ok(())
+    }
+
+    #[test]
+    fn lines_are_refused(rt: HostRuntime) -> Result<(), Fail> {
+        for (line, status) in [
+            ("ecsrun", 2),
+            ("ecsrun run", 2),
+            ("ecsrun check a.toml b.txt", 2),
+            ("ecsrun run a.toml b.toml", 2),
+            ("ecsrun run a.toml --workers 65", 2),
+            ("ecsrun run a.toml --trace b.txt", 2),
+            ("ecsrun run a.toml --times 1000001", 2),
+            ("ecsrun run a.toml --times -1", 2),
+            ("ecsrun run a.toml --times 1 --times 2", 2),
+            ("ecsrun --version", 2),
+            ("ecsrun --help", 0),
+            ("ecsrun run --help", 0),
+        ] {
+            let words = words_of(rt.alloc(), line)?;
+            let answer = Args::read(rt.alloc(), words.as_slice());
+            let found = answer
+                .err()
+                .map(|fault| (fault.status(), fault.text().is_empty()));
+            assert_eq!(rt; found, Some((status, false)), "at {line}");
+        }
+        Ok(())
+    }
+}

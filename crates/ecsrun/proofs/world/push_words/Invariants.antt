@@ -1,7 +1,0 @@
-use Rattle.std.proofs.Common.{◌≡◌, ◌++◌, take, string_bytes}
-use Rattle.ecsrun.specs.World.{words_text}
-use Rattle.ecsrun.proofs.world.push_words.Given as goal
-
--- the words so far are written
-abbrev pub invariant-loop-word : goal.invariant-loop-word
-invariant-loop-word l = string_bytes l.text ≡ string_bytes l.fn.text ++ words_text (take l.word-index l.words)

@@ -1,0 +1,73 @@
+// Readers read to their end.
+
+ghost use Rattle.std.specs.Prelude.{◌≡◌, ◌<◌, ◌≤◌, length, vec_len, IfOk, IfSome, IsErrOf};
+
+use std::alloc::Global;
+use std::io::Read;
+use thiserror::Error;
+
+/// Why a reader is not read to its end.
+#[derive(Clone, Copy, PartialEq, Eq, Debug, Error)]
+pub enum ReadFault {
+    /// More bytes came than the limit.
+    #[error("the input is too long")]
+    TooLong,
+    /// A read failed.
+    #[error("the input can't be read")]
+    Failed,
+    /// Memory is wanting.
+    #[error("memory is wanting")]
+    Memory,
+}
+
+/// All bytes of a reader, at most `limit`.
+///
+/// A reader that fails is `Failed`. After an error the reader may stand anywhere.
+pub fn read_whole<R: Read>(
+    alloc: Global,
+    reader: &mut R,
+    limit: usize,
+) -> Result<Vec<u8>, ReadFault>
+    ensures within { IfOk result (λ bytes. vec_len bytes ≤ limit) }
+    ensures whole { IfOk result (λ bytes. IfSome (R.remaining reader.old) (λ all. bytes.items ≡ all)) }
+    ensures long { IsErrOf result ReadFault.TooLong → IfSome (R.remaining reader.old) (λ all. limit < length all) }
+{
+    let mut bytes = Vec::new(alloc);
+    let mut buffer = [0u8; 4096];
+    for _ in 0..u64::MAX {
+        let count = match reader.read(&mut buffer) {
+            Ok(count) => count,
+            Err(_) => return Err(ReadFault::Failed),
+        };
+        if count == 0 {
+            return Ok(bytes);
+        }
+        if limit - bytes.len() < count {
+            return Err(ReadFault::TooLong);
+        }
+        if bytes.extend_from_slice(&buffer[..count]).is_err() {
+            return Err(ReadFault::Memory);
+        }
+    }
+    Err(ReadFault::Failed)
+}
+
+#[cfg(test)]
+mod tests {
+    use super::*;
+    use std::test::Fail;
+
+    #[test]
+    fn readers_are_read_to_their_end(rt: HostRuntime) -> Result<(), Fail> {
+        let text = "a text of 22 bytes ...".as_bytes();
+        for limit in [22, 1_000_000] {
+            let bytes = read_whole(rt.alloc(), &mut &text[..], limit)?;
+            assert_eq!(rt; bytes.as_slice(), text);
+        }
+        for limit in [0, 21] {
+            let answer = read_whole(rt.alloc(), &mut &text[..], limit);
+            assert_eq!(rt; answer.err(), Some(ReadFault::TooLong), "at {limit}");
+        }
+        Ok(())
+    }
+}
