@@ -1,6 +1,5 @@
--- The exit status of a fault, the line that tells of it, and the faults of reading and of content.
-use Rattle.std.specs.Prelude.{ℕ, List, codes}
-use Rattle.program_file.specs.Fault.{fault_text as content_text}
+-- The exit status of a fault, and the faults of reading and of content.
+use Rattle.std.specs.Prelude.{ℕ}
 use Rattle.ecsrun.specs.declared.fault.Fault.{Fault}
 use Rattle.ecsrun.specs.declared.fault.Fault.TheVariants.{TooLong, Content, ClockSpent, File, Write, Memory}
 use Rattle.streams.specs.declared.reading.ReadFault.{ReadFault}
@@ -27,12 +26,3 @@ fault_of_read read.Memory = Memory
 abbrev pub fault_of_content : ContentFault → Fault
 fault_of_content content.Memory = Memory
 fault_of_content fault = Content fault
-
--- the line of a fault, without its end
-abbrev pub fault_text : Fault → List ℕ
-fault_text TooLong = codes "refused P4"
-fault_text (Content fault) = content_text fault
-fault_text ClockSpent = codes "refused E2"
-fault_text File = codes "error file"
-fault_text Write = codes "error write"
-fault_text Memory = codes "error memory"

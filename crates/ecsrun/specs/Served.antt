@@ -1,5 +1,6 @@
 -- What a command leaves with its streams.
-use Rattle.std.specs.Prelude.{ℕ, ◌≡◌, ◌≢◌, ◌⊎◌, ℤ, List, length, Option}
+use Rattle.std.specs.Prelude.{ℕ, ◌≡◌, ◌≢◌, ◌⊎◌, ℤ, List, [], ◌∷◌, ◌++◌, length, Option}
+use Rattle.std.specs.List.{All}
 use Rattle.std.specs.Io.KnownBytes.{Keeps, Appends}
 use Rattle.model.specs.declared.steps.Step.{Step}
 use Rattle.model.specs.Declarations.{Declared}
@@ -11,10 +12,7 @@ use Rattle.model.specs.State.{State}
 use Rattle.script.specs.declared.script_body.ScriptBody.{ScriptBody}
 use Rattle.engine.specs.EngineValue.{meanings}
 use Rattle.program_file.specs.Setup.{IsScheduleOf, AreScriptsOf}
-use Rattle.ecsrun.specs.declared.fault.Fault.{Fault}
-use Rattle.ecsrun.specs.declared.fault.Fault.TheVariants.{Memory}
-use Rattle.ecsrun.specs.Fault.{status_of, fault_text}
-use Rattle.streams.specs.Writing.{AppendsFront, GainsLineOf}
+use Rattle.streams.specs.Writing.{AppendsFront}
 use Rattle.world_text.specs.WorldText.{world_text}
 
 -- the text of a state that so many complete runs of a schedule leave
@@ -60,17 +58,3 @@ pub record IsRefusal (status : ℕ) (old new : Option (List ℕ)) : Type 0 where
 -- what the output of a command is, by its status
 abbrev pub IsServed : ℕ → ℕ → Option (List ℕ) → Option (List ℕ) → Type 0
 IsServed times status old new = IsDone times status old new ⊎ (IsCutOff times status old new ⊎ IsRefusal status old new)
-
--- a writer took the line of a fault, or that of want of memory where the text of the fault can't be made, or a beginning of either
-abbrev pub TellsFault : Fault → Option (List ℕ) → Option (List ℕ) → Type 0
-TellsFault fault old new = GainsLineOf (fault_text fault) old new ⊎ GainsLineOf (fault_text Memory) old new
-
--- a fault that has this status is told
-pub record IsFaultTold (status : ℕ) (old new : Option (List ℕ)) : Type 0 where
-  pub fault : Fault
-  pub same : status ≡ status_of fault
-  pub told : TellsFault fault old new
-
--- what is told by the status: nothing where the work is done, else a fault that has this status
-abbrev pub IsTold : ℕ → Option (List ℕ) → Option (List ℕ) → Type 0
-IsTold status old new = ((status ≡ 0) × Keeps old new) ⊎ IsFaultTold status old new

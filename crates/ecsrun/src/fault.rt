@@ -1,50 +1,38 @@
 // Why the program ends with another status than 0, each told by one line.
 
-ghost use Rattle.std.specs.Prelude.{◌≡◌, Some};
-ghost use Rattle.ecsrun.specs.Fault.{status_of, fault_text, fault_of_read, fault_of_content};
+ghost use Rattle.std.specs.Prelude.{◌≡◌};
+ghost use Rattle.ecsrun.specs.Fault.{status_of, fault_of_read, fault_of_content};
 ghost use Rattle.ecsrun.specs.declared.fault.Fault.TheVariants.{Memory, Write};
 
 use program_file::fault::ContentFault;
 use schedule_builder::fault::BuildFault;
 use std::alloc::{AllocError, AllocFailed};
-use std::error::Error;
-use std::fmt;
 use streams::reading::ReadFault;
 use streams::writing::WriteFault;
+use thiserror::Error;
 
 /// Why the work is not done. It is printed as the line that the standard error gets, without its end.
-#[derive(Debug, Drop)]
+#[derive(Debug, Drop, Error)]
 pub enum Fault {
     /// The program file is longer than its limit.
+    #[error("refused P4")]
     TooLong,
     /// The content of the program file is refused, for another cause than memory.
+    #[error("{0}")]
     Content(ContentFault),
     /// The clock has no next tick.
+    #[error("refused E2")]
     ClockSpent,
     /// The program file can't be read.
+    #[error("error file")]
     File,
     /// A write failed.
+    #[error("error write")]
     Write,
     /// Memory is wanting.
+    #[error("error memory")]
     Memory,
 }
-
-impl fmt::Display for Fault {
-    ghost output = { λ fault. Some (fault_text fault) };
-
-    fn fmt<W: fmt::Write>(&self, f: &mut fmt::Formatter<W>) -> fmt::Result {
-        match self {
-            Fault::TooLong => write!(f, "refused P4"),
-            Fault::Content(fault) => write!(f, "{fault}"),
-            Fault::ClockSpent => write!(f, "refused E2"),
-            Fault::File => write!(f, "error file"),
-            Fault::Write => write!(f, "error write"),
-            Fault::Memory => write!(f, "error memory"),
-        }
-    }
-}
-
-impl Error for Fault {}
 
 impl Fault {
     /// The exit status: 1 where the content is refused, 3 where input, output or memory fail.

@@ -3,9 +3,9 @@
 ghost use Rattle.std.specs.Prelude.{◌≡◌, length, string_bytes, IfOk};
 ghost use Rattle.engine.specs.EngineValue.{meanings};
 ghost use Rattle.ecsrun.specs.Fault.{status_of};
-ghost use Rattle.ecsrun.specs.Served.{IsRunText, IsServed, IsTextOfRuns, IsTold, TellsFault};
+ghost use Rattle.ecsrun.specs.Served.{IsRunText, IsServed, IsTextOfRuns};
 ghost use Rattle.program_file.specs.Setup.{AreScriptsOf, start_of};
-ghost use Rattle.streams.specs.Writing.{GainsLine, GainsLineOf};
+ghost use Rattle.streams.specs.Writing.{GainsLine};
 
 use crate::fault::Fault;
 use crate::file::bytes_of;
@@ -37,8 +37,7 @@ pub fn serve<F: Read, O: Write, E: Write>(
     faults: &mut E,
 ) -> u8
     ensures output { IsServed args.now.times result (O.contents out.old) (O.contents out.new) }
-    ensures told { IsTold result (E.contents faults.old) (E.contents faults.new) }
-    ensures line { GainsLine (E.contents faults.old) (E.contents faults.new) }
+    ensures told { GainsLine (E.contents faults.old) (E.contents faults.new) }
 {
     let text = match answer(alloc, args.times, mode, file) {
         Ok(text) => text,
@@ -100,7 +99,6 @@ fn run(
 /// Tells of a fault in one line, and gives the exit status. The status stays where the line can't be written.
 pub fn tell<E: Write>(alloc: Global, faults: &mut E, fault: &Fault) -> u8
     ensures status { result ≡ status_of fault.now }
-    ensures told { TellsFault fault.now (E.contents faults.old) (E.contents faults.new) }
     ensures line { GainsLine (E.contents faults.old) (E.contents faults.new) }
 {
     match fault.to_string(alloc) {
@@ -112,8 +110,7 @@ pub fn tell<E: Write>(alloc: Global, faults: &mut E, fault: &Fault) -> u8
 
 // Writes the first line of a text, as far as the writer takes it.
 fn tell_line<E: Write>(faults: &mut E, text: &str)
-    ensures told { GainsLineOf text.now (E.contents faults.old) (E.contents faults.new) }
-    ensures line { GainsLine (E.contents faults.old) (E.contents faults.new) }
+    ensures { GainsLine (E.contents faults.old) (E.contents faults.new) }
 {
     let _ = write_line(faults, text);
 }

@@ -1,7 +1,7 @@
 // Why the content of a program file is refused.
 
-ghost use Rattle.std.specs.Prelude.{◌≡◌, Some, IfOk};
-ghost use Rattle.program_file.specs.Fault.{IsScriptFault, fault_text};
+ghost use Rattle.std.specs.Prelude.{◌≡◌, IfOk};
+ghost use Rattle.program_file.specs.Fault.{IsScriptFault};
 ghost use Rattle.program_file.specs.declared.fault.ContentFault.TheVariants.{Memory};
 
 use crate::place::Place;
@@ -9,21 +9,25 @@ use archetype_store::fault::GrantFault;
 use schedule_builder::fault::BuildFault;
 use script::fault::{Cause, ScriptFault};
 use std::alloc::{AllocError, AllocFailed, Global};
-use std::error::Error;
-use std::fmt;
+use thiserror::Error;
 
 /// Why the content of a program file is refused. It is printed as the line that tells of it, without its end.
-#[derive(Debug, Drop)]
+#[derive(Debug, Drop, Error)]
 pub enum ContentFault {
     /// The program file is no TOML document.
+    #[error("refused P1")]
     Document,
     /// A key is unknown or missing, or its value is none that the key can have.
+    #[error("refused P2 {0}")]
     Value(Place),
     /// A query or an instruction is outside its grammar.
+    #[error("refused P3 {0}")]
     Text(Place),
     /// The schedule is refused, for another cause than memory.
+    #[error("{0}")]
     Build(BuildFault),
     /// The script of a system is refused.
+    #[error("refused {cause} {system} {block} {instruction}")]
     Script {
         cause: Cause,
         system: String,
@@ -31,33 +35,12 @@ pub enum ContentFault {
         instruction: usize,
     },
     /// No ids are left for the entities of the file.
+    #[error("refused E3")]
     IdsSpent,
     /// Memory is wanting.
+    #[error("error memory")]
     Memory,
 }
-
-impl fmt::Display for ContentFault {
-    ghost output = { λ fault. Some (fault_text fault) };
-
-    fn fmt<W: fmt::Write>(&self, f: &mut fmt::Formatter<W>) -> fmt::Result {
-        match self {
-            ContentFault::Document => write!(f, "refused P1"),
-            ContentFault::Value(place) => write!(f, "refused P2 {place}"),
-            ContentFault::Text(place) => write!(f, "refused P3 {place}"),
-            ContentFault::Build(fault) => write!(f, "{fault}"),
-            ContentFault::Script {
-                cause,
-                system,
-                block,
-                instruction,
-            } => write!(f, "refused {cause} {system} {block} {instruction}"),
-            ContentFault::IdsSpent => write!(f, "refused E3"),
-            ContentFault::Memory => write!(f, "error memory"),
-        }
-    }
-}
-
-impl Error for ContentFault {}
 
 impl ContentFault {
     /// The fault of the script of the system of this name.

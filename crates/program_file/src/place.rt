@@ -1,8 +1,5 @@
 // The places of a program file.
 
-ghost use Rattle.std.specs.Prelude.{Some};
-ghost use Rattle.program_file.specs.Fault.{place_text};
-
 use std::fmt;
 
 /// A place of a program file, by which a refusal is told. Entities and systems are numbered from 0 in the order of the file.
@@ -19,8 +16,6 @@ pub enum Place {
 }
 
 impl fmt::Display for Place {
-    ghost output = { λ place. Some (place_text place) };
-
     fn fmt<W: fmt::Write>(&self, f: &mut fmt::Formatter<W>) -> fmt::Result {
         match self {
             Place::Top => write!(f, "top"),

@@ -3,4 +3,3 @@ pub mod Orders
 pub mod Cycles
 pub mod Sequence
 pub mod Queries
-pub mod FaultText

@@ -1,7 +1,6 @@
 // Why a schedule is refused, as the program tells it.
 
-ghost use Rattle.std.specs.Prelude.{◌≡◌, Some};
-ghost use Rattle.schedule_builder.specs.FaultText.{fault_text};
+ghost use Rattle.std.specs.Prelude.{◌≡◌};
 ghost use Rattle.schedule_builder.specs.declared.fault.BuildFault.TheVariants.{Memory};
 
 use std::alloc::{AllocError, AllocFailed};
@@ -33,8 +32,6 @@ pub enum BuildFault {
 }
 
 impl fmt::Display for BuildFault {
-    ghost output = { λ fault. Some (fault_text fault) };
-
     fn fmt<W: fmt::Write>(&self, f: &mut fmt::Formatter<W>) -> fmt::Result {
         match self {
             BuildFault::UnknownName(name) => write!(f, "refused B1 {name}"),

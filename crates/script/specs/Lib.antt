@@ -3,4 +3,3 @@ pub mod Script
 pub mod Faults
 pub mod Block
 pub mod Within
-pub mod FaultText

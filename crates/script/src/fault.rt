@@ -1,29 +1,16 @@
 // Why a script is refused.
 
-ghost use Rattle.std.specs.Prelude.{Some};
-ghost use Rattle.script.specs.FaultText.{cause_text};
-
-use std::fmt;
 use thiserror::Error;
 
 /// What is wrong with a block or an instruction. Printed as the program tells it.
-#[derive(Clone, Copy, PartialEq, Eq, Debug)]
+#[derive(Clone, Copy, PartialEq, Eq, Debug, Error)]
 pub enum Cause {
     /// X1: the block names no query of the system, a kind is not fetched by the query, or the target has no `mut` term.
+    #[error("X1")]
     NotFetched,
     /// X3: the kind has no such field.
+    #[error("X3")]
     NoField,
-}
-
-impl fmt::Display for Cause {
-    ghost output = { λ cause. Some (cause_text cause) };
-
-    fn fmt<W: fmt::Write>(&self, f: &mut fmt::Formatter<W>) -> fmt::Result {
-        match self {
-            Cause::NotFetched => write!(f, "X1"),
-            Cause::NoField => write!(f, "X3"),
-        }
-    }
 }
 
 /// The first fault of a script. A block's own fault is told at instruction 0.

@@ -5,7 +5,7 @@ use Rattle.std.proofs.lemmas.List.{take-append-drop, take_all, append-nil, get_o
 use Rattle.std.proofs.lemmas.List.Sums.{fails_before_first}
 use Rattle.std.specs.List.{position_or_len, before_first}
 use Rattle.std.specs.Io.KnownBytes.{Appends}
-use Rattle.streams.specs.Writing.{AppendsFront, WritesWhole, GainsLineOf, GainsLine, first_line_of}
+use Rattle.streams.specs.Writing.{AppendsFront, WritesWhole, GainsLine, first_line_of}
 
 -- two texts that are taken in turn are taken as one
 pub appends_more : (old mid new : Option (List ℕ)) (front more : List ℕ) → Appends old mid front → Appends mid new more → Appends old new (front ++ more)
@@ -61,6 +61,6 @@ none_before text line is k d l h =
 pub whole_line : (text : List ℕ) → position_or_len (λ b. b == 10) text ≡ length text → text ≡ first_line_of text
 whole_line text e = sym (take_all (position_or_len (λ b. b == 10) text) text (omega arith))
 
--- the first line of a text is one line
-pub gains_line : (old new : Option (List ℕ)) (text : List ℕ) → GainsLineOf text old new → GainsLine old new
-gains_line old new text h = record { line = first_line_of text; one = none_before text (first_line_of text) refl; written = h }
+-- what is written of a line is a front of one line
+pub gains_line : {T E : Type 0} (old new : Option (List ℕ)) (r : Result T E) (text : List ℕ) → WritesWhole old new r (first_line_of text ++ 10 ∷ []) → GainsLine old new
+gains_line old new r text h = record { line = first_line_of text; one = none_before text (first_line_of text) refl; written = front_of_whole old new r (first_line_of text ++ 10 ∷ []) h }

@@ -15,10 +15,6 @@ WritesWhole old new r text = MatchResult r (λ _. Appends old new text) (λ _. A
 abbrev pub first_line_of : List ℕ → List ℕ
 first_line_of text = before_first (λ byte. byte == 10) text
 
--- a writer took the first line of a text and its end, or a beginning of that
-abbrev pub GainsLineOf : List ℕ → Option (List ℕ) → Option (List ℕ) → Type 0
-GainsLineOf text old new = AppendsFront old new (first_line_of text ++ 10 ∷ [])
-
 -- a writer took one line, or a beginning of one
 pub record GainsLine (old new : Option (List ℕ)) : Type 0 where
   pub line : List ℕ
