@@ -15,6 +15,13 @@ use Rattle.program_file.specs.Setup.{IsScheduleOf, AreScriptsOf}
 use Rattle.streams.specs.Writing.{AppendsFront}
 use Rattle.world_text.specs.WorldText.{world_text}
 
+-- so many complete runs of a schedule, one after the other, lead from one state to another
+pub record HaveRun (s : Schedule) (bodies : List BodyMeaning) (start : State) (times : ℕ) (final : State) : Type 0 where
+  pub histories : List (List Step)
+  pub many : length histories ≡ times
+  pub ran : AreSingleRuns s bodies start histories final
+  pub sound : AreSoundRuns s bodies start histories final
+
 -- the text of a state that so many complete runs of a schedule leave
 pub record IsTextOfRuns (s : Schedule) (bodies : List BodyMeaning) (start : State) (times : ℕ) (text : List ℕ) : Type 0 where
   pub histories : List (List Step)

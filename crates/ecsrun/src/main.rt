@@ -16,7 +16,7 @@ use fault::Fault;
 use opened::open;
 use serve::{serve, tell};
 use std::alloc::Global;
-use std::io::Write;
+use std::io::{ErrorKind, Write};
 use std::process::ExitCode;
 use streams::writing::write_whole;
 
@@ -38,13 +38,19 @@ fn tell_line_fault<O: Write, E: Write>(
     }
 }
 
+// The words of the command line. One that is no text can name no file that is there.
+fn words_of(rt: &HostRuntime) -> Result<Vec<String>, Fault> {
+    match std::env::args(rt) {
+        Ok(words) => Ok(words.collect(rt.alloc())?),
+        Err(error) if error.kind() == ErrorKind::InvalidData => Err(Fault::File),
+        Err(_) => Err(Fault::Memory),
+    }
+}
+
 fn main(rt: HostRuntime) -> ExitCode {
-    let words: Vec<String> = match std::env::args(&rt) {
-        Ok(words) => match words.collect(rt.alloc()) {
-            Ok(words) => words,
-            Err(_) => return ExitCode::from(tell(rt.alloc(), &mut rt.stderr(), &Fault::Memory)),
-        },
-        Err(_) => return ExitCode::from(tell(rt.alloc(), &mut rt.stderr(), &Fault::Memory)),
+    let words: Vec<String> = match words_of(&rt) {
+        Ok(words) => words,
+        Err(fault) => return ExitCode::from(tell(rt.alloc(), &mut rt.stderr(), &fault)),
     };
     let args = match Args::read(rt.alloc(), words.as_slice()) {
         Ok(args) => args,

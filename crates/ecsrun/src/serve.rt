@@ -1,9 +1,9 @@
 // The work of a command line, on readers and writers.
 
-ghost use Rattle.std.specs.Prelude.{◌≡◌, length, string_bytes, IfOk};
+ghost use Rattle.std.specs.Prelude.{◌≡◌, length, string_bytes, IfOk, OnOk, IsFalse};
 ghost use Rattle.engine.specs.EngineValue.{meanings};
 ghost use Rattle.ecsrun.specs.Fault.{status_of};
-ghost use Rattle.ecsrun.specs.Served.{IsRunText, IsServed, IsTextOfRuns};
+ghost use Rattle.ecsrun.specs.Served.{HaveRun, IsRunText, IsServed, IsTextOfRuns};
 ghost use Rattle.program_file.specs.Setup.{AreScriptsOf, start_of};
 ghost use Rattle.streams.specs.Writing.{GainsLine};
 
@@ -86,14 +86,36 @@ fn run(
         Err(NewFault::Count) => unreachable!(),
         Err(NewFault::Misfit(_)) => unreachable!(),
     };
-    match engine.run(alloc, times, mode) {
-        Ok(_) => {}
-        Err(RunFault::Memory) => return Err(Fault::Memory),
-        Err(RunFault::ClockSpent) => return Err(Fault::ClockSpent),
-        Err(RunFault::Spoiled) => unreachable!(),
-    }
+    run_times(alloc, &mut engine, times, mode)?;
     let state = engine.state();
     Ok(text_of(alloc, times, state.world(), state.passed_over())?)
+}
+
+// Runs a schedule so many times, one run after the other: the steps of a run are dropped before the next one begins.
+fn run_times(alloc: Global, engine: &mut Engine, times: u32, mode: &Single) -> Result<(), Fault>
+    requires { IsFalse engine.old.spoiled }
+    ensures { OnOk result (HaveRun engine.old.schedule (meanings engine.old.schedule engine.old.bodies) engine.old.state times engine.new.state) }
+{
+    for _run in 0..times {
+        run_once(alloc, engine, mode)?;
+    }
+    Ok(())
+}
+
+// Runs a schedule once.
+fn run_once(alloc: Global, engine: &mut Engine, mode: &Single) -> Result<(), Fault>
+    requires { IsFalse engine.old.spoiled }
+    ensures ran { OnOk result (HaveRun engine.old.schedule (meanings engine.old.schedule engine.old.bodies) engine.old.state 1 engine.new.state) }
+    ensures schedule { engine.new.schedule ≡ engine.old.schedule }
+    ensures bodies { engine.new.bodies ≡ engine.old.bodies }
+    ensures sound { OnOk result (IsFalse engine.new.spoiled) }
+{
+    match engine.run(alloc, 1, mode) {
+        Ok(_) => Ok(()),
+        Err(RunFault::Memory) => Err(Fault::Memory),
+        Err(RunFault::ClockSpent) => Err(Fault::ClockSpent),
+        Err(RunFault::Spoiled) => unreachable!(),
+    }
 }
 
 /// Tells of a fault in one line, and gives the exit status. The status stays where the line can't be written.

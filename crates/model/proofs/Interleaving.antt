@@ -6,7 +6,7 @@ use Rattle.model.specs.declared.steps.Step.TheVariants.{Cond, Start, Skip, Finis
 use Rattle.model.specs.Lists.{IsIn, provided}
 use Rattle.model.specs.State.{State}
 use Rattle.model.specs.Schedule.{Schedule, params_of, access_of}
-use Rattle.model.specs.Lawful.{runs, MayStart, MayAsk, May, IsLawful}
+use Rattle.model.specs.Lawful.{runs, NoneRuns, MayStart, MayAsk, May, IsLawful}
 use Rattle.model.specs.Outcome.{BodyMeaning}
 use Rattle.model.specs.RunState.{RunState, RunningSystem, begin_run, has_tick, can_start, started_system, after_start, finish, asked_of, after_condition, after_sync}
 use Rattle.model.specs.Meaning.{Interleaved, running_system, without_system, with_running_systems, interleaved_step, interleaved, serial_step, serial}
@@ -156,13 +156,23 @@ option_map-same : {A B : Type 0} (f : A → Option B) (g : A → B) (o : Option 
 option_map-same f g None h = refl
 option_map-same f g (Some x) h = sym (h x refl)
 
+-- where nothing runs there are no running systems
+pub idle_none : (s : Schedule) (bodies : List BodyMeaning) (start : State) (h : List Step) (w : Interleaved) → IsLawful s h → NoneRuns h →
+    interleaved s bodies start h ≡ Some w → w.running_systems ≡ []
+idle_none s bodies start h w lawful none e =
+    none_running w.running_systems (λ p i. both_ways (runs h p.system) (none p.system) ((holds s bodies start h w lawful e).alive p i))
+
+-- where nothing runs, interleaved is as on one thread
+pub interleaved_idle : (s : Schedule) (bodies : List BodyMeaning) (start : State) (h : List Step) → IsLawful s h → NoneRuns h →
+    option_map (λ w. w.run) (interleaved s bodies start h) ≡ serial s bodies start h
+interleaved_idle s bodies start h lawful none =
+    option_map-same (settled s bodies) (λ w. w.run) (interleaved s bodies start h)
+    (λ w e. ap (λ ps. settle s bodies ps w.run) (idle_none s bodies start h w lawful none e))
+    ∙ settles s bodies start h lawful
+
 -- a complete list, interleaved, is that of one thread
 pub interleaved_serial : InterleavedIsSerial
-interleaved_serial s bodies start h lawful complete =
-    option_map-same (settled s bodies) (λ w. w.run) (interleaved s bodies start h)
-    (λ w e. ap (λ ps. settle s bodies ps w.run)
-    (none_running w.running_systems (λ p i. both_ways (runs h p.system) (idle_at_end s h lawful complete p.system) ((holds s bodies start h w lawful e).alive p i))))
-    ∙ settles s bodies start h lawful
+interleaved_serial s bodies start h lawful complete = interleaved_idle s bodies start h lawful (idle_at_end s h lawful complete)
 
 -- what a start shows and a condition is asked about is the same
 pub same_shown : SameIsShown

@@ -46,6 +46,8 @@ pub mod Places
 pub mod Timed
 pub mod Quiet
 pub mod Followed
+pub mod Width
 pub mod Sound
+pub mod Wide
 pub mod One
 pub mod examples

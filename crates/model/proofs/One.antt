@@ -1,27 +1,30 @@
 -- The single-threaded list is one: one thing is ready, one answer is true, and nothing comes after a complete list.
-use Rattle.std.proofs.Common.{ℕ, ◌<◌, Bool, true, ◌≡◌, ◌⊎◌, inl, inr, List, [], ◌∷◌, ◌++◌, length, Option, Some, None, IsSome, refl, sym, ap, ap₂, ◌∙◌, subst, arith}
+use Rattle.std.proofs.Common.{ℕ, ◌<◌, Bool, true, false, ◌≡◌, ◌⊎◌, inl, inr, List, [], ◌∷◌, ◌++◌, length, Option, Some, None, IsSome, is_some, option_and_then, refl, sym, ap, ap₂, ◌∙◌, subst, arith}
 use Rattle.std.proofs.Math.Seq.{append_snoc}
 use Rattle.std.proofs.lemmas.List.{append-nil}
-use Rattle.std.proofs.lemmas.Bool.{both_ways, cases_order}
+use Rattle.std.proofs.lemmas.Bool.{both_ways, cases_order, false≢true}
 use Rattle.model.specs.declared.steps.Step.{Step}
 use Rattle.model.specs.declared.steps.Step.TheVariants.{Cond, Start, Skip, Finish, Sync}
 use Rattle.model.specs.declared.steps.Ready.{Ready}
 use Rattle.model.specs.declared.steps.Ready.TheVariants as ready
+use Rattle.model.specs.Lists.{provided, first_some}
 use Rattle.model.specs.State.{State}
 use Rattle.model.specs.Outcome.{BodyMeaning}
 use Rattle.model.specs.Schedule.{Schedule}
 use Rattle.model.specs.Lawful.{IsFree, May, MaySync, IsLawful, IsComplete, was_asked}
 use Rattle.model.specs.Ready.{IsAskable, Offers, IsReadySync, IsReadyAmong, step_of}
 use Rattle.model.specs.Widths.{just_started, IsNextSingle, IsSingle}
-use Rattle.model.specs.RunState.{RunState}
-use Rattle.model.specs.Meaning.{Interleaved, interleaved, interleaved_step, serial, serial_step, IsTrueAnswer, HasTrueAnswers}
-use Rattle.model.specs.Causes.{Cause, serial_cause}
+use Rattle.model.specs.RunState.{RunState, between, opening, can_open}
+use Rattle.model.specs.Meaning.{Interleaved, interleaved, interleaved_step, with_running_systems, serial, serial_step, IsTrueAnswer, HasTrueAnswers}
+use Rattle.model.specs.Causes.{Cause, unless, serial_cause_of, serial_cause_at, serial_cause}
+use Rattle.model.specs.Causes.Cause.{NoTick}
 use Rattle.model.specs.Runs.{IsSingleRun, AreSingleRuns}
-use Rattle.model.specs.Laws.{SingleRunIsOne, SingleRunsAreOne, DefinedRunsGoThrough}
+use Rattle.model.specs.Laws.{SingleRunIsOne, SingleRunsAreOne, DefinedRunsGoThrough, StopsAreOne}
 use Rattle.model.proofs.Histories.{may_at, ended_begun, idle_at_end, answered_asked, one_answer}
-use Rattle.model.proofs.Causes.{then-parts, lacks-serial}
+use Rattle.model.proofs.Causes.{LacksFor, then-parts, lacks-serial, lacks-serial_step}
 use Rattle.model.proofs.Single.{single_is_wide, wide_lawful}
 use Rattle.model.proofs.Sound.{sound_run}
+use Rattle.model.proofs.Wide.{idle_same, none_runs}
 
 -- ---- one thing is ready
 
@@ -244,3 +247,168 @@ pub defined_runs_go_through : DefinedRunsGoThrough
 defined_runs_go_through s bodies times w cause defined stopped =
     runs_go_through s bodies w defined.runs stopped.complete_runs defined.end stopped.middle stopped.front cause defined.ran stopped.ran
     (subst (λ n. length stopped.complete_runs < n) (sym defined.count) stopped.fewer) stopped.single stopped.answers stopped.stops
+
+-- ---- runs stop for one cause
+
+-- where a list stops that could open: at a step after a front that has a meaning
+record StopsAt (s : Schedule) (bodies : List BodyMeaning) (w : State) (list : List Step) (cause : Cause) : Type 0 where
+  later : List Step
+  step : Step
+  front : List Step
+  run : RunState
+  whole : list ≡ later ++ step ∷ front
+  meaning : serial s bodies w front ≡ Some run
+  stops : serial_cause_of s bodies step run ≡ Some cause
+
+-- what a list meets first, it meets at its opening or at such a step
+stops_at : (s : Schedule) (bodies : List BodyMeaning) (w : State) (list : List Step) (cause : Cause) → serial_cause s bodies w list ≡ Some cause →
+    ((serial s bodies w [] ≡ None) × (cause ≡ NoTick)) ⊎ StopsAt s bodies w list cause
+stops_at s bodies w [] cause e = go (can_open w) e
+  where
+    go : (b : Bool) → unless b NoTick ≡ Some cause → ((provided b (between (opening w)) ≡ None) × (cause ≡ NoTick)) ⊎ StopsAt s bodies w [] cause
+    go true f = absurd (let bad : None ≡ Some cause = f in cc)
+    go false f = inl (refl, cc)
+stops_at s bodies w (x ∷ h) cause e = go (serial_cause s bodies w h) refl (serial s bodies w h) refl (lacks-serial s bodies w h) e (λ f. stops_at s bodies w h cause f)
+  where
+    later_stop : StopsAt s bodies w h cause → StopsAt s bodies w (x ∷ h) cause
+    later_stop r = record {
+      later = x ∷ r.later;
+      step = r.step;
+      front = r.front;
+      run = r.run;
+      whole = ap (λ xs. x ∷ xs) r.whole;
+      meaning = r.meaning;
+      stops = r.stops;
+    }
+
+    go : (o : Option Cause) → serial_cause s bodies w h ≡ o → (m : Option RunState) → serial s bodies w h ≡ m → LacksFor (serial s bodies w h) (serial_cause s bodies w h)
+        → first_some o (serial_cause_at s bodies x (serial s bodies w h)) ≡ Some cause
+        → (serial_cause s bodies w h ≡ Some cause → ((serial s bodies w [] ≡ None) × (cause ≡ NoTick)) ⊎ StopsAt s bodies w h cause)
+        → ((serial s bodies w [] ≡ None) × (cause ≡ NoTick)) ⊎ StopsAt s bodies w (x ∷ h) cause
+    go (Some d) q m p lacks f rest = elim (rest (q ∙ f)) [ inl opening ↦ inl opening | inr r ↦ inr (later_stop r) ]
+    go None q None p lacks f rest = absurd (false≢true (subst (λ c. is_some c ≡ true) q (lacks.0 p)))
+    go None q (Some run) p lacks f rest = inr (record {
+      later = [];
+      step = x;
+      front = h;
+      run = run;
+      whole = refl;
+      meaning = p;
+      stops = sym (ap (serial_cause_at s bodies x) p) ∙ f;
+    })
+
+-- after a front that has a meaning one step with a true answer is next
+one_same_next : (s : Schedule) (bodies : List BodyMeaning) (w : State) (h : List Step) (x y : Step) (run : RunState) → IsSingle s (x ∷ h) → IsSingle s (y ∷ h)
+    → HasTrueAnswers s bodies w (x ∷ h) → HasTrueAnswers s bodies w (y ∷ h) → serial s bodies w h ≡ Some run → x ≡ y
+one_same_next s bodies w h x y run single_x single_y answers_x answers_y e = go (just_started h) refl single_x.0 single_y.0
+  where
+    lawful : IsLawful s h
+    lawful = wide_lawful 1 s h (single_is_wide s h single_x.1)
+
+    go : (o : Option ℕ) → just_started h ≡ o → IsNextSingle s h x o → IsNextSingle s h y o → x ≡ y
+    go (Some n) q p r = p ∙ sym r
+    go None q p r =
+        let there : interleaved s bodies w h ≡ Some (record { run = run; running_systems = [] }) =
+        idle_same s bodies w h lawful (none_runs s h single_x.1 lawful q) ∙ ap (with_running_systems []) e in
+        one_next s h (record { run = run; running_systems = [] }) x y None lawful p r
+        (subst (IsTrueAnswer s x) there answers_x.0) (subst (IsTrueAnswer s y) there answers_y.0)
+
+-- of two fronts that have a meaning one begins with the other
+comparable : (s : Schedule) (bodies : List BodyMeaning) (w : State) (h k : List Step) (run : RunState) → IsSingle s h → IsSingle s k
+    → HasTrueAnswers s bodies w h → HasTrueAnswers s bodies w k → serial s bodies w h ≡ Some run
+    → ((later : List Step) × (k ≡ later ++ h)) ⊎ ((later : List Step) × (h ≡ later ++ k))
+comparable s bodies w [] k run single_h single_k answers_h answers_k e = inl (k, sym (append-nil k))
+comparable s bodies w (x ∷ h) k run single_h single_k answers_h answers_k e =
+    let before = then-parts (serial s bodies w h) (serial_step s bodies x) run e in
+    go before.0 before.1 (comparable s bodies w h k before.0 single_h.1 single_k answers_h.1 answers_k before.1)
+  where
+    go : (there : RunState) → serial s bodies w h ≡ Some there → ((later : List Step) × (k ≡ later ++ h)) ⊎ ((later : List Step) × (h ≡ later ++ k))
+        → ((later : List Step) × (k ≡ later ++ x ∷ h)) ⊎ ((later : List Step) × (x ∷ h ≡ later ++ k))
+    go there f (inr longer) = inr (x ∷ longer.0, ap (λ xs. x ∷ xs) longer.1)
+    go there f (inl shorter) = elim (next_after k shorter.0 h shorter.1) [
+      | inl same ↦ inr (x ∷ [], ap (λ xs. x ∷ xs) (sym same))
+      | inr found ↦
+          let single_y : IsSingle s (found.1 ∷ h) = single_before s found.0 (found.1 ∷ h) (subst (IsSingle s) found.2 single_k) in
+          let answers_y : HasTrueAnswers s bodies w (found.1 ∷ h) = answers_before s bodies w found.0 (found.1 ∷ h) (subst (HasTrueAnswers s bodies w) found.2 answers_k) in
+          let same : found.1 ≡ x = one_same_next s bodies w h found.1 x there single_y single_h answers_y answers_h f in
+          inl (found.0, found.2 ∙ ap (λ y. found.0 ++ y ∷ h) same)
+    ]
+
+-- a list that stops at a step, with that step's list
+record StoppedList (s : Schedule) (bodies : List BodyMeaning) (w : State) (step : Step) (front : List Step) (run : RunState) (cause : Cause) : Type 0 where
+  single : IsSingle s (step ∷ front)
+  answers : HasTrueAnswers s bodies w (step ∷ front)
+  meaning : serial s bodies w front ≡ Some run
+  stops : serial_cause_of s bodies step run ≡ Some cause
+
+-- the list of a stop
+stopped_list : (s : Schedule) (bodies : List BodyMeaning) (w : State) (list : List Step) (cause : Cause) → IsSingle s list → HasTrueAnswers s bodies w list
+    → (r : StopsAt s bodies w list cause) → StoppedList s bodies w r.step r.front r.run cause
+stopped_list s bodies w list cause single answers r = record {
+  single = single_before s r.later (r.step ∷ r.front) (subst (IsSingle s) r.whole single);
+  answers = answers_before s bodies w r.later (r.step ∷ r.front) (subst (HasTrueAnswers s bodies w) r.whole answers);
+  meaning = r.meaning;
+  stops = r.stops;
+}
+
+-- where one front begins with the other, both stop for one cause
+stop_within : (s : Schedule) (bodies : List BodyMeaning) (w : State) (x y : Step) (h k : List Step) (run end : RunState) (cause other : Cause)
+    → StoppedList s bodies w x h run cause → StoppedList s bodies w y k end other → (later : List Step) → k ≡ later ++ h → cause ≡ other
+stop_within s bodies w x y h k run end cause other p q later e = elim (next_after k later h e) [
+  | inl same ↦
+      let single_y : IsSingle s (y ∷ h) = subst (λ l. IsSingle s (y ∷ l)) same q.single in
+      let answers_y : HasTrueAnswers s bodies w (y ∷ h) = subst (λ l. HasTrueAnswers s bodies w (y ∷ l)) same q.answers in
+      let steps : x ≡ y = one_same_next s bodies w h x y run p.single single_y p.answers answers_y p.meaning in
+      let ends : Some run ≡ Some end = sym p.meaning ∙ (ap (serial s bodies w) (sym same) ∙ q.meaning) in
+      let runs : run ≡ end = cc in
+      let causes : Some cause ≡ Some other = sym p.stops ∙ (ap₂ (serial_cause_of s bodies) steps runs ∙ q.stops) in
+      cc
+  | inr found ↦
+      let single_z : IsSingle s (found.1 ∷ h) = single_before s found.0 (found.1 ∷ h) (subst (IsSingle s) found.2 q.single.1) in
+      let answers_z : HasTrueAnswers s bodies w (found.1 ∷ h) = answers_before s bodies w found.0 (found.1 ∷ h) (subst (HasTrueAnswers s bodies w) found.2 q.answers.1) in
+      let steps : found.1 ≡ x = one_same_next s bodies w h found.1 x run single_z p.single answers_z p.answers p.meaning in
+      let there = serial_before s bodies w found.0 (found.1 ∷ h) end (subst (λ l. serial s bodies w l ≡ Some end) found.2 q.meaning) in
+      let goes : serial_step s bodies x run ≡ Some there.0 =
+      sym (ap (option_and_then (serial_step s bodies x)) p.meaning) ∙ (ap (λ z. serial s bodies w (z ∷ h)) (sym steps) ∙ there.1) in
+      let lacks : serial_step s bodies x run ≡ None = (lacks-serial_step s bodies x run).1 (subst IsSome (sym p.stops) refl) in
+      let bad : None ≡ Some there.0 = sym lacks ∙ goes in
+      absurd cc
+]
+
+-- a front that has a meaning could open
+opened : (s : Schedule) (bodies : List BodyMeaning) (w : State) (h : List Step) (run : RunState) → serial s bodies w h ≡ Some run → serial s bodies w [] ≡ None → ⊥
+opened s bodies w h run e none =
+    let before = serial_before s bodies w h [] run (subst (λ l. serial s bodies w l ≡ Some run) (sym (append-nil h)) e) in
+    let bad : None ≡ Some before.0 = sym none ∙ before.1 in
+    cc
+
+-- two lists from one state stop for one cause
+one_cause : (s : Schedule) (bodies : List BodyMeaning) (w : State) (f g : List Step) (cause other : Cause) → IsSingle s f → IsSingle s g
+    → HasTrueAnswers s bodies w f → HasTrueAnswers s bodies w g → serial_cause s bodies w f ≡ Some cause → serial_cause s bodies w g ≡ Some other → cause ≡ other
+one_cause s bodies w f g cause other single_f single_g answers_f answers_g stops_f stops_g = go (stops_at s bodies w f cause stops_f) (stops_at s bodies w g other stops_g)
+  where
+    go : ((serial s bodies w [] ≡ None) × (cause ≡ NoTick)) ⊎ StopsAt s bodies w f cause → ((serial s bodies w [] ≡ None) × (other ≡ NoTick)) ⊎ StopsAt s bodies w g other
+        → cause ≡ other
+    go (inl p) (inl q) = p.1 ∙ sym q.1
+    go (inl p) (inr q) = absurd (opened s bodies w q.front q.run q.meaning p.0)
+    go (inr p) (inl q) = absurd (opened s bodies w p.front p.run p.meaning q.0)
+    go (inr p) (inr q) =
+        let a = stopped_list s bodies w f cause single_f answers_f p in
+        let b = stopped_list s bodies w g other single_g answers_g q in
+        elim (comparable s bodies w p.front q.front p.run a.single.1 b.single.1 a.answers.1 b.answers.1 p.meaning) [
+          | inl longer ↦ stop_within s bodies w p.step q.step p.front q.front p.run q.run cause other a b longer.0 longer.1
+          | inr shorter ↦ sym (stop_within s bodies w q.step p.step q.front p.front q.run p.run other cause b a shorter.0 shorter.1)
+        ]
+
+-- runs on one thread stop for one cause
+pub stops_are_one : StopsAreOne
+stops_are_one s bodies times others w cause other p q = elim (cases_order (length p.complete_runs) (length q.complete_runs)) [
+  | inl same ↦
+      let ends = (single_runs_are_one s bodies w p.complete_runs q.complete_runs p.middle q.middle same p.ran q.ran).1 in
+      one_cause s bodies p.middle p.front q.front cause other p.single q.single p.answers
+      (subst (λ v. HasTrueAnswers s bodies v q.front) (sym ends) q.answers) p.stops (subst (λ v. serial_cause s bodies v q.front ≡ Some other) (sym ends) q.stops)
+  | inr differ ↦ elim differ [
+    | inl fewer ↦ absurd (runs_go_through s bodies w q.complete_runs p.complete_runs q.middle p.middle p.front cause q.ran p.ran fewer p.single p.answers p.stops)
+    | inr more ↦ absurd (runs_go_through s bodies w p.complete_runs q.complete_runs p.middle q.middle q.front other p.ran q.ran more q.single q.answers q.stops)
+  ]
+]

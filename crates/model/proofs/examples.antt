@@ -10,3 +10,7 @@ pub mod Orders
 pub mod Agreement
 pub mod Single
 pub mod One
+pub mod Askings
+pub mod Readers
+pub mod Limits
+pub mod TwoWide

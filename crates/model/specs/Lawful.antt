@@ -82,13 +82,13 @@ NoneRuns h = (n : ℕ) → runs h n ≡ false
 
 -- ---- words on what is open
 
--- a start or a condition meets a running system where it conflicts with it: what may not be while that system runs
-abbrev pub Meets : Params → Params → Type 0
-Meets running access = Conflict running access
+-- after a history an access meets a running system where it conflicts with it: what may not be while that system runs
+abbrev pub Meets : Schedule → List Step → ℕ → Params → Type 0
+Meets s h m access = Conflict (params_of s m) access
 
 -- some running system meets the access
 abbrev pub MeetsRunning : Schedule → List Step → Params → Type 0
-MeetsRunning s h access = (m : ℕ) × (runs h m ≡ true) × Meets (params_of s m) access
+MeetsRunning s h access = (m : ℕ) × (runs h m ≡ true) × Meets s h m access
 
 -- a system is free: it is one of the schedule's, hasn't begun, each system with an edge to it has ended, and each
 -- lower sync point is done

@@ -1,55 +1,39 @@
 -- The laws of a run.
 use Rattle.std.specs.List.{AllByRecursion}
-use Rattle.std.specs.Prelude.{ℕ, ℤ, Bool, true, false, ◌≡◌, ◌≢◌, ◌<◌, List, ◌∷◌, ◌++◌, length, Some, None, IsSome, MatchOption, option_map, ◌⊎◌, ◌↔◌, ◌+◌, ◌*◌, ◌≤◌}
+use Rattle.std.specs.Prelude.{ℕ, ℤ, Bool, true, ◌≡◌, ◌<◌, List, ◌∷◌, ◌++◌, length, Some, None, IsSome, MatchOption, option_map, ◌⊎◌, ◌↔◌, ◌+◌, ◌*◌, ◌≤◌}
 use Rattle.model.specs.declared.steps.Step.{Step}
-use Rattle.model.specs.declared.steps.Step.TheVariants.{Cond, Start, Skip, Sync}
+use Rattle.model.specs.declared.steps.Step.TheVariants.{Cond, Start, Finish}
 use Rattle.model.specs.declared.steps.Ready.{Ready}
 use Rattle.model.specs.declared.steps.StepFault.{StepFault}
+use Rattle.model.specs.Lists.{has}
 use Rattle.model.specs.State.{State, most_indices, resource_count}
 use Rattle.model.specs.Loaded.{Given, loaded}
 use Rattle.model.specs.Access.{Params}
 use Rattle.model.specs.Conflict.{Conflict, conflicts, IsLeastDatum, least_datum}
 use Rattle.model.specs.Condition.{means}
 use Rattle.model.specs.Outcome.{BodyMeaning}
-use Rattle.model.specs.Schedule.{level_of, Schedule, params_of, has_edge, condition_of}
+use Rattle.model.specs.Schedule.{Schedule, condition_of}
 use Rattle.model.specs.Built.{IsBuilt}
-use Rattle.model.specs.Lawful.{ended, started, May, IsLawful, begun, IsComplete, NoneRuns, runs}
+use Rattle.model.specs.Lawful.{May, IsLawful, IsComplete, NoneRuns, runs}
 use Rattle.model.specs.Faults.{IsFirstFault}
 use Rattle.model.specs.Judged.{fault_of, is_lawful, is_complete}
 use Rattle.model.specs.Ready.{IsReady, OnlyFinish, step_of}
-use Rattle.model.specs.Widths.{IsSingle, IsWide}
+use Rattle.model.specs.Widths.{IsSingle, IsWide, running_after}
 use Rattle.model.specs.RunState.{RunState, started_system, asked_of, answer_of}
 use Rattle.model.specs.Meaning.{Interleaved, serial, interleaved}
 use Rattle.model.specs.Causes.{Cause, serial_cause, interleaved_cause}
-use Rattle.model.specs.Ambiguity.{Settled, Before}
+use Rattle.model.specs.Ambiguity.{Settled}
+use Rattle.model.specs.Order.{KeepsOrder}
 use Rattle.model.specs.Shape.{IsStateOf, IsRunStateOf, BodiesKeepWithin}
-use Rattle.model.specs.Runs.{IsSingleRun, AreSingleRuns, HasRuns, IsStopped, AreSoundRuns}
+use Rattle.model.specs.Runs.{IsSingleRun, AreSingleRuns, HasRuns, IsStopped, IsSoundRun, AreSoundRuns}
+use Rattle.model.specs.WideRuns.{AreWideRuns, IsWideStopped}
 use Rattle.model.specs.Agreement.{AreRuns, Agrees, after_runs}
 
 -- ---- order
 
--- no two systems that run together conflict
-abbrev pub NoneConflict : Type 0
-NoneConflict = (s : Schedule) (h : List Step) (m n : ℕ) → IsLawful s h → runs h m ≡ true → runs h n ≡ true → m ≢ n →
-    Conflict (params_of s m) (params_of s n) → ⊥
-
--- the end of a system stands before what an edge leads to
-abbrev pub EdgesKept : Type 0
-EdgesKept = (s : Schedule) (later h : List Step) (m n : ℕ) (step : Step) → IsLawful s (later ++ step ∷ h) →
-    (step ≡ Start n) ⊎ (step ≡ Skip n) → has_edge s m n ≡ true → ended h m ≡ true
-
--- every system of a level ends before its sync point, every one of a higher level starts or is skipped after it, and
--- none runs at it
-abbrev pub SyncsKept : Type 0
-SyncsKept = (s : Schedule) (later h : List Step) (k n : ℕ) → IsLawful s (later ++ Sync k ∷ h) →
-    (n < length s.systems → level_of s n ≡ k → ended h n ≡ true)
-    × (k < level_of s n → begun h n ≡ false)
-    × (runs h n ≡ true → ⊥)
-
--- the order of starts is topological: where a system is before another and both start, it starts first
-abbrev pub OrderIsTopological : Type 0
-OrderIsTopological = (s : Schedule) (later h : List Step) (m n : ℕ) → IsLawful s (later ++ Start n ∷ h) →
-    Before s m n → started (later ++ Start n ∷ h) m ≡ true → started h m ≡ true
+-- a lawful list keeps the order that the schedule asks for
+abbrev pub ListsKeepOrder : Type 0
+ListsKeepOrder = (s : Schedule) (h : List Step) → IsLawful s h → KeepsOrder s h
 
 -- ---- one thread
 
@@ -113,11 +97,25 @@ FaultsAreComputed = (s : Schedule) (h : List Step) (step : Step) → IsLawful s 
 abbrev pub ListsAreComputed : Type 0
 ListsAreComputed = (s : Schedule) (h : List Step) → (is_lawful s h ≡ true → IsLawful s h) × (is_complete s h ≡ true → IsComplete s h)
 
--- ---- the single-threaded list
+-- ---- the lists of a coordinator
 
 -- each front of the single-threaded list is a list in which at most one system runs
 abbrev pub SingleIsWide : Type 0
 SingleIsWide = (s : Schedule) (h : List Step) → IsSingle s h → IsWide 1 s h
+
+-- and each list in which at most one system runs is a front of the single-threaded list
+abbrev pub WideOfOneIsSingle : Type 0
+WideOfOneIsSingle = (s : Schedule) (h : List Step) → IsWide 1 s h → IsSingle s h
+
+-- at each place of a list with room for so many, no more of them run
+abbrev pub AtMostRun : Type 0
+AtMostRun = (width : ℕ) (s : Schedule) (later front : List Step) → IsWide width s (later ++ front) →
+    (length (running_after front) ≤ width) × ((n : ℕ) → has n (running_after front) ≡ runs front n)
+
+-- where there is room for one more and something is ready, no finish is taken
+abbrev pub FinishesWait : Type 0
+FinishesWait = (width : ℕ) (s : Schedule) (later front : List Step) (n : ℕ) (r : Ready) → IsWide width s (later ++ Finish n ∷ front) →
+    length (running_after front) < width → IsReady s front (Some r) → ⊥
 
 -- ---- shape
 
@@ -154,6 +152,28 @@ CausesAreExact = (s : Schedule) (bodies : List BodyMeaning) (start : State) (h :
     ((serial s bodies start h ≡ None) ↔ IsSome (serial_cause s bodies start h))
     × (IsLawful s h → (interleaved s bodies start h ≡ None) ↔ IsSome (interleaved_cause s bodies start h))
 
+-- ---- runs
+
+-- a complete lawful list that has a meaning is a sound run, however many systems run at once
+abbrev pub RunsAreSound : Type 0
+RunsAreSound = (s : Schedule) (bodies : List BodyMeaning) (w : State) (h : List Step) (end : Interleaved) → IsLawful s h → IsComplete s h →
+    interleaved s bodies w h ≡ Some end → IsSoundRun s bodies w h end.run.state
+
+-- so are the runs of a coordinator, one after the other
+abbrev pub WideRunsAreSound : Type 0
+WideRunsAreSound = (width : ℕ) (s : Schedule) (bodies : List BodyMeaning) (w : State) (hs : List (List Step)) (w' : State) →
+    AreWideRuns width s bodies w hs w' → AreSoundRuns s bodies w hs w'
+
+-- with room for one, the runs of a coordinator are those of one thread
+abbrev pub WideRunsOfOneAreSingle : Type 0
+WideRunsOfOneAreSingle = (s : Schedule) (bodies : List BodyMeaning) (w : State) (hs : List (List Step)) (w' : State) →
+    AreWideRuns 1 s bodies w hs w' → AreSingleRuns s bodies w hs w'
+
+-- and where they stop, the runs of one thread stop for the same cause
+abbrev pub WideStopsOfOneAreSingle : Type 0
+WideStopsOfOneAreSingle = (s : Schedule) (bodies : List BodyMeaning) (times : ℕ) (w : State) (cause : Cause) →
+    IsWideStopped 1 s bodies times w cause → IsStopped s bodies times w cause
+
 -- ---- the runs of one thread
 
 -- the runs of one thread are sound
@@ -175,3 +195,8 @@ SingleRunsAreOne = (s : Schedule) (bodies : List BodyMeaning) (w : State) (hs gs
 abbrev pub DefinedRunsGoThrough : Type 0
 DefinedRunsGoThrough = (s : Schedule) (bodies : List BodyMeaning) (times : ℕ) (w : State) (cause : Cause) →
     HasRuns s bodies times w → IsStopped s bodies times w cause → ⊥
+
+-- runs on one thread from one state stop for one cause alone
+abbrev pub StopsAreOne : Type 0
+StopsAreOne = (s : Schedule) (bodies : List BodyMeaning) (times others : ℕ) (w : State) (cause other : Cause) →
+    IsStopped s bodies times w cause → IsStopped s bodies others w other → cause ≡ other

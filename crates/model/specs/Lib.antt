@@ -21,6 +21,7 @@ pub mod RunState
 pub mod Meaning
 pub mod Causes
 pub mod Ambiguity
+pub mod Order
 pub mod Shape
 pub mod Agreement
 pub mod Loaded
@@ -30,5 +31,6 @@ pub mod Declarations
 pub mod Refusals
 pub mod ScheduleOrder
 pub mod Runs
+pub mod WideRuns
 pub mod Laws
 pub mod Judged

@@ -7,7 +7,7 @@ use Rattle.model.specs.Lists.{provided}
 use Rattle.model.specs.State.{State}
 use Rattle.model.specs.Outcome.{BodyMeaning}
 use Rattle.model.specs.Schedule.{Schedule}
-use Rattle.model.specs.RunState.{RunState, RunningSystem, begin_run, has_tick, can_start, started_system, after_start, finish, answer_of, after_condition, after_sync}
+use Rattle.model.specs.RunState.{RunState, RunningSystem, begin_run, can_ask, can_sync, can_start, started_system, after_start, finish, answer_of, after_condition, after_sync}
 
 -- ---- interleaved
 
@@ -33,13 +33,13 @@ with_running_systems ps (Some run) = Some (record { run = run; running_systems =
 
 -- one step, interleaved: a start shows, and the finish lays the outcome over what is there then
 abbrev pub interleaved_step : Schedule → List BodyMeaning → Step → Interleaved → Option Interleaved
-interleaved_step s bodies (Cond c answer) w = provided (has_tick w.run.state) (record { run = after_condition s c w.run; running_systems = w.running_systems })
+interleaved_step s bodies (Cond c answer) w = provided (can_ask w.run) (record { run = after_condition s c w.run; running_systems = w.running_systems })
 interleaved_step s bodies (Start n) w = provided (can_start s n w.run)
     (record { run = after_start s n w.run; running_systems = w.running_systems ++ started_system s n w.run ∷ [] })
 interleaved_step s bodies (Skip n) w = Some w
 interleaved_step s bodies (Finish n) w =
     option_and_then (λ p. with_running_systems (without_system n w.running_systems) (finish s bodies p w.run)) (running_system n w.running_systems)
-interleaved_step s bodies (Sync k) w = provided (has_tick w.run.state) (record { run = after_sync s k w.run; running_systems = w.running_systems })
+interleaved_step s bodies (Sync k) w = provided (can_sync w.run) (record { run = after_sync s k w.run; running_systems = w.running_systems })
 
 -- what a history makes of a state, interleaved
 abbrev pub interleaved : Schedule → List BodyMeaning → State → List Step → Option Interleaved
@@ -54,11 +54,11 @@ serial_start s bodies n run = option_and_then (finish s bodies (started_system s
 
 -- one step on one thread: a start is whole, and a finish does nothing
 abbrev pub serial_step : Schedule → List BodyMeaning → Step → RunState → Option RunState
-serial_step s bodies (Cond c answer) run = provided (has_tick run.state) (after_condition s c run)
+serial_step s bodies (Cond c answer) run = provided (can_ask run) (after_condition s c run)
 serial_step s bodies (Start n) run = serial_start s bodies n run
 serial_step s bodies (Skip n) run = Some run
 serial_step s bodies (Finish n) run = Some run
-serial_step s bodies (Sync k) run = provided (has_tick run.state) (after_sync s k run)
+serial_step s bodies (Sync k) run = provided (can_sync run) (after_sync s k run)
 
 -- what a history makes of a state, on one thread
 abbrev pub serial : Schedule → List BodyMeaning → State → List Step → Option RunState

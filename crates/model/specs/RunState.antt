@@ -55,9 +55,13 @@ opening state = record {
   passed_over = state.passed_over;
 }
 
--- the opening of a run, where there is a next tick
+-- whether a run can open: there is a next tick
+abbrev pub can_open : State → Bool
+can_open state = has_tick state
+
+-- the opening of a run, where it can open
 abbrev pub begin_run : State → Option RunState
-begin_run state = provided (has_tick state) (between (opening state))
+begin_run state = provided (can_open state) (between (opening state))
 
 -- ---- a start
 
@@ -150,6 +154,10 @@ finish s bodies p run = finish_with s (body_of bodies p.system p.shown) p run
 
 -- ---- a condition
 
+-- whether a condition can be asked: there is a next tick
+abbrev pub can_ask : RunState → Bool
+can_ask run = has_tick run.state
+
 -- what a condition is asked about
 unfoldable pub asked_of : Schedule → ℕ → RunState → Asked
 asked_of s c run = asked (condition_of s c) (memory_of_condition run.state c).last_run (memory_of_condition run.state c).cursors run.state
@@ -194,6 +202,10 @@ without_level s k f n = cond (level_of s n == k) [] (f n)
 abbrev pub commands_applied : Schedule → ℕ → RunState → CommandTarget
 commands_applied s k run = apply_buffer (next_tick run.state)
     (record { slots = run.state.world.slots; passed_over = run.state.passed_over }) (commands_of_level s k run)
+
+-- whether a sync point can be done: there is a next tick
+abbrev pub can_sync : RunState → Bool
+can_sync run = has_tick run.state
 
 -- the run state after sync point k: the commands of its level are applied, then the ids of its level that were not spawned
 -- are freed

@@ -1,13 +1,11 @@
 -- What an engine that runs on one thread promises of the lists that it returns, and where it stops.
-use Rattle.std.specs.Prelude.{ℕ, ◌<◌, true, false, ◌≡◌, ◌≢◌, ◌⊎◌, List, [], ◌∷◌, ◌++◌, length, Some}
+use Rattle.std.specs.Prelude.{ℕ, ◌<◌, ◌≡◌, List, [], ◌∷◌, length, Some}
 use Rattle.model.specs.declared.steps.Step.{Step}
-use Rattle.model.specs.declared.steps.Step.TheVariants.{Start, Skip, Sync}
 use Rattle.model.specs.State.{State}
-use Rattle.model.specs.Conflict.{Conflict}
 use Rattle.model.specs.Outcome.{BodyMeaning}
-use Rattle.model.specs.Schedule.{Schedule, params_of, has_edge, level_of}
-use Rattle.model.specs.Lawful.{IsLawful, IsComplete, runs, started, begun, ended}
-use Rattle.model.specs.Ambiguity.{Before}
+use Rattle.model.specs.Schedule.{Schedule}
+use Rattle.model.specs.Lawful.{IsLawful, IsComplete}
+use Rattle.model.specs.Order.{KeepsOrder}
 use Rattle.model.specs.Widths.{IsSingle}
 use Rattle.model.specs.RunState.{RunState}
 use Rattle.model.specs.Meaning.{Interleaved, interleaved, serial, HasTrueAnswers}
@@ -51,18 +49,9 @@ pub record IsStopped (s : Schedule) (bodies : List BodyMeaning) (times : ℕ) (w
 
 -- ---- what one may rest on
 
--- a run that is sound: no two systems that run together conflict, every edge and sync point is kept, the order of starts is
--- topological, and its interleaved and serial meanings are one state
+-- a run that is sound: it keeps the order that the schedule asks for, and its interleaved and serial meanings are one state
 pub record IsSoundRun (s : Schedule) (bodies : List BodyMeaning) (w : State) (h : List Step) (w' : State) : Type 0 where
-  pub apart : (later front : List Step) (m n : ℕ) → h ≡ later ++ front → runs front m ≡ true → runs front n ≡ true → m ≢ n →
-      Conflict (params_of s m) (params_of s n) → ⊥
-  pub edges : (later front : List Step) (step : Step) (m n : ℕ) → h ≡ later ++ step ∷ front → (step ≡ Start n) ⊎ (step ≡ Skip n) →
-      has_edge s m n ≡ true → ended front m ≡ true
-  pub syncs : (later front : List Step) (k n : ℕ) → h ≡ later ++ Sync k ∷ front →
-      (n < length s.systems → level_of s n ≡ k → ended front n ≡ true)
-      × (k < level_of s n → begun front n ≡ false)
-      × (runs front n ≡ true → ⊥)
-  pub order : (later front : List Step) (m n : ℕ) → h ≡ later ++ Start n ∷ front → Before s m n → started h m ≡ true → started front m ≡ true
+  pub keeps : KeepsOrder s h
   pub woven : Interleaved
   pub woven_meaning : interleaved s bodies w h ≡ Some woven
   pub woven_leaves : woven.run.state ≡ w'

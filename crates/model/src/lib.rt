@@ -1,7 +1,7 @@
 // The meaning of a schedule's run, in definitions that every other crate cites, and its laws.
 #![tactic(auto)]
 
-ghost use Rattle.model.specs.Laws.{NoneConflict, EdgesKept, SyncsKept, OrderIsTopological, ListsGoOn, ListsEnd, ListsComplete, ReadyIsAccepted, FaultsAreExact, FaultsAreComputed, ListsAreComputed, SingleIsWide, SameIsShown, InterleavedIsSerial, ConflictsAreTested, AnswersAreAsked, CausesAreExact, InterleavedKeepsShape, SerialKeepsShape, LoadedHasShape, SingleRunsAreSound, SingleRunIsOne, SingleRunsAreOne, DefinedRunsGoThrough, RunsAgree};
+ghost use Rattle.model.specs.Laws.{ListsKeepOrder, ListsGoOn, ListsEnd, ListsComplete, ReadyIsAccepted, FaultsAreExact, FaultsAreComputed, ListsAreComputed, SingleIsWide, WideOfOneIsSingle, AtMostRun, FinishesWait, RunsAreSound, WideRunsAreSound, WideRunsOfOneAreSingle, WideStopsOfOneAreSingle, SameIsShown, InterleavedIsSerial, ConflictsAreTested, AnswersAreAsked, CausesAreExact, InterleavedKeepsShape, SerialKeepsShape, LoadedHasShape, SingleRunsAreSound, SingleRunIsOne, SingleRunsAreOne, DefinedRunsGoThrough, StopsAreOne, RunsAgree};
 
 pub mod entities;
 pub mod steps;
@@ -9,10 +9,7 @@ pub mod steps;
 /// The order of lawful lists: systems that run together don't conflict, what an edge leads from has ended before what it
 /// leads to begins, sync points stand between the levels, and a system that is before another starts first.
 pub fn lists_are_in_order()
-    ensures apart { NoneConflict }
-    ensures edges { EdgesKept }
-    ensures syncs { SyncsKept }
-    ensures order { OrderIsTopological }
+    ensures { ListsKeepOrder }
 {}
 
 /// What a start shows and a condition is asked about is the same, interleaved and on one thread, and a complete list leaves the same run state.
@@ -42,9 +39,27 @@ pub fn faults_are_exact()
     ensures lists { ListsAreComputed }
 {}
 
-/// Each front of the single-threaded list is a list in which at most one system runs.
-pub fn single_is_wide()
-    ensures { SingleIsWide }
+/// In a list with room for so many running systems no more run at any place, and where there is room and something is ready no finish is
+/// taken.
+pub fn wide_lists_keep_width()
+    ensures most { AtMostRun }
+    ensures finishes { FinishesWait }
+{}
+
+/// With room for one the lists of a coordinator are the fronts of the single-threaded list, its runs are those of one thread, and where
+/// they stop those of one thread stop, for the same cause.
+pub fn wide_of_one_is_single()
+    ensures fronts { SingleIsWide }
+    ensures lists { WideOfOneIsSingle }
+    ensures runs { WideRunsOfOneAreSingle }
+    ensures stops { WideStopsOfOneAreSingle }
+{}
+
+/// A complete lawful list that has a meaning is a sound run, however many systems run at once: it keeps the order that the schedule asks
+/// for, and its interleaved and serial meanings are one state, from which the next one begins.
+pub fn runs_are_sound()
+    ensures one { RunsAreSound }
+    ensures wide { WideRunsAreSound }
 {}
 
 /// The runs of one thread are sound: in each no two systems that run together conflict, every edge and sync point is kept, the order
@@ -53,12 +68,13 @@ pub fn single_runs_are_sound()
     ensures { SingleRunsAreSound }
 {}
 
-/// The single-threaded list is one: runs on one thread from the same state have the same steps and the same end, and where so many
-/// runs have a meaning none of them stops.
+/// The single-threaded list is one: runs on one thread from the same state have the same steps and the same end, where so many
+/// runs have a meaning none of them stops, and where they stop they do so for one cause.
 pub fn single_runs_are_one()
     ensures run { SingleRunIsOne }
     ensures runs { SingleRunsAreOne }
     ensures defined { DefinedRunsGoThrough }
+    ensures stops { StopsAreOne }
 {}
 
 /// A run keeps the shape of a state.

@@ -118,3 +118,21 @@ one_level = refl
 -- a predecessor that has only started is not enough
 before_its_predecessor : fault_after ignoring (Start 0 ∷ []) (Start 1) ≡ Some NotReady
 before_its_predecessor = refl
+
+-- an unanswered condition is told before a conflict, and a conflict only once it is answered
+abbrev asked_rivals : Schedule
+asked_rivals = record {
+  systems = rivals.systems;
+  conditions = condition (ResourceEquals round (pos 0)) (1 ∷ []) ∷ [];
+  syncs = 1;
+  order = 0 ∷ 1 ∷ [];
+}
+
+open_before_conflict : fault_after asked_rivals (Start 0 ∷ []) (Start 1) ≡ Some ConditionOpen
+open_before_conflict = refl
+
+false_before_conflict : fault_after asked_rivals (Start 0 ∷ Cond 0 false ∷ []) (Start 1) ≡ Some ConditionFalse
+false_before_conflict = refl
+
+then_conflict : fault_after asked_rivals (Start 0 ∷ Cond 0 true ∷ []) (Start 1) ≡ Some Conflict
+then_conflict = refl

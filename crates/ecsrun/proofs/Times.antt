@@ -1,0 +1,32 @@
+-- Runs one after the other: one more run, and none.
+use Rattle.std.proofs.Common.{◌≡◌, ℕ, ◌+◌, List, [], ◌∷◌, ◌++◌, length, map, refl, sym, subst, ◌∙◌, arith, length-append}
+use Rattle.model.specs.declared.steps.Step.{Step}
+use Rattle.model.specs.Outcome.{BodyMeaning}
+use Rattle.model.specs.Runs.{AreSingleRuns, AreSoundRuns}
+use Rattle.model.specs.Schedule.{Schedule}
+use Rattle.model.specs.State.{State}
+use Rattle.ecsrun.specs.Served.{HaveRun}
+
+-- runs after runs
+more-single : (s : Schedule) (bodies : List BodyMeaning) (w : State) (hs gs : List (List Step)) (middle w' : State)
+    → AreSingleRuns s bodies w hs middle → AreSingleRuns s bodies middle gs w' → AreSingleRuns s bodies w (hs ++ gs) w'
+more-single s bodies w [] gs middle w' ran more = subst (λ v. AreSingleRuns s bodies v gs w') (sym ran) more
+more-single s bodies w (h ∷ hs) gs middle w' ran more = (ran.0, ran.1, more-single s bodies ran.0 hs gs middle w' ran.2 more)
+
+more-sound : (s : Schedule) (bodies : List BodyMeaning) (w : State) (hs gs : List (List Step)) (middle w' : State)
+    → AreSoundRuns s bodies w hs middle → AreSoundRuns s bodies middle gs w' → AreSoundRuns s bodies w (hs ++ gs) w'
+more-sound s bodies w [] gs middle w' ran more = subst (λ v. AreSoundRuns s bodies v gs w') (sym ran) more
+more-sound s bodies w (h ∷ hs) gs middle w' ran more = (ran.0, ran.1, more-sound s bodies ran.0 hs gs middle w' ran.2 more)
+
+-- no run leaves the state
+pub none-run : (s : Schedule) (bodies : List BodyMeaning) (w : State) → HaveRun s bodies w 0 w
+none-run s bodies w = record { histories = []; many = refl; ran = refl; sound = refl }
+
+-- so many runs, and so many more
+pub more-run : (s : Schedule) (bodies : List BodyMeaning) (w middle w' : State) (m n k : ℕ) → k ≡ m + n → HaveRun s bodies w m middle → HaveRun s bodies middle n w' → HaveRun s bodies w k w'
+more-run s bodies w middle w' m n k e first more = record {
+  histories = first.histories ++ more.histories;
+  many = omega (arith, length-append first.histories more.histories, first.many, more.many);
+  ran = more-single s bodies w first.histories more.histories middle w' first.ran more.ran;
+  sound = more-sound s bodies w first.histories more.histories middle w' first.sound more.sound;
+}
