@@ -5,6 +5,8 @@ use Rattle.model.specs.Outcome.{BodyMeaning}
 use Rattle.model.specs.Runs.{AreSingleRuns, AreSoundRuns}
 use Rattle.model.specs.Schedule.{Schedule}
 use Rattle.model.specs.State.{State}
+use Rattle.script.specs.declared.script_body.ScriptBody.{ScriptBody}
+use Rattle.engine.specs.EngineValue.{meanings}
 use Rattle.ecsrun.specs.Served.{HaveRun}
 
 -- runs after runs
@@ -30,3 +32,10 @@ more-run s bodies w middle w' m n k e first more = record {
   ran = more-single s bodies w first.histories more.histories middle w' first.ran more.ran;
   sound = more-sound s bodies w first.histories more.histories middle w' first.sound more.sound;
 }
+
+-- one more run of the same schedule with the same scripts
+pub next-run : (s z : Schedule) (scripts others : List ScriptBody) (w middle w' : State) (m k : ℕ) → z ≡ s → others ≡ scripts → k ≡ m + 1
+    → HaveRun s (meanings s scripts) w m middle → HaveRun z (meanings z others) middle 1 w' → HaveRun s (meanings s scripts) w k w'
+next-run s z scripts others w middle w' m k same_schedule same_scripts e first more =
+    more-run s (meanings s scripts) w middle w' m 1 k e first
+    (subst (λ bs. HaveRun s (meanings s bs) middle 1 w') same_scripts (subst (λ t. HaveRun t (meanings t others) middle 1 w') same_schedule more))
