@@ -1,0 +1,83 @@
+-- Numbered events: a list after another, those from a cursor on.
+use Rattle.std.proofs.Common.{◌≡◌, ℕ, zero, suc, ℤ, ◌+◌, ◌-◌, ◌≤◌, List, [], ◌∷◌, ◌++◌, length, map, filter, drop, min, nat_le, refl, sym, ap, ap₂, ◌∙◌, arith, le-leb, append_assoc, append-nil, length-append}
+use Rattle.std.proofs.lemmas.Bool.{cond-true, cond-false, lt-leb}
+use Rattle.std.proofs.lemmas.List.{map-append}
+use Rattle.std.proofs.lemmas.List.Elements.{filter-append}
+use Rattle.model.specs.State.{Event}
+use Rattle.model.specs.Events.{unread, updated_queue, send}
+use Rattle.event_buffers.specs.Queue.{numbered, values_from, queue_of_parts}
+
+-- values after others are numbered after them
+pub numbered-append : (n k : ℕ) (xs ys : List ℤ) → k ≡ n + length xs → numbered n (xs ++ ys) ≡ numbered n xs ++ numbered k ys
+numbered-append n k [] ys e = ap (λ m. numbered m ys) (omega (arith, e))
+numbered-append n k (x ∷ xs) ys e = ap (◌∷◌ (record { number = n; value = x })) (numbered-append (suc n) k xs ys (omega (arith, e)))
+
+-- all are kept from a cursor on that is not above the first
+pub kept-all : (n cursor : ℕ) (xs : List ℤ) → cursor ≤ n → filter (λ (e : Event). nat_le cursor e.number) (numbered n xs) ≡ numbered n xs
+kept-all n cursor [] l = refl
+kept-all n cursor (x ∷ xs) l =
+    cond-true (nat_le cursor n) (record { number = n; value = x } ∷ filter (λ (e : Event). nat_le cursor e.number) (numbered (suc n) xs)) (filter (λ (e : Event). nat_le cursor e.number) (numbered (suc n) xs)) (le-leb cursor n l)
+    ∙ ap (◌∷◌ (record { number = n; value = x })) (kept-all (suc n) cursor xs (omega (arith, l)))
+
+-- the values of numbered events
+pub values-numbered : (n : ℕ) (xs : List ℤ) → map (λ (e : Event). e.value) (numbered n xs) ≡ xs
+values-numbered n [] = refl
+values-numbered n (x ∷ xs) = ap (◌∷◌ x) (values-numbered (suc n) xs)
+
+-- none are kept below a cursor
+pub kept-none : (n cursor : ℕ) (xs : List ℤ) → n + length xs ≤ cursor → filter (λ (e : Event). nat_le cursor e.number) (numbered n xs) ≡ []
+kept-none n cursor [] l = refl
+kept-none n cursor (x ∷ xs) l =
+    cond-false (nat_le cursor n) (record { number = n; value = x } ∷ filter (λ (e : Event). nat_le cursor e.number) (numbered (suc n) xs)) (filter (λ (e : Event). nat_le cursor e.number) (numbered (suc n) xs)) (lt-leb cursor n (omega (arith, l)))
+    ∙ kept-none (suc n) cursor xs (omega (arith, l))
+
+-- the values from a cursor on are those after as many as it is past the first
+pub values_from-drop : (n cursor passed : ℕ) (xs : List ℤ) → passed ≡ min (cursor - n) (length xs) → values_from n xs cursor ≡ drop passed xs
+values_from-drop n cursor zero [] e = refl
+values_from-drop n cursor (suc passed) [] e = absurd (omega (arith, e))
+values_from-drop n cursor zero (x ∷ xs) e = ap (map (λ (e : Event). e.value)) (kept-all n cursor (x ∷ xs) (omega (arith, e))) ∙ values-numbered n (x ∷ xs)
+values_from-drop n cursor (suc passed) (x ∷ xs) e =
+    ap (map (λ (e : Event). e.value)) (cond-false (nat_le cursor n) (record { number = n; value = x } ∷ filter (λ (e : Event). nat_le cursor e.number) (numbered (suc n) xs)) (filter (λ (e : Event). nat_le cursor e.number) (numbered (suc n) xs)) (lt-leb cursor n (omega (arith, e))))
+    ∙ values_from-drop (suc n) cursor passed xs (omega (arith, e))
+
+-- ---- two buffers
+
+-- what is kept of two buffers from a cursor on
+kept-both : (n k cursor : ℕ) (older newer : List ℤ) → k ≡ n + length older → filter (λ (e : Event). nat_le cursor e.number) (numbered n (older ++ newer))
+    ≡ filter (λ (e : Event). nat_le cursor e.number) (numbered n older) ++ filter (λ (e : Event). nat_le cursor e.number) (numbered k newer)
+kept-both n k cursor older newer e =
+    ap (filter (λ (e : Event). nat_le cursor e.number)) (numbered-append n k older newer e)
+    ∙ filter-append (λ (e : Event). nat_le cursor e.number) (numbered n older) (numbered k newer)
+
+-- the unread events of two buffers are those of each
+pub unread-both : (n k cursor : ℕ) (older newer : List ℤ) → k ≡ n + length older →
+    values_from n older cursor ++ values_from k newer cursor ≡ unread (queue_of_parts n older newer) cursor
+unread-both n k cursor older newer e =
+    sym (map-append (λ (e : Event). e.value) (filter (λ (e : Event). nat_le cursor e.number) (numbered n older)) (filter (λ (e : Event). nat_le cursor e.number) (numbered k newer)))
+    ∙ ap (map (λ (e : Event). e.value)) (sym (kept-both n k cursor older newer e))
+
+-- the update drops the older buffer
+pub updated-parts : (n k : ℕ) (older newer : List ℤ) → k ≡ n + length older → queue_of_parts k newer [] ≡ updated_queue (queue_of_parts n older newer)
+updated-parts n k older newer e = λ i. record { kept = kept i; newer = ends i; next = next i }
+  where
+    kept : numbered k (newer ++ []) ≡ filter (λ (e : Event). nat_le (n + length older) e.number) (numbered n (older ++ newer))
+    kept = ap (numbered k) (append-nil newer)
+        ∙ sym (kept-both n k (n + length older) older newer e
+        ∙ ap₂ ◌++◌ (kept-none n (n + length older) older (omega arith)) (kept-all k (n + length older) newer (omega (arith, e))))
+
+    ends : k + length newer ≡ n + length older + length newer
+    ends = omega (arith, e)
+
+    next : k + length newer + length {A = ℤ} [] ≡ n + length older + length newer
+    next = omega (arith, e)
+
+-- an event that is sent is the last of the newer buffer
+pub send-parts : (n : ℕ) (older newer : List ℤ) (value : ℤ) → queue_of_parts n older (newer ++ value ∷ []) ≡ send value (queue_of_parts n older newer)
+send-parts n older newer value = λ i. record { kept = kept i; newer = n + length older; next = next i }
+  where
+    kept : numbered n (older ++ (newer ++ value ∷ [])) ≡ numbered n (older ++ newer) ++ record { number = n + length older + length newer; value = value } ∷ []
+    kept = ap (numbered n) (sym (append_assoc older newer (value ∷ [])))
+        ∙ numbered-append n (n + length older + length newer) (older ++ newer) (value ∷ []) (omega (arith, length-append older newer))
+
+    next : n + length older + length (newer ++ value ∷ []) ≡ suc (n + length older + length newer)
+    next = omega (arith, length-append newer (value ∷ []))

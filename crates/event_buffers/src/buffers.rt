@@ -1,0 +1,138 @@
+// The kept events of every kind.
+
+ghost use Rattle.std.specs.Prelude.{◌≡◌, ◌↔◌, ◌++◌, ◌≤◌, IfOk, IsErrOf, OnOk, OnErr, map, replicate};
+ghost use Rattle.kinds.specs.Res.{event_number};
+ghost use Rattle.model.specs.Lists.{update_at};
+ghost use Rattle.model.specs.State.{event_count, empty_queue, last_tick};
+ghost use Rattle.model.specs.Events.{queue_of, send, unread, updated_queue};
+
+use crate::queue::{Queue, SendFault, Unread};
+use kinds::res::Event;
+use std::alloc::{AllocError, Global};
+use std::marker::Model;
+
+/// The kept events of every kind. Contracts see the queue of each, by number.
+#[derive(Drop, Debug)]
+pub struct Events {
+    queues: Vec<Queue>,
+}
+
+impl Model for Events {
+    ghost use Rattle.std.specs.Prelude.{List, ◌≡◌, length};
+    ghost use Rattle.model.specs.State.{EventQueue, event_count};
+
+    ghost Value = { List EventQueue };
+
+    ghost view = { λ e. e.queues.items };
+
+    ghost invariant = { λ e. length e.queues.items ≡ event_count };
+}
+
+impl Events {
+    /// Events of which none was sent.
+    pub fn new(alloc: Global) -> Result<Self, AllocError>
+        ensures { IfOk result (λ events. events ≡ replicate event_count empty_queue) }
+    {
+        let mut queues = Vec::new(alloc);
+        for _number in 0..Event::COUNT {
+            queues.push(Queue::new(alloc))?;
+        }
+        Ok(Events { queues })
+    }
+
+    /// The number of the next event of a kind.
+    pub fn next(&self, kind: Event) -> u64
+        ensures value { result ≡ (queue_of self.now (event_number kind)).next }
+        ensures most { result ≤ last_tick }
+    {
+        self.queues[kind.number() as usize].next()
+    }
+
+    /// Sends an event of a kind, with its value. A refused one changes nothing.
+    pub fn send(&mut self, kind: Event, value: i64) -> Result<(), SendFault>
+        ensures ok { OnOk result (self.new ≡ update_at (event_number kind) (send value) self.old) }
+        ensures spent { IsErrOf result SendFault.NumbersSpent ↔ ((queue_of self.old (event_number kind)).next ≡ last_tick) }
+        ensures err { OnErr result (self.new ≡ self.old) }
+    {
+        let queue = &mut self.queues[kind.number() as usize];
+        queue.send(value)
+    }
+
+    /// The kept events of a kind from a cursor on. Takes no memory.
+    pub fn unread(&self, kind: Event, cursor: u64) -> Unread<'_>
+        ensures { result.older.now ++ result.newer.now ≡ unread (queue_of self.now (event_number kind)) cursor }
+    {
+        self.queues[kind.number() as usize].unread(cursor)
+    }
+
+    /// Drops the older buffer of every kind and makes the newer one the older, as the opening of a run does. Takes no memory, and keeps
+    /// the room of the buffers.
+    pub fn update(&mut self)
+        ensures { self.new ≡ map updated_queue self.old }
+    {
+        for queue in self.queues.iter_mut() {
+            queue.update();
+        }
+    }
+}
+
+#[cfg(test)]
+mod tests {
+    use super::*;
+    use std::test::Fail;
+
+    // The unread values of a kind from a cursor on.
+    fn unread(
+        alloc: Global,
+        events: &Events,
+        kind: Event,
+        cursor: u64,
+    ) -> Result<Vec<i64>, AllocError> {
+        let unread = events.unread(kind, cursor);
+        let mut values = Vec::new(alloc);
+        values.extend_from_slice(unread.older)?;
+        values.extend_from_slice(unread.newer)?;
+        Ok(values)
+    }
+
+    #[test]
+    fn two_buffers(rt: HostRuntime) -> Result<(), Fail> {
+        let mut events = Events::new(rt.alloc())?;
+        assert_eq!(rt; events.send(Event::Hit, 4), Ok(()));
+        assert_eq!(rt; events.send(Event::Hit, 5), Ok(()));
+        events.update();
+        assert_eq!(rt; events.send(Event::Hit, 6), Ok(()));
+        assert_eq!(rt;
+            unread(rt.alloc(), &events, Event::Hit, 1)?.as_slice(),
+            [5, 6].as_slice()
+        );
+        assert_eq!(rt; unread(rt.alloc(), &events, Event::Heal, 0)?.len(), 0);
+        events.update();
+        assert_eq!(rt;
+            unread(rt.alloc(), &events, Event::Hit, 0)?.as_slice(),
+            [6].as_slice()
+        );
+        events.update();
+        assert_eq!(rt; unread(rt.alloc(), &events, Event::Hit, 0)?.len(), 0);
+        assert_eq!(rt; events.next(Event::Hit), 3);
+        assert_eq!(rt; events.next(Event::Done), 0);
+        Ok(())
+    }
+
+    #[test]
+    fn many_events(rt: HostRuntime) -> Result<(), Fail> {
+        let mut events = Events::new(rt.alloc())?;
+        for _run in 0..3 {
+            events.update();
+            for value in 0..100_000 {
+                assert_eq!(rt; events.send(Event::Spark, value), Ok(()));
+            }
+        }
+        let unread = events.unread(Event::Spark, 150_000);
+        assert_eq!(rt; unread.older.len(), 50_000);
+        assert_eq!(rt; unread.newer.len(), 100_000);
+        assert_eq!(rt; unread.older[0], 50_000);
+        assert_eq!(rt; events.next(Event::Spark), 300_000);
+        Ok(())
+    }
+}

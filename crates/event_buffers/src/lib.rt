@@ -1,0 +1,5 @@
+// The events of each kind that are kept, with their numbers: two buffers a kind, of which the older is dropped when a run opens.
+#![tactic(auto)]
+
+pub mod buffers;
+pub mod queue;

@@ -1,0 +1,126 @@
+// The kept events of one kind.
+
+ghost use Rattle.std.specs.Prelude.{◌≡◌, ◌↔◌, ◌++◌, ◌≤◌, ◌+◌, length, IsErrOf, OnOk, OnErr};
+ghost use Rattle.model.specs.State.{empty_queue, last_tick};
+ghost use Rattle.model.specs.Events.{send, unread, updated_queue};
+ghost use Rattle.event_buffers.specs.Queue.{values_from};
+
+use std::alloc::Global;
+use std::marker::Model;
+use std::mem;
+use thiserror::Error;
+
+/// The first event number that is not given, 2^62.
+pub const NUMBER_LIMIT: u64 = 4_611_686_018_427_387_904;
+
+/// Why an event is not sent.
+#[derive(Clone, Copy, PartialEq, Eq, Debug, Error)]
+pub enum SendFault {
+    /// Every number below the limit is given.
+    #[error("the event numbers are spent")]
+    NumbersSpent,
+    /// Memory is wanting.
+    #[error("memory is wanting")]
+    Memory,
+}
+
+/// The events that a reader has not read, oldest first: those of the older buffer, then those of the newer one.
+#[derive(Clone, Copy, Debug)]
+pub struct Unread<'a> {
+    /// Their values in the older buffer.
+    pub older: &'a [i64],
+    /// Their values in the newer buffer.
+    pub newer: &'a [i64],
+}
+
+/// The kept events of one kind. Contracts see their numbers and values, where the newer buffer begins, and the next number.
+/// Room is used again: an update gives nothing back.
+#[derive(Drop, Debug)]
+pub struct Queue {
+    first: u64,
+    older: Vec<i64>,
+    newer: Vec<i64>,
+}
+
+impl Model for Queue {
+    ghost use Rattle.std.specs.Prelude.{◌≤◌, ◌+◌, length};
+    ghost use Rattle.model.specs.State.{EventQueue, last_tick};
+
+    ghost Value = { EventQueue };
+
+    ghost use Rattle.event_buffers.specs.Queue.{queue_of_parts};
+
+    ghost view = { λ q. queue_of_parts q.first q.older.items q.newer.items };
+
+    ghost invariant = { λ q. q.first + length q.older.items + length q.newer.items ≤ last_tick };
+}
+
+impl Queue {
+    /// The queue of which no event was sent.
+    pub fn new(alloc: Global) -> Self
+        ensures { result ≡ empty_queue }
+    {
+        Queue {
+            first: 0,
+            older: Vec::new(alloc),
+            newer: Vec::new(alloc),
+        }
+    }
+
+    /// The number of the next event.
+    pub fn next(&self) -> u64
+        ensures value { result ≡ self.now.next }
+        ensures most { result ≤ last_tick }
+    {
+        self.first + self.older.len() as u64 + self.newer.len() as u64
+    }
+
+    /// Sends an event: it is kept in the newer buffer, at the next number. A refused one changes nothing.
+    pub fn send(&mut self, value: i64) -> Result<(), SendFault>
+        ensures ok { OnOk result (self.new ≡ send value self.old) }
+        ensures spent { IsErrOf result SendFault.NumbersSpent ↔ (self.old.next ≡ last_tick) }
+        ensures err { OnErr result (self.new ≡ self.old) }
+    {
+        if self.next() == NUMBER_LIMIT {
+            return Err(SendFault::NumbersSpent);
+        }
+        match self.newer.push(value) {
+            Ok(()) => Ok(()),
+            Err(_) => Err(SendFault::Memory),
+        }
+    }
+
+    /// The kept events from a cursor on. Takes no memory.
+    pub fn unread(&self, cursor: u64) -> Unread<'_>
+        ensures { result.older.now ++ result.newer.now ≡ unread self.now cursor }
+    {
+        let begin = self.first + self.older.len() as u64;
+        Unread {
+            older: from(self.older.as_slice(), self.first, cursor),
+            newer: from(self.newer.as_slice(), begin, cursor),
+        }
+    }
+
+    /// Drops the older buffer and makes the newer one the older. Takes no memory and gives none back.
+    pub fn update(&mut self)
+        ensures { self.new ≡ updated_queue self.old }
+    {
+        let Queue {
+            first,
+            older,
+            newer,
+        } = self;
+        *first += older.len() as u64;
+        older.clear();
+        mem::swap(older, newer);
+    }
+}
+
+// The values from a cursor on, where the first has a number.
+fn from(values: &[i64], first: u64, cursor: u64) -> &[i64]
+    requires { first + length values.now ≤ last_tick }
+    ensures { result.now ≡ values_from first values.now cursor }
+{
+    let passed = cursor.saturating_sub(first).min(values.len() as u64) as usize;
+    &values[passed..]
+}
