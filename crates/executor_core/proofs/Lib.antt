@@ -1,2 +1,3 @@
-pub mod Told
-pub mod Views
+pub mod Judging
+pub mod Keeping
+pub mod Telling

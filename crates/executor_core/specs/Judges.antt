@@ -1,13 +1,46 @@
--- What the parts of a core answer of a history.
-use Rattle.std.specs.Prelude.{ℕ, ◌<◌, true, false, ◌≡◌, List, length, Option, Some, None, Result, Ok, Err}
+-- What the parts of a core answer, of its sets and of each history for which it stands.
+use Rattle.std.specs.Prelude.{ℕ, ◌+◌, ◌/◌, ◌<◌, ◌≤◌, true, false, ◌≡◌, List, length, Option, Some, None, Result, Ok, Err}
+use Rattle.number_set.specs.Members.{contains}
 use Rattle.model.specs.declared.steps.Step.{Step}
+use Rattle.model.specs.declared.steps.Step.TheVariants.{Cond, Start, Skip, Finish, Sync}
 use Rattle.model.specs.declared.steps.StepFault.{StepFault}
 use Rattle.model.specs.declared.steps.Ready.{Ready}
-use Rattle.model.specs.Schedule.{Schedule, params_of}
-use Rattle.model.specs.Conflict.{Conflict}
-use Rattle.model.specs.Lawful.{May, ended, runs}
+use Rattle.model.specs.Schedule.{Schedule, has_edge, level_of}
+use Rattle.model.specs.Lawful.{May}
 use Rattle.model.specs.Faults.{IsFirstFault}
 use Rattle.model.specs.Ready.{Offers, OffersNothing}
+use Rattle.schedule_builder.specs.Rows.{IsRival}
+use Rattle.executor_core.specs.Stands.{Stand}
+
+-- both sets have room for all systems
+pub record IsRoomy (count : ℕ) (begun_set over_set : List ℕ) : Type 0 where
+  pub begun : length begun_set ≡ count / 64 + 1
+  pub over : length over_set ≡ count / 64 + 1
+
+-- each system with an edge to this one is over
+abbrev pub AllOver : Stand → ℕ → Type 0
+AllOver core n = (m : ℕ) → has_edge core.schedule m n ≡ true → contains core.over m ≡ true
+
+-- each system that conflicts with this one and has begun is over
+abbrev pub NoneMeets : Stand → ℕ → Type 0
+NoneMeets core n = (m : ℕ) → IsRival core.schedule.systems n m → contains core.begun m ≡ true → contains core.over m ≡ true
+
+-- nothing that a system waits for is missing: the sync points below its level are done, and all with an edge to it are over
+pub record IsReleased (core : Stand) (n : ℕ) : Type 0 where
+  pub after : AllOver core n
+  pub level : level_of core.schedule n ≤ core.done
+
+-- some system of the level isn't over
+abbrev pub IsOpen : Stand → ℕ → Type 0
+IsOpen core k = (n : ℕ) × (n < length core.schedule.systems) × (level_of core.schedule n ≡ k) × (contains core.over n ≡ false)
+
+-- a step names what the schedule has
+abbrev pub IsKnown : Schedule → Step → Type 0
+IsKnown s (Cond c answer) = c < length s.conditions
+IsKnown s (Start n) = n < length s.systems
+IsKnown s (Skip n) = n < length s.systems
+IsKnown s (Finish n) = n < length s.systems
+IsKnown s (Sync k) = k < s.syncs
 
 -- a step is judged: it is allowed, or this is the fault that is told of it
 abbrev pub Judges : Schedule → List Step → Step → Result (Unit {0}) StepFault → Type 0
@@ -18,11 +51,3 @@ Judges s h step (Err fault) = IsFirstFault s h step fault
 abbrev pub TellsOffer : Schedule → List Step → ℕ → Option Ready → Type 0
 TellsOffer s h n None = OffersNothing s h n
 TellsOffer s h n (Some r) = Offers s h n r
-
--- some system hasn't ended
-abbrev pub HasUnended : Schedule → List Step → Type 0
-HasUnended s h = (n : ℕ) × (n < length s.systems) × (ended h n ≡ false)
-
--- one system runs and conflicts with another
-abbrev pub RunsAgainst : Schedule → List Step → ℕ → ℕ → Type 0
-RunsAgainst s h m n = (runs h m ≡ true) × Conflict (params_of s m) (params_of s n)

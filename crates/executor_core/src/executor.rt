@@ -1,40 +1,46 @@
-// The core of a run: the steps that it accepted, and what may come next.
+// The core of a run: which steps it has accepted, as sets of systems, and what may come next.
 
-ghost use Rattle.std.specs.Prelude.{Bool, ◌≡◌, ◌≤◌, ◌↔◌, List, [], ◌∷◌, length, IsTrue, IsOk, IfOk, OnOk, IfErr, OnErr, IfSome, IfNone, reverse};
+ghost use Rattle.std.specs.Prelude.{ℕ, ◌≡◌, ◌+◌, ◌<◌, ◌≤◌, ◌↔◌, ◌||◌, ◌&&◌, ◌==◌, not, true, Bool, List, [], ◌∷◌, length, get_or, IsTrue, IsOk, IfOk, OnOk, IfErr, OnErr, IfSome, IfNone};
 ghost use Rattle.std.specs.Bool.{OnFalse};
+ghost use Rattle.number_set.specs.Members.{contains};
 ghost use Rattle.model.specs.declared.steps.Step.{Step};
+ghost use Rattle.model.specs.Schedule.{level_of};
+ghost use Rattle.model.specs.Built.{IsBuilt};
 ghost use Rattle.model.specs.Lawful.{IsLawful, IsComplete, NoneRuns, May};
 ghost use Rattle.model.specs.Faults.{IsFirstFault};
 ghost use Rattle.model.specs.Ready.{IsReady, OnlyFinish, step_of};
-ghost use Rattle.executor_core.specs.Stands.{Stands, room};
+ghost use Rattle.executor_core.specs.Stands.{Stands, IsPassed, room};
+ghost use Rattle.executor_core.specs.Judges.{AllOver, NoneMeets, IsReleased, IsOpen, IsKnown};
 
-use crate::faults::{judge, offer, ready_sync};
-use crate::words::is_complete;
 use model::steps::{Ready, Step, StepFault};
+use number_set::NumberSet;
 use schedule_builder::built::Built;
 use std::alloc::{AllocError, Global};
 use std::marker::Model;
 
-/// The steps that one run of a schedule has accepted. Contracts speak of each history for which a core stands, by `Stands`:
-/// such a history is lawful, and has the latest step first.
+/// What one run of a schedule has accepted. Contracts speak of each history for which a core stands, by `Stands`: such a
+/// history is lawful, and has the latest step first.
 #[derive(Drop)]
 pub struct Core<'a> {
     built: &'a Built,
-    steps: Vec<Step>,
+    begun: NumberSet,
+    over: NumberSet,
+    done: u32,
+    from: usize,
 }
 
 impl<'a> Model for Core<'a> {
-    ghost use Rattle.std.specs.Prelude.{◌≤◌, reverse, vec_capacity};
-    ghost use Rattle.model.specs.Lawful.{IsLawful};
-    ghost use Rattle.executor_core.specs.Stands.{Stand, stand_code, room};
+    ghost use Rattle.std.specs.Prelude.{length};
+    ghost use Rattle.executor_core.specs.Stands.{Stand, stand_code};
+    ghost use Rattle.executor_core.specs.Judges.{IsRoomy};
 
     ghost Value = { Stand };
 
     ghost coded = { stand_code };
 
-    ghost view = { λ c. record { schedule = c.built.now; history = reverse c.steps.items } };
+    ghost view = { λ c. record { schedule = c.built.now; begun = c.begun; over = c.over; done = c.done; from = c.from } };
 
-    ghost invariant = { λ c. IsLawful c.built.now (reverse c.steps.items) × (room c.built.now ≤ vec_capacity c.steps) };
+    ghost invariant = { λ c. IsRoomy (length c.built.now.systems) c.begun c.over };
 }
 
 impl<'a> Core<'a> {
@@ -43,11 +49,15 @@ impl<'a> Core<'a> {
         ensures schedule { IfOk result (λ core. core.schedule ≡ built.now) }
         ensures stands { IfOk result (λ core. Stands core []) }
     {
-        built.law();
-        built.no_conditions();
-        let room = 2 * built.count() as usize + built.syncs() as usize;
-        let steps = Vec::with_capacity(alloc, room)?;
-        Ok(Core { built, steps })
+        let begun = NumberSet::new(alloc, built.count())?;
+        let over = NumberSet::new(alloc, built.count())?;
+        Ok(Core {
+            built,
+            begun,
+            over,
+            done: 0,
+            from: 0,
+        })
     }
 
     /// What `step` would answer.
@@ -55,7 +65,7 @@ impl<'a> Core<'a> {
         ensures accepts { (h : List Step) → Stands self.now h → IsOk result ↔ May self.now.schedule h step }
         ensures fault { (h : List Step) → Stands self.now h → IfErr result (λ fault. IsFirstFault self.now.schedule h step fault) }
     {
-        judge(self.built, self.steps.as_slice(), step)
+        self.judge(step)
     }
 
     /// Takes a step: accepted exactly where it may come, else the first fault of it is told and nothing changes.
@@ -66,10 +76,10 @@ impl<'a> Core<'a> {
         ensures unchanged { OnErr result (self.new ≡ self.old) }
         ensures schedule { self.new.schedule ≡ self.old.schedule }
     {
-        self.may(step)?;
-        let Ok(()) = self.steps.push(step) else {
-            unreachable!()
-        };
+        if let Err(fault) = self.judge(step) {
+            return Err(fault);
+        }
+        self.take(step);
         Ok(())
     }
 
@@ -81,8 +91,8 @@ impl<'a> Core<'a> {
         ensures nothing { (h : List Step) → Stands self.now h → IfNone result (OnlyFinish self.now.schedule h) }
         ensures complete { (h : List Step) → Stands self.now h → NoneRuns h → IfNone result (IsComplete self.now.schedule h) }
     {
-        self.built.law();
-        first_offer(self.built, self.steps.as_slice())
+        self.built_law();
+        self.first_offer()
     }
 
     /// Whether every system has ended and every sync point is done. Where not, some step may come.
@@ -90,8 +100,8 @@ impl<'a> Core<'a> {
         ensures exact { (h : List Step) → Stands self.now h → IsTrue result ↔ IsComplete self.now.schedule h }
         ensures goes_on { (h : List Step) → Stands self.now h → OnFalse result ((step : Step) × May self.now.schedule h step) }
     {
-        self.built.law();
-        is_complete(self.built, self.steps.as_slice())
+        self.built_law();
+        self.syncs() <= self.done()
     }
 
     /// Each history for which a core stands is lawful, and has no more steps than the schedule has room for.
@@ -99,19 +109,155 @@ impl<'a> Core<'a> {
         ensures lawful { (h : List Step) → Stands self.now h → IsLawful self.now.schedule h }
         ensures bound { (h : List Step) → Stands self.now h → length h ≤ room self.now.schedule }
     {}
-}
 
-// What the first system in schedule order offers that offers anything, else the sync point that is accepted.
-fn first_offer(built: &Built, steps: &[Step]) -> Option<Ready>
-    requires { IsLawful built.now (reverse steps.now) }
-    ensures { IsReady built.now (reverse steps.now) result }
-{
-    for system in built.order() {
-        if let Some(found) = offer(built, steps, *system) {
-            return Some(found);
+    // What holds of the schedule.
+    pub(crate) fn built_law(&self)
+        ensures { IsBuilt self.now.schedule }
+    {
+        self.built.law();
+    }
+
+    // There are no conditions yet.
+    pub(crate) fn no_conditions(&self)
+        ensures { self.now.schedule.conditions ≡ [] }
+    {
+        self.built.no_conditions();
+    }
+
+    // How many systems there are.
+    pub(crate) fn count(&self) -> u32
+        ensures { result ≡ length self.now.schedule.systems }
+    {
+        self.built.count()
+    }
+
+    // How many sync points there are.
+    pub(crate) fn syncs(&self) -> u32
+        ensures { result ≡ self.now.schedule.syncs }
+    {
+        self.built.syncs()
+    }
+
+    // The schedule order.
+    pub(crate) fn order(&self) -> &[u32]
+        ensures { result.now ≡ self.now.schedule.order }
+    {
+        self.built.order()
+    }
+
+    // The level of a system.
+    pub(crate) fn level(&self, system: u32) -> u32
+        requires { system < length self.now.schedule.systems }
+        ensures { result ≡ level_of self.now.schedule system }
+    {
+        self.built.level(system)
+    }
+
+    // How many sync points are done.
+    pub(crate) fn done(&self) -> u32
+        ensures { result ≡ self.now.done }
+    {
+        self.done
+    }
+
+    // How many systems at the front of the schedule order need no more be looked at.
+    pub(crate) fn from(&self) -> usize
+        ensures { result ≡ self.now.from }
+    {
+        self.from
+    }
+
+    // Whether the system has begun.
+    pub(crate) fn has_begun(&self, system: u32) -> bool
+        ensures { result ≡ contains self.now.begun system }
+    {
+        self.begun.contains(system)
+    }
+
+    // Whether the system is over.
+    pub(crate) fn is_over(&self, system: u32) -> bool
+        ensures { result ≡ contains self.now.over system }
+    {
+        self.over.contains(system)
+    }
+
+    // Whether each system with an edge to this one is over.
+    pub(crate) fn is_after(&self, system: u32) -> bool
+        requires { system < length self.now.schedule.systems }
+        ensures { IsTrue result ↔ AllOver self.now system }
+    {
+        self.built.before(system).is_within(&self.over)
+    }
+
+    // Whether no system that conflicts with this one runs.
+    pub(crate) fn is_clear(&self, system: u32) -> bool
+        requires { system < length self.now.schedule.systems }
+        ensures { IsTrue result ↔ NoneMeets self.now system }
+    {
+        self.built
+            .rivals(system)
+            .shares_only(&self.begun, &self.over)
+    }
+
+    // Notes an accepted step.
+    fn take(&mut self, step: Step)
+        requires { IsKnown self.old.schedule step }
+        ensures schedule { self.new.schedule ≡ self.old.schedule }
+        ensures stands { (h : List Step) → Stands self.old h → May self.old.schedule h step → Stands self.new (step ∷ h) }
+    {
+        match step {
+            Step::Cond(_, _) => {}
+            Step::Start(system) => self.begin(system),
+            Step::Skip(system) => {
+                self.begin(system);
+                self.end(system);
+            }
+            Step::Finish(system) => self.end(system),
+            Step::Sync(sync) => self.pass_sync(sync),
         }
     }
-    ready_sync(built, steps)
+
+    // Notes that the system has begun.
+    fn begin(&mut self, system: u32)
+        requires { system < length self.old.schedule.systems }
+        ensures rest { self.new ≡ record self.old { begun = self.new.begun; from = self.new.from } }
+        ensures begun { (n : ℕ) → contains self.new.begun n ≡ ((system == n) || contains self.old.begun n) }
+        ensures passed { IsPassed self.old → IsPassed self.new }
+    {
+        self.begun.insert(system);
+        self.from = first_waiting(self.built.order(), &self.begun, self.from);
+    }
+
+    // Notes that the system is over.
+    fn end(&mut self, system: u32)
+        requires { system < length self.old.schedule.systems }
+        ensures rest { self.new ≡ record self.old { over = self.new.over } }
+        ensures over { (n : ℕ) → contains self.new.over n ≡ ((system == n) || contains self.old.over n) }
+    {
+        self.over.insert(system);
+    }
+
+    // Notes that the sync point is done.
+    fn pass_sync(&mut self, sync: u32)
+        requires { sync < self.old.schedule.syncs }
+        ensures { self.new ≡ record self.old { done = sync + 1 } }
+    {
+        if sync < self.built.syncs() {
+            self.done = sync + 1;
+        }
+    }
+}
+
+// The first place in the order, from one on, whose system has not begun; where all have, the end.
+fn first_waiting(order: &[u32], begun: &NumberSet, from: usize) -> usize
+    ensures { (k : ℕ) → from ≤ k → k < result → contains begun.now (get_or order.now k 0) ≡ true }
+{
+    for place in from..order.len() {
+        if !begun.contains(order[place]) {
+            return place;
+        }
+    }
+    order.len()
 }
 
 #[cfg(test)]
@@ -120,7 +266,9 @@ mod tests {
     use access_set::params::Params;
     use kinds::kind::Kind;
     use query_plan::query::{Query, Term};
-    use schedule_builder::built::System;
+    use schedule_builder::builder::build;
+    use schedule_builder::desc::{ScheduleDesc, SystemDesc};
+    use schedule_builder::fault::BuildFault;
     use std::test::Fail;
 
     // The parameters of a system that writes positions.
@@ -133,16 +281,13 @@ mod tests {
     }
 
     // Two systems that conflict, with no edge between them.
-    fn rivals(alloc: Global) -> Result<Built, AllocError> {
-        let first = System::new(writer(alloc)?, Vec::new(alloc), 0);
-        let second = System::new(writer(alloc)?, Vec::new(alloc), 0);
-        let mut systems = Vec::new(alloc);
-        systems.push(first)?;
-        systems.push(second)?;
-        let mut order = Vec::new(alloc);
-        order.push(0)?;
-        order.push(1)?;
-        Ok(Built::of_parts(systems, 1, order))
+    fn rivals(alloc: Global) -> Result<Built, BuildFault> {
+        let mut desc = ScheduleDesc::new(alloc);
+        for name in ["first", "second"] {
+            let name = String::from_str(alloc, name)?;
+            desc.add_system(SystemDesc::new(alloc, name, writer(alloc)?))?;
+        }
+        build(alloc, desc)
     }
 
     #[test]

@@ -5,3 +5,4 @@ pub mod Walks
 pub mod Sequences
 pub mod Transfer
 pub mod Assembly
+pub mod SystemSets

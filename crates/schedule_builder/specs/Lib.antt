@@ -3,3 +3,4 @@ pub mod Orders
 pub mod Cycles
 pub mod Sequence
 pub mod Queries
+pub mod Rows

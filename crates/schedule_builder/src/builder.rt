@@ -170,7 +170,8 @@ pub fn build(alloc: Global, desc: ScheduleDesc) -> Result<Built, BuildFault>
     let orders = checked(alloc, desc.systems())?;
     let systems = scheduled(alloc, desc.into_systems(), orders.as_slice())?;
     let order = order_of(alloc, systems.as_slice())?;
-    Ok(Built::of_parts(systems, 1, order))
+    let built = Built::of_parts(alloc, systems, 1, order)?;
+    Ok(built)
 }
 
 #[cfg(test)]

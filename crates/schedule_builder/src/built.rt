@@ -1,67 +1,18 @@
 // A built schedule, and what it tells of its systems.
 
-ghost use Rattle.std.specs.Prelude.{◌≡◌, ◌<◌, ◌↔◌, [], length, IsTrue};
+ghost use Rattle.std.specs.Prelude.{◌≡◌, ◌<◌, ◌↔◌, [], length, IsTrue, IfOk};
 ghost use Rattle.model.specs.Conflict.{Conflict};
 ghost use Rattle.model.specs.Schedule.{system_at, params_of, level_of};
 ghost use Rattle.model.specs.Built.{IsBuilt};
+ghost use Rattle.schedule_builder.specs.Rows.{IsRow, IsBefore, IsRival};
 
+use crate::rows::{rows_before, rows_of_rivals};
+pub use crate::system::System;
 use access_set::conflict::conflicts;
 use access_set::params::Params;
-use std::alloc::Global;
+use number_set::NumberSet;
+use std::alloc::{AllocError, Global};
 use std::marker::Model;
-
-/// A system of a built schedule: its parameters, the systems with an edge to it, and its level. Contracts see these three.
-#[derive(Drop)]
-pub struct System {
-    params: Params,
-    predecessors: Vec<u32>,
-    level: u32,
-}
-
-impl Model for System {
-    ghost use Rattle.model.specs.Schedule.{ScheduledSystem};
-    ghost use Rattle.model.specs.Codes.{system_code};
-
-    ghost Value = { ScheduledSystem };
-
-    ghost coded = { system_code };
-
-    ghost view = { λ s. record { params = s.params; predecessors = s.predecessors.items; level = s.level } };
-}
-
-impl System {
-    /// A system of its parts.
-    pub fn new(params: Params, predecessors: Vec<u32>, level: u32) -> Self
-        ensures { result ≡ record { params = params; predecessors = predecessors.items; level = level } }
-    {
-        System {
-            params,
-            predecessors,
-            level,
-        }
-    }
-
-    /// Its parameters.
-    pub fn params(&self) -> &Params
-        ensures { result.now ≡ self.now.params }
-    {
-        &self.params
-    }
-
-    /// The systems with an edge to it.
-    pub fn predecessors(&self) -> &[u32]
-        ensures { result.now ≡ self.now.predecessors }
-    {
-        self.predecessors.as_slice()
-    }
-
-    /// Its level: how many sync points stand before it.
-    pub fn level(&self) -> u32
-        ensures { result ≡ self.now.level }
-    {
-        self.level
-    }
-}
 
 /// A schedule as it was built. Contracts see a `Schedule` of the model, which has no conditions yet; every value meets
 /// `IsBuilt`.
@@ -70,6 +21,8 @@ pub struct Built {
     systems: Vec<System>,
     syncs: u32,
     order: Vec<u32>,
+    before: Vec<NumberSet>,
+    rivals: Vec<NumberSet>,
 }
 
 impl Model for Built {
@@ -77,6 +30,7 @@ impl Model for Built {
     ghost use Rattle.model.specs.Schedule.{Schedule};
     ghost use Rattle.model.specs.Built.{IsBuilt};
     ghost use Rattle.model.specs.Codes.{schedule_code};
+    ghost use Rattle.schedule_builder.specs.Rows.{HasRows};
 
     ghost Value = { Schedule };
 
@@ -84,21 +38,30 @@ impl Model for Built {
 
     ghost view = { λ b. record { systems = b.systems.items; conditions = []; syncs = b.syncs; order = b.order.items } };
 
-    ghost invariant = { λ b. IsBuilt (record { systems = b.systems.items; conditions = []; syncs = b.syncs; order = b.order.items }) };
+    ghost invariant = { λ b. IsBuilt (record { systems = b.systems.items; conditions = []; syncs = b.syncs; order = b.order.items }) × HasRows b.systems.items b.before.items b.rivals.items };
 }
 
 impl Built {
     /// A schedule of its parts: the systems in declared order, how many sync points there are, and the schedule order. Asks
-    /// that the parts meet `IsBuilt`.
-    pub fn of_parts(systems: Vec<System>, syncs: u32, order: Vec<u32>) -> Self
+    /// that the parts meet `IsBuilt`. What each system waits for and which ones it conflicts with is found out here, once.
+    pub(crate) fn of_parts(
+        alloc: Global,
+        systems: Vec<System>,
+        syncs: u32,
+        order: Vec<u32>,
+    ) -> Result<Self, AllocError>
         requires { IsBuilt (record { systems = systems.items; conditions = []; syncs = syncs; order = order.items }) }
-        ensures { result ≡ record { systems = systems.items; conditions = []; syncs = syncs; order = order.items } }
+        ensures { IfOk result (λ built. built ≡ record { systems = systems.items; conditions = []; syncs = syncs; order = order.items }) }
     {
-        Built {
+        let before = rows_before(alloc, systems.as_slice())?;
+        let rivals = rows_of_rivals(alloc, systems.as_slice())?;
+        Ok(Built {
             systems,
             syncs,
             order,
-        }
+            before,
+            rivals,
+        })
     }
 
     /// The schedule with no system and one sync point.
@@ -109,6 +72,8 @@ impl Built {
             systems: Vec::new(alloc),
             syncs: 1,
             order: Vec::new(alloc),
+            before: Vec::new(alloc),
+            rivals: Vec::new(alloc),
         }
     }
 
@@ -184,6 +149,22 @@ impl Built {
         ensures { result.now ≡ self.now.order }
     {
         self.order.as_slice()
+    }
+
+    /// The systems with an edge to a system, as a set.
+    pub fn before(&self, number: u32) -> &NumberSet
+        requires { number < length self.now.systems }
+        ensures { IsRow (length self.now.systems) (IsBefore self.now.systems number) result.now }
+    {
+        &self.before[number as usize]
+    }
+
+    /// The systems that conflict with a system, as a set.
+    pub fn rivals(&self, number: u32) -> &NumberSet
+        requires { number < length self.now.systems }
+        ensures { IsRow (length self.now.systems) (IsRival self.now.systems number) result.now }
+    {
+        &self.rivals[number as usize]
     }
 
     /// Whether two systems conflict.

@@ -10,4 +10,6 @@ mod heights;
 mod names;
 mod orders;
 mod queries;
+mod rows;
 mod sequence;
+pub mod system;

@@ -47,7 +47,7 @@ returns-clause-systems c =
     let systems : List DeclaredSystem = c.args.desc.systems in
     let built : List ScheduledSystem = c.in_ok-systems.systems.items in
     let a = are_scheduled orders c.as_slice.result.now systems c.into_systems.result.items built c.as_slice.ensures.value c.into_systems.ensures c.in_ok-systems.ensures in
-    subst (λ (s : Schedule). HasDeclaredSystems c.args.desc s) (sym c.of_parts.ensures) (declared_systems orders systems built c.in_ok-order.order.items a)
+    subst (λ (s : Schedule). HasDeclaredSystems c.args.desc s) (sym c.in_ok-built.ensures) (declared_systems orders systems built c.in_ok-order.order.items a)
 
 pub returns-clause-edges : goal.returns-clause-edges
 returns-clause-edges c =
@@ -57,4 +57,4 @@ returns-clause-edges c =
     let a = are_scheduled orders c.as_slice.result.now systems c.into_systems.result.items built c.as_slice.ensures.value c.into_systems.ensures c.in_ok-systems.ensures in
     let d : AreDeclared systems orders = subst (λ (xs : List DeclaredSystem). AreDeclared xs orders) c.systems.ensures c.in_ok-orders.ensures.declared in
     let b : IsBuildable (items_of systems) = subst (λ (xs : List DeclaredSystem). IsBuildable (items_of xs)) c.systems.ensures c.in_ok-orders.ensures.buildable in
-    subst (λ (s : Schedule). HasDeclaredEdges c.args.desc s) (sym c.of_parts.ensures) (declared_edges orders systems built c.in_ok-order.order.items d b.distinct a)
+    subst (λ (s : Schedule). HasDeclaredEdges c.args.desc s) (sym c.in_ok-built.ensures) (declared_edges orders systems built c.in_ok-order.order.items d b.distinct a)

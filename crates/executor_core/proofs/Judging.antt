@@ -1,0 +1,212 @@
+-- From the sets of a core to what each step asks, for each history for which the core stands.
+use Rattle.std.proofs.Common.{ℕ, ◌<◌, ◌≤◌, Bool, true, false, not, ◌&&◌, nat_lt, ◌≡◌, inl, inr, List, [], length, refl, sym, ◌∙◌, ap, subst, arith, lt-ltb, ltb-true}
+use Rattle.std.proofs.lemmas.Bool.{both_ways, true_from_ne_false, false_from_ne_true, false≢true, cases_lt, cases_order}
+use Rattle.number_set.specs.Members.{contains}
+use Rattle.model.specs.declared.steps.Step.{Step}
+use Rattle.model.specs.declared.steps.Step.TheVariants.{Cond, Start, Skip, Finish, Sync}
+use Rattle.model.specs.declared.steps.StepFault.TheVariants.{Repeated, NotReady, ConditionTrue, NotRunning, LevelOpen}
+use Rattle.model.specs.declared.steps.StepFault.TheVariants as fault
+use Rattle.model.specs.Schedule.{Schedule, params_of, level_of, covers}
+use Rattle.model.specs.Lawful.{begun, ended, runs, synced, IsFree, HasOpen, HasFalse, MeetsRunning, MayStart, MayFinish, MaySync, IsComplete}
+use Rattle.model.specs.Faults.{IsFirstFault}
+use Rattle.model.proofs.Histories.{begun_from_runs, begun_runs_or_ended, runs_not-ended, runs_known}
+use Rattle.model.proofs.Decided.{decide_meets}
+use Rattle.executor_core.specs.Stands.{Stand, Stands}
+use Rattle.executor_core.specs.Judges.{NoneMeets, IsReleased, IsOpen}
+
+-- what is told as false is refuted
+pub told_no : {P : Type 0} → (false ≡ true → P) × (P → false ≡ true) → P → ⊥
+told_no tells p = false≢true (tells.1 p)
+
+-- ---- numbers as tests
+
+not_below : (k : ℕ) → nat_lt k k ≡ false
+not_below k = false_from_ne_true (nat_lt k k) (λ e. let low : k < k = ltb-true k k e in omega arith)
+
+not_below_past : (j k : ℕ) → k ≤ j → nat_lt j k ≡ false
+not_below_past j k past = false_from_ne_true (nat_lt j k) (λ e. let low : j < k = ltb-true j k e in omega arith)
+
+-- ---- what a history says where a core stands for it
+
+-- a sync point below the number of those done is done
+pub done_below : (core : Stand) (h : List Step) → Stands core h → (k : ℕ) → k < core.done → synced h k ≡ true
+done_below core h stands k low = stands.syncs k ∙ lt-ltb k core.done low
+
+-- the next one isn't
+pub next_fresh : (core : Stand) (h : List Step) → Stands core h → (k : ℕ) → core.done ≤ k → synced h k ≡ false
+next_fresh core h stands k past = stands.syncs k ∙ not_below_past k core.done past
+
+-- what has begun and is not over runs
+pub runs_of_sets : (core : Stand) (h : List Step) → Stands core h → (n : ℕ) → contains core.begun n ≡ true → contains core.over n ≡ false → runs h n ≡ true
+runs_of_sets core h stands n b o = elim (begun_runs_or_ended h n (stands.begins n ∙ b)) [
+  | inl r ↦ r
+  | inr e ↦ absurd (both_ways _ (stands.ends n ∙ o) e)
+]
+
+-- what runs has begun and is not over
+pub sets_of_runs : (core : Stand) (h : List Step) → Stands core h → (n : ℕ) → runs h n ≡ true → (contains core.begun n ≡ true) × (contains core.over n ≡ false)
+sets_of_runs core h stands n r = (
+  sym (stands.begins n) ∙ begun_from_runs h n r,
+  sym (stands.ends n) ∙ false_from_ne_true (ended h n) (λ e. runs_not-ended core.schedule h n stands.lawful r e),
+)
+
+-- so a system runs exactly where the sets say so
+pub runs_is : (core : Stand) (h : List Step) → Stands core h → (n : ℕ) → runs h n ≡ (contains core.begun n && not (contains core.over n))
+runs_is core h stands n = go (contains core.begun n) (contains core.over n) refl refl
+  where
+    go : (b o : Bool) → contains core.begun n ≡ b → contains core.over n ≡ o → runs h n ≡ (b && not o)
+    go true false p q = runs_of_sets core h stands n p q
+    go true true p q = false_from_ne_true _ (λ r. both_ways _ (sets_of_runs core h stands n r).1 q)
+    go false false p q = false_from_ne_true _ (λ r. both_ways _ p (sets_of_runs core h stands n r).0)
+    go false true p q = false_from_ne_true _ (λ r. both_ways _ p (sets_of_runs core h stands n r).0)
+
+-- ---- free systems
+
+-- a released system that hasn't begun is free
+pub free_from : (core : Stand) (h : List Step) (n : ℕ) → Stands core h → n < length core.schedule.systems → contains core.begun n ≡ false → IsReleased core n → IsFree core.schedule h n
+free_from core h n stands known fresh released = record {
+  known = known;
+  waits = stands.begins n ∙ fresh;
+  after = λ m edge. stands.ends m ∙ released.after m edge;
+  over = λ k low. let level : level_of core.schedule n ≤ core.done = released.level in done_below core h stands k (omega arith);
+}
+
+-- a free system is released
+pub released_from : (core : Stand) (h : List Step) (n : ℕ) → Stands core h → IsFree core.schedule h n → IsReleased core n
+released_from core h n stands free = record {
+  after = λ m edge. sym (stands.ends m) ∙ free.after m edge;
+  level = elim (cases_lt core.done (level_of core.schedule n)) [
+    | inl low ↦ absurd (both_ways _ (next_fresh core h stands core.done (omega arith)) (free.over core.done low))
+    | inr high ↦ high
+  ];
+}
+
+-- ---- conflicts
+
+-- where each rival that has begun is over no running system meets this one
+pub no_meeting : (core : Stand) (h : List Step) (n : ℕ) → Stands core h → NoneMeets core n → MeetsRunning core.schedule h (params_of core.schedule n) → ⊥
+no_meeting core h n stands none meets =
+    let sets = sets_of_runs core h stands meets.0 meets.1 in
+    let known : meets.0 < length core.schedule.systems = runs_known core.schedule h meets.0 stands.lawful meets.1 in
+    both_ways _ sets.1 (none meets.0 (known, meets.2) sets.0)
+
+-- and the other way round
+pub meeting : (core : Stand) (h : List Step) (n : ℕ) → Stands core h → (NoneMeets core n → ⊥) → MeetsRunning core.schedule h (params_of core.schedule n)
+meeting core h n stands some = elim (decide_meets core.schedule h (params_of core.schedule n) stands.lawful) [
+  | inl meets ↦ meets
+  | inr none ↦ absurd (some (λ m rival b. true_from_ne_false (contains core.over m) (λ o. none (m, runs_of_sets core h stands m b o, rival.1))))
+]
+
+-- ---- no conditions
+
+-- where there are no conditions none covers a system
+none_covers : (s : Schedule) (c n : ℕ) → s.conditions ≡ [] → covers s c n ≡ true → ⊥
+none_covers s c n none e = false≢true (rw none at e)
+
+pub no_open : (s : Schedule) (h : List Step) (n : ℕ) → s.conditions ≡ [] → HasOpen s h n → ⊥
+no_open s h n none one = none_covers s one.0 n none one.1
+
+pub no_false : (s : Schedule) (h : List Step) (n : ℕ) → s.conditions ≡ [] → HasFalse s h n → ⊥
+no_false s h n none one = none_covers s one.0 n none one.1
+
+past_none : (n count : ℕ) → n < count → count ≤ n → ⊥
+past_none n count low past = omega arith
+
+-- ---- starts and skips
+
+pub start_not-ready : (core : Stand) (h : List Step) (n : ℕ) → Stands core h → n < length core.schedule.systems → contains core.begun n ≡ false → (IsReleased core n → ⊥) →
+    IsFirstFault core.schedule h (Start n) NotReady
+start_not-ready core h n stands known fresh waits =
+    inr (past_none n _ known, inr (both_ways _ (stands.begins n ∙ fresh), inl (refl, λ free. waits (released_from core h n stands free))))
+
+pub start_conflict : (core : Stand) (h : List Step) (n : ℕ) → Stands core h → n < length core.schedule.systems → contains core.begun n ≡ false → IsReleased core n → core.schedule.conditions ≡ [] →
+    (NoneMeets core n → ⊥) → IsFirstFault core.schedule h (Start n) fault.Conflict
+start_conflict core h n stands known fresh released none some =
+    inr (
+      past_none n _ known,
+      inr (
+        both_ways _ (stands.begins n ∙ fresh),
+        inr (
+          (λ not_free. not_free (free_from core h n stands known fresh released)),
+          inr (no_open core.schedule h n none, inr (no_false core.schedule h n none, inl (refl, meeting core h n stands some))),
+        ),
+      ),
+    )
+
+pub start_may : (core : Stand) (h : List Step) (n : ℕ) → Stands core h → n < length core.schedule.systems → contains core.begun n ≡ false → IsReleased core n → core.schedule.conditions ≡ [] →
+    NoneMeets core n → MayStart core.schedule h n
+start_may core h n stands known fresh released none clear = record {
+  free = free_from core h n stands known fresh released;
+  answers = λ c e. absurd (none_covers core.schedule c n none e);
+  apart = no_meeting core h n stands clear;
+}
+
+pub skip_not-ready : (core : Stand) (h : List Step) (n : ℕ) → Stands core h → n < length core.schedule.systems → contains core.begun n ≡ false → (IsReleased core n → ⊥) →
+    IsFirstFault core.schedule h (Skip n) NotReady
+skip_not-ready core h n stands known fresh waits =
+    inr (past_none n _ known, inr (both_ways _ (stands.begins n ∙ fresh), inl (refl, λ free. waits (released_from core h n stands free))))
+
+pub skip_true : (core : Stand) (h : List Step) (n : ℕ) → Stands core h → n < length core.schedule.systems → contains core.begun n ≡ false → IsReleased core n → core.schedule.conditions ≡ [] →
+    IsFirstFault core.schedule h (Skip n) ConditionTrue
+skip_true core h n stands known fresh released none =
+    inr (
+      past_none n _ known,
+      inr (
+        both_ways _ (stands.begins n ∙ fresh),
+        inr (
+          (λ not_free. not_free (free_from core h n stands known fresh released)),
+          inr (no_open core.schedule h n none, inl (refl, no_false core.schedule h n none)),
+        ),
+      ),
+    )
+
+-- ---- finishes
+
+pub finish_not-running : (core : Stand) (h : List Step) (n : ℕ) → Stands core h → n < length core.schedule.systems → (contains core.begun n && not (contains core.over n)) ≡ false →
+    IsFirstFault core.schedule h (Finish n) NotRunning
+finish_not-running core h n stands known idle = inr (past_none n _ known, inl (refl, runs_is core h stands n ∙ idle))
+
+pub finish_may : (core : Stand) (h : List Step) (n : ℕ) → Stands core h → (contains core.begun n && not (contains core.over n)) ≡ true → MayFinish core.schedule h n
+finish_may core h n stands running = record { running = runs_is core h stands n ∙ running }
+
+-- ---- sync points
+
+pub sync_repeated : (core : Stand) (h : List Step) (k : ℕ) → Stands core h → k < core.schedule.syncs → k < core.done → IsFirstFault core.schedule h (Sync k) Repeated
+sync_repeated core h k stands known low = inr (past_none k _ known, inl (refl, done_below core h stands k low))
+
+pub sync_not-ready : (core : Stand) (h : List Step) (k : ℕ) → Stands core h → k < core.schedule.syncs → core.done < k → IsFirstFault core.schedule h (Sync k) NotReady
+sync_not-ready core h k stands known high =
+    inr (past_none k _ known, inr (both_ways _ (next_fresh core h stands k (omega arith)), inl (refl, (core.done, high, next_fresh core h stands core.done (omega arith)))))
+
+-- no lower sync point is wanting where this one is the next
+next_waits-not : (core : Stand) (h : List Step) (k : ℕ) → Stands core h → k ≤ core.done → (j : ℕ) → j < k → synced h j ≡ true
+next_waits-not core h k stands low j below = done_below core h stands j (omega arith)
+
+pub sync_level-open : (core : Stand) (h : List Step) (k : ℕ) → Stands core h → k < core.schedule.syncs → core.done ≤ k → k ≤ core.done → IsOpen core k →
+    IsFirstFault core.schedule h (Sync k) LevelOpen
+sync_level-open core h k stands known high low one =
+    inr (
+      past_none k _ known,
+      inr (
+        both_ways _ (next_fresh core h stands k high),
+        inr ((λ waits. both_ways _ waits.2 (next_waits-not core h k stands low waits.0 waits.1)), inl (refl, (one.0, one.1, one.2, stands.ends one.0 ∙ one.3))),
+      ),
+    )
+
+pub sync_may : (core : Stand) (h : List Step) (k : ℕ) → Stands core h → k < core.schedule.syncs → core.done ≤ k → k ≤ core.done → (IsOpen core k → ⊥) → MaySync core.schedule h k
+sync_may core h k stands known high low none = record {
+  known = known;
+  fresh = next_fresh core h stands k high;
+  lower = next_waits-not core h k stands low;
+  level = λ n inside level. stands.ends n ∙ true_from_ne_false (contains core.over n) (λ o. none (n, inside, level, o));
+}
+
+-- where the next sync point may not come none may
+pub no_sync : (core : Stand) (h : List Step) → Stands core h → (MaySync core.schedule h core.done → ⊥) → (k : ℕ) → MaySync core.schedule h k → ⊥
+no_sync core h stands none k may = elim (cases_order k core.done) [
+  | inl same ↦ none (subst (λ i. MaySync core.schedule h i) same may)
+  | inr other ↦ elim other [
+    | inl below ↦ both_ways _ may.fresh (done_below core h stands k below)
+    | inr above ↦ both_ways _ (next_fresh core h stands core.done (omega arith)) (may.lower core.done above)
+  ]
+]

@@ -1,0 +1,162 @@
+// Sets of numbers below a bound: one bit for each number, 64 to a word, so that two sets are compared a word at a time.
+
+ghost use Rattle.std.specs.Prelude.{◌≡◌, ◌<◌, ◌+◌, ◌/◌, ◌↔◌, ◌||◌, ◌==◌, ℕ, true, false, length, IsTrue, IfOk};
+ghost use Rattle.number_set.specs.Members.{contains, AreWithin, SharesOnly};
+
+use std::alloc::{AllocError, Global};
+use std::marker::Model;
+
+/// How many numbers a word holds.
+const BITS: u32 = 64;
+
+/// A set of numbers below a bound that is fixed when it is made. Contracts see its words, and its members by `contains`.
+#[derive(Drop)]
+pub struct NumberSet {
+    words: Vec<u64>,
+}
+
+impl Model for NumberSet {
+    ghost use Rattle.std.specs.Prelude.{ℕ, List};
+
+    ghost Value = { List ℕ };
+
+    ghost view = { λ s. s.words.items };
+}
+
+impl NumberSet {
+    /// The empty set, with room for the numbers up to the bound.
+    pub fn new(alloc: Global, bound: u32) -> Result<Self, AllocError>
+        ensures room { IfOk result (λ set. length set ≡ bound / 64 + 1) }
+        ensures empty { IfOk result (λ set. (n : ℕ) → contains set n ≡ false) }
+    {
+        let words = vec![in alloc; 0u64; (bound / BITS) as usize + 1]?;
+        Ok(NumberSet { words })
+    }
+
+    /// Whether the number is a member. No number that there is no room for is one.
+    pub fn contains(&self, number: u32) -> bool
+        ensures { result ≡ contains self.now number }
+    {
+        holds(self.words.as_slice(), number)
+    }
+
+    /// Makes the number a member. Asks that there is room for it.
+    pub fn insert(&mut self, number: u32)
+        requires { number / 64 < length self.old }
+        ensures room { length self.new ≡ length self.old }
+        ensures members { (n : ℕ) → contains self.new n ≡ ((number == n) || contains self.old n) }
+    {
+        put(self.words.as_mut_slice(), number);
+    }
+
+    /// Whether each member is one of the other set, which has the same room.
+    pub fn is_within(&self, other: &NumberSet) -> bool
+        requires { length self.now ≡ length other.now }
+        ensures { IsTrue result ↔ AreWithin self.now other.now }
+    {
+        are_within(self.words.as_slice(), other.words.as_slice())
+    }
+
+    /// Whether each number that is a member of both this set and the other is one of the allowed. All have the same room.
+    pub fn shares_only(&self, other: &NumberSet, allowed: &NumberSet) -> bool
+        requires other { length self.now ≡ length other.now }
+        requires allowed { length self.now ≡ length allowed.now }
+        ensures { IsTrue result ↔ SharesOnly self.now other.now allowed.now }
+    {
+        share_only(
+            self.words.as_slice(),
+            other.words.as_slice(),
+            allowed.words.as_slice(),
+        )
+    }
+}
+
+// Whether the bit of the number is set.
+fn holds(words: &[u64], number: u32) -> bool
+    ensures { result ≡ contains words.now number }
+{
+    match words.get((number / BITS) as usize) {
+        Some(word) => (*word >> (number % BITS)) & 1 == 1,
+        None => false,
+    }
+}
+
+// Sets the bit of the number.
+fn put(words: &mut [u64], number: u32)
+    requires { number / 64 < length words.old }
+    ensures { (n : ℕ) → contains words.new n ≡ ((number == n) || contains words.old n) }
+{
+    let word = (number / BITS) as usize;
+    words[word] = words[word] | (1 << (number % BITS));
+}
+
+// Whether each bit of the first words is one of the second.
+fn are_within(first: &[u64], second: &[u64]) -> bool
+    requires { length first.now ≡ length second.now }
+    ensures { IsTrue result ↔ AreWithin first.now second.now }
+{
+    for index in 0..first.len() {
+        if first[index] & second[index] != first[index] {
+            return false;
+        }
+    }
+    true
+}
+
+// Whether each bit that is in the first and the second words is one of the third.
+fn share_only(first: &[u64], second: &[u64], third: &[u64]) -> bool
+    requires second { length first.now ≡ length second.now }
+    requires third { length first.now ≡ length third.now }
+    ensures { IsTrue result ↔ SharesOnly first.now second.now third.now }
+{
+    for index in 0..first.len() {
+        let shared = first[index] & second[index];
+        if shared & third[index] != shared {
+            return false;
+        }
+    }
+    true
+}
+
+#[cfg(test)]
+mod tests {
+    use super::*;
+    use std::test::Fail;
+
+    // The set of these numbers, with room up to 200.
+    fn set_of(alloc: Global, numbers: &[u32]) -> Result<NumberSet, AllocError>
+        ensures { IfOk result (λ set. length set ≡ 4) }
+    {
+        let mut set = NumberSet::new(alloc, 200)?;
+        for number in numbers {
+            if *number <= 200 {
+                set.insert(*number);
+            }
+        }
+        Ok(set)
+    }
+
+    #[test]
+    fn members_are_found(rt: HostRuntime) -> Result<(), Fail> {
+        let set = set_of(rt.alloc(), &[0, 63, 64, 200])?;
+        for number in [0, 63, 64, 200] {
+            assert!(rt; set.contains(number));
+        }
+        for number in [1, 62, 65, 128, 199, 201, 4_000_000_000] {
+            assert!(rt; !set.contains(number));
+        }
+        Ok(())
+    }
+
+    #[test]
+    fn sets_are_compared(rt: HostRuntime) -> Result<(), Fail> {
+        let some = set_of(rt.alloc(), &[3, 130])?;
+        let more = set_of(rt.alloc(), &[3, 70, 130])?;
+        assert!(rt; some.is_within(&more));
+        assert!(rt; !more.is_within(&some));
+        let allowed = set_of(rt.alloc(), &[3])?;
+        assert!(rt; more.shares_only(&some, &some));
+        assert!(rt; !more.shares_only(&some, &allowed));
+        Ok(())
+    }
+}

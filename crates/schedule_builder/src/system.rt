@@ -1,0 +1,59 @@
+// A system of a built schedule.
+
+ghost use Rattle.std.specs.Prelude.{◌≡◌};
+
+use access_set::params::Params;
+use std::marker::Model;
+
+/// A system of a built schedule: its parameters, the systems with an edge to it, and its level. Contracts see these three.
+#[derive(Drop)]
+pub struct System {
+    params: Params,
+    predecessors: Vec<u32>,
+    level: u32,
+}
+
+impl Model for System {
+    ghost use Rattle.model.specs.Schedule.{ScheduledSystem};
+    ghost use Rattle.model.specs.Codes.{system_code};
+
+    ghost Value = { ScheduledSystem };
+
+    ghost coded = { system_code };
+
+    ghost view = { λ s. record { params = s.params; predecessors = s.predecessors.items; level = s.level } };
+}
+
+impl System {
+    /// A system of its parts.
+    pub fn new(params: Params, predecessors: Vec<u32>, level: u32) -> Self
+        ensures { result ≡ record { params = params; predecessors = predecessors.items; level = level } }
+    {
+        System {
+            params,
+            predecessors,
+            level,
+        }
+    }
+
+    /// Its parameters.
+    pub fn params(&self) -> &Params
+        ensures { result.now ≡ self.now.params }
+    {
+        &self.params
+    }
+
+    /// The systems with an edge to it.
+    pub fn predecessors(&self) -> &[u32]
+        ensures { result.now ≡ self.now.predecessors }
+    {
+        self.predecessors.as_slice()
+    }
+
+    /// Its level: how many sync points stand before it.
+    pub fn level(&self) -> u32
+        ensures { result ≡ self.now.level }
+    {
+        self.level
+    }
+}
