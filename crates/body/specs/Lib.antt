@@ -3,3 +3,6 @@ pub mod Cells
 pub mod ViewRow
 pub mod Laid
 pub mod Steps
+pub mod Columns
+pub mod HeldColumns
+pub mod Sheet

@@ -2,8 +2,11 @@
 #![tactic(auto)]
 
 pub mod cells;
+pub mod held;
 mod lay;
 pub mod memory;
 mod open;
+pub mod row;
 pub mod state;
 pub mod view;
+pub mod view_query;
