@@ -13,3 +13,4 @@ pub mod SheetWrites
 pub mod SheetCloses
 pub mod SheetOpens
 pub mod SheetCalls
+pub mod Alongside

@@ -6,3 +6,5 @@ pub mod Steps
 pub mod Columns
 pub mod HeldColumns
 pub mod Sheet
+pub mod SeenOver
+pub mod Together
