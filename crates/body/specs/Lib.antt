@@ -3,3 +3,8 @@ pub mod Cells
 pub mod ViewRow
 pub mod Laid
 pub mod Steps
+pub mod Columns
+pub mod HeldColumns
+pub mod Sheet
+pub mod SeenOver
+pub mod Together

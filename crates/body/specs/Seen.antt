@@ -7,12 +7,20 @@ pub use Rattle.model.specs.QueryFaults.{fetched}
 use Rattle.model.specs.Access.{Params}
 use Rattle.model.specs.Input.{ShownRow, Shown}
 use Rattle.model.specs.Outcome.{Outcome, words_in_row}
+use Rattle.body.specs.Columns.{Column}
 
--- a view: the parameters of a system, what it is shown, and the outcome so far
+-- what a view was opened over: the columns of each query as they were taken, and the tick at which what is written there counts as
+-- changed. For who opens and closes a view: a body's meaning doesn't take it
+pub record Opening : Type 0 where
+  pub taken : List (List Column)
+  pub ticks : List ℕ
+
+-- a view: the parameters of a system, what it is shown, the outcome so far, and what it was opened over
 pub record Seen : Type 0 where
   pub params : Params
   pub shown : Shown
   pub outcome : Outcome
+  pub opening : Opening
 
 -- whether a query fetches a kind
 abbrev pub fetches : List Term → ℕ → Bool
@@ -71,4 +79,5 @@ with_written seen q r kind words = record {
   params = seen.params;
   shown = seen.shown;
   outcome = with_row_cells q r (with_words (query_at seen.params q) kind words) seen.outcome;
+  opening = seen.opening;
 }

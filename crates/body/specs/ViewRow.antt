@@ -41,4 +41,5 @@ seen_of queries registers = record {
   params = record { queries = map terms_of queries; res = []; res_mut = []; reads = []; writes = []; spawns = None };
   shown = record { rows = map shown_rows queries; res = []; res_mut = []; unread = []; registers = registers; granted = [] };
   outcome = record { cells = map query_cells queries; res_mut = []; events = []; commands = []; registers = registers };
+  opening = record { taken = []; ticks = [] };
 }

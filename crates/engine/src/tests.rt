@@ -59,7 +59,7 @@ fn script(alloc: Global, params: &Params, texts: &[&str]) -> Result<Vec<ScriptBo
     let mut blocks = Vec::new(alloc);
     blocks.push(Block { query: 0, code })?;
     let mut bodies = Vec::new(alloc);
-    bodies.push(ScriptBody::check(params, blocks)?)?;
+    bodies.push(ScriptBody::check(alloc, params, blocks)?)?;
     Ok(bodies)
 }
 

@@ -9,6 +9,7 @@ use access_set::params::Params;
 use query_plan::query::Query;
 use schedule_builder::built::Built;
 use schedule_builder::desc::{ScheduleDesc, SystemDesc};
+use script::fault::CheckFault;
 use script::script_body::{Block, ScriptBody};
 use std::alloc::{AllocError, Global};
 
@@ -86,9 +87,12 @@ pub fn bodies_of(
     for code in codes {
         let params = built.systems()[bodies.len()].params();
         params.law();
-        match ScriptBody::check(params, code.blocks) {
+        match ScriptBody::check(alloc, params, code.blocks) {
             Ok(body) => bodies.push(body)?,
-            Err(fault) => return Err(ContentFault::of_script(alloc, code.name, fault)?),
+            Err(CheckFault::Script(fault)) => {
+                return Err(ContentFault::of_script(alloc, code.name, fault)?);
+            }
+            Err(CheckFault::Memory) => return Err(ContentFault::Memory),
         }
     }
     Ok(bodies)

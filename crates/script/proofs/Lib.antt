@@ -2,3 +2,8 @@ mod Faulty
 mod Running
 mod Terms
 mod Within
+pub mod RowCells
+pub mod Words
+pub mod Cells
+pub mod Frames
+pub mod Plans

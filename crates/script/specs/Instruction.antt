@@ -11,6 +11,7 @@ use Rattle.script.specs.declared.instruction.Field.{Field}
 use Rattle.script.specs.declared.instruction.Source.{Source}
 use Rattle.script.specs.declared.instruction.Source.TheVariants as source
 use Rattle.script.specs.declared.instruction.Instruction.{Instruction}
+use Rattle.script.specs.declared.instruction.Instruction.TheVariants.{Change}
 
 -- the word of an operation
 abbrev pub operation_name : Operation → List ℕ
@@ -44,7 +45,7 @@ IsSource (source.Field field) word = IsField field word
 
 -- the words of an instruction: operation, target, source
 abbrev pub AreInstruction : Instruction → List (List ℕ) → Type 0
-AreInstruction i (operation ∷ target ∷ from ∷ []) = IsOperation i.operation operation × IsField i.target target × IsSource i.source from
+AreInstruction (Change operation target source) (first ∷ second ∷ third ∷ []) = IsOperation operation first × IsField target second × IsSource source third
 AreInstruction i _ = ⊥
 
 -- the text is that of an instruction

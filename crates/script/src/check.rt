@@ -9,7 +9,7 @@ ghost use Rattle.body.specs.Seen.{fetched, fetches as query_fetches};
 ghost use Rattle.kinds.specs.Kind.{kind_number};
 ghost use Rattle.query_plan.specs.Term.{term_of};
 ghost use Rattle.script.specs.Script.{place_in};
-ghost use Rattle.script.specs.Faults.{has_field, fetches_source, has_source, instruction_cause, code_fault};
+ghost use Rattle.script.specs.Faults.{has_field, fetches_source, has_source, change_cause, instruction_cause, code_fault};
 
 use crate::fault::{Cause, ScriptFault};
 use crate::instruction::{Axis, Field, Instruction, Source};
@@ -84,25 +84,46 @@ fn fetches(terms: &[Term], kind: Kind) -> bool
     any_fetches(terms, kind)
 }
 
+// Whether a query with these terms fetches what a source names.
+fn fetches_source(terms: &[Term], source: Source) -> bool
+    ensures { result ≡ fetches_source (map term_of terms.now) source }
+{
+    match source {
+        Source::Integer(_) => true,
+        Source::Field(field) => fetches(terms, field.kind),
+    }
+}
+
+// Whether the kind that a source names has the field.
+fn has_source(source: Source) -> bool
+    ensures { result ≡ has_source source }
+{
+    match source {
+        Source::Integer(_) => true,
+        Source::Field(field) => has(field),
+    }
+}
+
+// The least fault of a change of a target by a source.
+fn change_cause(terms: &[Term], target: Field, source: Source) -> Option<Cause>
+    ensures { result ≡ change_cause (map term_of terms.now) target source }
+{
+    if !writes(terms, target.kind) || !fetches_source(terms, source) {
+        return Some(Cause::NotFetched);
+    }
+    if !has(target) || !has_source(source) {
+        return Some(Cause::NoField);
+    }
+    None
+}
+
 // The least fault of an instruction in a block of a query with these terms.
 fn cause_of(terms: &[Term], instruction: Instruction) -> Option<Cause>
     ensures { result ≡ instruction_cause (map term_of terms.now) instruction }
 {
-    let fetched = match instruction.source {
-        Source::Integer(_) => true,
-        Source::Field(field) => fetches(terms, field.kind),
-    };
-    if !writes(terms, instruction.target.kind) || !fetched {
-        return Some(Cause::NotFetched);
+    match instruction {
+        Instruction::Change { target, source, .. } => change_cause(terms, target, source),
     }
-    let there = match instruction.source {
-        Source::Integer(_) => true,
-        Source::Field(field) => has(field),
-    };
-    if !has(instruction.target) || !there {
-        return Some(Cause::NoField);
-    }
-    None
 }
 
 // The first fault of the code of a block.

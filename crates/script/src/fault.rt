@@ -1,5 +1,9 @@
 // Why a script is refused.
 
+ghost use Rattle.std.specs.Prelude.{◌≡◌};
+ghost use Rattle.script.specs.declared.fault.CheckFault.TheVariants as check_fault;
+
+use std::alloc::AllocError;
 use thiserror::Error;
 
 /// What is wrong with a block or an instruction. Printed as the program tells it.
@@ -23,4 +27,31 @@ pub struct ScriptFault {
     pub block: usize,
     /// The number of the instruction in its block, from 0.
     pub instruction: usize,
+}
+
+/// Why a script isn't made.
+#[derive(Clone, Copy, PartialEq, Eq, Debug, Error)]
+pub enum CheckFault {
+    /// Its first fault.
+    #[error("{0}")]
+    Script(ScriptFault),
+    /// Memory is wanting.
+    #[error("error memory")]
+    Memory,
+}
+
+impl From<AllocError> for CheckFault {
+    ghost from_gives = { λ _ fault. fault ≡ check_fault.Memory };
+
+    fn from(_error: AllocError) -> CheckFault {
+        CheckFault::Memory
+    }
+}
+
+impl From<ScriptFault> for CheckFault {
+    ghost from_gives = { λ error fault. fault ≡ check_fault.Script error };
+
+    fn from(error: ScriptFault) -> CheckFault {
+        CheckFault::Script(error)
+    }
 }

@@ -107,12 +107,15 @@ impl Source {
     }
 }
 
-/// An instruction: the target becomes what the operation makes of it and the source.
+/// An instruction.
 #[derive(Clone, Copy, PartialEq, Eq, Debug)]
-pub struct Instruction {
-    pub operation: Operation,
-    pub target: Field,
-    pub source: Source,
+pub enum Instruction {
+    /// The target becomes what the operation makes of it and the source.
+    Change {
+        operation: Operation,
+        target: Field,
+        source: Source,
+    },
 }
 
 impl Instruction {
@@ -132,7 +135,7 @@ impl Instruction {
         ensures { Reads AreInstruction (map (λ word. word.now) words.now) result }
     {
         match words {
-            [operation, target, source] => Some(Instruction {
+            [operation, target, source] => Some(Instruction::Change {
                 operation: Operation::named(operation)?,
                 target: Field::read(target)?,
                 source: Source::read(source)?,
@@ -160,7 +163,7 @@ mod tests {
         };
         assert_eq!(rt;
             add,
-            Instruction {
+            Instruction::Change {
                 operation: Operation::Add,
                 target: x,
                 source: Source::Field(velocity)
@@ -169,7 +172,7 @@ mod tests {
         let set = Instruction::read(rt.alloc(), "set Position.x -007")?;
         assert_eq!(rt;
             set,
-            Instruction {
+            Instruction::Change {
                 operation: Operation::Set,
                 target: x,
                 source: Source::Integer(-7)

@@ -1,0 +1,168 @@
+-- The laws of the queries of a view together.
+use Rattle.std.proofs.Common.{◌≡◌, ◌≢◌, ℕ, zero, suc, ◌<◌, Bool, true, false, cond, ◌||◌, ◌==◌, ◌⊎◌, inl, inr, ℤ, List, [], ◌∷◌, map, slice_get, Option, Some, None, option_map, refl, sym, ap, ap₂, ◌∙◌, arith}
+use Rattle.std.proofs.lemmas.Bool.{eqb-true, eq-eqb}
+use Rattle.std.specs.List.{list_any, filter_map}
+use Rattle.model.specs.Lists.{has, is_number, first_some}
+use Rattle.model.specs.declared.entities.Entity.{Entity}
+use Rattle.model.specs.State.{Cell, Slot, Component}
+use Rattle.model.specs.Rows.{cell_at}
+use Rattle.model.specs.Query.{Term, written, writes}
+use Rattle.model.specs.Query.Term.{Entity as IdOnly, Read, Mut, Opt, With, Without, Added, Changed}
+use Rattle.model.specs.QueryFaults.{fetched, has_twice, fetches_twice}
+use Rattle.model.specs.Input.{ShownRow, words_of, shown_row, fetch}
+use Rattle.model.specs.Outcome.{words_in_row, words_in_query, words_written}
+use Rattle.model.specs.Overlay.{cell_after}
+use Rattle.body.specs.declared.row.Row.{Row}
+use Rattle.body.specs.Columns.{Column, cells_after, column_after}
+use Rattle.body.specs.Seen.{fetches}
+use Rattle.body.specs.Sheet.{Sheet, seen_at, row_of, words_for, WriteOnce}
+use Rattle.body.specs.Together.{words_of_sheet, words_of_all, IsAlone, CloseTogether, RowsAreShown, CellsAreAfter, FetchOnce}
+use Rattle.body.proofs.Gets.{same-some, map-same-get}
+use Rattle.body.proofs.SheetWords.{choose}
+
+-- ---- what is written is written by a term
+
+in-row-step : (b : Bool) (v rest : Option (List ℤ)) (w : List ℤ) → first_some (cond b v None) rest ≡ Some w → (b ≡ true) ⊎ (rest ≡ Some w)
+in-row-step true v rest w h = inl refl
+in-row-step false v rest w h = inr h
+
+or-right : (a b : Bool) → b ≡ true → (a || b) ≡ true
+or-right true b h = refl
+or-right false b h = h
+
+or-left : (a b : Bool) → a ≡ true → (a || b) ≡ true
+or-left true b h = refl
+or-left false b h = absurd (cc)
+
+in-row-written : (query : List Term) (values : List (Option (List ℤ))) (k : ℕ) (w : List ℤ) → words_in_row query values k ≡ Some w → writes query k ≡ true
+in-row-written [] values k w h = absurd (cc)
+in-row-written (t ∷ ts) [] k w h = absurd (cc)
+in-row-written (t ∷ ts) (v ∷ vs) k w h = elim (in-row-step (is_number k (written t)) v (words_in_row ts vs k) w h) [
+  | inl here ↦ or-left (is_number k (written t)) (writes ts k) here
+  | inr later ↦ or-right (is_number k (written t)) (writes ts k) (in-row-written ts vs k w later)
+]
+
+-- ---- another query writes nothing there
+
+query-step : (b : Bool) (u v : Option (List ℤ)) → (b ≡ true → u ≡ None) → v ≡ None → first_some (cond b u None) v ≡ None
+query-step true u v h g = ap (λ o. first_some o v) (h refl) ∙ g
+query-step false u v h g = g
+
+not-some : (o : Option (List ℤ)) → ((w : List ℤ) → o ≡ Some w → ⊥) → o ≡ None
+not-some None h = refl
+not-some (Some w) h = absurd (h w refl)
+
+query-silent : (query : List Term) (rows : List ShownRow) (cells : List (List (Option (List ℤ)))) (index kind : ℕ) →
+    (writes query kind ≡ true → (r : ℕ) (row : ShownRow) → slice_get rows r ≡ Some row → row.entity.index ≡ index → ⊥) → words_in_query query rows cells index kind ≡ None
+query-silent query [] cells index kind h = refl
+query-silent query (row ∷ rows) [] index kind h = refl
+query-silent query (row ∷ rows) (c ∷ cells) index kind h =
+    query-step (row.entity.index == index) (words_in_row query c kind) (words_in_query query rows cells index kind)
+    (λ e. not-some (words_in_row query c kind) (λ w f. h (in-row-written query c kind w f) zero row refl (eqb-true row.entity.index index e)))
+    (query-silent query rows cells index kind (λ w r other g i. h w (suc r) other g i))
+
+first-none : (o : Option (List ℤ)) → first_some o None ≡ o
+first-none None = refl
+first-none (Some w) = refl
+
+all-silent : (sheets : List Sheet) (index kind : ℕ) → ((m : ℕ) (t : Sheet) → slice_get sheets m ≡ Some t → words_of_sheet t index kind ≡ None) → words_of_all sheets index kind ≡ None
+all-silent [] index kind h = refl
+all-silent (s ∷ ss) index kind h = ap₂ first_some (h zero s refl) (all-silent ss index kind (λ m t e. h (suc m) t e))
+
+-- what is written through all is what is written through the one that may
+one-speaks : (sheets : List Sheet) (n : ℕ) (s : Sheet) (index kind : ℕ) → slice_get sheets n ≡ Some s → ((m : ℕ) (t : Sheet) → slice_get sheets m ≡ Some t → (m ≡ n → ⊥) → words_of_sheet t index kind ≡ None) →
+    words_of_sheet s index kind ≡ words_of_all sheets index kind
+one-speaks [] n s index kind e h = absurd (cc)
+one-speaks (x ∷ xs) zero s index kind e h =
+    ap (λ (y : Sheet). words_of_sheet y index kind) (sym (same-some x s e))
+    ∙ sym (first-none (words_of_sheet x index kind))
+    ∙ ap (first_some (words_of_sheet x index kind)) (sym (all-silent xs index kind (λ m t f. h (suc m) t f (omega arith))))
+one-speaks (x ∷ xs) (suc n) s index kind e h =
+    one-speaks xs n s index kind e (λ m t f d. h (suc m) t f (omega arith))
+    ∙ ap (λ o. first_some o (words_of_all xs index kind)) (sym (h zero x refl (omega arith)))
+
+-- ---- cells after the same writes
+
+cells-same : (tick : ℕ) (f g : ℕ → ℕ → Option (List ℤ)) (kind : ℕ) (entities : List Entity) (cells : List Cell) → ((p : ℕ) (e : Entity) → slice_get entities p ≡ Some e → f e.index kind ≡ g e.index kind) →
+    cells_after tick f kind entities cells ≡ cells_after tick g kind entities cells
+cells-same tick f g kind entities [] h = refl
+cells-same tick f g kind [] (c ∷ cs) h = refl
+cells-same tick f g kind (e ∷ es) (c ∷ cs) h = ap₂ (λ o xs. cell_after tick o c ∷ xs) (h zero e refl) (cells-same tick f g kind es cs (λ p x i. h (suc p) x i))
+
+with-cells : Column → List Cell → Column
+with-cells c cells = record { table = c.table; archetype = c.archetype; entities = c.entities; is_written = c.is_written; kind = c.kind; cells = cells }
+
+pub close-together : CloseTogether
+unfolding with-cells
+close-together sheets n s there alone =
+    map-same-get (column_after s.tick (words_of_sheet s)) (column_after s.tick (words_of_all sheets)) s.taken
+    (λ j column e. ap (with-cells column) (cells-same s.tick (words_of_sheet s) (words_of_all sheets) column.kind column.entities column.cells
+    (λ p x i. one-speaks sheets n s x.index column.kind there
+    (λ m t f d. query-silent t.terms t.rows t.cells x.index column.kind (λ w r row g q. alone j column e p x i m t f d w r row g q)))))
+
+-- ---- rows as they are shown
+
+fetch-is : (row : List Component) (f : ℕ → Option (List ℤ)) (t : Term) → ((k : ℕ) → is_number k (fetched t) ≡ true → f k ≡ words_of (cell_at row k)) → words_for (fetched t) f ≡ fetch row t
+fetch-is row f IdOnly h = refl
+fetch-is row f (Read k) h = h k (eq-eqb k k refl)
+fetch-is row f (Mut k) h = h k (eq-eqb k k refl)
+fetch-is row f (Opt k) h = h k (eq-eqb k k refl)
+fetch-is row f (With k) h = refl
+fetch-is row f (Without k) h = refl
+fetch-is row f (Added k) h = refl
+fetch-is row f (Changed k) h = refl
+
+fetches-are : (row : List Component) (f : ℕ → Option (List ℤ)) (terms : List Term) → ((k : ℕ) → fetches terms k ≡ true → f k ≡ words_of (cell_at row k)) → map (λ t. words_for (fetched t) f) terms ≡ map (fetch row) terms
+fetches-are row f [] h = refl
+fetches-are row f (t ∷ ts) h =
+    ap₂ ◌∷◌ (fetch-is row f t (λ k e. h k (or-left (is_number k (fetched t)) (fetches ts k) e))) (fetches-are row f ts (λ k e. h k (or-right (is_number k (fetched t)) (fetches ts k) e)))
+
+pub rows-shown : RowsAreShown
+rows-shown terms slots taken row index slot e h = λ i. record { entity = e i; values = fetches-are slot.row (λ kind. words_of (seen_at slots taken row kind)) terms h i }
+
+-- ---- cells as a store has them
+
+stored-after : (tick : ℕ) (w : Option (List ℤ)) (c : Cell) (o : Option Cell) → Some c ≡ o → Some (cell_after tick w c) ≡ option_map (cell_after tick w) o
+stored-after tick w c o e = ap (option_map (cell_after tick w)) e
+
+head-same : {A : Type 0} (x y : A) (xs ys : List A) → x ∷ xs ≡ y ∷ ys → (x ≡ y) × (xs ≡ ys)
+head-same x y xs ys e = (cc, cc)
+
+pub cells-stored : CellsAreAfter
+cells-stored tick words kind [] [] stored h = refl
+cells-stored tick words kind (e ∷ es) [] stored h = absurd (cc)
+cells-stored tick words kind [] (c ∷ cs) stored h = absurd (cc)
+cells-stored tick words kind (e ∷ es) (c ∷ cs) stored h =
+    let p = head-same (let o : Option Cell = Some c in o) (stored e) (map (λ cell. Some cell) cs) (map stored es) h in
+    ap₂ ◌∷◌ (stored-after tick (words e.index kind) c (stored e) p.0) (cells-stored tick words kind es cs stored p.1)
+
+-- ---- each kind is written by one term
+
+or-false : (a b : Bool) → (a || b) ≡ false → (a ≡ false) × (b ≡ false)
+or-false true b h = absurd (cc)
+or-false false b h = (refl, h)
+
+-- a kind that a query writes is among those that it fetches
+written-has : (terms : List Term) (k : ℕ) → has k (filter_map fetched terms) ≡ false → writes terms k ≡ false
+written-has [] k h = refl
+written-has (IdOnly ∷ ts) k h = written-has ts k h
+written-has (Read m ∷ ts) k h = written-has ts k (or-false (m == k) (has k (filter_map fetched ts)) h).1
+written-has (Mut m ∷ ts) k h = let p = or-false (m == k) (has k (filter_map fetched ts)) h in ap₂ ◌||◌ p.0 (written-has ts k p.1)
+written-has (Opt m ∷ ts) k h = written-has ts k (or-false (m == k) (has k (filter_map fetched ts)) h).1
+written-has (With m ∷ ts) k h = written-has ts k h
+written-has (Without m ∷ ts) k h = written-has ts k h
+written-has (Added m ∷ ts) k h = written-has ts k h
+written-has (Changed m ∷ ts) k h = written-has ts k h
+
+pub fetch-once : FetchOnce
+fetch-once [] h = tt
+fetch-once (IdOnly ∷ ts) h = (λ k e. absurd (cc), fetch-once ts h)
+fetch-once (Read m ∷ ts) h = (λ k e. absurd (cc), fetch-once ts (or-false (has m (filter_map fetched ts)) (has_twice (filter_map fetched ts)) h).1)
+fetch-once (Mut m ∷ ts) h =
+    let p = or-false (has m (filter_map fetched ts)) (has_twice (filter_map fetched ts)) h in
+    (λ k e. ap (writes ts) (sym (eqb-true m k e)) ∙ written-has ts m p.0, fetch-once ts p.1)
+fetch-once (Opt m ∷ ts) h = (λ k e. absurd (cc), fetch-once ts (or-false (has m (filter_map fetched ts)) (has_twice (filter_map fetched ts)) h).1)
+fetch-once (With m ∷ ts) h = (λ k e. absurd (cc), fetch-once ts h)
+fetch-once (Without m ∷ ts) h = (λ k e. absurd (cc), fetch-once ts h)
+fetch-once (Added m ∷ ts) h = (λ k e. absurd (cc), fetch-once ts h)
+fetch-once (Changed m ∷ ts) h = (λ k e. absurd (cc), fetch-once ts h)

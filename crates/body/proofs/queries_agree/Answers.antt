@@ -1,0 +1,14 @@
+use Rattle.body.proofs.Alongside.{close-together, rows-shown, cells-stored, fetch-once}
+use Rattle.body.proofs.queries_agree.Goals as goal
+
+pub returns-clause-together : goal.returns-clause-together
+returns-clause-together c = close-together
+
+pub returns-clause-shown : goal.returns-clause-shown
+returns-clause-shown c = rows-shown
+
+pub returns-clause-stored : goal.returns-clause-stored
+returns-clause-stored c = cells-stored
+
+pub returns-clause-once : goal.returns-clause-once
+returns-clause-once c = fetch-once

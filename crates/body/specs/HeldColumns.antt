@@ -1,0 +1,26 @@
+-- The columns and slots of a query as the definitions have them.
+use Rattle.std.specs.Prelude.{ℕ, Bool, true, false, List, Option}
+use Rattle.std.specs.Arc.{arc_value}
+use Rattle.column_store.specs.Column.{ColumnCells}
+use Rattle.body.specs.declared.held.Cells.{Cells}
+use Rattle.body.specs.declared.held.Cells.TheVariants.{Written, Read}
+use Rattle.body.specs.declared.held.Held.{Held}
+use Rattle.body.specs.declared.view_query.Slots.{Slots}
+use Rattle.body.specs.Columns.{Column}
+
+-- the column
+abbrev pub column_in : Cells → ColumnCells
+column_in (Written column) = column
+column_in (Read shared) = arc_value shared
+
+-- whether it is written
+abbrev pub is_own : Cells → Bool
+is_own (Written column) = true
+is_own (Read shared) = false
+
+abbrev pub held_seen : Held → Column
+held_seen h = record { table = h.table; archetype = h.archetype; entities = h.entities.value.items; is_written = is_own h.cells; kind = (column_in h.cells).kind; cells = (column_in h.cells).cells }
+
+-- the number of the column of each kind
+abbrev pub slots_seen : Slots → List (Option ℕ)
+slots_seen s = s.columns

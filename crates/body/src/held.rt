@@ -1,0 +1,68 @@
+// The columns that a query of a view holds: its own where it writes, shared ones where it reads.
+
+ghost use Rattle.std.specs.Prelude.{◌≡◌, ◌<◌, true, Some, length, slice_get, option_map};
+ghost use Rattle.column_store.specs.Cells.{changed_cell};
+ghost use Rattle.body.specs.Columns.{with_cell};
+ghost use Rattle.body.specs.HeldColumns.{column_in, held_seen};
+
+use change_ticks::clock::Tick;
+use column_store::stamped::StampedColumn;
+use entity_table::Entity;
+use kinds::component::Component;
+use std::alloc::Global;
+use std::snapshot::Snapshot;
+use std::sync::Arc;
+
+/// The components of a column: owned where they are written, shared where they are read.
+#[derive(Drop)]
+pub enum Cells {
+    Written(StampedColumn),
+    Read(Arc<StampedColumn, Global>),
+}
+
+/// A column of the rows of a query.
+#[derive(Drop)]
+pub struct Held {
+    /// The number by which the store knows its archetype. A view never reads it.
+    pub table: u32,
+    /// The number of its archetype among those of the query.
+    pub archetype: u32,
+    /// Its components.
+    pub cells: Cells,
+    /// Whose components they are, by place. It has no bytes.
+    pub entities: Snapshot<Vec<Entity>>,
+}
+
+impl Held {
+    // The column.
+    fn column(&self) -> &StampedColumn
+        ensures { result.now ≡ column_in self.now.cells }
+    {
+        match &self.cells {
+            Cells::Written(column) => column,
+            Cells::Read(column) => &**column,
+        }
+    }
+
+    // The component at a place.
+    pub(crate) fn get<C: Component>(&self, place: usize) -> C
+        requires kind { (held_seen self.now).kind ≡ C.NUMBER }
+        requires within { place < length (held_seen self.now).cells }
+        ensures { option_map (λ c. c.words) (slice_get (held_seen self.now).cells place) ≡ Some (C.words result) }
+    {
+        self.column().get(place)
+    }
+
+    // Replaces the component at a place, which counts as changed at this tick, also where the value stays.
+    pub(crate) fn set<C: Component>(&mut self, place: usize, component: C, tick: Tick)
+        requires written { (held_seen self.old).is_written ≡ true }
+        requires kind { (held_seen self.old).kind ≡ C.NUMBER }
+        requires within { place < length (held_seen self.old).cells }
+        ensures { held_seen self.new ≡ with_cell place (changed_cell (C.words component) tick) (held_seen self.old) }
+    {
+        match &mut self.cells {
+            Cells::Written(column) => column.set(place, component, tick),
+            Cells::Read(_) => unreachable!(),
+        }
+    }
+}

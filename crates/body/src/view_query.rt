@@ -1,0 +1,186 @@
+// A query of a view: its rows stand in columns, are read there and written there.
+
+ghost use Rattle.std.specs.Prelude.{◌≡◌, ◌<◌, [], map, length, get_or, option_map, IsTrue};
+ghost use Rattle.column_store.specs.Cells.{changed_cell};
+ghost use Rattle.kinds.specs.Kind.{kind_number};
+ghost use Rattle.model.specs.Lists.{update_at};
+ghost use Rattle.model.specs.Query.{writes};
+ghost use Rattle.model.specs.Input.{words_of};
+ghost use Rattle.model.specs.Outcome.{untouched_rows, words_in_query};
+ghost use Rattle.query_plan.specs.Term.{term_of};
+ghost use Rattle.body.specs.Columns.{with_cell, column_after};
+ghost use Rattle.body.specs.HeldColumns.{held_seen, slots_seen};
+ghost use Rattle.body.specs.Seen.{words_read, with_words, no_row};
+ghost use Rattle.body.specs.Sheet.{slot_in, seen_at, at_slot, row_of, IsPlan, IsReadable, IsWritable, WritesReach};
+
+use crate::held::Held;
+use crate::row::Row;
+use change_ticks::clock::Tick;
+use entity_table::Entity;
+use kinds::component::Component;
+use kinds::kind::Kind;
+use query_plan::query::Term;
+use std::marker::Model;
+use std::snapshot::Snapshot;
+
+/// The number of the column of each kind that a query fetches in one of its archetypes.
+#[derive(Clone, Copy)]
+pub struct Slots {
+    pub columns: [Option<u32>; Kind::COUNT],
+}
+
+// Where the rows of a query stand, and the tick of its writes.
+#[derive(Drop)]
+struct Placing {
+    tick: Tick,
+    terms: Vec<Term>,
+    slots: Vec<Slots>,
+    rows: Vec<Row>,
+}
+
+/// A query of a view. Contracts see its terms, its rows as they were shown, what was written in them, the columns as they were taken, and
+/// the tick of its writes.
+#[derive(Drop)]
+pub struct ViewQuery {
+    placing: Placing,
+    columns: Vec<Held>,
+    taken: Snapshot<Vec<Held>>,
+}
+
+impl Model for ViewQuery {
+    ghost use Rattle.std.specs.Prelude.{map};
+    ghost use Rattle.query_plan.specs.Term.{term_of};
+    ghost use Rattle.body.specs.Sheet.{Sheet, sheet_of, IsSheet};
+
+    ghost Value = { Sheet };
+
+    ghost use Rattle.body.specs.HeldColumns.{held_seen, slots_seen};
+
+    ghost view = { λ q. sheet_of q.placing.tick (map term_of q.placing.terms.items) (map slots_seen q.placing.slots.items) q.placing.rows.items (map held_seen q.taken.value.items) (map held_seen q.columns.items) };
+
+    ghost invariant = { λ q. IsSheet q.placing.tick (map term_of q.placing.terms.items) (map slots_seen q.placing.slots.items) q.placing.rows.items (map held_seen q.taken.value.items) (map held_seen q.columns.items) };
+}
+
+impl ViewQuery {
+    /// The query with these terms over these rows, with nothing written: the rows stand in the columns, of which `slots` names one for
+    /// each kind that is fetched, by archetype. What is written counts as changed at the tick.
+    pub fn open(
+        tick: Tick,
+        terms: Vec<Term>,
+        slots: Vec<Slots>,
+        rows: Vec<Row>,
+        columns: Vec<Held>,
+    ) -> Self
+        requires { IsPlan tick (map term_of terms.items) (map slots_seen slots.items) rows.items (map held_seen columns.items) }
+        ensures terms { result.terms ≡ map term_of terms.items }
+        ensures rows { result.rows ≡ map (row_of (map slots_seen slots.items) (map held_seen columns.items) (map term_of terms.items)) rows.items }
+        ensures untouched { result.cells ≡ untouched_rows result.terms result.rows }
+        ensures taken { result.taken ≡ map held_seen columns.items }
+        ensures tick { result.tick ≡ tick }
+    {
+        let taken = Snapshot::of(&columns);
+        ViewQuery {
+            placing: Placing {
+                tick,
+                terms,
+                slots,
+                rows,
+            },
+            columns,
+            taken,
+        }
+    }
+
+    /// How many rows there are.
+    pub fn rows(&self) -> usize
+        ensures { result ≡ length self.now.rows }
+    {
+        self.placing.rows.len()
+    }
+
+    /// The entity of a row.
+    pub fn entity(&self, row: usize) -> Entity
+        requires { row < length self.now.rows }
+        ensures { result ≡ (get_or self.now.rows row no_row).entity }
+    {
+        self.placing.rows[row].entity
+    }
+
+    /// The component of a row: what was written there, else what is shown. None where the row has not the kind, and where the query doesn't
+    /// fetch it.
+    pub fn get<C: Component>(&self, row: usize) -> Option<C>
+        requires { row < length self.now.rows }
+        ensures { option_map C.words result ≡ words_read self.now.terms (get_or self.now.rows row no_row).values (get_or self.now.cells row []) C.NUMBER }
+    {
+        get_at(&self.placing.slots, &self.columns, self.placing.rows[row])
+    }
+
+    /// Writes a component of a row of a query that has a `mut` term of its kind.
+    pub fn set<C: Component>(&mut self, row: usize, component: C)
+        requires row { row < length self.old.rows }
+        requires mut_term { IsTrue (writes self.old.terms C.NUMBER) }
+        ensures { self.new ≡ record self.old { cells = update_at row (with_words self.old.terms C.NUMBER (C.words component)) self.old.cells } }
+    {
+        let at = self.placing.rows[row];
+        set_in(
+            &self.placing.slots,
+            &mut self.columns,
+            at,
+            component,
+            self.placing.tick,
+        );
+    }
+
+    /// Gives the columns back: each as it was taken, with what was written laid over it.
+    pub fn close(self) -> Vec<Held>
+        ensures columns { map held_seen result.items ≡ map (column_after self.tick (words_in_query self.terms self.rows self.cells)) self.taken }
+        ensures reach { WritesReach (words_in_query self.terms self.rows self.cells) self.taken }
+    {
+        self.columns
+    }
+}
+
+// The number of the column of a kind in an archetype.
+fn slot_of(slots: &[Slots], archetype: usize, number: u32) -> Option<u32>
+    requires { archetype < length slots.now }
+    ensures { result ≡ slot_in (map slots_seen slots.now) archetype number }
+{
+    match slots[archetype].columns.get(number as usize) {
+        Some(slot) => *slot,
+        None => None,
+    }
+}
+
+// The component in a row.
+fn get_at<C: Component>(slots: &[Slots], columns: &[Held], at: Row) -> Option<C>
+    requires archetype { at.archetype < length slots.now }
+    requires readable { IsReadable (map slots_seen slots.now) (map held_seen columns.now) at C.NUMBER }
+    ensures { option_map C.words result ≡ words_of (seen_at (map slots_seen slots.now) (map held_seen columns.now) at C.NUMBER) }
+{
+    let slot = slot_of(slots, at.archetype as usize, C::NUMBER)?;
+    Some(columns[slot as usize].get(at.place as usize))
+}
+
+// Replaces the component in a row, which counts as changed at this tick.
+fn set_at<C: Component>(slots: &[Slots], columns: &mut [Held], at: Row, component: C, tick: Tick)
+    requires archetype { at.archetype < length slots.now }
+    requires writable { IsWritable (map slots_seen slots.now) (map held_seen columns.old) at C.NUMBER }
+    ensures { map held_seen columns.new ≡ at_slot (slot_in (map slots_seen slots.now) at.archetype C.NUMBER) (with_cell at.place (changed_cell (C.words component) tick)) (map held_seen columns.old) }
+{
+    match slot_of(slots, at.archetype as usize, C::NUMBER) {
+        Some(slot) => {
+            let held = &mut columns[slot as usize];
+            held.set(at.place as usize, component, tick);
+        }
+        None => unreachable!(),
+    }
+}
+
+// The same in a vector.
+fn set_in<C: Component>(slots: &[Slots], columns: &mut Vec<Held>, at: Row, component: C, tick: Tick)
+    requires archetype { at.archetype < length slots.now }
+    requires writable { IsWritable (map slots_seen slots.now) (map held_seen columns.old.items) at C.NUMBER }
+    ensures { map held_seen columns.new.items ≡ at_slot (slot_in (map slots_seen slots.now) at.archetype C.NUMBER) (with_cell at.place (changed_cell (C.words component) tick)) (map held_seen columns.old.items) }
+{
+    set_at(slots, columns, at, component, tick);
+}
