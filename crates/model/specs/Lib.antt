@@ -28,6 +28,7 @@ pub mod Codes
 pub mod QueryFaults
 pub mod Declarations
 pub mod Refusals
+pub mod Hierarchy
 pub mod ScheduleOrder
 pub mod Runs
 pub mod Laws
