@@ -29,6 +29,7 @@ pub mod Codes
 pub mod QueryFaults
 pub mod Declarations
 pub mod Refusals
+pub mod Hierarchy
 pub mod ScheduleOrder
 pub mod Runs
 pub mod WideRuns

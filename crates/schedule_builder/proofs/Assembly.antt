@@ -11,9 +11,9 @@ use Rattle.model.specs.Refusals.{HasDistinctNames}
 use Rattle.model.specs.Schedule.{ScheduledSystem, has_edge, level_of}
 use Rattle.model.specs.ScheduleOrder.{IsScheduleOrder, HasDeclaredEdges, HasDeclaredSystems}
 use Rattle.model.specs.Built.{IsBuilt}
-use Rattle.schedule_builder.specs.declared.orders.Order.{Order}
+use Rattle.cycle_search.specs.declared.order.Order.{Order}
 use Rattle.schedule_builder.specs.Orders.{items_of, AreDeclared}
-use Rattle.schedule_builder.specs.Cycles.{IsStep, IsRankable}
+use Rattle.cycle_search.specs.Cycles.{IsStep, IsRankable}
 use Rattle.schedule_builder.specs.Sequence.{schedule_of, items_before, scheduled, IsEdge, HasSourcesBelow, AreScheduled}
 use Rattle.schedule_builder.proofs.Transfer.{ordered_of_step, step_of_ordered}
 

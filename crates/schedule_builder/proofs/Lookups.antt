@@ -11,11 +11,12 @@ use Rattle.std.proofs.lemmas.List.Concat.{flat_map-append}
 use Rattle.model.specs.Access.{no_params}
 use Rattle.model.specs.Declarations.{DeclaredSystem, declared_at, name_of, HasItem, names_in, orders_in, looked_up}
 use Rattle.model.specs.Refusals.{EachIs, IsFirstBad, RepeatsName}
-use Rattle.schedule_builder.specs.declared.orders.Order.{Order}
+use Rattle.cycle_search.specs.declared.order.Order.{Order}
 use Rattle.schedule_builder.specs.declared.fault.BuildFault.{BuildFault}
 use Rattle.schedule_builder.specs.declared.fault.BuildFault.TheVariants.{UnknownName, DuplicateName, DependencyLoop, DependencyCycle, BadQuery, OverLimit, Memory}
 use Rattle.schedule_builder.specs.Answers.{IsAnswered}
-use Rattle.schedule_builder.specs.Orders.{Places, items_of, IsPlaceAmong, TellsPlaces, place_in, orders_before, orders_after, TellsMissing, TellsLacking, names_of_order, IsBetween, AreDeclaredBy}
+use Rattle.cycle_search.specs.Orders.{IsBetween}
+use Rattle.schedule_builder.specs.Orders.{Places, items_of, IsPlaceAmong, TellsPlaces, place_in, orders_before, orders_after, TellsMissing, TellsLacking, names_of_order, AreDeclaredBy}
 use Rattle.schedule_builder.proofs.Each.{EachIs-append, EachIs-weaker, IsFirstBad-front, IsFirstBad-rest, IsFirstBad-weaker}
 
 -- ---- one more name in the table

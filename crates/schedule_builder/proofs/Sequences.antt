@@ -5,7 +5,7 @@ use Rattle.std.proofs.lemmas.Bool.{false≢true, or_cases, or_left, or_right, eq
 use Rattle.model.specs.Lists.{has}
 use Rattle.model.specs.Schedule.{ScheduledSystem, system_at}
 use Rattle.model.specs.ScheduleOrder.{IsPlaceable, IsNextPlaced, IsScheduleOrder}
-use Rattle.schedule_builder.specs.Cycles.{IsRankable}
+use Rattle.cycle_search.specs.Cycles.{IsRankable}
 use Rattle.schedule_builder.specs.Sequence.{schedule_of, can_place, IsEdge, HasSourcesBelow, IsSequence}
 
 -- ---- tests on each of a list's numbers

@@ -8,7 +8,7 @@ use Rattle.model.specs.Access.{Params, no_params}
 use Rattle.model.specs.Conflict.{Conflict}
 use Rattle.model.specs.Schedule.{ScheduledSystem}
 use Rattle.schedule_builder.specs.Rows.{system_in, IsRow, IsBefore, IsRival, AreRows}
-use Rattle.schedule_builder.proofs.Walks.{has-append}
+use Rattle.cycle_search.proofs.Walks.{has-append}
 
 or_turned : (a b : Bool) → (a || b) ≡ (b || (a || false))
 or_turned true true = refl

@@ -5,11 +5,12 @@ use Rattle.std.proofs.lemmas.Bool.Decides.{eqb_tells}
 use Rattle.model.specs.Lists.{IsIn}
 use Rattle.model.specs.Declarations.{DeclaredSystem, name_of, IsOrdered}
 use Rattle.model.specs.Refusals.{EachIs, IsFirstBad, HasDistinctNames, HasNoLoop, IsLoop, IsWalk, IsCycle, HasNoCycle}
-use Rattle.schedule_builder.specs.declared.orders.Order.{Order}
-use Rattle.schedule_builder.specs.Orders.{items_of, names_of_order, IsBetween, AreDeclared, IsLoopAt}
-use Rattle.schedule_builder.specs.Cycles.{IsStep, IsRankable, IsRound}
+use Rattle.cycle_search.specs.declared.order.Order.{Order}
+use Rattle.cycle_search.specs.Orders.{IsBetween}
+use Rattle.schedule_builder.specs.Orders.{items_of, names_of_order, AreDeclared, IsLoopAt}
+use Rattle.cycle_search.specs.Cycles.{IsStep, IsRankable, IsRound}
 use Rattle.schedule_builder.proofs.Each.{EachIs-at}
-use Rattle.schedule_builder.proofs.Walks.{walk_weaker, no_round}
+use Rattle.cycle_search.proofs.Walks.{walk_weaker, no_round}
 
 -- items of one name are one item
 pub same_item : (systems : List DeclaredSystem) → HasDistinctNames (items_of systems) → (m n : ℕ) → m < length systems → n < length systems → name_of (items_of systems) m ≡ name_of (items_of systems) n → m ≡ n

@@ -5,7 +5,8 @@ use Rattle.std.specs.declared.alloc.Global.{Global}
 use Rattle.std.specs.declared.string.String.{String}
 use Rattle.model.specs.Declarations.{Declared, DeclaredSystem, name_of, HasItem, names_in, orders_in, declared_orders}
 use Rattle.model.specs.Refusals.{EachIs, IsFirstBad}
-use Rattle.schedule_builder.specs.declared.orders.Order.{Order}
+use Rattle.cycle_search.specs.declared.order.Order.{Order}
+use Rattle.cycle_search.specs.Orders.{IsBetween}
 use Rattle.schedule_builder.specs.declared.fault.BuildFault.{BuildFault}
 use Rattle.schedule_builder.specs.declared.fault.BuildFault.TheVariants.{UnknownName, Memory}
 
@@ -57,11 +58,6 @@ TellsLacking places names _ = ⊥
 -- an order as the names of its two items
 abbrev pub names_of_order : List DeclaredSystem → Order → List ℕ × List ℕ
 names_of_order systems o = (name_of (items_of systems) o.first, name_of (items_of systems) o.second)
-
--- an order between two of the first n items
-pub record IsBetween (n : ℕ) (o : Order) : Type 0 where
-  pub first : o.first < n
-  pub second : o.second < n
 
 -- the orders are the declared ones
 pub record AreDeclared (systems : List DeclaredSystem) (orders : List Order) : Type 0 where

@@ -5,7 +5,7 @@ use Rattle.model.specs.Access.{Params}
 use Rattle.model.specs.Declarations.{DeclaredSystem, declared_at}
 use Rattle.model.specs.Schedule.{Schedule, ScheduledSystem, system_at, has_edge}
 use Rattle.model.specs.ScheduleOrder.{IsNextPlaced}
-use Rattle.schedule_builder.specs.declared.orders.Order.{Order}
+use Rattle.cycle_search.specs.declared.order.Order.{Order}
 
 -- a schedule of these systems in this order, with one sync point
 abbrev pub schedule_of : List ScheduledSystem → List ℕ → Schedule

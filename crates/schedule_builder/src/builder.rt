@@ -6,18 +6,19 @@ ghost use Rattle.model.specs.Declarations.{name_of};
 ghost use Rattle.model.specs.Refusals.{KnowsNames, HasDistinctNames, HasNoLoop, HasNoCycle, HasGoodQueries, IsBuildable};
 ghost use Rattle.model.specs.ScheduleOrder.{HasDeclaredSystems, HasDeclaredEdges, IsOneLevel, IsScheduleOrder};
 ghost use Rattle.schedule_builder.specs.Answers.{IsAnswered};
-ghost use Rattle.schedule_builder.specs.Cycles.{IsRankable, IsStep};
-ghost use Rattle.schedule_builder.specs.Orders.{items_of, AreDeclared, IsBetween, IsLoopAt};
+ghost use Rattle.cycle_search.specs.Cycles.{IsRankable, IsStep};
+ghost use Rattle.cycle_search.specs.Orders.{IsBetween};
+ghost use Rattle.schedule_builder.specs.Orders.{items_of, AreDeclared, IsLoopAt};
 ghost use Rattle.schedule_builder.specs.Sequence.{AreScheduled};
 
 use crate::built::{Built, System};
-use crate::cycle::find_round;
 use crate::desc::{ScheduleDesc, SystemDesc};
 use crate::fault::BuildFault;
 use crate::names::{first_repeated, places_of};
-use crate::orders::{Order, first_loop, resolve};
+use crate::orders::{first_loop, resolve};
 use crate::queries::first_bad;
 use crate::sequence::{order_of, predecessors_of};
+use cycle_search::{Order, find_cycle};
 use std::alloc::{AllocError, Global};
 
 /// The most systems that a schedule has.
@@ -73,7 +74,7 @@ fn check_cycles(alloc: Global, systems: &[SystemDesc], orders: &[Order]) -> Resu
     ensures rankable { OnOk result (IsRankable (IsStep orders.now)) }
     ensures refused { IfErr result (IsAnswered (items_of systems.now)) }
 {
-    match find_round(alloc, systems.len(), orders)? {
+    match find_cycle(alloc, systems.len(), orders)? {
         None => Ok(()),
         Some(items) => Err(BuildFault::DependencyCycle(names_at(
             alloc,

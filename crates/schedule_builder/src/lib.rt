@@ -3,10 +3,8 @@
 
 pub mod builder;
 pub mod built;
-mod cycle;
 pub mod desc;
 pub mod fault;
-mod heights;
 mod names;
 mod orders;
 mod queries;

@@ -9,17 +9,9 @@ ghost use Rattle.schedule_builder.specs.Orders.{items_of, TellsPlaces, TellsLack
 
 use crate::desc::SystemDesc;
 use crate::fault::BuildFault;
+use cycle_search::Order;
 use std::alloc::Global;
 use std::collections::BTreeMap;
-
-/// An order of two items, by their numbers.
-#[derive(Clone, Copy, PartialEq, Eq, Debug)]
-pub(crate) struct Order {
-    /// The item that runs first.
-    pub(crate) first: usize,
-    /// The item that runs second.
-    pub(crate) second: usize,
-}
 
 /// The number of the item with a name.
 fn place_of(places: &BTreeMap<String, usize>, name: &String) -> Result<usize, BuildFault>

@@ -4,12 +4,12 @@ ghost use Rattle.std.specs.Prelude.{◌≡◌, ℕ, ◌<◌, ◌≤◌, ◌^◌,
 ghost use Rattle.std.specs.List.{All, list_all};
 ghost use Rattle.model.specs.Schedule.{has_edge};
 ghost use Rattle.model.specs.ScheduleOrder.{IsScheduleOrder};
-ghost use Rattle.schedule_builder.specs.Cycles.{IsRankable};
-ghost use Rattle.schedule_builder.specs.Orders.{IsBetween};
+ghost use Rattle.cycle_search.specs.Cycles.{IsRankable};
+ghost use Rattle.cycle_search.specs.Orders.{IsBetween};
 ghost use Rattle.schedule_builder.specs.Sequence.{schedule_of, can_place, items_before, IsEdge, HasSourcesBelow};
 
 use crate::built::System;
-use crate::orders::Order;
+use cycle_search::Order;
 use std::alloc::{AllocError, Global};
 
 /// The items that orders put before an item.

@@ -3,7 +3,7 @@ use Rattle.model.specs.Declarations.{DeclaredSystem}
 use Rattle.model.specs.Refusals.{IsBuildable}
 use Rattle.model.specs.Schedule.{Schedule, ScheduledSystem}
 use Rattle.model.specs.ScheduleOrder.{IsScheduleOrder, HasDeclaredSystems, HasDeclaredEdges}
-use Rattle.schedule_builder.specs.declared.orders.Order.{Order}
+use Rattle.cycle_search.specs.declared.order.Order.{Order}
 use Rattle.schedule_builder.specs.Orders.{items_of, AreDeclared}
 use Rattle.schedule_builder.specs.Sequence.{schedule_of, AreScheduled}
 use Rattle.schedule_builder.proofs.Assembly.{edges_rankable, edges_from, is_built, declared_systems, declared_edges}

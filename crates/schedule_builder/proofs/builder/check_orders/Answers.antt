@@ -1,7 +1,7 @@
 use Rattle.std.proofs.Common.{ℕ, List, sym, subst}
 use Rattle.model.specs.Declarations.{DeclaredSystem}
 use Rattle.model.specs.Refusals.{IsLoop}
-use Rattle.schedule_builder.specs.declared.orders.Order.{Order}
+use Rattle.cycle_search.specs.declared.order.Order.{Order}
 use Rattle.schedule_builder.specs.Orders.{items_of}
 use Rattle.schedule_builder.proofs.Transfer.{loop_told}
 use Rattle.schedule_builder.proofs.builder.check_orders.Goals as goal

@@ -4,7 +4,7 @@ use Rattle.std.proofs.lemmas.List.{append_assoc}
 use Rattle.model.specs.Access.{Params}
 use Rattle.model.specs.Declarations.{DeclaredSystem}
 use Rattle.model.specs.Schedule.{ScheduledSystem}
-use Rattle.schedule_builder.specs.declared.orders.Order.{Order}
+use Rattle.cycle_search.specs.declared.order.Order.{Order}
 use Rattle.schedule_builder.specs.Sequence.{items_before, scheduled, AreScheduled}
 use Rattle.schedule_builder.proofs.Assembly.{scheduled_more}
 use Rattle.schedule_builder.proofs.builder.scheduled.Goals as goal

@@ -2,7 +2,7 @@ use Rattle.std.proofs.Common.{◌≡◌, ℕ, ◌<◌, ◌++◌, ◌∷◌, [], 
 use Rattle.std.proofs.lemmas.List.{length-set}
 use Rattle.model.specs.Schedule.{ScheduledSystem}
 use Rattle.schedule_builder.specs.Sequence.{can_place}
-use Rattle.schedule_builder.proofs.Walks.{seen_more}
+use Rattle.cycle_search.proofs.Walks.{seen_more}
 use Rattle.schedule_builder.proofs.Sequences.{next_is, sequence_more, schedule_order}
 use Rattle.schedule_builder.proofs.sequence.order_of.Goals as goal
 

@@ -1,6 +1,0 @@
-use Rattle.std.proofs.Common.{ℕ, ◌<◌, IsSome}
-use Rattle.schedule_builder.specs.Cycles.{height_of}
-use Rattle.schedule_builder.proofs.cycle.first_open.Given as goal
-
-abbrev pub invariant-loop-item : goal.invariant-loop-item
-invariant-loop-item l = (n : ℕ) → n < l.item → IsSome (height_of l.heights n)

@@ -1,5 +1,0 @@
-use Rattle.schedule_builder.specs.Cycles.{PointsOnBy}
-use Rattle.schedule_builder.proofs.heights.open_seconds.Given as goal
-
-abbrev pub invariant-loop-order : goal.invariant-loop-order
-invariant-loop-order l = PointsOnBy l.orders l.heights l.next.items l.order-index

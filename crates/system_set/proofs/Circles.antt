@@ -1,0 +1,128 @@
+-- Sets that are in themselves, and circles of sets, from what is found of their pairs.
+use Rattle.std.proofs.Common.{ℕ, zero, suc, ◌+◌, ◌<◌, ◌≤◌, ◌≡◌, Bool, true, false, eqb, nat_lt, ◌⊎◌, inl, inr, if◌then◌else◌, List, [], ◌∷◌, ◌++◌, length, take, get_or, Option, Some, None, refl, sym, ap, ◌∙◌, arith, ltb-true, lt-ltb, eqb-true, eq-eqb}
+use Rattle.std.proofs.lemmas.Bool.{both_ways, cases_lt}
+use Rattle.model.specs.Refusals.{IsWalk}
+use Rattle.model.specs.Hierarchy.{IsHeld, HasNoSelf, IsFirstSelf, HasNoSetCycle, IsToldSetCycle}
+use Rattle.cycle_search.specs.declared.order.Order.{Order}
+use Rattle.cycle_search.specs.Cycles.{IsStep, IsRankable, IsRound, BeginsLeast}
+use Rattle.cycle_search.proofs.Walks.{walk_weaker, no_round}
+use Rattle.system_set.specs.Pairs.{hierarchy_of, lesser_of, with_self, TellsSelf}
+use Rattle.system_set.proofs.Reaching.{held_place, held_of_step, step_of_held}
+
+-- a place below one more is below, or the last
+last_or : (j k : ℕ) → j < k + 1 → (j < k) ⊎ (j ≡ k)
+last_or j k low = elim (cases_lt j k) [ inl below ↦ inl below | inr above ↦ inr (omega arith) ]
+
+-- the pair at the last place puts its item into itself
+record IsLast (orders : List Order) (k : ℕ) (o : Order) : Type 0 where
+  low : k < length orders
+  here : (d : Order) → get_or orders k d ≡ o
+
+last_step : (orders : List Order) (k : ℕ) (o : Order) → IsLast orders k o → o.first ≡ o.second → IsStep orders o.first o.first
+last_step orders k o last same =
+    let d : Order = record { first = o.first; second = o.first } in
+    (k, last.low, last.here d ∙ ap (λ (x : ℕ). (record { first = o.first; second = x })) (sym same))
+
+first_here : (orders : List Order) (k : ℕ) (o : Order) → IsLast orders k o → (j : ℕ) (d : Order) → j ≡ k → (get_or orders j d).first ≡ o.first
+first_here orders k o last j d same = ap (λ (i : ℕ). (get_or orders i d).first) same ∙ ap (λ (x : Order). x.first) (last.here d)
+
+second_here : (orders : List Order) (k : ℕ) (o : Order) → IsLast orders k o → (j : ℕ) (d : Order) → j ≡ k → (get_or orders j d).second ≡ o.second
+second_here orders k o last j d same = ap (λ (i : ℕ). (get_or orders i d).second) same ∙ ap (λ (x : Order). x.second) (last.here d)
+
+-- where the last pair puts its item into itself
+self_least : (orders : List Order) (k : ℕ) (o : Order) (least : Option ℕ) → IsLast orders k o → o.first ≡ o.second → TellsSelf orders k least → TellsSelf orders (k + 1) (lesser_of least o.first)
+self_least orders k o None last same tells = (
+  last_step orders k o last same,
+  λ j d low e. elim (last_or j k low) [
+    | inl below ↦ absurd (tells j d below e)
+    | inr at ↦ let first = first_here orders k o last j d at in omega arith
+  ],
+)
+self_least orders k o (Some m) last same tells = go (nat_lt m o.first) refl
+  where
+    go : (b : Bool) → nat_lt m o.first ≡ b → TellsSelf orders (k + 1) (if b then Some m else Some o.first)
+    go true f = (
+      tells.0,
+      λ j d low e. elim (last_or j k low) [
+        | inl below ↦ tells.1 j d below e
+        | inr at ↦ let first = first_here orders k o last j d at in let less : m < o.first = ltb-true m o.first f in omega arith
+      ],
+    )
+    go false f = (
+      last_step orders k o last same,
+      λ j d low e. elim (last_or j k low) [
+        | inl below ↦
+            let least_so_far = tells.1 j d below e in
+            let not_less : o.first ≤ m = elim (cases_lt m o.first) [ inl less ↦ absurd (both_ways _ f (lt-ltb m o.first less)) | inr more ↦ more ] in
+            omega arith
+        | inr at ↦ let first = first_here orders k o last j d at in omega arith
+      ],
+    )
+
+-- where it doesn't
+self_same : (orders : List Order) (k : ℕ) (o : Order) (least : Option ℕ) → IsLast orders k o → (o.first ≡ o.second → ⊥) → TellsSelf orders k least → TellsSelf orders (k + 1) least
+self_same orders k o None last other tells = λ j d low e. elim (last_or j k low) [
+  | inl below ↦ tells j d below e
+  | inr at ↦ other (sym (first_here orders k o last j d at) ∙ (e ∙ second_here orders k o last j d at))
+]
+self_same orders k o (Some m) last other tells = (
+  tells.0,
+  λ j d low e. elim (last_or j k low) [
+    | inl below ↦ tells.1 j d below e
+    | inr at ↦ absurd (other (sym (first_here orders k o last j d at) ∙ (e ∙ second_here orders k o last j d at)))
+  ],
+)
+
+-- one more pair
+pub self_more : (orders : List Order) (k : ℕ) (o : Order) (least : Option ℕ) → k < length orders → ((d : Order) → get_or orders k d ≡ o) → TellsSelf orders k least →
+    TellsSelf orders (k + 1) (with_self least o)
+self_more orders k o least low here tells = go (eqb o.first o.second) refl
+  where
+    go : (b : Bool) → eqb o.first o.second ≡ b → TellsSelf orders (k + 1) (if b then lesser_of least o.first else least)
+    go true e = self_least orders k o least (record { low = low; here = here }) (eqb-true o.first o.second e) tells
+    go false e = self_same orders k o least (record { low = low; here = here }) (λ same. both_ways _ e (eq-eqb o.first o.second same)) tells
+
+-- ---- what is told of all pairs
+
+pub no_self : (sets items : ℕ) (orders : List Order) (least : Option ℕ) → least ≡ None → TellsSelf orders (length orders) least → HasNoSelf (hierarchy_of sets items orders)
+no_self sets items orders None is tells = λ n held.
+    let r = held_place orders n n held in
+    let d : Order = record { first = 0; second = 0 } in
+    let here = r.2 d in
+    tells r.0 d r.1 (here.0 ∙ sym here.1)
+no_self sets items orders (Some m) is tells = absurd (cc)
+
+pub first_self : (sets items : ℕ) (orders : List Order) (n : ℕ) → TellsSelf orders (length orders) (Some n) → IsFirstSelf (hierarchy_of sets items orders) n
+first_self sets items orders n tells = record {
+  itself = held_of_step orders n n tells.0;
+  first = λ m low held.
+      let r = held_place orders m m held in
+      let d : Order = record { first = 0; second = 0 } in
+      let here = r.2 d in
+      let least : n ≤ (get_or orders r.0 d).first = tells.1 r.0 d r.1 (here.0 ∙ sym here.1) in
+      let same : (get_or orders r.0 d).first ≡ m = here.0 in
+      omega arith;
+}
+
+-- ---- circles
+
+pub no_set_cycle : (sets items : ℕ) (orders : List Order) → IsRankable (IsStep orders) → HasNoSetCycle (hierarchy_of sets items orders)
+no_set_cycle sets items orders rank circle c =
+    let long : 2 ≤ length circle = c.two in
+    no_round (IsStep orders) rank circle (omega arith) (walk_weaker (IsHeld (hierarchy_of sets items orders)) (IsStep orders) (step_of_held orders) (circle ++ take 1 circle) c.held)
+
+two_of : (sets items : ℕ) (orders : List Order) → HasNoSelf (hierarchy_of sets items orders) → (circle : List ℕ) → 0 < length circle → IsWalk (IsStep orders) (circle ++ take 1 circle) → 2 ≤ length circle
+two_of sets items orders none [] some walk = absurd (omega arith)
+two_of sets items orders none (x ∷ []) some walk = absurd (none x (held_of_step orders x x walk.0))
+two_of sets items orders none (x ∷ y ∷ circle) some walk = omega arith
+
+pub told_set_cycle : (sets items : ℕ) (orders : List Order) → HasNoSelf (hierarchy_of sets items orders) → (circle : List ℕ) → IsRound (IsStep orders) circle → BeginsLeast circle →
+    IsToldSetCycle (hierarchy_of sets items orders) circle
+told_set_cycle sets items orders none circle round least = record {
+  cycle = record {
+    two = two_of sets items orders none circle round.some round.walk;
+    once = round.once;
+    held = walk_weaker (IsStep orders) (IsHeld (hierarchy_of sets items orders)) (held_of_step orders) (circle ++ take 1 circle) round.walk;
+  };
+  earliest = least;
+}

@@ -1,0 +1,11 @@
+// Sets of systems: which items are in which sets, whether sets hold one another in a circle, and the members of each.
+#![tactic(auto)]
+
+mod fault;
+mod hierarchy;
+mod members;
+#[cfg(test)]
+mod tests;
+
+pub use fault::HierarchyFault;
+pub use hierarchy::SetHierarchy;
