@@ -44,11 +44,21 @@ nothing_ready = inr ((λ offer offers. true≢false offers.0.waits), inr ((λ of
 
 two_at_once : IsWide 2 two_writers whole
 two_at_once = (
-  lawful.0, (omega arith, (ready.Sync 0, false, inr ((λ offer offers. true≢false offers.0.waits), inr ((λ offer offers. true≢false offers.0.waits), sync_may)), refl)),
-  (lawful.1.0, inr nothing_ready,
-    (lawful.1.1.0, inl refl,
-      (second_may, (omega arith, (ready.Start 1, false, second_ready, refl)),
-        (first_may, (omega arith, (ready.Start 0, false, inl (ready.Start 0, refl, (first_may.free, (refl, first_may))), refl)), tt)))),
+  lawful.0,
+  (omega arith, (ready.Sync 0, false, inr ((λ offer offers. true≢false offers.0.waits), inr ((λ offer offers. true≢false offers.0.waits), sync_may)), refl)),
+  (
+    lawful.1.0,
+    inr nothing_ready,
+    (
+      lawful.1.1.0,
+      inl refl,
+      (
+        second_may,
+        (omega arith, (ready.Start 1, false, second_ready, refl)),
+        (first_may, (omega arith, (ready.Start 0, false, inl (ready.Start 0, refl, (first_may.free, (refl, first_may))), refl)), tt),
+      ),
+    ),
+  ),
 )
 
 -- while there is room and the second is ready, the first doesn't finish
