@@ -48,4 +48,5 @@ pub mod Quiet
 pub mod Followed
 pub mod Sound
 pub mod One
+pub mod Hierarchies
 pub mod examples
