@@ -50,4 +50,5 @@ pub mod Width
 pub mod Sound
 pub mod Wide
 pub mod One
+pub mod Hierarchies
 pub mod examples

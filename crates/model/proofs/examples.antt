@@ -2,6 +2,7 @@ pub mod Bodies
 pub mod Moves
 pub mod Accesses
 pub mod Queries
+pub mod Sets
 pub mod Commands
 pub mod Conditions
 pub mod Filters

@@ -1,5 +1,6 @@
 -- Sets of systems: which items are in which sets, the members of a set, and what is refused of them.
-use Rattle.std.specs.Prelude.{ℕ, ◌<◌, ◌≤◌, ◌≡◌, ◌++◌, ◌∷◌, ◌↔◌, true, List, [], length, take}
+use Rattle.std.specs.Prelude.{ℕ, zero, suc, ◌<◌, ◌≤◌, ◌≡◌, ◌==◌, ◌&&◌, ◌||◌, ◌++◌, ◌∷◌, ◌↔◌, nat_le, Bool, true, false, if◌then◌else◌, List, [], length, take}
+use Rattle.std.specs.List.{list_any}
 use Rattle.model.specs.Lists.{has, IsIn, head_or}
 use Rattle.model.specs.Refusals.{IsOnceEach, IsWalk}
 
@@ -59,3 +60,18 @@ HasNoSetCycle h = (items : List ℕ) → IsSetCycle h items → ⊥
 pub record IsToldSetCycle (h : Hierarchy) (items : List ℕ) : Type 0 where
   pub cycle : IsSetCycle h items
   pub earliest : (n : ℕ) → has n items ≡ true → head_or 0 items ≤ n
+
+-- ---- members, computed
+
+-- whether an item reaches a set with fewer than so many sets between
+abbrev pub reaches_within : ℕ → Hierarchy → ℕ → ℕ → Bool
+reaches_within zero h item holder = false
+reaches_within (suc count) h item holder = list_any (λ pair. (pair.0 == item) && ((pair.1 == holder) || reaches_within count h pair.1 holder)) h.inside
+
+-- the members of a set among the first so many items: no path needs more sets between than there are
+abbrev pub members_within : ℕ → Hierarchy → ℕ → List ℕ
+members_within zero h holder = []
+members_within (suc n) h holder = members_within n h holder ++ (if nat_le h.sets n && reaches_within h.sets h n holder then n ∷ [] else [])
+
+abbrev pub members_of : Hierarchy → ℕ → List ℕ
+members_of h holder = members_within h.items h holder

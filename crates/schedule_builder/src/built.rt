@@ -1,14 +1,12 @@
 // A built schedule, and what it tells of its systems.
 
-ghost use Rattle.std.specs.Prelude.{◌≡◌, ◌<◌, ◌↔◌, [], length, IsTrue, IfOk};
-ghost use Rattle.model.specs.Conflict.{Conflict};
+ghost use Rattle.std.specs.Prelude.{◌≡◌, ◌<◌, [], length, IfOk};
 ghost use Rattle.model.specs.Schedule.{system_at, params_of, level_of};
 ghost use Rattle.model.specs.Built.{IsBuilt};
 ghost use Rattle.schedule_builder.specs.Rows.{IsRow, IsBefore, IsRival};
 
 use crate::rows::{rows_before, rows_of_rivals};
 pub use crate::system::System;
-use access_set::conflict::conflicts;
 use access_set::params::Params;
 use number_set::NumberSet;
 use std::alloc::{AllocError, Global};
@@ -165,14 +163,5 @@ impl Built {
         ensures { IsRow (length self.now.systems) (IsRival self.now.systems number) result.now }
     {
         &self.rivals[number as usize]
-    }
-
-    /// Whether two systems conflict.
-    pub fn conflict(&self, first: u32, second: u32) -> bool
-        requires first_known { first < length self.now.systems }
-        requires second_known { second < length self.now.systems }
-        ensures { IsTrue result ↔ Conflict (params_of self.now first) (params_of self.now second) }
-    {
-        conflicts(self.params(first), self.params(second))
     }
 }

@@ -26,7 +26,7 @@ impl Model for System {
 
 impl System {
     /// A system of its parts.
-    pub fn new(params: Params, predecessors: Vec<u32>, level: u32) -> Self
+    pub(crate) fn new(params: Params, predecessors: Vec<u32>, level: u32) -> Self
         ensures { result ≡ record { params = params; predecessors = predecessors.items; level = level } }
     {
         System {
