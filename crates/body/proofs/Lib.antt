@@ -15,3 +15,4 @@ pub mod SheetOpens
 pub mod SheetCalls
 pub mod Alongside
 pub mod Tables
+pub mod Plannings

@@ -9,3 +9,4 @@ pub mod Sheet
 pub mod SeenOver
 pub mod Together
 pub mod SlotTable
+pub mod Planned

@@ -1,6 +1,7 @@
 // Bodies: what a system is shown at its start, what it writes, and how that is laid over the world.
 #![tactic(auto)]
 
+ghost use Rattle.body.specs.Planned.{PlansOpen};
 ghost use Rattle.body.specs.Together.{CloseTogether, RowsAreShown, CellsAreAfter};
 
 pub mod cells;
@@ -21,4 +22,9 @@ pub fn queries_agree()
     ensures together { CloseTogether }
     ensures shown { RowsAreShown }
     ensures stored { CellsAreAfter }
+{}
+
+/// A query may open over the rows of a plan and the columns taken for it, with the table of these columns.
+pub fn plans_open()
+    ensures { PlansOpen }
 {}
