@@ -1,22 +1,21 @@
 -- The laws of the queries of a view together.
 use Rattle.std.proofs.Common.{◌≡◌, ◌≢◌, ℕ, zero, suc, ◌<◌, Bool, true, false, cond, ◌||◌, ◌==◌, ◌⊎◌, inl, inr, ℤ, List, [], ◌∷◌, map, slice_get, Option, Some, None, option_map, refl, sym, ap, ap₂, ◌∙◌, arith}
 use Rattle.std.proofs.lemmas.Bool.{eqb-true, eq-eqb}
-use Rattle.std.specs.List.{list_any, filter_map}
-use Rattle.model.specs.Lists.{has, is_number, first_some}
+use Rattle.model.specs.Lists.{is_number, first_some}
 use Rattle.model.specs.declared.entities.Entity.{Entity}
 use Rattle.model.specs.State.{Cell, Slot, Component}
 use Rattle.model.specs.Rows.{cell_at}
 use Rattle.model.specs.Query.{Term, written, writes}
 use Rattle.model.specs.Query.Term.{Entity as IdOnly, Read, Mut, Opt, With, Without, Added, Changed}
-use Rattle.model.specs.QueryFaults.{fetched, has_twice, fetches_twice}
+use Rattle.model.specs.QueryFaults.{fetched}
 use Rattle.model.specs.Input.{ShownRow, words_of, shown_row, fetch}
 use Rattle.model.specs.Outcome.{words_in_row, words_in_query, words_written}
 use Rattle.model.specs.Overlay.{cell_after}
 use Rattle.body.specs.declared.row.Row.{Row}
 use Rattle.body.specs.Columns.{Column, cells_after, column_after}
 use Rattle.body.specs.Seen.{fetches}
-use Rattle.body.specs.Sheet.{Sheet, seen_at, row_of, words_for, WriteOnce}
-use Rattle.body.specs.Together.{words_of_sheet, words_of_all, IsAlone, CloseTogether, RowsAreShown, CellsAreAfter, FetchOnce}
+use Rattle.body.specs.Sheet.{Sheet, seen_at, row_of, words_for}
+use Rattle.body.specs.Together.{words_of_sheet, words_of_all, IsAlone, CloseTogether, RowsAreShown, CellsAreAfter}
 use Rattle.body.proofs.Gets.{same-some, map-same-get}
 use Rattle.body.proofs.SheetWords.{choose}
 
@@ -135,34 +134,3 @@ cells-stored tick words kind [] (c ∷ cs) stored h = absurd (cc)
 cells-stored tick words kind (e ∷ es) (c ∷ cs) stored h =
     let p = head-same (let o : Option Cell = Some c in o) (stored e) (map (λ cell. Some cell) cs) (map stored es) h in
     ap₂ ◌∷◌ (stored-after tick (words e.index kind) c (stored e) p.0) (cells-stored tick words kind es cs stored p.1)
-
--- ---- each kind is written by one term
-
-or-false : (a b : Bool) → (a || b) ≡ false → (a ≡ false) × (b ≡ false)
-or-false true b h = absurd (cc)
-or-false false b h = (refl, h)
-
--- a kind that a query writes is among those that it fetches
-written-has : (terms : List Term) (k : ℕ) → has k (filter_map fetched terms) ≡ false → writes terms k ≡ false
-written-has [] k h = refl
-written-has (IdOnly ∷ ts) k h = written-has ts k h
-written-has (Read m ∷ ts) k h = written-has ts k (or-false (m == k) (has k (filter_map fetched ts)) h).1
-written-has (Mut m ∷ ts) k h = let p = or-false (m == k) (has k (filter_map fetched ts)) h in ap₂ ◌||◌ p.0 (written-has ts k p.1)
-written-has (Opt m ∷ ts) k h = written-has ts k (or-false (m == k) (has k (filter_map fetched ts)) h).1
-written-has (With m ∷ ts) k h = written-has ts k h
-written-has (Without m ∷ ts) k h = written-has ts k h
-written-has (Added m ∷ ts) k h = written-has ts k h
-written-has (Changed m ∷ ts) k h = written-has ts k h
-
-pub fetch-once : FetchOnce
-fetch-once [] h = tt
-fetch-once (IdOnly ∷ ts) h = (λ k e. absurd (cc), fetch-once ts h)
-fetch-once (Read m ∷ ts) h = (λ k e. absurd (cc), fetch-once ts (or-false (has m (filter_map fetched ts)) (has_twice (filter_map fetched ts)) h).1)
-fetch-once (Mut m ∷ ts) h =
-    let p = or-false (has m (filter_map fetched ts)) (has_twice (filter_map fetched ts)) h in
-    (λ k e. ap (writes ts) (sym (eqb-true m k e)) ∙ written-has ts m p.0, fetch-once ts p.1)
-fetch-once (Opt m ∷ ts) h = (λ k e. absurd (cc), fetch-once ts (or-false (has m (filter_map fetched ts)) (has_twice (filter_map fetched ts)) h).1)
-fetch-once (With m ∷ ts) h = (λ k e. absurd (cc), fetch-once ts h)
-fetch-once (Without m ∷ ts) h = (λ k e. absurd (cc), fetch-once ts h)
-fetch-once (Added m ∷ ts) h = (λ k e. absurd (cc), fetch-once ts h)
-fetch-once (Changed m ∷ ts) h = (λ k e. absurd (cc), fetch-once ts h)

@@ -14,3 +14,5 @@ pub mod SheetCloses
 pub mod SheetOpens
 pub mod SheetCalls
 pub mod Alongside
+pub mod Tables
+pub mod Plannings

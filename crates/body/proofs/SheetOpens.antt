@@ -6,7 +6,7 @@ use Rattle.model.specs.Query.{Term, written}
 use Rattle.model.specs.Outcome.{untouched_rows}
 use Rattle.body.specs.declared.row.Row.{Row}
 use Rattle.body.specs.Columns.{Column, cell_in, AreFresh}
-use Rattle.body.specs.Sheet.{slot_in, slot_cell, seen_at, words_at, words_for, row_of, written_of}
+use Rattle.body.specs.Sheet.{slot_in, slot_cell, seen_at, words_at, words_for, without_kind, written_in, row_of, written_of}
 use Rattle.body.proofs.SheetWords.{choose}
 
 -- no cell was changed at the tick yet
@@ -22,9 +22,17 @@ nothing-for : (kind_of : Option ℕ) (f : ℕ → Option (List ℤ)) → ((m : �
 nothing-for None f h = refl
 nothing-for (Some m) f h = h m
 
-row-untouched : (terms : List Term) (f : ℕ → Option (List ℤ)) → ((m : ℕ) → f m ≡ None) → map (λ t. words_for (written t) f) terms ≡ map (λ t. None) terms
+nothing-without : (o : Option ℕ) (f : ℕ → Option (List ℤ)) → ((m : ℕ) → f m ≡ None) → (m : ℕ) → without_kind o f m ≡ None
+nothing-without None f h m = h m
+nothing-without (Some k) f h m = at (m == k)
+  where
+    at : (b : Bool) → cond b None (f m) ≡ None
+    at true = refl
+    at false = h m
+
+row-untouched : (terms : List Term) (f : ℕ → Option (List ℤ)) → ((m : ℕ) → f m ≡ None) → written_in f terms ≡ map (λ t. None) terms
 row-untouched [] f h = refl
-row-untouched (t ∷ ts) f h = ap₂ ◌∷◌ (nothing-for (written t) f h) (row-untouched ts f h)
+row-untouched (t ∷ ts) f h = ap₂ ◌∷◌ (nothing-for (written t) f h) (row-untouched ts (without_kind (written t) f) (nothing-without (written t) f h))
 
 pub untouched-of : (tick : ℕ) (terms : List Term) (slots : List (List (Option ℕ))) (rows : List Row) (columns taken : List Column) → AreFresh tick columns →
     map (written_of tick slots columns terms) rows ≡ untouched_rows terms (map (row_of slots taken terms) rows)

@@ -1,14 +1,13 @@
 -- The words of a row, where each term has the words of its kind.
 use Rattle.std.proofs.Common.{◌≡◌, ◌≢◌, ℕ, zero, suc, Bool, true, false, cond, ◌||◌, ◌==◌, ℤ, List, [], ◌∷◌, map, Option, Some, None, refl, sym, ap, ap₂, ◌∙◌}
 use mathlib.Core.Path.{fun_ext}
-use Rattle.std.proofs.lemmas.Bool.{eqb-true, eq-eqb}
-use Rattle.std.specs.List.{list_any}
+use Rattle.std.proofs.lemmas.Bool.{eqb-true, eq-eqb, ne_eqb}
 use Rattle.model.specs.Lists.{first_some, is_number}
 use Rattle.model.specs.Query.{Term, written, writes}
 use Rattle.model.specs.QueryFaults.{fetched}
 use Rattle.model.specs.Outcome.{words_in_row}
 use Rattle.body.specs.Seen.{fetches, words_shown, with_words}
-use Rattle.body.specs.Sheet.{words_for, WriteOnce}
+use Rattle.body.specs.Sheet.{words_for, without_kind, written_in}
 
 pub choose : {A : Type 0} (b c : Bool) (x y : A) → b ≡ c → cond b x y ≡ cond c x y
 choose b c x y e = cc
@@ -29,10 +28,31 @@ step-at : (f : ℕ → Option (List ℤ)) (k : ℕ) (o : Option ℕ) (b : Bool) 
 step-at f k None b rest h = h
 step-at f k (Some m) b rest h = step-by (m == k) b (f m) (f k) rest (λ e. ap f (eqb-true m k e)) h
 
+-- ---- words at the first term of a kind
+
+without-itself : (f : ℕ → Option (List ℤ)) (k : ℕ) (o : Option ℕ) → is_number k o ≡ true → without_kind o f k ≡ None
+without-itself f k None n = absurd (cc)
+without-itself f k (Some m) n = choose (k == m) true None (f k) (eq-eqb k m (sym (eqb-true m k n)))
+
+without-other : (f : ℕ → Option (List ℤ)) (k : ℕ) (o : Option ℕ) → is_number k o ≡ false → without_kind o f k ≡ f k
+without-other f k None n = refl
+without-other f k (Some m) n = choose (k == m) false None (f k) (ne_eqb k m (λ e. let t = eq-eqb m k (sym e) in (let z : ⊥ = cc in z)))
+
+written-step : (f : ℕ → Option (List ℤ)) (k : ℕ) (o : Option ℕ) (x b : Bool) (rest : Option (List ℤ)) → is_number k o ≡ x → rest ≡ cond b (without_kind o f k) None →
+    first_some (cond x (words_for o f) None) rest ≡ cond (x || b) (f k) None
+written-step f k None true b rest n h = absurd (cc)
+written-step f k (Some m) true b rest n h =
+    ap₂ first_some (ap f (eqb-true m k n)) (h ∙ ap (λ v. cond b v None) (without-itself f k (Some m) n) ∙ nothing b) ∙ last (f k)
+  where
+    last : (v : Option (List ℤ)) → first_some v None ≡ v
+    last None = refl
+    last (Some w) = refl
+written-step f k o false b rest n h = h ∙ ap (λ v. cond b v None) (without-other f k o n)
+
 -- the words of a kind that is written, and of one that is fetched
-pub in_row-map : (terms : List Term) (f : ℕ → Option (List ℤ)) (k : ℕ) → words_in_row terms (map (λ t. words_for (written t) f) terms) k ≡ cond (writes terms k) (f k) None
+pub in_row-map : (terms : List Term) (f : ℕ → Option (List ℤ)) (k : ℕ) → words_in_row terms (written_in f terms) k ≡ cond (writes terms k) (f k) None
 in_row-map [] f k = refl
-in_row-map (t ∷ ts) f k = step-at f k (written t) (writes ts k) _ (in_row-map ts f k)
+in_row-map (t ∷ ts) f k = written-step f k (written t) (is_number k (written t)) (writes ts k) _ refl (in_row-map ts (without_kind (written t) f) k)
 
 pub shown-map : (terms : List Term) (f : ℕ → Option (List ℤ)) (k : ℕ) → words_shown terms (map (λ t. words_for (fetched t) f) terms) k ≡ cond (fetches terms k) (f k) None
 shown-map [] f k = refl
@@ -40,9 +60,9 @@ shown-map (t ∷ ts) f k = step-at f k (fetched t) (fetches ts k) _ (shown-map t
 
 -- ---- a write
 
-or-false : (a b : Bool) → (a || b) ≡ false → (a ≡ false) × (b ≡ false)
-or-false true b h = absurd (cc)
-or-false false b h = (refl, h)
+-- what differs at no kind
+pub written_in-same : (terms : List Term) (f g : ℕ → Option (List ℤ)) → ((m : ℕ) → f m ≡ g m) → written_in f terms ≡ written_in g terms
+written_in-same terms f g h = ap (λ e. written_in e terms) (fun_ext h)
 
 for-other : (f g : ℕ → Option (List ℤ)) (k : ℕ) (o : Option ℕ) → is_number k o ≡ false → ((m : ℕ) → m ≢ k → g m ≡ f m) → words_for o f ≡ words_for o g
 for-other f g k None n h = refl
@@ -52,23 +72,28 @@ for-same : (f g : ℕ → Option (List ℤ)) (k : ℕ) (w : List ℤ) (o : Optio
 for-same f g k w None n h = absurd (cc)
 for-same f g k w (Some m) n h = sym (ap g (eqb-true m k n) ∙ h)
 
-none-writes : (terms : List Term) (f g : ℕ → Option (List ℤ)) (k : ℕ) → writes terms k ≡ false → ((m : ℕ) → m ≢ k → g m ≡ f m) → map (λ t. words_for (written t) f) terms ≡ map (λ t. words_for (written t) g) terms
-none-writes [] f g k n h = refl
-none-writes (t ∷ ts) f g k n h = let p = or-false (is_number k (written t)) (writes ts k) n in ap₂ ◌∷◌ (for-other f g k (written t) p.0 h) (none-writes ts f g k p.1 h)
+-- without the kind that differs they are the same
+without-same : (f g : ℕ → Option (List ℤ)) (k : ℕ) (o : Option ℕ) → is_number k o ≡ true → ((m : ℕ) → m ≢ k → g m ≡ f m) → (m : ℕ) → without_kind o f m ≡ without_kind o g m
+without-same f g k None n h m = absurd (cc)
+without-same f g k (Some j) n h m = at (m == j) refl
+  where
+    at : (b : Bool) → (m == j) ≡ b → cond b None (f m) ≡ cond b None (g m)
+    at true e = refl
+    at false e = sym (h m (λ p. let t = eq-eqb m j (p ∙ sym (eqb-true j k n)) in (let z : ⊥ = cc in z)))
 
-write-at : (b : Bool) (t : Term) (ts : List Term) (f g : ℕ → Option (List ℤ)) (k : ℕ) (w : List ℤ) → is_number k (written t) ≡ b → (b ≡ true → writes ts k ≡ false) → g k ≡ Some w → ((m : ℕ) → m ≢ k → g m ≡ f m) →
-    (writes ts k ≡ true → with_words ts k w (map (λ t. words_for (written t) f) ts) ≡ map (λ t. words_for (written t) g) ts) → (b || writes ts k) ≡ true →
-    cond b (Some w ∷ map (λ t. words_for (written t) f) ts) (words_for (written t) f ∷ with_words ts k w (map (λ t. words_for (written t) f) ts)) ≡ words_for (written t) g ∷ map (λ t. words_for (written t) g) ts
-write-at true t ts f g k w n once here others more any = ap₂ ◌∷◌ (for-same f g k w (written t) n here) (none-writes ts f g k (once refl) others)
-write-at false t ts f g k w n once here others more any = ap₂ ◌∷◌ (for-other f g k (written t) n others) (more any)
+without-kept : (f g : ℕ → Option (List ℤ)) (k : ℕ) (o : Option ℕ) → ((m : ℕ) → m ≢ k → g m ≡ f m) → (m : ℕ) → m ≢ k → without_kind o g m ≡ without_kind o f m
+without-kept f g k None h m d = h m d
+without-kept f g k (Some j) h m d = ap (λ v. cond (m == j) None v) (h m d)
 
--- a write of a kind that one term writes
-pub with_words-map : (terms : List Term) (f g : ℕ → Option (List ℤ)) (k : ℕ) (w : List ℤ) → WriteOnce terms → writes terms k ≡ true → g k ≡ Some w → ((m : ℕ) → m ≢ k → g m ≡ f m) →
-    with_words terms k w (map (λ t. words_for (written t) f) terms) ≡ map (λ t. words_for (written t) g) terms
-with_words-map [] f g k w once any here others = absurd (cc)
-with_words-map (t ∷ ts) f g k w once any here others =
-    write-at (is_number k (written t)) t ts f g k w refl (λ e. once.0 k e) here others (λ more. with_words-map ts f g k w once.1 more here others) any
+write-at : (b : Bool) (t : Term) (ts : List Term) (f g : ℕ → Option (List ℤ)) (k : ℕ) (w : List ℤ) → is_number k (written t) ≡ b → g k ≡ Some w → ((m : ℕ) → m ≢ k → g m ≡ f m) →
+    (writes ts k ≡ true → without_kind (written t) g k ≡ Some w → with_words ts k w (written_in (without_kind (written t) f) ts) ≡ written_in (without_kind (written t) g) ts) → (b || writes ts k) ≡ true →
+    cond b (Some w ∷ written_in (without_kind (written t) f) ts) (words_for (written t) f ∷ with_words ts k w (written_in (without_kind (written t) f) ts)) ≡ words_for (written t) g ∷ written_in (without_kind (written t) g) ts
+write-at true t ts f g k w n here others more any = ap₂ ◌∷◌ (for-same f g k w (written t) n here) (written_in-same ts (without_kind (written t) f) (without_kind (written t) g) (without-same f g k (written t) n others))
+write-at false t ts f g k w n here others more any = ap₂ ◌∷◌ (for-other f g k (written t) n others) (more any (without-other g k (written t) n ∙ here))
 
--- the words of each term are those of its kind
-pub map-words : (terms : List Term) (kind_of : Term → Option ℕ) (f g : ℕ → Option (List ℤ)) → ((m : ℕ) → f m ≡ g m) → map (λ t. words_for (kind_of t) f) terms ≡ map (λ t. words_for (kind_of t) g) terms
-map-words terms kind_of f g h = ap (λ e. map (λ t. words_for (kind_of t) e) terms) (fun_ext h)
+-- a write of a kind
+pub with_words-map : (terms : List Term) (f g : ℕ → Option (List ℤ)) (k : ℕ) (w : List ℤ) → writes terms k ≡ true → g k ≡ Some w → ((m : ℕ) → m ≢ k → g m ≡ f m) → with_words terms k w (written_in f terms) ≡ written_in g terms
+with_words-map [] f g k w any here others = absurd (cc)
+with_words-map (t ∷ ts) f g k w any here others =
+    write-at (is_number k (written t)) t ts f g k w refl here others
+    (λ more kept. with_words-map ts (without_kind (written t) f) (without_kind (written t) g) k w more kept (without-kept f g k (written t) others)) any

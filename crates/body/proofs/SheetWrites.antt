@@ -13,10 +13,10 @@ use Rattle.body.specs.Columns.{Column, cell_in, with_cell}
 use Rattle.body.specs.Seen.{with_words}
 use Rattle.body.specs.Sheet.{slot_in, slot_cell, seen_at, at_slot, words_at, written_of, sheet_of, Sheet, IsSlot, IsRow, IsSheet, IsOverwritten, AreChanged, head_of, IsWritable, IsWritableAt}
 use Rattle.body.proofs.Gets.{same-some, all-get, map-update-get, get-update, get-update-other}
-use Rattle.body.proofs.SheetWords.{choose, with_words-map, map-words}
+use Rattle.body.proofs.SheetWords.{choose, with_words-map, written_in-same}
 use Rattle.body.proofs.Sheets.{cell_in-is, column-of, is-some, head-at, apart-at, two-cells}
 
-same-number : (a b : ℕ) → (a ≡ b) ⊎ (a ≢ b)
+pub same-number : (a b : ℕ) → (a ≡ b) ⊎ (a ≢ b)
 same-number a b = elim (cases_lt a b) [
   | inl below ↦ inr (omega arith)
   | inr above ↦ elim (cases_lt b a) [ inl over ↦ inr (omega arith) | inr under ↦ inl (let e : a ≡ b = omega arith in e) ]
@@ -101,8 +101,8 @@ module _ (tick : ℕ) (terms : List Term) (slots : List (List (Option ℕ))) (ro
     cells-written = map-update-get (written_of tick slots changed_columns terms) (written_of tick slots columns terms) (with_words terms k w) rows r
         (λ x e. let same = same-some x row (sym e ∙ row_is) in
         subst (λ y. written_of tick slots changed_columns terms y ≡ with_words terms k w (written_of tick slots columns terms y)) (sym same)
-        (sym (with_words-map terms (λ m. words_at tick (seen_at slots columns row m)) (λ m. words_at tick (seen_at slots changed_columns row m)) k w is.once mut_term changed-here other-kinds)))
-        (λ s x e d. map-words terms written (λ m. words_at tick (seen_at slots changed_columns x m)) (λ m. words_at tick (seen_at slots columns x m)) (other-rows s x e d))
+        (sym (with_words-map terms (λ m. words_at tick (seen_at slots columns row m)) (λ m. words_at tick (seen_at slots changed_columns row m)) k w mut_term changed-here other-kinds)))
+        (λ s x e d. written_in-same terms (λ m. words_at tick (seen_at slots changed_columns x m)) (λ m. words_at tick (seen_at slots columns x m)) (other-rows s x e d))
 
     still-over : (i at : ℕ) → (i ≡ j → at ≡ row.place → ⊥) → IsOverwritten tick terms slots rows taken columns i at → IsOverwritten tick terms slots rows taken changed_columns i at
     still-over i at d o = record {
@@ -151,7 +151,6 @@ module _ (tick : ℕ) (terms : List Term) (slots : List (List (Option ℕ))) (ro
     -- what holds of the query holds after the write
     pub sheet-written : IsSheet tick terms slots rows taken changed_columns
     sheet-written = record {
-      once = is.once;
       slots_are = is.slots_are;
       rows_are = is.rows_are;
       apart = is.apart;

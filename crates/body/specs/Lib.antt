@@ -8,3 +8,5 @@ pub mod HeldColumns
 pub mod Sheet
 pub mod SeenOver
 pub mod Together
+pub mod SlotTable
+pub mod Planned

@@ -45,8 +45,18 @@ words_for (Some kind) words = words kind
 abbrev pub row_of : List (List (Option ℕ)) → List Column → List Term → Row → ShownRow
 row_of slots columns terms row = record { entity = row.entity; values = map (λ term. words_for (fetched term) (λ kind. words_of (seen_at slots columns row kind))) terms }
 
+-- words without those of a kind
+abbrev pub without_kind : Option ℕ → (ℕ → Option (List ℤ)) → ℕ → Option (List ℤ)
+without_kind None words kind = words kind
+without_kind (Some m) words kind = cond (kind == m) None (words kind)
+
+-- the words of each kind, at the first term that writes it
+abbrev pub written_in : (ℕ → Option (List ℤ)) → List Term → List (Option (List ℤ))
+written_in words [] = []
+written_in words (t ∷ ts) = words_for (written t) words ∷ written_in (without_kind (written t) words) ts
+
 abbrev pub written_of : ℕ → List (List (Option ℕ)) → List Column → List Term → Row → List (Option (List ℤ))
-written_of tick slots columns terms row = map (λ term. words_for (written term) (λ kind. words_at tick (seen_at slots columns row kind))) terms
+written_of tick slots columns terms row = written_in (λ kind. words_at tick (seen_at slots columns row kind)) terms
 
 -- a query of a view: its terms, its rows, what was written in each, its columns as they were taken, and the tick of its writes
 pub record Sheet : Type 0 where
@@ -66,11 +76,6 @@ sheet_of tick terms slots rows taken columns = record {
 }
 
 -- ---- what a query opens over
-
--- no kind is written by two terms
-abbrev pub WriteOnce : List Term → Type 0
-WriteOnce [] = Unit {0}
-WriteOnce (t ∷ ts) = ((kind : ℕ) → is_number kind (written t) ≡ true → writes ts kind ≡ false) × WriteOnce ts
 
 -- a slot names a column of its archetype and kind, which is fetched, and is an own column where it is written
 pub record IsSlot (terms : List Term) (taken : List Column) (number kind j : ℕ) : Type 0 where
@@ -108,7 +113,6 @@ pub record ArePlaced (slots : List (List (Option ℕ))) (rows : List Row) (taken
 
 -- what a query may open over
 pub record IsPlan (tick : ℕ) (terms : List Term) (slots : List (List (Option ℕ))) (rows : List Row) (taken : List Column) : Type 0 where
-  pub once : WriteOnce terms
   pub slots_are : AreSlots terms slots taken
   pub rows_are : AllByRecursion (IsRow terms slots taken) rows
   pub apart : AreApart rows
@@ -141,7 +145,6 @@ abbrev pub AreChanged : ℕ → List Term → List (List (Option ℕ)) → List 
 AreChanged tick terms slots rows taken columns = (j i : ℕ) → (cell_in columns j i ≡ cell_in taken j i) ⊎ IsOverwritten tick terms slots rows taken columns j i
 
 pub record IsSheet (tick : ℕ) (terms : List Term) (slots : List (List (Option ℕ))) (rows : List Row) (taken columns : List Column) : Type 0 where
-  pub once : WriteOnce terms
   pub slots_are : AreSlots terms slots taken
   pub rows_are : AllByRecursion (IsRow terms slots taken) rows
   pub apart : AreApart rows

@@ -1,17 +1,16 @@
 -- The queries of a view together, and what the columns that they give back are to a store.
-use Rattle.std.specs.Prelude.{ℕ, ℤ, ◌≡◌, ◌<◌, true, false, List, map, slice_get, Option, Some, option_map}
+use Rattle.std.specs.Prelude.{ℕ, ℤ, ◌≡◌, true, List, map, slice_get, Option, Some, option_map}
 use Rattle.model.specs.declared.entities.Entity.{Entity}
 use Rattle.model.specs.State.{Cell, Slot}
 use Rattle.model.specs.Rows.{cell_at}
 use Rattle.model.specs.Query.{Term, writes}
-use Rattle.model.specs.QueryFaults.{fetches_twice}
 use Rattle.model.specs.Input.{ShownRow, words_of, shown_row}
 use Rattle.model.specs.Outcome.{words_in_query, words_written}
 use Rattle.model.specs.Overlay.{cell_after}
 use Rattle.body.specs.declared.row.Row.{Row}
 use Rattle.body.specs.Columns.{Column, cells_after, column_after}
 use Rattle.body.specs.Seen.{fetches}
-use Rattle.body.specs.Sheet.{Sheet, seen_at, row_of, WriteOnce}
+use Rattle.body.specs.Sheet.{Sheet, seen_at, row_of}
 
 -- the words written through one query, and through all
 abbrev pub words_of_sheet : Sheet → ℕ → ℕ → Option (List ℤ)
@@ -38,7 +37,3 @@ RowsAreShown = (terms : List Term) (slots : List (List (Option ℕ))) (taken : L
 abbrev pub CellsAreAfter : Type 0
 CellsAreAfter = (tick : ℕ) (words : ℕ → ℕ → Option (List ℤ)) (kind : ℕ) (entities : List Entity) (cells : List Cell) (stored : Entity → Option Cell) → map (λ cell. Some cell) cells ≡ map stored entities →
     map (λ cell. Some cell) (cells_after tick words kind entities cells) ≡ map (λ e. option_map (cell_after tick (words e.index kind)) (stored e)) entities
-
--- a query that fetches no kind twice writes each kind by one term at most
-abbrev pub FetchOnce : Type 0
-FetchOnce = (terms : List Term) → fetches_twice terms ≡ false → WriteOnce terms

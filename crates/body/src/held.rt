@@ -2,6 +2,7 @@
 
 ghost use Rattle.std.specs.Prelude.{◌≡◌, ◌<◌, true, Some, length, slice_get, option_map};
 ghost use Rattle.column_store.specs.Cells.{changed_cell};
+ghost use Rattle.kinds.specs.Kind.{kind_number};
 ghost use Rattle.body.specs.Columns.{with_cell};
 ghost use Rattle.body.specs.HeldColumns.{column_in, held_seen};
 
@@ -9,6 +10,7 @@ use change_ticks::clock::Tick;
 use column_store::stamped::StampedColumn;
 use entity_table::Entity;
 use kinds::component::Component;
+use kinds::kind::Kind;
 use std::alloc::Global;
 use std::snapshot::Snapshot;
 use std::sync::Arc;
@@ -42,6 +44,13 @@ impl Held {
             Cells::Written(column) => column,
             Cells::Read(column) => &**column,
         }
+    }
+
+    /// The kind of the components.
+    pub fn kind(&self) -> Kind
+        ensures { kind_number result ≡ (held_seen self.now).kind }
+    {
+        self.column().kind()
     }
 
     // The component at a place.

@@ -1,7 +1,8 @@
 // Bodies: what a system is shown at its start, what it writes, and how that is laid over the world.
 #![tactic(auto)]
 
-ghost use Rattle.body.specs.Together.{CloseTogether, RowsAreShown, CellsAreAfter, FetchOnce};
+ghost use Rattle.body.specs.Planned.{PlansOpen};
+ghost use Rattle.body.specs.Together.{CloseTogether, RowsAreShown, CellsAreAfter};
 
 pub mod cells;
 pub mod held;
@@ -10,16 +11,20 @@ mod lay;
 pub mod memory;
 mod open;
 pub mod row;
+pub mod slot_table;
 pub mod state;
 pub mod view;
 pub mod view_query;
 
 /// What the queries of a view are together: where no other query may write in a query's columns, these are given back as all writes leave
-/// them; a row shows what the definitions show of its slot; columns that had a store's cells are given back with these after the writes; and
-/// a query that fetches no kind twice writes each kind by one term at most.
+/// them; a row shows what the definitions show of its slot; and columns that had a store's cells are given back with these after the writes.
 pub fn queries_agree()
     ensures together { CloseTogether }
     ensures shown { RowsAreShown }
     ensures stored { CellsAreAfter }
-    ensures once { FetchOnce }
+{}
+
+/// A query may open over the rows of a plan and the columns taken for it, with the table of these columns.
+pub fn plans_open()
+    ensures { PlansOpen }
 {}

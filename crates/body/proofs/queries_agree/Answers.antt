@@ -1,4 +1,4 @@
-use Rattle.body.proofs.Alongside.{close-together, rows-shown, cells-stored, fetch-once}
+use Rattle.body.proofs.Alongside.{close-together, rows-shown, cells-stored}
 use Rattle.body.proofs.queries_agree.Goals as goal
 
 pub returns-clause-together : goal.returns-clause-together
@@ -9,6 +9,3 @@ returns-clause-shown c = rows-shown
 
 pub returns-clause-stored : goal.returns-clause-stored
 returns-clause-stored c = cells-stored
-
-pub returns-clause-once : goal.returns-clause-once
-returns-clause-once c = fetch-once
