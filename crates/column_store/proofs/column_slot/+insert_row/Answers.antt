@@ -1,6 +1,6 @@
 use Rattle.std.proofs.Common.{◌∙◌, sym}
 use Rattle.column_store.proofs.Kept.{insert_all-none, given_back, at_error}
-use Rattle.column_store.proofs.place.+insert_row.Goals as goal
+use Rattle.column_store.proofs.column_slot.+insert_row.Goals as goal
 
 pub returns-in_default-clause-ok : goal.returns-in_default-clause-ok
 returns-in_default-clause-ok t c = insert_all-none c.args.row c.args.columns.now c.args.components.now c.requires c.in_default.ensures.cases
