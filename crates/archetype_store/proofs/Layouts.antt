@@ -64,7 +64,7 @@ there_map : {A B : Type 0} (f : A → B) (xs : List A) → is_there xs ≡ true 
 there_map f [] h = absurd (cc)
 there_map f (x ∷ xs) h = refl
 
-each_step : (b : Bool) (u : TableValue) (others : List Archetype) → IsShape u.kinds u.standings → (b ≡ true → is_there (archetype_of u).entities ≡ true) → AllByRecursion IsArchetype others →
+each_step : (b : Bool) (u : TableValue) (others : List Archetype) → IsShape u.kinds → (b ≡ true → is_there (archetype_of u).entities ≡ true) → AllByRecursion IsArchetype others →
     AllByRecursion IsArchetype (cond b (archetype_of u ∷ others) others)
 each_step true u others shape there rest = (record { shape = shape; peopled = there refl }, rest)
 each_step false u others shape there rest = rest

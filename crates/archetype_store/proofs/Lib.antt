@@ -9,3 +9,4 @@ pub mod SlotRows
 pub mod Layouts
 pub mod Edits
 mod Worlds
+pub mod Standings

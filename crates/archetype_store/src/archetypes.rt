@@ -6,10 +6,12 @@ ghost use Rattle.model.specs.Rows.{cell_at, kinds_of, insert_component, remove_c
 ghost use Rattle.model.specs.Overlay.{row_after};
 ghost use Rattle.column_store.specs.Cells.{stamped_number};
 ghost use Rattle.archetype_store.specs.Row.{component_of, only};
+ghost use Rattle.archetype_store.specs.Layout.{AreAllHome};
 ghost use Rattle.archetype_store.specs.View.{kinds_seen, entities_seen};
 ghost use Rattle.archetype_store.specs.Archetypes.{row_of, holder_of, IsHolder, AreAlike, HasRow, IsLaidOut};
 
 use crate::lay::{clear_in, insert_in, remove_in, write_in};
+use crate::owning::own_all;
 use crate::places::{Place, place_at, reach};
 use crate::tables::{ArchetypeView, components_at, find_at, has_at, views_of};
 use change_ticks::clock::Tick;
@@ -27,16 +29,18 @@ use std::marker::Model;
 pub struct Archetypes {
     tables: Vec<Table>,
     places: Vec<Option<Place>>,
+    // Whether some columns may be read elsewhere too.
+    shared: bool,
 }
 
 impl Model for Archetypes {
-    ghost use Rattle.archetype_store.specs.Archetypes.{ArchetypesValue, archetypes_of, AreArchetypes};
+    ghost use Rattle.archetype_store.specs.Archetypes.{ArchetypesValue, archetypes_of, IsStored};
 
     ghost Value = { ArchetypesValue };
 
     ghost view = { λ a. archetypes_of a.tables.items a.places.items };
 
-    ghost invariant = { λ a. AreArchetypes a.tables.items a.places.items };
+    ghost invariant = { λ a. IsStored a.tables.items a.places.items a.shared };
 }
 
 impl Archetypes {
@@ -47,11 +51,13 @@ impl Archetypes {
         Archetypes {
             tables: Vec::new(alloc),
             places: Vec::new(alloc),
+            shared: false,
         }
     }
 
     /// The component of the kind with this number of the entity of an index.
     pub fn find(&self, index: u32, number: u32) -> Option<StampedValue>
+        requires { AreAllHome self.now.layout }
         ensures cell { option_map (λ s. (component_of s).cell) result ≡ cell_at (row_of self.now.rows index) number }
         ensures number { IfSome result (λ s. stamped_number s ≡ number) }
     {
@@ -73,6 +79,7 @@ impl Archetypes {
 
     /// The components of the entity of an index, in rising kinds.
     pub fn components(&self, alloc: Global, index: u32) -> Result<Vec<StampedValue>, AllocError>
+        requires { AreAllHome self.now.layout }
         ensures { IfOk result (λ components. map component_of components.items ≡ row_of self.now.rows index) }
     {
         match place_at(&self.places, index) {
@@ -100,38 +107,56 @@ impl Archetypes {
     /// Inserts a component of an entity at a tick: where its kind is there the value is replaced and counts as changed, else it is added.
     /// Where memory is wanting all rows stay as they were.
     pub fn insert(&mut self, e: Entity, value: Value, tick: Tick) -> Result<(), AllocError>
-        requires { IsHolder e.generation (holder_of self.old.holders e.index) }
+        requires holder { IsHolder e.generation (holder_of self.old.holders e.index) }
+        requires home { AreAllHome self.old.layout }
         ensures ok { OnOk result (HasRow self.old e (insert_component tick (value_number value) (value_words value) (row_of self.old.rows e.index)) self.new) }
         ensures err { OnErr result (AreAlike self.old self.new) }
+        ensures home { AreAllHome self.new.layout }
     {
         reach(&mut self.places, e.index)?;
+        own_all(&mut self.tables, &mut self.shared)?;
         insert_in(&mut self.tables, &mut self.places, e, value, tick)
     }
 
     /// Removes the component of the kind with this number of an entity, where it has one. Where memory is wanting all rows stay as they
     /// were.
     pub fn remove(&mut self, e: Entity, number: u32) -> Result<(), AllocError>
-        requires { IsHolder e.generation (holder_of self.old.holders e.index) }
+        requires holder { IsHolder e.generation (holder_of self.old.holders e.index) }
+        requires home { AreAllHome self.old.layout }
         ensures ok { OnOk result (HasRow self.old e (remove_component number (row_of self.old.rows e.index)) self.new) }
         ensures err { OnErr result (AreAlike self.old self.new) }
+        ensures home { AreAllHome self.new.layout }
     {
+        own_all(&mut self.tables, &mut self.shared)?;
         remove_in(&mut self.tables, &mut self.places, e, number)
     }
 
-    /// Takes all components of an entity away. It takes no memory.
-    pub fn clear(&mut self, e: Entity)
-        requires { IsHolder e.generation (holder_of self.old.holders e.index) }
-        ensures { HasRow self.old e [] self.new }
+    /// Takes all components of an entity away. Memory can be wanting only where columns were read elsewhere too; then all rows stay as
+    /// they were.
+    pub fn clear(&mut self, e: Entity) -> Result<(), AllocError>
+        requires holder { IsHolder e.generation (holder_of self.old.holders e.index) }
+        requires home { AreAllHome self.old.layout }
+        ensures ok { OnOk result (HasRow self.old e [] self.new) }
+        ensures err { OnErr result (AreAlike self.old self.new) }
+        ensures home { AreAllHome self.new.layout }
     {
+        own_all(&mut self.tables, &mut self.shared)?;
         clear_in(&mut self.tables, &mut self.places, e);
+        Ok(())
     }
 
-    /// Writes the component of this value's kind of an entity at a tick, where it has one: its value and its changed stamp.
-    pub fn write(&mut self, e: Entity, value: Value, tick: Tick)
-        requires { IsHolder e.generation (holder_of self.old.holders e.index) }
-        ensures { HasRow self.old e (row_after tick (only (value_number value) (value_words value)) (row_of self.old.rows e.index)) self.new }
+    /// Writes the component of this value's kind of an entity at a tick, where it has one: its value and its changed stamp. Memory can be
+    /// wanting only where columns were read elsewhere too; then all rows stay as they were.
+    pub fn write(&mut self, e: Entity, value: Value, tick: Tick) -> Result<(), AllocError>
+        requires holder { IsHolder e.generation (holder_of self.old.holders e.index) }
+        requires home { AreAllHome self.old.layout }
+        ensures ok { OnOk result (HasRow self.old e (row_after tick (only (value_number value) (value_words value)) (row_of self.old.rows e.index)) self.new) }
+        ensures err { OnErr result (AreAlike self.old self.new) }
+        ensures home { AreAllHome self.new.layout }
     {
+        own_all(&mut self.tables, &mut self.shared)?;
         write_in(&mut self.tables, &self.places, e, value, tick);
+        Ok(())
     }
 }
 

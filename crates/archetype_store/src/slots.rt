@@ -1,6 +1,6 @@
 // The slots by index: the id book, and the rows of the entities that live.
 
-ghost use Rattle.std.specs.Prelude.{◌≡◌, ◌++◌, ◌≤◌, ◌<◌, ◌↔◌, ℕ, true, false, [], length, map, option_map, All, IsTrue, IfSome, IfNone, MatchOption, IfOk, OnOk, OnErr, IsErrOf, IsOkUnless};
+ghost use Rattle.std.specs.Prelude.{◌≡◌, ◌++◌, ◌≤◌, ◌<◌, ◌↔◌, ℕ, true, false, [], length, map, option_map, is_some, All, IsTrue, IfSome, IfNone, MatchOption, IfOk, OnOk, OnErr, IsErrOf};
 ghost use Rattle.kinds.specs.Value.{value_number, value_words};
 ghost use Rattle.model.specs.Lists.{update_at};
 ghost use Rattle.model.specs.Rows.{row_at, insert_component, remove_component};
@@ -13,7 +13,7 @@ ghost use Rattle.entity_table.specs.Ids.{slot_at, lives_at, IsGranted, AreApart,
 ghost use Rattle.archetype_store.specs.Row.{component_of, only};
 ghost use Rattle.archetype_store.specs.Slot.{cell_of};
 ghost use Rattle.archetype_store.specs.Archetypes.{row_of};
-ghost use Rattle.archetype_store.specs.Layout.{IsLayoutOf};
+ghost use Rattle.archetype_store.specs.Layout.{IsLayoutOf, AreAllHome};
 ghost use Rattle.archetype_store.specs.View.{kinds_seen, entities_seen};
 
 use crate::archetypes::Archetypes;
@@ -69,6 +69,7 @@ impl Slots {
 
     /// The slot of an index, none past the end.
     pub fn get(&self, index: u32) -> Option<Slot<'_>>
+        requires { AreAllHome self.now.layout }
         ensures { MatchOption result (length self.now.slots ≤ index) (λ slot. slot ≡ slot_at self.now.slots index) }
     {
         if index >= self.book.len() {
@@ -101,6 +102,7 @@ impl Slots {
 
     /// The component of the kind with this number, where the entity lives and has one.
     pub fn find(&self, e: Entity, number: u32) -> Option<StampedValue>
+        requires { AreAllHome self.now.layout }
         ensures cell { option_map (λ s. (component_of s).cell) result ≡ cell_of self.now.slots e number }
         ensures number { IfSome result (λ s. stamped_number s ≡ number) }
     {
@@ -108,6 +110,16 @@ impl Slots {
             return None;
         }
         self.archetypes.find(e.index, number)
+    }
+
+    /// Whether the entity lives and has a component of the kind with this number.
+    pub fn has(&self, e: Entity, number: u32) -> bool
+        ensures { result ≡ is_some (cell_of self.now.slots e number) }
+    {
+        if !self.lives(e) {
+            return false;
+        }
+        self.archetypes.has(e.index, number)
     }
 
     /// The archetypes that have entities.
@@ -132,6 +144,7 @@ impl Slots {
         ensures each { IfOk result (λ granted. All (IsGranted self.new.slots) granted.items) }
         ensures apart { IfOk result (λ granted. AreApart granted.items) }
         ensures spent { IsErrOf result GrantFault.IdsSpent ↔ (ids.has_ids count self.old.slots ≡ false) }
+        ensures layout { self.new.layout ≡ self.old.layout }
         ensures err { OnErr result (self.new ≡ self.old) }
     {
         let granted = self.book.grant(alloc, count)?;
@@ -141,7 +154,8 @@ impl Slots {
     /// Makes the entity of a granted id live, without components.
     pub fn spawn_at(&mut self, e: Entity)
         requires { IsGranted self.old.slots e }
-        ensures { self.new.slots ≡ update_at e.index (spawned e.generation) self.old.slots }
+        ensures slots { self.new.slots ≡ update_at e.index (spawned e.generation) self.old.slots }
+        ensures layout { self.new.layout ≡ self.old.layout }
     {
         self.book.spawn_at(e);
     }
@@ -151,38 +165,43 @@ impl Slots {
         requires used { All (IsGranted self.old.slots) used.now }
         requires unused { All (IsGranted self.old.slots) unused.now }
         requires apart { AreApart (used.now ++ unused.now) }
-        ensures { self.new.slots ≡ settled used.now unused.now self.old.slots }
+        ensures slots { self.new.slots ≡ settled used.now unused.now self.old.slots }
+        ensures layout { self.new.layout ≡ self.old.layout }
     {
         self.book.settle(used, unused);
     }
 
     /// Frees each index named that is still granted.
     pub fn release(&mut self, ids: &[Entity])
-        ensures { self.new.slots ≡ commands.release ids.now self.old.slots }
+        ensures slots { self.new.slots ≡ commands.release ids.now self.old.slots }
+        ensures layout { self.new.layout ≡ self.old.layout }
     {
         self.book.release(ids);
     }
 
-    /// Frees the index of an entity, and drops its components.
+    /// Frees the index of an entity, and drops its components. After an error the slots are as they were.
     pub fn despawn(&mut self, e: Entity) -> Result<(), StoreFault>
+        requires { AreAllHome self.old.layout }
         ensures ok { OnOk result (self.new.slots ≡ update_at e.index freed self.old.slots) }
         ensures dead { IsErrOf result StoreFault.NotAlive ↔ (is_alive self.old.slots e ≡ false) }
-        ensures other { IsOkUnless result StoreFault.NotAlive }
         ensures err { OnErr result (self.new ≡ self.old) }
+        ensures home { AreAllHome self.new.layout }
     {
         if !self.lives(e) {
             return Err(StoreFault::NotAlive);
         }
-        self.archetypes.clear(e);
+        self.archetypes.clear(e)?;
         self.book.despawn(e);
         Ok(())
     }
 
     /// Inserts a component into the row of an entity at a tick. After an error the slots are as they were.
     pub fn insert(&mut self, e: Entity, value: Value, tick: Tick) -> Result<(), StoreFault>
+        requires { AreAllHome self.old.layout }
         ensures ok { OnOk result (self.new.slots ≡ update_at e.index (with_row (insert_component tick (value_number value) (value_words value))) self.old.slots) }
         ensures dead { IsErrOf result StoreFault.NotAlive ↔ (is_alive self.old.slots e ≡ false) }
         ensures err { OnErr result (self.new ≡ self.old) }
+        ensures home { AreAllHome self.new.layout }
     {
         if !self.lives(e) {
             return Err(StoreFault::NotAlive);
@@ -193,9 +212,11 @@ impl Slots {
 
     /// Removes the component of a kind from the row of an entity, where it has one. After an error the slots are as they were.
     pub fn remove(&mut self, e: Entity, number: u32) -> Result<(), StoreFault>
+        requires { AreAllHome self.old.layout }
         ensures ok { OnOk result (self.new.slots ≡ update_at e.index (with_row (remove_component number)) self.old.slots) }
         ensures dead { IsErrOf result StoreFault.NotAlive ↔ (is_alive self.old.slots e ≡ false) }
         ensures err { OnErr result (self.new ≡ self.old) }
+        ensures home { AreAllHome self.new.layout }
     {
         if !self.lives(e) {
             return Err(StoreFault::NotAlive);
@@ -205,18 +226,23 @@ impl Slots {
     }
 
     /// Writes the component of this value's kind in the row of an index at a tick, where the row has one.
-    pub fn write(&mut self, index: u32, value: Value, tick: Tick)
-        ensures { self.new.slots ≡ update_at index (slot_after tick (only (value_number value) (value_words value))) self.old.slots }
+    pub fn write(&mut self, index: u32, value: Value, tick: Tick) -> Result<(), AllocError>
+        requires { AreAllHome self.old.layout }
+        ensures ok { OnOk result (self.new.slots ≡ update_at index (slot_after tick (only (value_number value) (value_words value))) self.old.slots) }
+        ensures err { OnErr result (self.new ≡ self.old) }
+        ensures home { AreAllHome self.new.layout }
     {
         let e = Entity {
             index,
             generation: self.book.generation(index),
         };
-        self.archetypes.write(e, value, tick);
+        self.archetypes.write(e, value, tick)?;
+        Ok(())
     }
 
     /// The components of an index, in rising kinds.
     pub fn components(&self, alloc: Global, index: u32) -> Result<Vec<StampedValue>, AllocError>
+        requires { AreAllHome self.now.layout }
         ensures { IfOk result (λ components. map component_of components.items ≡ row_at self.now.slots index) }
     {
         self.archetypes.components(alloc, index)

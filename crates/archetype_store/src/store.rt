@@ -1,6 +1,6 @@
 // The world: entities with their components, resources and the clock.
 
-ghost use Rattle.std.specs.Prelude.{◌≡◌, ◌++◌, ◌+◌, ◌≤◌, ◌<◌, ◌↔◌, ℕ, true, false, length, map, option_map, is_some, All, IfSome, IfNone, IfOk, IsErr, OnOk, OnErr, IsErrOf, IsOkUnless};
+ghost use Rattle.std.specs.Prelude.{◌≡◌, ◌++◌, ◌+◌, ◌≤◌, ◌<◌, ◌↔◌, ℕ, true, false, [], length, map, option_map, is_some, All, IfSome, IfNone, IfOk, IsErr, OnOk, OnErr, IsErrOf};
 ghost use Rattle.kinds.specs.Kind.{kind_number};
 ghost use Rattle.kinds.specs.Value.{value_number, value_words};
 ghost use Rattle.model.specs.Lists.{update_at};
@@ -17,7 +17,7 @@ ghost use Rattle.model.specs.Overlay.{slot_after};
 ghost use Rattle.archetype_store.specs.Row.{component_of, only};
 ghost use Rattle.entity_table.specs.Ids.{slot_at, lives_at, IsGranted, AreApart, settled};
 ghost use Rattle.archetype_store.specs.Slot.{cell_of};
-ghost use Rattle.archetype_store.specs.Layout.{IsLayoutOf};
+ghost use Rattle.archetype_store.specs.Layout.{IsLayoutOf, AreAllHome};
 ghost use Rattle.archetype_store.specs.View.{kinds_seen, entities_seen};
 ghost use Rattle.archetype_store.specs.Resources.{changed_of};
 ghost use Rattle.archetype_store.specs.Store.{empty_world, with_slots, with_slot, with_resource, at_clock, stamp_of};
@@ -35,7 +35,6 @@ use kinds::component::Component;
 use kinds::kind::Kind;
 use kinds::res::Res;
 use kinds::value::Value;
-use kinds::words::Words;
 use std::alloc::{AllocError, Global};
 use std::marker::Model;
 
@@ -63,7 +62,7 @@ impl Model for World {
 impl World {
     /// The world without entities, at this clock. Each resource is 0, changed at tick 1.
     pub fn new(alloc: Global, clock: Clock) -> Result<World, AllocError>
-        ensures { IfOk result (λ w. w.state ≡ empty_world clock) }
+        ensures { IfOk result (λ w. w ≡ record { state = empty_world clock; layout = [] }) }
     {
         // Tells that the clock stands at one of its ticks.
         let _now = clock.now();
@@ -86,6 +85,7 @@ impl World {
     pub fn next(&mut self) -> Result<Tick, ClockSpent>
         ensures ok { IfOk result (λ tick. tick ≡ self.old.state.clock + 1) }
         ensures moved { OnOk result (self.new.state ≡ at_clock (self.old.state.clock + 1) self.old.state) }
+        ensures layout { self.new.layout ≡ self.old.layout }
         ensures spent { IsErr result ↔ (self.old.state.clock ≡ last_tick) }
         ensures err { OnErr result (self.new ≡ self.old) }
     {
@@ -115,6 +115,7 @@ impl World {
         ensures each { IfOk result (λ granted. All (IsGranted self.new.state.slots) granted.items) }
         ensures apart { IfOk result (λ granted. AreApart granted.items) }
         ensures spent { IsErrOf result GrantFault.IdsSpent ↔ (ids.has_ids count self.old.state.slots ≡ false) }
+        ensures layout { self.new.layout ≡ self.old.layout }
         ensures err { OnErr result (self.new ≡ self.old) }
     {
         self.slots.grant(alloc, count)
@@ -123,7 +124,8 @@ impl World {
     /// Makes the entity of a granted id live, without components.
     pub fn spawn_at(&mut self, e: Entity)
         requires { IsGranted self.old.state.slots e }
-        ensures { self.new.state ≡ with_slot e.index (spawned e.generation) self.old.state }
+        ensures state { self.new.state ≡ with_slot e.index (spawned e.generation) self.old.state }
+        ensures layout { self.new.layout ≡ self.old.layout }
     {
         self.slots.spawn_at(e);
     }
@@ -133,24 +135,28 @@ impl World {
         requires used { All (IsGranted self.old.state.slots) used.now }
         requires unused { All (IsGranted self.old.state.slots) unused.now }
         requires apart { AreApart (used.now ++ unused.now) }
-        ensures { self.new.state ≡ with_slots (settled used.now unused.now) self.old.state }
+        ensures state { self.new.state ≡ with_slots (settled used.now unused.now) self.old.state }
+        ensures layout { self.new.layout ≡ self.old.layout }
     {
         self.slots.settle(used, unused);
     }
 
     /// Frees each index named that is still granted: it is vacant with one more generation, or retired where that can't grow.
     pub fn release(&mut self, ids: &[Entity])
-        ensures { self.new.state ≡ with_slots (commands.release ids.now) self.old.state }
+        ensures state { self.new.state ≡ with_slots (commands.release ids.now) self.old.state }
+        ensures layout { self.new.layout ≡ self.old.layout }
     {
         self.slots.release(ids);
     }
 
-    /// Frees the index of an entity, so that its id names nothing, and drops its components. It takes no memory.
+    /// Frees the index of an entity, so that its id names nothing, and drops its components. After an error nothing has
+    /// changed.
     pub fn despawn(&mut self, e: Entity) -> Result<(), StoreFault>
+        requires { AreAllHome self.old.layout }
         ensures ok { OnOk result (self.new.state ≡ with_slot e.index freed self.old.state) }
         ensures dead { IsErrOf result StoreFault.NotAlive ↔ (is_alive self.old.state.slots e ≡ false) }
-        ensures other { IsOkUnless result StoreFault.NotAlive }
         ensures err { OnErr result (self.new ≡ self.old) }
+        ensures home { AreAllHome self.new.layout }
     {
         self.slots.despawn(e)
     }
@@ -179,25 +185,30 @@ impl World {
         component: C,
         tick: Tick,
     ) -> Result<(), StoreFault>
-        requires { tick ≤ self.old.state.clock }
+        requires past { tick ≤ self.old.state.clock }
+        requires home { AreAllHome self.old.layout }
         ensures ok { OnOk result (self.new.state ≡ with_slot e.index (with_row (insert_component tick C.NUMBER (C.words component))) self.old.state) }
         ensures dead { IsErrOf result StoreFault.NotAlive ↔ (is_alive self.old.state.slots e ≡ false) }
         ensures err { OnErr result (self.new ≡ self.old) }
+        ensures home { AreAllHome self.new.layout }
     {
         self.slots.insert(e, component.into_value(), tick)
     }
 
     /// Removes the component of a kind of an entity. Where it has none, nothing changes. After an error nothing has changed.
     pub fn remove(&mut self, e: Entity, kind: Kind) -> Result<(), StoreFault>
+        requires { AreAllHome self.old.layout }
         ensures ok { OnOk result (self.new.state ≡ with_slot e.index (with_row (remove_component (kind_number kind))) self.old.state) }
         ensures dead { IsErrOf result StoreFault.NotAlive ↔ (is_alive self.old.state.slots e ≡ false) }
         ensures err { OnErr result (self.new ≡ self.old) }
+        ensures home { AreAllHome self.new.layout }
     {
         self.slots.remove(e, kind.number())
     }
 
     /// The component of this kind of an entity that lives.
     pub fn get<C: Component>(&self, e: Entity) -> Option<C>
+        requires { AreAllHome self.now.layout }
         ensures { option_map C.words result ≡ words_of (cell_of self.now.state.slots e C.NUMBER) }
     {
         match self.slots.find(e, C::NUMBER) {
@@ -210,11 +221,12 @@ impl World {
     pub fn has(&self, e: Entity, kind: Kind) -> bool
         ensures { result ≡ is_some (cell_of self.now.state.slots e (kind_number kind)) }
     {
-        self.slots.find(e, kind.number()).is_some()
+        self.slots.has(e, kind.number())
     }
 
     /// The stamps of a component of an entity that lives.
     pub fn stamp(&self, e: Entity, kind: Kind) -> Option<Stamp>
+        requires { AreAllHome self.now.layout }
         ensures { result ≡ option_map stamp_of (cell_of self.now.state.slots e (kind_number kind)) }
     {
         match self.slots.find(e, kind.number()) {
@@ -233,7 +245,8 @@ impl World {
     /// Writes a resource at a tick.
     pub fn set_res(&mut self, res: Res, value: i64, tick: Tick)
         requires { tick ≤ self.old.state.clock }
-        ensures { self.new.state ≡ with_resource (res_number res) value tick self.old.state }
+        ensures state { self.new.state ≡ with_resource (res_number res) value tick self.old.state }
+        ensures layout { self.new.layout ≡ self.old.layout }
     {
         self.resources.set(res, value, tick);
     }
@@ -254,7 +267,8 @@ impl World {
 
     /// The slot of an index.
     pub fn slot_at(&self, index: u32) -> Slot<'_>
-        requires { index < length self.now.state.slots }
+        requires within { index < length self.now.state.slots }
+        requires home { AreAllHome self.now.layout }
         ensures { result ≡ slot_at self.now.state.slots index }
     {
         match self.slots.get(index) {
@@ -265,29 +279,22 @@ impl World {
 
     /// The components of an index, in rising kinds: none unless an entity of it lives.
     pub fn components(&self, alloc: Global, index: u32) -> Result<Vec<StampedValue>, AllocError>
+        requires { AreAllHome self.now.layout }
         ensures { IfOk result (λ components. map component_of components.items ≡ row_at self.now.state.slots index) }
     {
         self.slots.components(alloc, index)
     }
 
-    /// Writes one component at a tick: its value and its changed stamp. A kind that the row doesn't have is not written.
-    pub fn write(&mut self, index: u32, value: Value, tick: Tick)
-        requires { tick ≤ self.old.state.clock }
-        ensures { self.new.state ≡ with_slot index (slot_after tick (only (value_number value) (value_words value))) self.old.state }
+    /// Writes one component at a tick: its value and its changed stamp. A kind that the row doesn't have is not written. Memory can be
+    /// wanting only where columns were read elsewhere too; then nothing has changed.
+    pub fn write(&mut self, index: u32, value: Value, tick: Tick) -> Result<(), AllocError>
+        requires past { tick ≤ self.old.state.clock }
+        requires home { AreAllHome self.old.layout }
+        ensures ok { OnOk result (self.new.state ≡ with_slot index (slot_after tick (only (value_number value) (value_words value))) self.old.state) }
+        ensures err { OnErr result (self.new ≡ self.old) }
+        ensures home { AreAllHome self.new.layout }
     {
-        let words = value.words();
-        self.write_words(index, value.kind(), &words, tick);
-    }
-
-    /// Writes the words of one component at a tick: its value and its changed stamp. A kind that the row doesn't have is not
-    /// written.
-    pub fn write_words(&mut self, index: u32, kind: Kind, words: &Words, tick: Tick)
-        requires width { length words.now ≡ widths (kind_number kind) }
-        requires tick { tick ≤ self.old.state.clock }
-        ensures { self.new.state ≡ with_slot index (slot_after tick (only (kind_number kind) words.now)) self.old.state }
-    {
-        self.slots
-            .write(index, Value::of(kind, words.as_slice()), tick);
+        self.slots.write(index, value, tick)
     }
 }
 

@@ -18,7 +18,7 @@ use Rattle.column_store.proofs.Kept.{all_take, kept-insert, kept-remove}
 
 -- ---- columns that are at home, or the table's alone
 
-both : (a b : Bool) → (a && b) ≡ true → (a ≡ true) × (b ≡ true)
+pub both : (a b : Bool) → (a && b) ≡ true → (a ≡ true) × (b ≡ true)
 both true b h = (refl, h)
 both false b h = absurd (cc)
 
