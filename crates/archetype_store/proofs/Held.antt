@@ -31,7 +31,7 @@ same_pair : (a b : ℕ) → ((a == a) && (b == b)) ≡ true
 same_pair a b = grind (arith, nat_tests)
 
 -- an id is itself
-same_self : (e : Entity) → is_same e e ≡ true
+pub same_self : (e : Entity) → is_same e e ≡ true
 same_self e = same_pair e.index e.generation
 
 -- the row that was put in is found

@@ -105,11 +105,11 @@ layout-append : (ts us : List TableValue) → layout_of (ts ++ us) ≡ layout_of
 layout-append [] us = refl
 layout-append (t ∷ ts) us = append_step (is_there t.rows) t ts us (layout-append ts us)
 
-no_rows : {A : Type 0} (f : TableRow → A) (rows : List TableRow) → (length (map f rows) == 0) ≡ true → is_there rows ≡ false
+pub no_rows : {A : Type 0} (f : TableRow → A) (rows : List TableRow) → (length (map f rows) == 0) ≡ true → is_there rows ≡ false
 no_rows f [] h = refl
 no_rows f (row ∷ rows) h = absurd (let e = eqb-true (length (map f (row ∷ rows))) 0 h in omega arith)
 
-some_rows : {A : Type 0} (f : TableRow → A) (rows : List TableRow) → (length (map f rows) == 0) ≡ false → is_there rows ≡ true
+pub some_rows : {A : Type 0} (f : TableRow → A) (rows : List TableRow) → (length (map f rows) == 0) ≡ false → is_there rows ≡ true
 some_rows f [] h = absurd (let e : true ≡ false = h in cc)
 some_rows f (row ∷ rows) h = refl
 

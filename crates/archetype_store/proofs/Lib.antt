@@ -10,3 +10,5 @@ pub mod Layouts
 pub mod Edits
 mod Worlds
 pub mod Standings
+pub mod Columns
+pub mod ColumnSlots

@@ -1,5 +1,5 @@
 -- Where columns stand: at home, the tables' alone, read elsewhere too.
-use Rattle.std.proofs.Common.{◌≡◌, ℕ, zero, suc, ◌<◌, Bool, true, false, cond, ◌==◌, ◌&&◌, List, [], ◌∷◌, length, get_or, map, Option, Some, None, is_some, refl, sym, ap, ap₂, subst, ◌∙◌, arith}
+use Rattle.std.proofs.Common.{◌≡◌, ℕ, zero, suc, ◌<◌, Bool, true, false, cond, ◌==◌, ◌&&◌, List, [], ◌∷◌, length, get_or, set, map, Option, Some, None, is_some, refl, sym, ap, ap₂, subst, ◌∙◌, arith}
 use Rattle.std.specs.List.{list_all, AllByRecursion}
 use Rattle.model.specs.Lists.{is_there, map_index}
 use Rattle.model.specs.State.{Component}
@@ -153,6 +153,13 @@ alike_bare [] (u ∷ us) h k = absurd h
 alike_bare (t ∷ ts) [] h k = absurd h
 alike_bare (t ∷ ts) (u ∷ us) h k = (λ none. homes_alike t u h.0 (k.0 (ap is_there (sym h.0.rows) ∙ none)), alike_bare ts us h.1 k.1)
 
+-- another table in the place of one that is alike
+pub alike_set : (ts : List TableValue) (t : ℕ) (u : TableValue) → IsAlike (table_at ts t) u → AreAllAlike ts (set ts t u)
+alike_set [] zero u h = tt
+alike_set [] (suc t) u h = tt
+alike_set (x ∷ xs) zero u h = (h, alike_self xs)
+alike_set (x ∷ xs) (suc t) u h = (record { kinds = refl; homes = refl; rows = refl }, alike_set xs t u h)
+
 alike_at : (ts us : List TableValue) (t : ℕ) → AreAllAlike ts us → IsAlike (table_at ts t) (table_at us t)
 alike_at [] [] t h = record { kinds = refl; homes = refl; rows = refl }
 alike_at [] (u ∷ us) t h = absurd h
@@ -186,7 +193,7 @@ alike_kinds (t ∷ ts) (u ∷ us) h = ap₂ ◌∷◌ h.0.kinds (alike_kinds ts 
 pub alike_same : (ts us : List TableValue) → AreAllAlike ts us → AreSame ts us
 alike_same ts us h = record { kinds = λ t. (alike_at ts us t h).kinds; rows = λ t. (alike_at ts us t h).rows; all_kinds = alike_kinds ts us h }
 
-shaped_kinds : (ts us : List TableValue) → map (λ (t : TableValue). t.kinds) us ≡ map (λ (t : TableValue). t.kinds) ts → AreShaped ts → AreShaped us
+pub shaped_kinds : (ts us : List TableValue) → map (λ (t : TableValue). t.kinds) us ≡ map (λ (t : TableValue). t.kinds) ts → AreShaped ts → AreShaped us
 shaped_kinds ts [] e h = tt
 shaped_kinds [] (u ∷ us) e h = absurd (cc)
 shaped_kinds (t ∷ ts) (u ∷ us) e h =
@@ -201,7 +208,7 @@ unlike_each ks (t ∷ ts) (u ∷ us) e h =
     let first : u.kinds ≡ t.kinds = cc in let rest : map (λ (t : TableValue). t.kinds) us ≡ map (λ (t : TableValue). t.kinds) ts = cc in
     (λ same. h.0 (same ∙ first), unlike_each ks ts us rest h.1)
 
-unlike_kinds : (ts us : List TableValue) → map (λ (t : TableValue). t.kinds) us ≡ map (λ (t : TableValue). t.kinds) ts → AreUnlike ts → AreUnlike us
+pub unlike_kinds : (ts us : List TableValue) → map (λ (t : TableValue). t.kinds) us ≡ map (λ (t : TableValue). t.kinds) ts → AreUnlike ts → AreUnlike us
 unlike_kinds ts [] e h = tt
 unlike_kinds [] (u ∷ us) e h = absurd (cc)
 unlike_kinds (t ∷ ts) (u ∷ us) e h =

@@ -53,7 +53,7 @@ value_width (value.Hidden c) = refl
 -- ---- worlds
 
 -- a world with other slots of the shape
-world-slots : (W : ℕ → ℕ) (w : World) (slots : List Slot) → AllByRecursion (IsSlot W w.clock) slots → length slots ≤ most_indices → IsWorld W w → IsWorld W (with_slots (λ _. slots) w)
+pub world-slots : (W : ℕ → ℕ) (w : World) (slots : List Slot) → AllByRecursion (IsSlot W w.clock) slots → length slots ≤ most_indices → IsWorld W w → IsWorld W (with_slots (λ _. slots) w)
 world-slots W w slots all few p = record {
   slots = all;
   few = few;

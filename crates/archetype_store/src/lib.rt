@@ -5,6 +5,7 @@ mod archetypes;
 mod components;
 pub mod fault;
 mod lay;
+mod lending;
 mod owning;
 mod places;
 mod resources;

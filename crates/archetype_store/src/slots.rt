@@ -1,6 +1,6 @@
 // The slots by index: the id book, and the rows of the entities that live.
 
-ghost use Rattle.std.specs.Prelude.{◌≡◌, ◌++◌, ◌≤◌, ◌<◌, ◌↔◌, ℕ, true, false, [], length, map, option_map, is_some, All, IsTrue, IfSome, IfNone, MatchOption, IfOk, OnOk, OnErr, IsErrOf};
+ghost use Rattle.std.specs.Prelude.{◌≡◌, ◌++◌, ◌≤◌, ◌<◌, ◌↔◌, ℕ, true, false, [], Some, length, map, option_map, is_some, All, IsTrue, IfSome, IfNone, MatchOption, IfOk, OnOk, OnErr, IsErrOf};
 ghost use Rattle.kinds.specs.Value.{value_number, value_words};
 ghost use Rattle.model.specs.Lists.{update_at};
 ghost use Rattle.model.specs.Rows.{row_at, insert_component, remove_component};
@@ -11,9 +11,12 @@ ghost use Rattle.model.specs.Overlay.{slot_after};
 ghost use Rattle.column_store.specs.Cells.{stamped_number};
 ghost use Rattle.entity_table.specs.Ids.{slot_at, lives_at, IsGranted, AreApart, settled};
 ghost use Rattle.archetype_store.specs.Row.{component_of, only};
-ghost use Rattle.archetype_store.specs.Slot.{cell_of};
+ghost use Rattle.std.specs.Arc.{arc_value};
+ghost use Rattle.kinds.specs.Kind.{kind_number};
+ghost use Rattle.archetype_store.specs.Slot.{cell_of, column_cells};
+ghost use Rattle.archetype_store.specs.Store.{slots_with};
 ghost use Rattle.archetype_store.specs.Archetypes.{row_of};
-ghost use Rattle.archetype_store.specs.Layout.{IsLayoutOf, AreAllHome};
+ghost use Rattle.archetype_store.specs.Layout.{archetype_at, column_home, with_home, IsLayoutOf, AreAllHome};
 ghost use Rattle.archetype_store.specs.View.{kinds_seen, entities_seen};
 
 use crate::archetypes::Archetypes;
@@ -21,13 +24,15 @@ use crate::fault::StoreFault;
 use crate::slot::Slot;
 use crate::tables::ArchetypeView;
 use change_ticks::clock::Tick;
-use column_store::stamped::StampedValue;
+use column_store::stamped::{StampedColumn, StampedValue};
 use entity_table::Entity;
 use entity_table::fault::GrantFault;
 use entity_table::table::EntityTable;
+use kinds::kind::Kind;
 use kinds::value::Value;
 use std::alloc::{AllocError, Global};
 use std::marker::Model;
+use std::sync::Arc;
 
 /// The slots, which contracts see as a list by index, and the archetypes that have entities. An index past the end is vacant at
 /// generation 1.
@@ -120,6 +125,62 @@ impl Slots {
             return false;
         }
         self.archetypes.has(e.index, number)
+    }
+
+    /// The column of a kind of an archetype, which is at home.
+    pub fn column(&self, archetype: usize, kind: Kind) -> &StampedColumn
+        requires { column_home (archetype_at self.now.layout archetype) (kind_number kind) ≡ Some true }
+        ensures kind { result.now.kind ≡ kind_number kind }
+        ensures cells { map (λ cell. Some cell) result.now.cells ≡ column_cells self.now.slots (archetype_at self.now.layout archetype).entities (kind_number kind) }
+    {
+        // Tells who lives.
+        self.archetypes.laid();
+        self.archetypes.column(archetype, kind)
+    }
+
+    /// Takes the column of a kind of an archetype, which is at home, until it comes home. After an error nothing has changed.
+    pub fn take_column(
+        &mut self,
+        alloc: Global,
+        archetype: usize,
+        kind: Kind,
+    ) -> Result<StampedColumn, AllocError>
+        requires { column_home (archetype_at self.old.layout archetype) (kind_number kind) ≡ Some true }
+        ensures kind { IfOk result (λ column. column.kind ≡ kind_number kind) }
+        ensures cells { IfOk result (λ column. map (λ cell. Some cell) column.cells ≡ column_cells self.old.slots (archetype_at self.old.layout archetype).entities (kind_number kind)) }
+        ensures away { OnOk result (self.new ≡ record self.old { layout = with_home false archetype (kind_number kind) self.old.layout }) }
+        ensures err { OnErr result (self.new ≡ self.old) }
+    {
+        // Tells who lives.
+        self.archetypes.laid();
+        self.archetypes.take_column(alloc, archetype, kind)
+    }
+
+    /// The column of a kind of an archetype, which is at home, to be read elsewhere too.
+    pub fn share_column(
+        &mut self,
+        alloc: Global,
+        archetype: usize,
+        kind: Kind,
+    ) -> Result<Arc<StampedColumn, Global>, AllocError>
+        requires { column_home (archetype_at self.old.layout archetype) (kind_number kind) ≡ Some true }
+        ensures kind { IfOk result (λ column. (arc_value column).kind ≡ kind_number kind) }
+        ensures cells { IfOk result (λ column. map (λ cell. Some cell) (arc_value column).cells ≡ column_cells self.old.slots (archetype_at self.old.layout archetype).entities (kind_number kind)) }
+        ensures same { self.new ≡ self.old }
+    {
+        // Tells who lives.
+        self.archetypes.laid();
+        self.archetypes.share_column(alloc, archetype, kind)
+    }
+
+    /// Puts a column that was taken back, with as many cells as the archetype has entities. It takes no memory.
+    pub fn put_column(&mut self, archetype: usize, column: StampedColumn)
+        requires away { column_home (archetype_at self.old.layout archetype) column.kind ≡ Some false }
+        requires same_length { length column.cells ≡ length (archetype_at self.old.layout archetype).entities }
+        ensures slots { self.new.slots ≡ slots_with (archetype_at self.old.layout archetype).entities column.kind column.cells self.old.slots }
+        ensures layout { self.new.layout ≡ with_home true archetype column.kind self.old.layout }
+    {
+        self.archetypes.put_column(archetype, column);
     }
 
     /// The archetypes that have entities.

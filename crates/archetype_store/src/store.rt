@@ -1,6 +1,6 @@
 // The world: entities with their components, resources and the clock.
 
-ghost use Rattle.std.specs.Prelude.{◌≡◌, ◌++◌, ◌+◌, ◌≤◌, ◌<◌, ◌↔◌, ℕ, true, false, [], length, map, option_map, is_some, All, IfSome, IfNone, IfOk, IsErr, OnOk, OnErr, IsErrOf};
+ghost use Rattle.std.specs.Prelude.{◌≡◌, ◌++◌, ◌+◌, ◌≤◌, ◌<◌, ◌↔◌, ℕ, true, false, [], Some, length, map, option_map, is_some, All, IfSome, IfNone, IfOk, IsErr, OnOk, OnErr, IsErrOf};
 ghost use Rattle.kinds.specs.Kind.{kind_number};
 ghost use Rattle.kinds.specs.Value.{value_number, value_words};
 ghost use Rattle.model.specs.Lists.{update_at};
@@ -16,11 +16,13 @@ ghost use Rattle.model.specs.Commands.{is_alive, spawned, freed, with_row};
 ghost use Rattle.model.specs.Overlay.{slot_after};
 ghost use Rattle.archetype_store.specs.Row.{component_of, only};
 ghost use Rattle.entity_table.specs.Ids.{slot_at, lives_at, IsGranted, AreApart, settled};
-ghost use Rattle.archetype_store.specs.Slot.{cell_of};
-ghost use Rattle.archetype_store.specs.Layout.{IsLayoutOf, AreAllHome};
+ghost use Rattle.std.specs.Arc.{arc_value};
+ghost use Rattle.std.specs.List.{AllByRecursion};
+ghost use Rattle.archetype_store.specs.Slot.{cell_of, column_cells};
+ghost use Rattle.archetype_store.specs.Layout.{archetype_at, column_home, with_home, IsLayoutOf, AreAllHome};
 ghost use Rattle.archetype_store.specs.View.{kinds_seen, entities_seen};
 ghost use Rattle.archetype_store.specs.Resources.{changed_of};
-ghost use Rattle.archetype_store.specs.Store.{empty_world, with_slots, with_slot, with_resource, at_clock, stamp_of};
+ghost use Rattle.archetype_store.specs.Store.{empty_world, with_slots, with_slot, with_resource, at_clock, stamp_of, homed_in, IsPast};
 
 use crate::fault::{GrantFault, StoreFault};
 use crate::resources::Resources;
@@ -29,7 +31,7 @@ use crate::slots::Slots;
 pub use crate::tables::ArchetypeView;
 use change_ticks::clock::{Clock, ClockSpent, Tick};
 use change_ticks::stamp::Stamp;
-use column_store::stamped::StampedValue;
+use column_store::stamped::{StampedColumn, StampedValue};
 use entity_table::Entity;
 use kinds::component::Component;
 use kinds::kind::Kind;
@@ -37,6 +39,7 @@ use kinds::res::Res;
 use kinds::value::Value;
 use std::alloc::{AllocError, Global};
 use std::marker::Model;
+use std::sync::Arc;
 
 /// The world. Contracts see its state (slots by index, resources by number, the clock) and beside it how components are laid out: the
 /// archetypes that have entities.
@@ -98,6 +101,59 @@ impl World {
         ensures entities { IfOk result (λ views. map entities_seen views.items ≡ map (λ a. a.entities) self.now.layout) }
     {
         self.slots.archetypes(alloc)
+    }
+
+    /// The column of a kind of the archetype of a number, which is at home. Its components are those of the archetype's entities, in order.
+    pub fn column(&self, archetype: usize, kind: Kind) -> &StampedColumn
+        requires { column_home (archetype_at self.now.layout archetype) (kind_number kind) ≡ Some true }
+        ensures kind { result.now.kind ≡ kind_number kind }
+        ensures cells { map (λ cell. Some cell) result.now.cells ≡ column_cells self.now.state.slots (archetype_at self.now.layout archetype).entities (kind_number kind) }
+    {
+        self.slots.column(archetype, kind)
+    }
+
+    /// Takes the column of a kind of the archetype of a number out of the world until it comes home. Meanwhile the world is as if it was
+    /// there. A column that is still read elsewhere is copied for it. After an error nothing has changed.
+    pub fn take_column(
+        &mut self,
+        alloc: Global,
+        archetype: usize,
+        kind: Kind,
+    ) -> Result<StampedColumn, AllocError>
+        requires { column_home (archetype_at self.old.layout archetype) (kind_number kind) ≡ Some true }
+        ensures kind { IfOk result (λ column. column.kind ≡ kind_number kind) }
+        ensures cells { IfOk result (λ column. map (λ cell. Some cell) column.cells ≡ column_cells self.old.state.slots (archetype_at self.old.layout archetype).entities (kind_number kind)) }
+        ensures away { OnOk result (self.new ≡ record { state = self.old.state; layout = with_home false archetype (kind_number kind) self.old.layout }) }
+        ensures err { OnErr result (self.new ≡ self.old) }
+    {
+        self.slots.take_column(alloc, archetype, kind)
+    }
+
+    /// The column of a kind of the archetype of a number, to be read elsewhere too. It stays at home, and no row is copied.
+    pub fn share_column(
+        &mut self,
+        alloc: Global,
+        archetype: usize,
+        kind: Kind,
+    ) -> Result<Arc<StampedColumn, Global>, AllocError>
+        requires { column_home (archetype_at self.old.layout archetype) (kind_number kind) ≡ Some true }
+        ensures kind { IfOk result (λ column. (arc_value column).kind ≡ kind_number kind) }
+        ensures cells { IfOk result (λ column. map (λ cell. Some cell) (arc_value column).cells ≡ column_cells self.old.state.slots (archetype_at self.old.layout archetype).entities (kind_number kind)) }
+        ensures same { self.new ≡ self.old }
+    {
+        self.slots.share_column(alloc, archetype, kind)
+    }
+
+    /// Puts a column that was taken back: each entity of its archetype has the component beside it. It takes no memory.
+    pub fn put_column(&mut self, archetype: usize, column: StampedColumn)
+        requires away { column_home (archetype_at self.old.layout archetype) column.kind ≡ Some false }
+        requires same_length { length column.cells ≡ length (archetype_at self.old.layout archetype).entities }
+        requires past { AllByRecursion (IsPast self.old.state.clock) column.cells }
+        ensures { self.new ≡ homed_in self.old archetype column.kind column.cells }
+    {
+        // Tells that the components have the fields of their kind.
+        column.law();
+        self.slots.put_column(archetype, column);
     }
 
     /// The layout is that of the state: who is in an archetype lives with just its kinds, who lives with components is in one, none is
