@@ -19,7 +19,7 @@ use Rattle.archetype_store.specs.Archetypes.{ArchetypesValue, row_of, holder_of,
 use Rattle.archetype_store.specs.Slot.{cell_of, column_cells}
 use Rattle.archetype_store.specs.Slots.{HasRows}
 use Rattle.archetype_store.specs.Store.{with_slots, slots_with, IsPast}
-use Rattle.archetype_store.proofs.Columns.{row_with_kinds}
+use Rattle.archetype_store.proofs.ArchetypeColumns.{row_with_kinds}
 use Rattle.archetype_store.proofs.Held.{same_self}
 use Rattle.archetype_store.proofs.RowEdits.{below_from_rising, rising_from_below}
 use Rattle.archetype_store.proofs.SlotRows.{row_at_slots}

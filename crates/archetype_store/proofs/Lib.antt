@@ -10,5 +10,6 @@ pub mod Layouts
 pub mod Edits
 mod Worlds
 pub mod Standings
-pub mod Columns
+pub mod ArchetypeColumns
 pub mod ColumnSlots
+pub mod ColumnOverlays

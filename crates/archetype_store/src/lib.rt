@@ -2,8 +2,10 @@
 #![tactic(auto)]
 
 mod archetypes;
+pub mod columns;
 mod components;
 pub mod fault;
+pub mod laws;
 mod lay;
 mod lending;
 mod owning;

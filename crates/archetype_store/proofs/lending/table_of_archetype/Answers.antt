@@ -1,7 +1,7 @@
 use Rattle.std.proofs.Common.{◌<◌, sym, ap, ◌∙◌, length, ◌==◌, ◌≡◌, arith}
 use Rattle.column_store.specs.Table.{TableRow}
 use Rattle.archetype_store.proofs.Layouts.{no_rows, some_rows}
-use Rattle.archetype_store.proofs.Columns.{number_first, table_passed, table_counted, table_found, table_past}
+use Rattle.archetype_store.proofs.ArchetypeColumns.{number_first, table_passed, table_counted, table_found, table_past}
 use Rattle.archetype_store.proofs.lending.table_of_archetype.Goals as goal
 
 pub loop-t-init : goal.loop-t-init

@@ -9,7 +9,7 @@ use Rattle.archetype_store.specs.Layout.{layout_of, archetype_at, column_home, w
 use Rattle.archetype_store.specs.Tables.{IsTableOf}
 use Rattle.archetype_store.specs.Archetypes.{ArchetypesValue, archetypes_of, row_cells, IsFilled}
 use Rattle.archetype_store.proofs.Standings.{alike_value, alike_stored}
-use Rattle.archetype_store.proofs.Columns.{home_there, away_there, entities_there, no_column, column_seen, stored_lent, value_lent, stored_homed, value_homed}
+use Rattle.archetype_store.proofs.ArchetypeColumns.{home_there, away_there, entities_there, no_column, column_seen, stored_lent, value_lent, stored_homed, value_homed}
 use Rattle.archetype_store.proofs.archetypes.Archetypes.share_column.Goals as goal
 
 pub unreachable-requires : goal.unreachable-requires
