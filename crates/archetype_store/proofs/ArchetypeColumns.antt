@@ -1,11 +1,11 @@
 -- Columns of archetypes: which table has them, what they hold, and what is left where one leaves or comes home.
-use Rattle.std.proofs.Common.{◌≡◌, ℕ, zero, suc, ◌+◌, ◌-◌, ◌<◌, ◌≤◌, Bool, true, false, cond, ◌==◌, ◌&&◌, ◌||◌, ◌⊎◌, inl, inr, List, [], ◌∷◌, length, get_or, set, take, map, Option, Some, None, option_map, option_and_then, is_some, Result, Ok, Err, OnOk, OnErr, refl, sym, ap, ap₂, subst, ◌∙◌, arith, add-one}
-use Rattle.std.specs.List.{list_all, list_any, AllByRecursion}
+use Rattle.std.proofs.Common.{◌≡◌, ℕ, zero, suc, ◌+◌, ◌-◌, ◌<◌, ◌≤◌, Bool, true, false, cond, ◌==◌, ◌&&◌, ◌⊎◌, inl, inr, List, [], ◌∷◌, length, get_or, set, take, map, Option, Some, None, option_map, is_some, Result, Ok, Err, OnOk, OnErr, refl, sym, ap, ap₂, subst, ◌∙◌, arith, add-one}
+use Rattle.std.specs.List.{list_all, AllByRecursion}
 use Rattle.std.proofs.Math.Seq.{map-set_same}
 use Rattle.std.proofs.lemmas.Bool.{cases_eq, and_parts, eqb-true, eq-eqb, ne_eqb}
 use Rattle.std.proofs.lemmas.Bool.Decides.{nat_tests}
 use Rattle.std.proofs.lemmas.List.{get_or-set_same, get_or-set_other, get_or_past, get_or_default}
-use Rattle.model.specs.Lists.{is_there, update_at, map_index, IsIn}
+use Rattle.model.specs.Lists.{is_there, update_at, IsIn}
 use Rattle.model.specs.State.{Cell, Component}
 use Rattle.model.specs.Rows.{cell_at}
 use Rattle.model.specs.declared.entities.Entity.{Entity}
@@ -14,16 +14,14 @@ use Rattle.column_store.specs.Column.{ColumnCells}
 use Rattle.column_store.specs.Kinds.{AreBelow, at_kind, update_kind}
 use Rattle.column_store.specs.Order.{is_before, is_same, AreRising}
 use Rattle.column_store.specs.Components.{components_in, components_of}
-use Rattle.column_store.specs.Table.{Standing, TableRow, TableValue, is_home, standing_of, empty_table, row_of as row_in_table, with_cell_at, cell_of_kind, kind_cells, filled_rows, lent, homed, IsHome}
+use Rattle.column_store.specs.Table.{Standing, TableRow, TableValue, is_home, standing_of, empty_table, row_of as row_in_table, with_cell_at, cell_of_kind, filled_rows, lent, homed, IsHome}
 use Rattle.column_store.specs.Table.Standing.{Owned, Shared, Away}
 use Rattle.column_store.proofs.Edited.{both}
-use Rattle.column_store.proofs.Made.{same_entity}
-use Rattle.column_store.proofs.Rising.{before_apart, after_apart}
-use Rattle.column_store.proofs.Rows.{row_of-no_entity}
+use Rattle.column_store.proofs.Rising.{before_apart}
 use Rattle.column_store.proofs.TheirComponents.{cells_are_theirs}
 use Rattle.archetype_store.specs.declared.places.Place.{Place}
 use Rattle.archetype_store.specs.Layout.{Archetype, archetype_of, layout_of, archetype_at, column_home, with_column, with_home}
-use Rattle.archetype_store.specs.Tables.{table_at, kinds_at, held_in, held_at, row_or_none, is_unshared, cells_at, number_of, AreUnshared, AreBareHome, IsTableOf}
+use Rattle.archetype_store.specs.Tables.{table_at, kinds_at, held_in, held_at, row_or_none, is_unshared, cells_at, number_of, AreUnshared, IsTableOf}
 use Rattle.archetype_store.specs.Archetypes.{ArchetypesValue, archetypes_of, row_of, row_in, holder_of, holder_in, place_of, is_place, row_cells, cell_for, cell_held, row_with, IsOfKinds, IsStored, IsFilled, AreArchetypes}
 use Rattle.archetype_store.proofs.Held.{same_self, shape_at}
 use Rattle.archetype_store.proofs.Laid.{row_seen, holder_seen, not_elsewhere}

@@ -1,11 +1,10 @@
 -- A column that comes home is a write of each of its entities' cells.
-use Rattle.std.proofs.Common.{◌≡◌, ℕ, zero, suc, ℤ, ◌<◌, Bool, true, false, cond, ◌==◌, ◌&&◌, ◌||◌, ◌⊎◌, inl, inr, List, [], ◌∷◌, length, get_or, map, Option, Some, None, option_map, refl, sym, ap, ap₂, subst, ◌∙◌, arith}
+use Rattle.std.proofs.Common.{◌≡◌, ℕ, zero, suc, ℤ, ◌<◌, Bool, true, false, cond, ◌==◌, ◌&&◌, ◌||◌, List, [], ◌∷◌, get_or, map, Option, Some, None, option_map, refl, sym, ap, ap₂, subst, ◌∙◌}
 use Rattle.std.specs.List.{list_any, AllByRecursion}
-use Rattle.std.proofs.lemmas.Bool.{and_parts, eqb-true, eq-eqb}
-use Rattle.std.proofs.lemmas.Bool.Decides.{nat_tests}
-use Rattle.model.specs.Lists.{map_index, update_at, IsIn}
+use Rattle.std.proofs.lemmas.Bool.{and_parts, eqb-true}
+use Rattle.model.specs.Lists.{map_index}
 use Rattle.model.specs.State.{Cell, Component, Slot, fresh_slot, is_living}
-use Rattle.model.specs.Rows.{row_at, cell_at, IsRising}
+use Rattle.model.specs.Rows.{cell_at, IsRising}
 use Rattle.model.specs.Commands.{is_alive, with_row}
 use Rattle.model.specs.Overlay.{cell_after, component_after, row_after, slot_after, slots_after}
 use Rattle.model.specs.Shape.{IsSlot, IsWorld}
@@ -13,11 +12,10 @@ use Rattle.model.specs.declared.entities.Entity.{Entity}
 use Rattle.model.proofs.Each.{each-weaker}
 use Rattle.model.proofs.Lists.{IsIn_from_any, list_any-IsIn, map_index-same, map_index-map_index, get_or-update_at-view}
 use Rattle.kinds.specs.Components.{widths}
-use Rattle.column_store.specs.Kinds.{update_kind}
 use Rattle.column_store.specs.Order.{is_same}
 use Rattle.column_store.proofs.Made.{same_entity}
 use Rattle.archetype_store.specs.declared.columns.TakenColumn.{TakenColumn}
-use Rattle.archetype_store.specs.Layout.{Archetype, archetype_at, is_in_archetype, with_column, with_home, has_index, IsLayoutOf}
+use Rattle.archetype_store.specs.Layout.{Archetype, archetype_at, with_column, with_home, has_index, IsLayoutOf}
 use Rattle.archetype_store.specs.Archetypes.{cell_for, row_with}
 use Rattle.archetype_store.specs.Slot.{cell_of}
 use Rattle.archetype_store.specs.Store.{StoreValue, with_slots, slots_with}

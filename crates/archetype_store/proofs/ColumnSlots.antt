@@ -1,9 +1,8 @@
 -- Columns of slots and of worlds.
-use Rattle.std.proofs.Common.{◌≡◌, ℕ, ◌<◌, ◌≤◌, Bool, true, false, cond, ◌==◌, ◌&&◌, ◌⊎◌, inl, inr, List, [], ◌∷◌, length, get_or, map, Option, Some, None, refl, sym, ap, ap₂, subst, ◌∙◌, arith}
-use Rattle.std.specs.List.{list_any, AllByRecursion}
+use Rattle.std.proofs.Common.{◌≡◌, ℕ, Bool, true, false, cond, ◌==◌, List, [], ◌∷◌, length, Option, Some, None, refl, sym, ap, subst, ◌∙◌, arith}
+use Rattle.std.specs.List.{AllByRecursion}
 use Rattle.std.proofs.lemmas.Bool.{and_parts, eqb-true}
-use Rattle.model.specs.Lists.{map_index}
-use Rattle.model.specs.State.{Cell, Component, Slot, World, fresh_slot, is_living}
+use Rattle.model.specs.State.{Cell, Component, Slot, World, fresh_slot}
 use Rattle.model.specs.Rows.{row_at, cell_at, IsRising}
 use Rattle.model.specs.Commands.{is_alive, with_row}
 use Rattle.model.specs.Shape.{IsComponent, IsSlot, IsWorld}
@@ -14,7 +13,7 @@ use Rattle.column_store.specs.Order.{is_same}
 use Rattle.entity_table.specs.Ids.{slot_at, lives_at}
 use Rattle.entity_table.specs.Rows.{with_rows}
 use Rattle.entity_table.proofs.WithRows.{is_alive-with_rows}
-use Rattle.archetype_store.specs.Layout.{Archetype, archetype_at, is_in_archetype}
+use Rattle.archetype_store.specs.Layout.{archetype_at, is_in_archetype}
 use Rattle.archetype_store.specs.Archetypes.{ArchetypesValue, row_of, holder_of, row_cells, cell_for, cell_held, row_with, IsFilled, IsLaidOut}
 use Rattle.archetype_store.specs.Slot.{cell_of, column_cells}
 use Rattle.archetype_store.specs.Slots.{HasRows}

@@ -13,3 +13,4 @@ pub mod Standings
 pub mod ArchetypeColumns
 pub mod ColumnSlots
 pub mod ColumnOverlays
+pub mod TakenColumns

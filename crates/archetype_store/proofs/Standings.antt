@@ -1,14 +1,13 @@
 -- Where columns stand: at home, the tables' alone, read elsewhere too.
 use Rattle.std.proofs.Common.{◌≡◌, ℕ, zero, suc, ◌<◌, Bool, true, false, cond, ◌==◌, ◌&&◌, List, [], ◌∷◌, length, get_or, set, map, Option, Some, None, is_some, refl, sym, ap, ap₂, subst, ◌∙◌, arith}
 use Rattle.std.specs.List.{list_all, AllByRecursion}
-use Rattle.model.specs.Lists.{is_there, map_index}
+use Rattle.model.specs.Lists.{is_there}
 use Rattle.model.specs.State.{Component}
 use Rattle.model.specs.declared.entities.Entity.{Entity}
 use Rattle.model.proofs.Lists.{map_index-same}
 use Rattle.column_store.specs.Kinds.{at_kind, AreBelow}
-use Rattle.column_store.specs.Table.{Standing, TableRow, TableValue, is_home, is_owned, is_not_away, is_own_if, standing_of, empty_table, row_of as row_in_table, IsAlike}
+use Rattle.column_store.specs.Table.{Standing, TableRow, TableValue, is_home, is_owned, is_not_away, is_own_if, standing_of, IsAlike}
 use Rattle.column_store.specs.Table.Standing.{Owned, Shared, Away}
-use Rattle.column_store.specs.Components.{components_of}
 use Rattle.column_store.proofs.Edited.{both, owned_home}
 use Rattle.archetype_store.specs.declared.places.Place.{Place}
 use Rattle.archetype_store.specs.Layout.{Archetype, archetype_of, layout_of, AreAllHome}

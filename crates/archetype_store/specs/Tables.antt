@@ -9,7 +9,7 @@ use Rattle.column_store.specs.Order.{is_same}
 use Rattle.column_store.specs.Components.{components_of}
 use Rattle.archetype_store.specs.Layout.{layout_of, IsShape}
 use Rattle.column_store.specs.Table.{Standing, TableValue, is_home, is_owned, empty_table, row_of, kind_cells, IsAlike}
-use Rattle.column_store.specs.Table.Standing.{Owned, Shared, Away}
+use Rattle.column_store.specs.Table.Standing.{Shared}
 
 -- the table of a number: past the end one without kinds
 abbrev pub table_at : List TableValue → ℕ → TableValue

@@ -2,7 +2,7 @@
 #![tactic(auto)]
 
 mod archetypes;
-pub mod columns;
+mod columns;
 mod components;
 pub mod fault;
 pub mod laws;

@@ -20,6 +20,7 @@ ghost use Rattle.std.specs.Arc.{arc_value};
 ghost use Rattle.std.specs.List.{AllByRecursion};
 ghost use Rattle.archetype_store.specs.Slot.{cell_of, column_cells};
 ghost use Rattle.archetype_store.specs.Layout.{archetype_at, column_home, with_home, IsLayoutOf, AreAllHome};
+ghost use Rattle.archetype_store.specs.Lending.{CanTake, CanShare, CanComeHome, AreTaken, AreShared, all_away, all_home};
 ghost use Rattle.archetype_store.specs.View.{kinds_seen, entities_seen};
 ghost use Rattle.archetype_store.specs.Resources.{changed_of};
 ghost use Rattle.archetype_store.specs.Store.{empty_world, with_slots, with_slot, with_resource, at_clock, stamp_of, homed_in, IsPast};
@@ -28,6 +29,7 @@ use crate::fault::{GrantFault, StoreFault};
 use crate::resources::Resources;
 use crate::slot::Slot;
 use crate::slots::Slots;
+pub use crate::columns::{ColumnAt, SharedColumn, TakenColumn};
 pub use crate::tables::ArchetypeView;
 use change_ticks::clock::{Clock, ClockSpent, Tick};
 use change_ticks::stamp::Stamp;
@@ -154,6 +156,67 @@ impl World {
         // Tells that the components have the fields of their kind.
         column.law();
         self.slots.put_column(archetype, column);
+    }
+
+    /// Takes columns out of the world, to be written, until they come home. Meanwhile the world is as if they were there. No row is
+    /// touched, but a column that is still read elsewhere is copied. After an error nothing has changed.
+    pub fn take_written(
+        &mut self,
+        alloc: Global,
+        columns: &[ColumnAt],
+    ) -> Result<Vec<TakenColumn>, AllocError>
+        requires { CanTake self.old.layout columns.now }
+        ensures taken { IfOk result (λ taken. AreTaken self.old.state.slots self.old.layout columns.now taken.items) }
+        ensures away { OnOk result (self.new ≡ record { state = self.old.state; layout = all_away columns.now self.old.layout }) }
+        ensures err { OnErr result (self.new ≡ self.old) }
+    {
+        // Tell how the layout is that of the state, and that no stamp is above the clock.
+        self.laid();
+        let _now = self.now();
+        let mut taken = Vec::with_capacity(alloc, columns.len())?;
+        for at in columns {
+            match self.take_column(alloc, at.archetype, at.kind) {
+                Ok(column) => taken.push_reserved(TakenColumn {
+                    archetype: at.archetype,
+                    column,
+                }),
+                Err(_) => {
+                    self.put_back(taken);
+                    return Err(AllocError);
+                }
+            }
+        }
+        Ok(taken)
+    }
+
+    /// Columns of the world, to be read elsewhere too. They stay at home, and no row is copied.
+    pub fn share_read(
+        &mut self,
+        alloc: Global,
+        columns: &[ColumnAt],
+    ) -> Result<Vec<SharedColumn>, AllocError>
+        requires { CanShare self.old.layout columns.now }
+        ensures shared { IfOk result (λ shared. AreShared self.old.state.slots self.old.layout columns.now shared.items) }
+        ensures same { self.new ≡ self.old }
+    {
+        let mut shared = Vec::with_capacity(alloc, columns.len())?;
+        for at in columns {
+            let column = self.share_column(alloc, at.archetype, at.kind)?;
+            let archetype = at.archetype;
+            shared.push_reserved(SharedColumn { archetype, column });
+        }
+        Ok(shared)
+    }
+
+    /// Puts columns that were taken back: each entity of their archetypes has the components beside it. It takes no memory.
+    pub fn put_back(&mut self, columns: Vec<TakenColumn>)
+        requires { CanComeHome columns.items self.old }
+        ensures { self.new ≡ all_home columns.items self.old }
+    {
+        let mut columns = columns;
+        while let Some(taken) = columns.pop() {
+            self.put_column(taken.archetype, taken.column);
+        }
     }
 
     /// The layout is that of the state: who is in an archetype lives with just its kinds, who lives with components is in one, none is

@@ -1,4 +1,4 @@
-use Rattle.std.proofs.Common.{◌<◌, sym, ap, ◌∙◌, length, ◌==◌, ◌≡◌, arith}
+use Rattle.std.proofs.Common.{◌<◌, sym, ap, ◌∙◌, length, ◌==◌, arith}
 use Rattle.column_store.specs.Table.{TableRow}
 use Rattle.archetype_store.proofs.Layouts.{no_rows, some_rows}
 use Rattle.archetype_store.proofs.ArchetypeColumns.{number_first, table_passed, table_counted, table_found, table_past}

@@ -1,5 +1,4 @@
-use Rattle.std.proofs.Common.{◌≡◌, rules}
-use Rattle.std.proofs.lemmas.Result.{on_ok_weaker}
+use Rattle.std.proofs.Common.{rules}
 use Rattle.archetype_store.proofs.Standings.{alike_self, unshared_are_owned, owned_are_unshared}
 use Rattle.archetype_store.proofs.owning.own_all.Goals as goal
 

@@ -15,6 +15,7 @@ loop-left-init c =
     record {
       left = omega arith;
       laid = laid-none c.args.tick (at_index c.args.index (row_words terms cells (length cells))) c.args.world.now.state (at_index-none c.args.index (row_words terms cells (length cells)) (λ k. row_words-end terms cells (length cells) k refl));
+      home = c.requires.home;
     }
 
 pub loop-left-preserved : goal.loop-left-preserved
@@ -28,6 +29,7 @@ loop-left-preserved c =
     record {
       left = (let b = c.loop-left.invariant.left in omega arith);
       laid = c.loop-left.invariant.laid ∙ ap (λ f. with_slots c.args.world.now.state (slots_after c.args.tick (at_index c.args.index f) c.args.world.now.state.slots)) (sym same);
+      home = c.loop-left.invariant.home;
     }
 
 pub loop-left-preserved-in-Some : goal.loop-left-preserved-in-Some
@@ -46,5 +48,6 @@ loop-left-preserved-in-Some c =
           (at_index-more c.args.index (row_words terms cells (n - 1)) one (row_words terms cells n)
           (λ k. row_words-Some terms cells (n - 1) k None v here c.requires.written c.in-Some.is ∙ ap (λ m. first_some (one k) (row_words terms cells m k)) next))
           c.loop-left.invariant.laid
-          (c.write.ensures ∙ ap (with_slots c.loop-left.world.state) (write-at_index c.args.tick c.args.index one c.loop-left.world.state.slots));
+          (c.in_ok-write.ensures.ok ∙ ap (with_slots c.loop-left.world.state) (write-at_index c.args.tick c.args.index one c.loop-left.world.state.slots));
+      home = c.in_ok-write.ensures.home;
     }

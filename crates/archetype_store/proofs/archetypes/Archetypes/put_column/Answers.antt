@@ -1,17 +1,10 @@
-use Rattle.std.proofs.Common.{◌≡◌, ◌≤◌, true, false, length, set, map, Some, Option, List, IfOk, OnOk, OnErr, MatchOption, sym, ap, ap₂, subst, ◌∙◌}
-use Rattle.std.specs.Arc.{arc_value}
-use Rattle.std.proofs.lemmas.Result.{on_ok_weaker, on_err_weaker, IfOk-weaker}
-use Rattle.kinds.specs.Kind.{kind_number}
-use Rattle.model.specs.State.{Cell}
-use Rattle.model.specs.declared.entities.Entity.{Entity}
-use Rattle.column_store.specs.Order.{AreRising}
+use Rattle.std.proofs.Common.{◌≡◌, ◌≤◌, false, length, set, Some, sym, ap, subst, ◌∙◌}
 use Rattle.std.proofs.lemmas.List.{length-map}
 use Rattle.column_store.specs.Table.{TableRow, homed}
-use Rattle.archetype_store.specs.Layout.{layout_of, archetype_at, column_home, with_home}
+use Rattle.archetype_store.specs.Layout.{layout_of, archetype_at, column_home}
 use Rattle.archetype_store.specs.Tables.{table_at, IsTableOf}
-use Rattle.archetype_store.specs.Archetypes.{ArchetypesValue, archetypes_of, row_cells, IsFilled}
-use Rattle.archetype_store.proofs.Standings.{alike_value, alike_stored}
-use Rattle.archetype_store.proofs.ArchetypeColumns.{home_there, away_there, entities_there, no_column, column_seen, stored_lent, value_lent, stored_homed, value_homed}
+use Rattle.archetype_store.specs.Archetypes.{ArchetypesValue, archetypes_of, IsFilled}
+use Rattle.archetype_store.proofs.ArchetypeColumns.{away_there, entities_there, no_column, stored_homed, value_homed}
 use Rattle.archetype_store.proofs.archetypes.Archetypes.put_column.Goals as goal
 
 pub unreachable-requires : goal.unreachable-requires

@@ -1,16 +1,13 @@
-use Rattle.std.proofs.Common.{◌≡◌, List, OnOk, OnErr, sym, ap, subst, ◌∙◌}
-use Rattle.std.proofs.lemmas.Result.{on_ok_weaker, on_err_weaker}
+use Rattle.std.proofs.Common.{List, OnErr, sym, subst}
 use Rattle.kinds.specs.Value.{value_number, value_words}
 use Rattle.model.specs.State.{Component}
-use Rattle.model.specs.Rows.{insert_component, remove_component}
 use Rattle.model.specs.Overlay.{row_after}
 use Rattle.archetype_store.specs.Row.{only}
 use Rattle.archetype_store.specs.Layout.{AreAllHome}
-use Rattle.archetype_store.specs.Tables.{AreHome}
 use Rattle.archetype_store.specs.Archetypes.{ArchetypesValue, AreArchetypes, archetypes_of, row_of, place_of, row_in, AreAlike, HasRow}
 use Rattle.archetype_store.proofs.Laid.{row_seen}
-use Rattle.archetype_store.proofs.Moves.{alike_trans, reached_alike, on_err_from}
-use Rattle.archetype_store.proofs.Standings.{home_tables, alike_value, value_alike, alike_whole, alike_stored, alike_all_home, owned_stored, owned_layout, reached_whole, moved_from}
+use Rattle.archetype_store.proofs.Moves.{on_err_from}
+use Rattle.archetype_store.proofs.Standings.{home_tables, alike_value, value_alike, alike_whole, alike_stored, alike_all_home, owned_stored, owned_layout, moved_from}
 use Rattle.archetype_store.proofs.archetypes.Archetypes.write.Goals as goal
 
 pub own_all-requires-clause-home : goal.own_all-requires-clause-home

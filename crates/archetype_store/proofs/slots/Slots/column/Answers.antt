@@ -1,12 +1,9 @@
-use Rattle.std.proofs.Common.{◌≡◌, map, Some, IfOk, sym, ap, subst, ◌∙◌}
-use Rattle.std.specs.Arc.{arc_value}
-use Rattle.std.proofs.lemmas.Result.{IfOk-weaker}
+use Rattle.std.proofs.Common.{ap, ◌∙◌}
 use Rattle.kinds.specs.Kind.{kind_number}
 use Rattle.archetype_store.specs.Layout.{archetype_at}
 use Rattle.archetype_store.specs.Slot.{column_cells}
 use Rattle.archetype_store.specs.Slots.{SlotsValue}
-use Rattle.archetype_store.proofs.Layouts.{slots_laid}
-use Rattle.archetype_store.proofs.ColumnSlots.{cells_seen, rows_homed, slots_homed}
+use Rattle.archetype_store.proofs.ColumnSlots.{cells_seen}
 use Rattle.archetype_store.proofs.slots.Slots.column.Goals as goal
 
 pub returns-clause-cells : goal.returns-clause-cells

@@ -1,16 +1,11 @@
-use Rattle.std.proofs.Common.{◌≡◌, map, Some, IfOk, sym, ap, subst, ◌∙◌}
-use Rattle.std.specs.Arc.{arc_value}
-use Rattle.std.proofs.lemmas.Result.{IfOk-weaker}
-use Rattle.kinds.specs.Kind.{kind_number}
+use Rattle.std.proofs.Common.{◌≡◌, ap, subst, ◌∙◌}
 use Rattle.std.proofs.Common.{true}
 use Rattle.entity_table.specs.Rows.{with_rows}
 use Rattle.archetype_store.specs.Archetypes.{row_of}
 use Rattle.archetype_store.specs.Store.{slots_with}
 use Rattle.archetype_store.specs.Layout.{archetype_at, with_home}
-use Rattle.archetype_store.specs.Slot.{column_cells}
 use Rattle.archetype_store.specs.Slots.{SlotsValue}
-use Rattle.archetype_store.proofs.Layouts.{slots_laid}
-use Rattle.archetype_store.proofs.ColumnSlots.{cells_seen, rows_homed, slots_homed}
+use Rattle.archetype_store.proofs.ColumnSlots.{rows_homed, slots_homed}
 use Rattle.archetype_store.proofs.slots.Slots.put_column.Goals as goal
 
 pub invariant_of-self : goal.invariant_of-self

@@ -1,4 +1,4 @@
-use Rattle.std.proofs.Common.{◌≡◌, ap, ap₂, subst, ◌∙◌, sym}
+use Rattle.std.proofs.Common.{ap, ap₂, subst, ◌∙◌, sym}
 use Rattle.std.specs.List.{AllByRecursion}
 use Rattle.kinds.specs.Components.{widths}
 use Rattle.model.specs.State.{World}

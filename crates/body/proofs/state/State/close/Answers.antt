@@ -15,7 +15,7 @@ invariant_of-self c =
     let tick = c.args.tick in
     let before = c.self.inside.systems in
     let clock = c.self.inside.world.state.clock in
-    let same : c.close.new.world.state.clock ≡ clock = ap (λ (w : World). w.clock) c.close.ensures in
+    let same : c.close.new.world.state.clock ≡ clock = c.in_ok-close.ensures.clock in
     let now : clock ≡ c.args.self.now.world.clock = ap (λ (s : State). s.world.clock) c.self.view_is in
     let past : tick ≤ clock = let p = c.requires.past in omega arith in
     let after : c.ran_at.new.memories ≡ update_at n (memory_ran tick) before.items
