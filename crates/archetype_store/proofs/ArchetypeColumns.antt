@@ -143,6 +143,15 @@ map-update_kind f y (n ∷ ks) k (x ∷ xs) = go (n == k) (map-update_kind f y k
     go true h = refl
     go false h = ap (λ ys. f x ∷ ys) h
 
+pub length-update_kind : {A : Type 0} (ks : List ℕ) (k : ℕ) (y : A) (xs : List A) → length (update_kind ks k (λ _. y) xs) ≡ length xs
+length-update_kind [] k y xs = refl
+length-update_kind (n ∷ ks) k y [] = refl
+length-update_kind (n ∷ ks) k y (x ∷ xs) = go (n == k) (length-update_kind ks k y xs)
+  where
+    go : (b : Bool) → length (update_kind ks k (λ _. y) xs) ≡ length xs → length (cond b (y ∷ xs) (x ∷ update_kind ks k (λ _. y) xs)) ≡ suc (length xs)
+    go true h = refl
+    go false h = ap suc h
+
 module _ (T : List TableValue) (n t : ℕ) (at : IsTableOf T n t) where
   standing_seen : (k : ℕ) → column_home (archetype_at (layout_of T) n) k ≡ option_map is_home (standing_of (table_at T t) k)
   standing_seen k = ap (λ a. column_home a k) (numbered T n t at) ∙ at_kind-map is_home (table_at T t).kinds k (table_at T t).standings
@@ -175,11 +184,12 @@ each_set P [] (suc i) y h k = tt
 each_set P (x ∷ xs) zero y h k = (h, k.1)
 each_set P (x ∷ xs) (suc i) y h k = (k.0, each_set P xs i y h k.1)
 
-pub same_set : (T : List TableValue) (t : ℕ) (new : TableValue) → t < length T → new.kinds ≡ kinds_at T t → new.rows ≡ (table_at T t).rows → AreSame T (set T t new)
-same_set T t new l kinds rows = record {
+pub same_set : (T : List TableValue) (t : ℕ) (new : TableValue) → t < length T → new.kinds ≡ kinds_at T t → new.rows ≡ (table_at T t).rows → length new.standings ≡ length (table_at T t).standings → AreSame T (set T t new)
+same_set T t new l kinds rows many = record {
   kinds = λ m. by m (λ (u : TableValue). u.kinds) kinds (cases_eq m t);
   rows = λ m. by m (λ (u : TableValue). u.rows) rows (cases_eq m t);
   all_kinds = map-set_same (λ (u : TableValue). u.kinds) T t new (empty_table []) kinds;
+  many = map-set_same (λ (u : TableValue). length u.standings) T t new (empty_table []) many;
 }
   where
     by : {B : Type 0} (m : ℕ) (f : TableValue → B) → f new ≡ f (table_at T t) → (m ≡ t) ⊎ (m ≡ t → ⊥) → f (table_at (set T t new) m) ≡ f (table_at T m)
@@ -208,7 +218,7 @@ pub stored_lent : (T : List TableValue) (P : List (Option Place)) (s : Bool) (n 
 stored_lent T P s n t k at h =
     let new = lent (table_at T t) k in
     record {
-      whole = same_whole T (set T t new) (same_set T t new at.within refl refl) P h.whole;
+      whole = same_whole T (set T t new) (same_set T t new at.within refl refl (length-update_kind (table_at T t).kinds k Away (table_at T t).standings)) P h.whole;
       bare = each_set (λ u. is_there u.rows ≡ false → list_all is_home u.standings ≡ true) T t new (λ none. absurd (let e : true ≡ false = sym at.peopled ∙ none in cc)) h.bare;
       unshared = λ e. each_set (λ u. list_all is_unshared u.standings ≡ true) T t new
           (unshared_update (table_at T t).kinds k Away (table_at T t).standings refl (unshared_at T t at.within (h.unshared e))) (h.unshared e);
@@ -227,7 +237,7 @@ value_lent T P n t k at =
     let seen : archetype_of new ≡ with_column false k (archetype_of u) =
     ap (λ homes. let a : Archetype = record { kinds = u.kinds; entities = map (λ (row : TableRow). row.entity) u.rows; homes = homes } in a) (map-update_kind is_home Away u.kinds k u.standings) in
     ap₂ (λ rows layout. let a : ArchetypesValue = record { rows = rows; holders = map holder_in P; layout = layout } in a)
-    (same_rows T (set T t new) (same_set T t new at.within refl refl) P) (layout_set (with_column false k) T n t new at at.peopled seen)
+    (same_rows T (set T t new) (same_set T t new at.within refl refl (length-update_kind (table_at T t).kinds k Away (table_at T t).standings)) P) (layout_set (with_column false k) T n t new at at.peopled seen)
 
 -- ---- what a column holds
 
@@ -423,7 +433,8 @@ module _ (T : List TableValue) (P : List (Option Place)) (s : Bool) (n t : ℕ) 
     of_kinds = λ m e. subst (λ ks. IsOfKinds ks (held_at (set T t (homed (table_at T t) c)) m e)) (sym (kinds_homed m))
         (subst (IsOfKinds (kinds_at T m)) (sym (held_homed m e))
         (kinds-map (kinds_at T m) c.kind (cond (m == t) (cell_for e (map (λ (row : TableRow). row.entity) (table_at T t).rows) c.cells) None) (held_at T m e) (h.whole.of_kinds m e)));
-    shaped = shaped_kinds T (set T t (homed (table_at T t) c)) (map-set_same (λ (x : TableValue). x.kinds) T t (homed (table_at T t) c) (empty_table []) refl) h.whole.shaped;
+    shaped = shaped_kinds T (set T t (homed (table_at T t) c)) (map-set_same (λ (x : TableValue). x.kinds) T t (homed (table_at T t) c) (empty_table []) refl)
+        (map-set_same (λ (x : TableValue). length x.standings) T t (homed (table_at T t) c) (empty_table []) (length-update_kind (kinds_at T t) c.kind Owned (table_at T t).standings)) h.whole.shaped;
     unlike = unlike_kinds T (set T t (homed (table_at T t) c)) (map-set_same (λ (x : TableValue). x.kinds) T t (homed (table_at T t) c) (empty_table []) refl) h.whole.unlike;
   }
 

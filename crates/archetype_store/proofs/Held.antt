@@ -132,7 +132,7 @@ held_within (u ∷ us) zero e h = omega arith
 held_within (u ∷ us) (suc t) e h = let l = held_within us t e h in omega arith
 
 -- the shape of a table
-pub shape_at : (tables : List TableValue) (t : ℕ) → t < length tables → AreShaped tables → IsShape (kinds_at tables t)
+pub shape_at : (tables : List TableValue) (t : ℕ) → t < length tables → AreShaped tables → IsShape (kinds_at tables t) (table_at tables t).standings
 shape_at [] t l h = absurd (omega arith)
 shape_at (u ∷ us) zero l h = h.0
 shape_at (u ∷ us) (suc t) l h = shape_at us t (omega arith) h.1
@@ -150,7 +150,7 @@ kinds_more [] kinds t l = absurd (omega arith)
 kinds_more (u ∷ us) kinds zero l = refl
 kinds_more (u ∷ us) kinds (suc t) l = kinds_more us kinds t (omega arith)
 
-shaped_more : (tables : List TableValue) (kinds : List ℕ) → IsShape kinds → AreShaped tables → AreShaped (tables ++ empty_table kinds ∷ [])
+shaped_more : (tables : List TableValue) (kinds : List ℕ) → IsShape kinds (empty_table kinds).standings → AreShaped tables → AreShaped (tables ++ empty_table kinds ∷ [])
 shaped_more [] kinds s h = (s, tt)
 shaped_more (u ∷ us) kinds s h = (h.0, shaped_more us kinds s h.1)
 
@@ -175,7 +175,7 @@ layout_more [] kinds = refl
 layout_more (t ∷ ts) kinds = ap₂ (cond (is_there t.rows)) (ap (λ us. archetype_of t ∷ us) (layout_more ts kinds)) (layout_more ts kinds)
 
 -- a table of other kinds is made
-pub grown_more : (tables : List TableValue) (kinds : List ℕ) → IsShape kinds → AllByRecursion (λ t. t.kinds ≢ kinds) tables → AreShaped tables → AreUnlike tables →
+pub grown_more : (tables : List TableValue) (kinds : List ℕ) → IsShape kinds (empty_table kinds).standings → AllByRecursion (λ t. t.kinds ≢ kinds) tables → AreShaped tables → AreUnlike tables →
     IsGrown tables (tables ++ empty_table kinds ∷ [])
 grown_more tables kinds s new shaped unlike = record {
   held = held_more tables kinds;

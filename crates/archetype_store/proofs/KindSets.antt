@@ -3,6 +3,8 @@ use Rattle.std.proofs.Common.{◌≡◌, ◌≢◌, ℕ, zero, suc, ◌+◌, ◌
 use Rattle.std.proofs.lemmas.Bool.{eqb-true, eq-eqb, and_parts}
 use Rattle.std.proofs.lemmas.Bool.Decides.{nat_tests}
 use Rattle.std.specs.List.{AllByRecursion}
+use Rattle.std.proofs.lemmas.List.{length-map}
+use Rattle.column_store.specs.Table.Standing.{Owned}
 use Rattle.kinds.specs.declared.kind.Kind.{Kind}
 use Rattle.kinds.specs.declared.kind.Kind.TheVariants.{Position, Velocity, Health, Damage, Team, Timer, Score, Energy, Charge, Target, Frozen, Hidden}
 use Rattle.kinds.specs.Kind.{kind_count, kind_number, numbers_from}
@@ -145,7 +147,7 @@ module _ (tables new : List TableValue) (ns : List ℕ) where
       AreShaped tables → AreUnlike tables → IsGrown tables new
   grown_by_made below some none pushed shaped unlike =
       subst (IsGrown tables) (sym pushed)
-      (grown_more tables ns (record { below = below; some = some })
+      (grown_more tables ns (record { below = below; some = some; each = length-map ns (λ _. Owned) })
       (others ns tables (nowhere_from_position (λ (t : TableValue). t.kinds) (λ ks. are_same ks ns) tables none)) shaped unlike)
 
 -- components have kinds

@@ -14,3 +14,4 @@ pub mod ArchetypeColumns
 pub mod ColumnSlots
 pub mod ColumnOverlays
 pub mod TakenColumns
+pub mod KindsHome

@@ -1,6 +1,7 @@
 -- Where columns stand: at home, the tables' alone, read elsewhere too.
 use Rattle.std.proofs.Common.{◌≡◌, ℕ, zero, suc, ◌<◌, Bool, true, false, cond, ◌==◌, ◌&&◌, List, [], ◌∷◌, length, get_or, set, map, Option, Some, None, is_some, refl, sym, ap, ap₂, subst, ◌∙◌, arith}
 use Rattle.std.specs.List.{list_all, AllByRecursion}
+use Rattle.std.proofs.lemmas.List.{length-map}
 use Rattle.model.specs.Lists.{is_there}
 use Rattle.model.specs.State.{Component}
 use Rattle.model.specs.declared.entities.Entity.{Entity}
@@ -182,6 +183,7 @@ pub record AreSame (ts us : List TableValue) : Type 0 where
   pub kinds : (t : ℕ) → kinds_at us t ≡ kinds_at ts t
   pub rows : (t : ℕ) → (table_at us t).rows ≡ (table_at ts t).rows
   pub all_kinds : map (λ (t : TableValue). t.kinds) us ≡ map (λ (t : TableValue). t.kinds) ts
+  pub many : map (λ (t : TableValue). length t.standings) us ≡ map (λ (t : TableValue). length t.standings) ts
 
 alike_kinds : (ts us : List TableValue) → AreAllAlike ts us → map (λ (t : TableValue). t.kinds) us ≡ map (λ (t : TableValue). t.kinds) ts
 alike_kinds [] [] h = refl
@@ -189,15 +191,24 @@ alike_kinds [] (u ∷ us) h = absurd h
 alike_kinds (t ∷ ts) [] h = absurd h
 alike_kinds (t ∷ ts) (u ∷ us) h = ap₂ ◌∷◌ h.0.kinds (alike_kinds ts us h.1)
 
-pub alike_same : (ts us : List TableValue) → AreAllAlike ts us → AreSame ts us
-alike_same ts us h = record { kinds = λ t. (alike_at ts us t h).kinds; rows = λ t. (alike_at ts us t h).rows; all_kinds = alike_kinds ts us h }
+alike_many : (ts us : List TableValue) → AreAllAlike ts us → map (λ (t : TableValue). length t.standings) us ≡ map (λ (t : TableValue). length t.standings) ts
+alike_many [] [] h = refl
+alike_many [] (u ∷ us) h = absurd h
+alike_many (t ∷ ts) [] h = absurd h
+alike_many (t ∷ ts) (u ∷ us) h = ap₂ ◌∷◌ (sym (length-map u.standings is_home) ∙ ap length h.0.homes ∙ length-map t.standings is_home) (alike_many ts us h.1)
 
-pub shaped_kinds : (ts us : List TableValue) → map (λ (t : TableValue). t.kinds) us ≡ map (λ (t : TableValue). t.kinds) ts → AreShaped ts → AreShaped us
-shaped_kinds ts [] e h = tt
-shaped_kinds [] (u ∷ us) e h = absurd (cc)
-shaped_kinds (t ∷ ts) (u ∷ us) e h =
+pub alike_same : (ts us : List TableValue) → AreAllAlike ts us → AreSame ts us
+alike_same ts us h = record { kinds = λ t. (alike_at ts us t h).kinds; rows = λ t. (alike_at ts us t h).rows; all_kinds = alike_kinds ts us h; many = alike_many ts us h }
+
+pub shaped_kinds : (ts us : List TableValue) → map (λ (t : TableValue). t.kinds) us ≡ map (λ (t : TableValue). t.kinds) ts →
+    map (λ (t : TableValue). length t.standings) us ≡ map (λ (t : TableValue). length t.standings) ts → AreShaped ts → AreShaped us
+shaped_kinds ts [] e l h = tt
+shaped_kinds [] (u ∷ us) e l h = absurd (cc)
+shaped_kinds (t ∷ ts) (u ∷ us) e l h =
+    let many : length u.standings ≡ length t.standings = cc in
+    let others : map (λ (t : TableValue). length t.standings) us ≡ map (λ (t : TableValue). length t.standings) ts = cc in
     let first : u.kinds ≡ t.kinds = cc in let rest : map (λ (t : TableValue). t.kinds) us ≡ map (λ (t : TableValue). t.kinds) ts = cc in
-    (record { below = subst (λ ks. AreBelow ks) (sym first) h.0.below; some = λ none. h.0.some (sym first ∙ none) }, shaped_kinds ts us rest h.1)
+    (record { below = subst (λ ks. AreBelow ks) (sym first) h.0.below; some = λ none. h.0.some (sym first ∙ none); each = many ∙ h.0.each ∙ ap length (sym first) }, shaped_kinds ts us rest others h.1)
 
 unlike_each : (ks : List ℕ) (ts us : List TableValue) → map (λ (t : TableValue). t.kinds) us ≡ map (λ (t : TableValue). t.kinds) ts →
     AllByRecursion (λ (t : TableValue). ks ≡ t.kinds → ⊥) ts → AllByRecursion (λ (t : TableValue). ks ≡ t.kinds → ⊥) us
@@ -230,7 +241,7 @@ module _ (ts us : List TableValue) (same : AreSame ts us) where
   same_whole P h = record {
     agree = λ t e. ap is_some (same_held t e) ∙ h.agree t e;
     of_kinds = λ t e. subst (λ ks. IsOfKinds ks (held_at us t e)) (sym (same.kinds t)) (subst (IsOfKinds (kinds_at ts t)) (sym (same_held t e)) (h.of_kinds t e));
-    shaped = shaped_kinds ts us same.all_kinds h.shaped;
+    shaped = shaped_kinds ts us same.all_kinds same.many h.shaped;
     unlike = unlike_kinds ts us same.all_kinds h.unlike;
   }
 

@@ -21,6 +21,7 @@ use Rattle.archetype_store.specs.Layout.{Archetype, archetype_at, column_home, w
 use Rattle.archetype_store.specs.Slot.{cell_of, column_cells}
 use Rattle.archetype_store.specs.Store.{StoreValue, with_slots, slots_with, homed_in, IsPast}
 use Rattle.archetype_store.specs.Lending.{CanTake, CanShare, CanComeHome, AreTaken, AreShared, IsColumn, IsAway, all_away, all_home}
+use Rattle.archetype_store.proofs.ArchetypeColumns.{length-update_kind}
 use Rattle.archetype_store.proofs.ColumnOverlays.{entities_home, same_again}
 
 -- ---- one flag
@@ -72,7 +73,8 @@ kinds_home b n k m layout = get_or-update_at-view (λ (a : Archetype). a.kinds) 
 
 each_home : (b : Bool) (n k : ℕ) (layout : List Archetype) → AllByRecursion IsArchetype layout → AllByRecursion IsArchetype (with_home b n k layout)
 each_home b n k [] h = h
-each_home b zero k (a ∷ rest) h = (record { shape = h.0.shape; peopled = h.0.peopled }, h.1)
+each_home b zero k (a ∷ rest) h =
+    (record { shape = record { below = h.0.shape.below; some = h.0.shape.some; each = length-update_kind a.kinds k b a.homes ∙ h.0.shape.each }; peopled = h.0.peopled }, h.1)
 each_home b (suc n) k (a ∷ rest) h = (h.0, each_home b n k rest h.1)
 
 other_each : (ks : List ℕ) (b : Bool) (n k : ℕ) (layout : List Archetype) → AllByRecursion (λ (a : Archetype). ks ≡ a.kinds → ⊥) layout → AllByRecursion (λ (a : Archetype). ks ≡ a.kinds → ⊥) (with_home b n k layout)

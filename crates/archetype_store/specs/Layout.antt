@@ -1,5 +1,5 @@
 -- How components are laid out: the archetypes that have entities.
-use Rattle.std.specs.Prelude.{◌≡◌, ◌≢◌, ℕ, Bool, true, cond, ◌==◌, List, [], ◌∷◌, get_or, map, Option}
+use Rattle.std.specs.Prelude.{◌≡◌, ◌≢◌, ℕ, Bool, true, cond, ◌==◌, List, [], ◌∷◌, length, get_or, map, Option}
 use Rattle.std.specs.List.{list_any, list_all, AllByRecursion}
 use Rattle.model.specs.Lists.{is_there, update_at}
 use Rattle.model.specs.declared.entities.Entity.{Entity}
@@ -53,14 +53,15 @@ AreAllHome layout = AllByRecursion (λ a. list_all (λ home. home) a.homes ≡ t
 abbrev pub has_index : ℕ → List Entity → Bool
 has_index index entities = list_any (λ e. e.index == index) entities
 
--- kinds rise and are at least one
-pub record IsShape (kinds : List ℕ) : Type 0 where
+-- kinds rise and are at least one, and each has a column
+pub record IsShape {A : Type 0} (kinds : List ℕ) (columns : List A) : Type 0 where
   pub below : AreBelow kinds
   pub some : kinds ≢ []
+  pub each : length columns ≡ length kinds
 
 -- what holds of each archetype: it has a shape, and an entity
 pub record IsArchetype (a : Archetype) : Type 0 where
-  pub shape : IsShape a.kinds
+  pub shape : IsShape a.kinds a.homes
   pub peopled : is_there a.entities ≡ true
 
 -- no two archetypes have the same kinds

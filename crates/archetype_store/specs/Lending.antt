@@ -3,12 +3,13 @@ use Rattle.std.specs.Prelude.{◌≡◌, ℕ, true, false, List, [], ◌∷◌, 
 use Rattle.std.specs.List.{AllByRecursion}
 use Rattle.std.specs.Arc.{arc_value}
 use Rattle.kinds.specs.Kind.{kind_number}
+use Rattle.model.specs.Lists.{has}
 use Rattle.model.specs.State.{Slot}
 use Rattle.column_store.specs.Column.{ColumnCells}
 use Rattle.archetype_store.specs.declared.columns.ColumnAt.{ColumnAt}
 use Rattle.archetype_store.specs.declared.columns.TakenColumn.{TakenColumn}
 use Rattle.archetype_store.specs.declared.columns.SharedColumn.{SharedColumn}
-use Rattle.archetype_store.specs.Layout.{Archetype, archetype_at, column_home, with_home}
+use Rattle.archetype_store.specs.Layout.{Archetype, archetype_at, column_home, with_home, AreAllHome, IsLayoutOf}
 use Rattle.archetype_store.specs.Slot.{column_cells}
 use Rattle.archetype_store.specs.Store.{StoreValue, homed_in, IsPast}
 
@@ -60,3 +61,8 @@ pub record IsAway (w : StoreValue) (c : TakenColumn) : Type 0 where
 abbrev pub CanComeHome : List TakenColumn → StoreValue → Type 0
 CanComeHome [] w = Unit {0}
 CanComeHome (c ∷ cs) w = CanComeHome cs w × IsAway (all_home cs w) c
+
+-- where all columns are at home, that of each kind of an archetype is
+abbrev pub KindsAreHome : Type 0
+KindsAreHome = (slots : List Slot) (layout : List Archetype) (n kind : ℕ) → IsLayoutOf slots layout → AreAllHome layout → has kind (archetype_at layout n).kinds ≡ true →
+    column_home (archetype_at layout n) kind ≡ Some true

@@ -50,7 +50,7 @@ are_same (n ∷ ns) (m ∷ ms) = (n == m) && are_same ns ms
 
 -- each table is of this shape
 abbrev pub AreShaped : List TableValue → Type 0
-AreShaped tables = AllByRecursion (λ t. IsShape t.kinds) tables
+AreShaped tables = AllByRecursion (λ t. IsShape t.kinds t.standings) tables
 
 -- all columns are at home
 abbrev pub AreHome : List TableValue → Type 0

@@ -1,7 +1,8 @@
 // The tables of archetypes, and what is done in them to the row of one entity.
 
 ghost use Rattle.std.specs.Prelude.{◌≡◌, ◌≢◌, ◌==◌, ◌<◌, [], length, map, option_map, position, None, Some, IsSome, IfSome, IfOk, OnOk, OnErr};
-ghost use Rattle.std.specs.List.{list_any};
+ghost use Rattle.std.specs.List.{list_any, AllByRecursion};
+ghost use Rattle.column_store.specs.Order.{AreRising};
 ghost use Rattle.kinds.specs.Kind.{kind_number};
 ghost use Rattle.kinds.specs.Value.{value_number, value_words};
 ghost use Rattle.model.specs.Lists.{has};
@@ -40,6 +41,7 @@ pub(crate) fn views_of(
 ) -> Result<Vec<ArchetypeView<'_>>, AllocError>
     ensures kinds { IfOk result (λ views. map kinds_seen views.items ≡ map (λ a. a.kinds) (layout_of tables.now)) }
     ensures entities { IfOk result (λ views. map entities_seen views.items ≡ map (λ a. a.entities) (layout_of tables.now)) }
+    ensures rising { IfOk result (λ views. AllByRecursion (λ view. AreRising (entities_seen view)) views.items) }
 {
     let mut views = Vec::new(alloc);
     for table in tables {

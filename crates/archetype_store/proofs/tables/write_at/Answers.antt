@@ -26,7 +26,7 @@ write-requires-clause-there c =
     let kind = value_number c.args.value in
     let within = written_within tables c.args.table c.args.e kind c.requires.there in
     let is : there ≡ table_at tables c.args.table = c.index_mut-there.ensures.value ∙ get_or_default tables c.args.table there (empty_table []) within in
-    let shape = subst (λ (t : TableValue). IsShape t.kinds) (sym is) (shape_at tables c.args.table within c.requires.shaped) in
+    let shape = subst (λ (t : TableValue). IsShape t.kinds t.standings) (sym is) (shape_at tables c.args.table within c.requires.shaped) in
     let some = ap (λ (t : TableValue). is_some (cell_at (row_or_none (held_in t c.args.e)) kind)) is ∙ c.requires.there in
     sym (ap is_some (cell_held there c.args.e kind shape.below)) ∙ some
 
@@ -38,6 +38,6 @@ returns c =
     let words = value_words c.args.value in
     let within = written_within tables c.args.table c.args.e kind c.requires.there in
     let is : there ≡ table_at tables c.args.table = c.index_mut-there.ensures.value ∙ get_or_default tables c.args.table there (empty_table []) within in
-    let shape = subst (λ (t : TableValue). IsShape t.kinds) (sym is) (shape_at tables c.args.table within c.requires.shaped) in
+    let shape = subst (λ (t : TableValue). IsShape t.kinds t.standings) (sym is) (shape_at tables c.args.table within c.requires.shaped) in
     let some = ap (λ (t : TableValue). is_some (cell_at (row_or_none (held_in t c.args.e)) kind)) is ∙ c.requires.there in
     rw (← is) (held_written tables c.args.table there c.write.new.self c.args.e kind words c.args.tick within is shape.below some c.write.ensures)
