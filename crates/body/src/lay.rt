@@ -31,10 +31,10 @@ fn lay_row(terms: &[Term], cells: &[Option<Value>], index: u32, world: &mut Worl
     let mut left = cells.len();
     while left > 0 {
         left -= 1;
-        match cells[left] {
-            Some(value) => world.write(index, value, tick)?,
-            None => {}
-        }
+        let Some(value) = cells[left] else {
+            continue;
+        };
+        world.write(index, value, tick)?;
     }
     Ok(())
 }

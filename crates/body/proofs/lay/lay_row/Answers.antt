@@ -1,4 +1,4 @@
-use Rattle.std.proofs.Common.{◌≡◌, suc, ◌-◌, ◌<◌, length, None, sym, ap, ◌∙◌, refl, arith}
+use Rattle.std.proofs.Common.{◌≡◌, suc, ◌-◌, ◌<◌, length, Option, Some, None, sym, ap, ◌∙◌, refl, arith}
 use mathlib.Core.Path.{fun_ext}
 use Rattle.model.specs.Lists.{first_some}
 use Rattle.model.specs.Overlay.{slots_after}
@@ -7,6 +7,10 @@ use Rattle.archetype_store.specs.Row.{only}
 use Rattle.body.specs.Laid.{with_slots, at_index}
 use Rattle.body.proofs.Laying.{row_words, write-at_index, laid-again, laid-none, row_words-end, row_words-None, row_words-Some, at_index-more, at_index-none}
 use Rattle.body.proofs.lay.lay_row.Goals as goal
+
+none_of : {A : Type 0} (o : Option A) → ((x : A) → o ≡ Some x → ⊥) → o ≡ None
+none_of None h = refl
+none_of (Some x) h = absurd (h x refl)
 
 pub loop-left-init : goal.loop-left-init
 loop-left-init c =
@@ -18,22 +22,22 @@ loop-left-init c =
       home = c.requires.home;
     }
 
-pub loop-left-preserved : goal.loop-left-preserved
-loop-left-preserved c =
+pub loop-left-preserved-in_default : goal.loop-left-preserved-in_default
+loop-left-preserved-in_default c =
     let terms = c.args.terms.now in
     let cells = c.args.cells.now in
     let n = c.loop-left.left in
     let next : suc (n - 1) ≡ n = (let t = c.loop-left-test.true in omega arith) in
     let here : n - 1 < length cells = (let t = c.loop-left-test.true in let b = c.loop-left.invariant.left in omega arith) in
-    let same = fun_ext (λ k. row_words-None terms cells (n - 1) k None here c.requires.same c.in-None.is ∙ ap (λ m. row_words terms cells m k) next) in
+    let same = fun_ext (λ k. row_words-None terms cells (n - 1) k None here c.requires.same (none_of _ c.in_default.not-Some) ∙ ap (λ m. row_words terms cells m k) next) in
     record {
       left = (let b = c.loop-left.invariant.left in omega arith);
       laid = c.loop-left.invariant.laid ∙ ap (λ f. with_slots c.args.world.now.state (slots_after c.args.tick (at_index c.args.index f) c.args.world.now.state.slots)) (sym same);
       home = c.loop-left.invariant.home;
     }
 
-pub loop-left-preserved-in-Some : goal.loop-left-preserved-in-Some
-loop-left-preserved-in-Some c =
+pub loop-left-preserved : goal.loop-left-preserved
+loop-left-preserved c =
     let terms = c.args.terms.now in
     let cells = c.args.cells.now in
     let v = c.in-Some.value in
