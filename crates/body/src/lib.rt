@@ -1,6 +1,7 @@
 // Bodies: what a system is shown at its start, what it writes, and how that is laid over the world.
 #![tactic(auto)]
 
+ghost use Rattle.body.specs.Apart.{ApartAreAlone};
 ghost use Rattle.body.specs.Planned.{PlansOpen};
 ghost use Rattle.body.specs.Together.{CloseTogether, RowsAreShown, CellsAreAfter};
 
@@ -27,4 +28,9 @@ pub fn queries_agree()
 /// A query may open over the rows of a plan and the columns taken for it, with the table of these columns.
 pub fn plans_open()
     ensures { PlansOpen }
+{}
+
+/// Queries of one system that don't conflict leave each other's columns alone.
+pub fn apart_are_alone()
+    ensures { ApartAreAlone }
 {}
