@@ -3,7 +3,7 @@
 
 ghost use Rattle.body.specs.Apart.{ApartAreAlone};
 ghost use Rattle.body.specs.Planned.{PlansOpen};
-ghost use Rattle.body.specs.Together.{CloseTogether, RowsAreShown, CellsAreAfter};
+ghost use Rattle.body.specs.Together.{CloseTogether, ReachTogether, RowsAreShown, CellsAreAfter};
 
 pub mod cells;
 pub mod held;
@@ -18,9 +18,10 @@ pub mod view;
 pub mod view_query;
 
 /// What the queries of a view are together: where no other query may write in a query's columns, these are given back as all writes leave
-/// them; a row shows what the definitions show of its slot; and columns that had a store's cells are given back with these after the writes.
+/// them; what is written through all is written in a column of one of them; a row shows what the definitions show of its slot; and columns that had a store's cells are given back with these after the writes.
 pub fn queries_agree()
     ensures together { CloseTogether }
+    ensures reach { ReachTogether }
     ensures shown { RowsAreShown }
     ensures stored { CellsAreAfter }
 {}
