@@ -143,9 +143,9 @@ module _ (slots : List Slot) (layout : List Archetype) (n k tick : ℕ) (words b
       map_index-map_index f (λ index. slot_after tick (before index)) slots
       ∙ map_index-same (λ i s. f i (slot_after tick (before i) s)) (λ index. slot_after tick (also_written (archetype_at layout n).entities k words before index)) fresh_slot slots
       (λ i. let s = get_or slots i fresh_slot in let e : Entity = record { index = i; generation = s.generation } in
-          ap (λ row. let t : Slot = record { generation = s.generation; status = s.status; row = row } in t)
-          (ap (λ o. row_with k o (row_after tick (before i) s.row)) (cell_for-map (λ x. option_map (cell_after tick (words x.index k)) (cell_of slots x k)) e (archetype_at layout n).entities cells are)
-          ∙ row_one i (list_any (λ x. is_same x e) (archetype_at layout n).entities) refl))
+      ap (λ row. let t : Slot = record { generation = s.generation; status = s.status; row = row } in t)
+      (ap (λ o. row_with k o (row_after tick (before i) s.row)) (cell_for-map (λ x. option_map (cell_after tick (words x.index k)) (cell_of slots x k)) e (archetype_at layout n).entities cells are)
+      ∙ row_one i (list_any (λ x. is_same x e) (archetype_at layout n).entities) refl))
 
 pub columns_are_overlays : ColumnsAreOverlays
 columns_are_overlays slots layout n kind tick words before cells laid rise are = column_overlay slots layout n kind tick words before cells laid rise are

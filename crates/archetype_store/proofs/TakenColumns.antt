@@ -102,9 +102,10 @@ taken_home : (slots : List Slot) (b : Bool) (n k : ℕ) (layout : List Archetype
 taken_home slots b n k layout [] [] h = tt
 taken_home slots b n k layout [] (c ∷ cs) h = absurd h
 taken_home slots b n k layout (p ∷ ps) [] h = absurd h
-taken_home slots b n k layout (p ∷ ps) (c ∷ cs) h =
-    (record { archetype_is = h.0.archetype_is; kind_is = h.0.kind_is; cells_are = h.0.cells_are ∙ ap (λ es. column_cells slots es (kind_number p.kind)) (sym (entities_home b n k p.archetype layout)) },
-    taken_home slots b n k layout ps cs h.1)
+taken_home slots b n k layout (p ∷ ps) (c ∷ cs) h = (
+  record { archetype_is = h.0.archetype_is; kind_is = h.0.kind_is; cells_are = h.0.cells_are ∙ ap (λ es. column_cells slots es (kind_number p.kind)) (sym (entities_home b n k p.archetype layout)) },
+  taken_home slots b n k layout ps cs h.1,
+)
 
 cell_past : (clock : ℕ) (row : List Component) (k : ℕ) (c : Cell) → AllByRecursion (IsComponent widths clock) row → cell_at row k ≡ Some c → IsPast clock c
 cell_past clock [] k c h e = absurd (cc)
@@ -145,11 +146,10 @@ module _ (s : World) (world : IsWorld widths s) where
       let n = p.archetype in
       let es = entities_home false n k n layout in
       let cells = h.cells_are in
-      let again = same_again s.slots layout n k c.column.cells laid rise cells in
-      (
+      let again = same_again s.slots layout n k c.column.cells laid rise cells in (
         ap₂ (λ m j. homed_in (record { state = s; layout = with_home false n k layout }) m j c.column.cells) h.archetype_is h.kind_is
-        ∙ ap (λ xs. let v : StoreValue = record { state = with_slots (slots_with xs k c.column.cells) s; layout = with_home true n k (with_home false n k layout) } in v) es
-        ∙ ap₂ (λ slots l. let v : StoreValue = record { state = with_slots (λ _. slots) s; layout = l } in v) again (home_again n k layout home),
+            ∙ ap (λ xs. let v : StoreValue = record { state = with_slots (slots_with xs k c.column.cells) s; layout = with_home true n k (with_home false n k layout) } in v) es
+            ∙ ap₂ (λ slots l. let v : StoreValue = record { state = with_slots (λ _. slots) s; layout = l } in v) again (home_again n k layout home),
         record {
           away = ap₂ (λ m j. column_home (archetype_at (with_home false n k layout) m) j) h.archetype_is h.kind_is ∙ away_now n k layout home;
           same_length = sym (length-map c.column.cells (λ cell. Some cell)) ∙ ap length cells ∙ length-map (archetype_at layout n).entities (λ e. cell_of s.slots e k)

@@ -26,7 +26,7 @@ impl<'a> Model for RowView<'a> {
     ghost use Rattle.model.specs.State.{Component};
     ghost use Rattle.archetype_store.specs.Layout.{AreAllHome};
     ghost use Rattle.archetype_store.specs.Archetypes.{row_of};
-ghost use Rattle.archetype_store.specs.Layout.{AreAllHome};
+    ghost use Rattle.archetype_store.specs.Layout.{AreAllHome};
 
     ghost Value = { List Component };
 
@@ -76,7 +76,7 @@ impl<'a> Model for Slot<'a> {
     ghost use Rattle.entity_table.specs.Status.{status_of};
     ghost use Rattle.archetype_store.specs.Layout.{AreAllHome};
     ghost use Rattle.archetype_store.specs.Archetypes.{row_of};
-ghost use Rattle.archetype_store.specs.Layout.{AreAllHome};
+    ghost use Rattle.archetype_store.specs.Layout.{AreAllHome};
 
     ghost Value = { ModelSlot };
 

@@ -26,11 +26,11 @@ ghost use Rattle.archetype_store.specs.View.{kinds_seen, entities_seen};
 ghost use Rattle.archetype_store.specs.Resources.{changed_of};
 ghost use Rattle.archetype_store.specs.Store.{empty_world, with_slots, with_slot, with_resource, at_clock, stamp_of, homed_in, IsPast};
 
+pub use crate::columns::{ColumnAt, SharedColumn, TakenColumn};
 use crate::fault::{GrantFault, StoreFault};
 use crate::resources::Resources;
 use crate::slot::Slot;
 use crate::slots::Slots;
-pub use crate::columns::{ColumnAt, SharedColumn, TakenColumn};
 pub use crate::tables::ArchetypeView;
 use change_ticks::clock::{Clock, ClockSpent, Tick};
 use change_ticks::stamp::Stamp;

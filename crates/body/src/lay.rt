@@ -19,7 +19,13 @@ use query_plan::query::Term;
 use std::alloc::AllocError;
 
 // Lays what was written in a row over the entity of an index.
-fn lay_row(terms: &[Term], cells: &[Option<Value>], index: u32, world: &mut World, tick: Tick) -> Result<(), AllocError>
+fn lay_row(
+    terms: &[Term],
+    cells: &[Option<Value>],
+    index: u32,
+    world: &mut World,
+    tick: Tick,
+) -> Result<(), AllocError>
     requires same { length terms.now ≡ length cells.now }
     requires written { AreWritten (map term_of terms.now) cells.now }
     requires past { tick ≤ world.old.state.clock }
@@ -64,7 +70,11 @@ fn lay_query(query: &ViewQuery, world: &mut World, tick: Tick) -> Result<(), All
 }
 
 // Lays what was written in the rows of these queries over a world.
-pub(crate) fn lay_queries(queries: &[ViewQuery], world: &mut World, tick: Tick) -> Result<(), AllocError>
+pub(crate) fn lay_queries(
+    queries: &[ViewQuery],
+    world: &mut World,
+    tick: Tick,
+) -> Result<(), AllocError>
     requires rows { AllByRecursion AreRows queries.now }
     requires past { tick ≤ world.old.state.clock }
     requires home { AreAllHome world.old.layout }

@@ -11,7 +11,7 @@ use Rattle.program_file.proofs.load.give_entities.Goals as goal
 pub loop-index-init : goal.loop-index-init
 loop-index-init c = record {
   given = entities-none c.in-Ok.count (map entity_given c.args.entities.now) c.args.world.now.state c.grant.new.self.state c.requires.empty
-    (let e : c.in-Ok.count ≡ length c.args.entities.now = search rules in e ∙ sym (length-map c.args.entities.now entity_given)) c.in_ok-ids.ensures.granted;
+      (let e : c.in-Ok.count ≡ length c.args.entities.now = search rules in e ∙ sym (length-map c.args.entities.now entity_given)) c.in_ok-ids.ensures.granted;
   home = subst AreAllHome (sym c.in_ok-ids.ensures.layout) c.requires.home;
 }
 
