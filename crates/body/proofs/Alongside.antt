@@ -15,7 +15,7 @@ use Rattle.body.specs.declared.row.Row.{Row}
 use Rattle.body.specs.Columns.{Column, cells_after, column_after}
 use Rattle.body.specs.Seen.{fetches}
 use Rattle.body.specs.Sheet.{Sheet, seen_at, row_of, words_for}
-use Rattle.body.specs.Together.{words_of_sheet, words_of_all, IsAlone, CloseTogether, RowsAreShown, CellsAreAfter}
+use Rattle.body.specs.Together.{words_of_sheet, words_of_all, IsAlone, CloseTogether, IsReachedIn, ReachTogether, RowsAreShown, CellsAreAfter}
 use Rattle.body.proofs.Gets.{same-some, map-same-get}
 use Rattle.body.proofs.SheetWords.{choose}
 
@@ -98,6 +98,22 @@ close-together sheets n s there alone =
     (λ j column e. ap (with-cells column) (cells-same s.tick (words_of_sheet s) (words_of_all sheets) column.kind column.entities column.cells
     (λ p x i. one-speaks sheets n s x.index column.kind there
     (λ m t f d. query-silent t.terms t.rows t.cells x.index column.kind (λ w r row g q. alone j column e p x i m t f d w r row g q)))))
+
+-- ---- what is written reaches a column
+
+first-of : (u v : Option (List ℤ)) (w : List ℤ) → first_some u v ≡ Some w → (u ≡ Some w) ⊎ (v ≡ Some w)
+first-of None v w h = inr h
+first-of (Some x) v w h = inl h
+
+later-reached : (x : Sheet) (sheets : List Sheet) (index kind : ℕ) → IsReachedIn sheets index kind → IsReachedIn (x ∷ sheets) index kind
+later-reached x sheets index kind h = record { query = suc h.query; sheet = h.sheet; there = h.there; reached = h.reached }
+
+pub reach-together : ReachTogether
+reach-together [] reach index kind w h = absurd (cc)
+reach-together (x ∷ xs) reach index kind w h = elim (first-of (words_of_sheet x index kind) (words_of_all xs index kind) w h) [
+  | inl here ↦ record { query = zero; sheet = x; there = refl; reached = reach zero x refl index kind w here }
+  | inr later ↦ later-reached x xs index kind (reach-together xs (λ n s e. reach (suc n) s e) index kind w later)
+]
 
 -- ---- rows as they are shown
 

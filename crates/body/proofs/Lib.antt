@@ -16,3 +16,4 @@ pub mod SheetCalls
 pub mod Alongside
 pub mod Tables
 pub mod Plannings
+pub mod Aloneness

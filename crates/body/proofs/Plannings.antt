@@ -23,19 +23,19 @@ use Rattle.body.specs.Planned.{IsColumnOf, IsStanding, AreOfOthers, IsAmong, IsP
 use Rattle.body.proofs.Gets.{same-some, all-get}
 use Rattle.body.proofs.Sheets.{cell_in-is}
 
-or-cases : (a b : Bool) → (a || b) ≡ true → (a ≡ true) ⊎ (b ≡ true)
+pub or-cases : (a b : Bool) → (a || b) ≡ true → (a ≡ true) ⊎ (b ≡ true)
 or-cases true b h = inl refl
 or-cases false b h = inr h
 
-or-right : (a b : Bool) → b ≡ true → (a || b) ≡ true
+pub or-right : (a b : Bool) → b ≡ true → (a || b) ≡ true
 or-right true b h = refl
 or-right false b h = h
 
-or-left : (a b : Bool) → a ≡ true → (a || b) ≡ true
+pub or-left : (a b : Bool) → a ≡ true → (a || b) ≡ true
 or-left true b h = refl
 or-left false b h = absurd (cc)
 
-and-parts : (a b : Bool) → (a && b) ≡ true → (a ≡ true) × (b ≡ true)
+pub and-parts : (a b : Bool) → (a && b) ≡ true → (a ≡ true) × (b ≡ true)
 and-parts true b h = (refl, h)
 and-parts false b h = absurd (cc)
 
@@ -59,7 +59,7 @@ same-archetype (a ∷ layout) zero (suc m) h l k e = absurd (archetype-fact (λ 
 same-archetype (a ∷ layout) (suc n) zero h l k e = absurd (archetype-fact (λ b. a.kinds ≢ b.kinds) layout n h.0 (omega arith) (sym e))
 same-archetype (a ∷ layout) (suc n) (suc m) h l k e = ap suc (same-archetype layout n m h.1 (omega arith) (omega arith) e)
 
-is-in : (es : List Entity) (place : ℕ) (e : Entity) → slice_get es place ≡ Some e → list_any (λ x. is_same x e) es ≡ true
+pub is-in : (es : List Entity) (place : ℕ) (e : Entity) → slice_get es place ≡ Some e → list_any (λ x. is_same x e) es ≡ true
 is-in [] place e h = absurd (cc)
 is-in (x ∷ xs) zero e h =
     let s = same-some x e h in

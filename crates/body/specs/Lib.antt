@@ -10,3 +10,4 @@ pub mod SeenOver
 pub mod Together
 pub mod SlotTable
 pub mod Planned
+pub mod Apart

@@ -10,7 +10,7 @@ use Rattle.model.specs.Overlay.{cell_after}
 use Rattle.body.specs.declared.row.Row.{Row}
 use Rattle.body.specs.Columns.{Column, cells_after, column_after}
 use Rattle.body.specs.Seen.{fetches}
-use Rattle.body.specs.Sheet.{Sheet, seen_at, row_of}
+use Rattle.body.specs.Sheet.{Sheet, seen_at, row_of, IsReached, WritesReach}
 
 -- the words written through one query, and through all
 abbrev pub words_of_sheet : Sheet → ℕ → ℕ → Option (List ℤ)
@@ -27,6 +27,17 @@ IsAlone sheets n s = (j : ℕ) (column : Column) → slice_get s.taken j ≡ Som
 -- the columns of a query after its own writes are those after the writes of all
 abbrev pub CloseTogether : Type 0
 CloseTogether = (sheets : List Sheet) (n : ℕ) (s : Sheet) → slice_get sheets n ≡ Some s → IsAlone sheets n s → map (column_after s.tick (words_of_sheet s)) s.taken ≡ map (column_after s.tick (words_of_all sheets)) s.taken
+
+-- where what each query writes reaches one of its columns, what is written through all reaches a column of one of them
+pub record IsReachedIn (sheets : List Sheet) (index number : ℕ) : Type 0 where
+  pub query : ℕ
+  pub sheet : Sheet
+  pub there : slice_get sheets query ≡ Some sheet
+  pub reached : IsReached sheet.taken index number
+
+abbrev pub ReachTogether : Type 0
+ReachTogether = (sheets : List Sheet) → ((n : ℕ) (s : Sheet) → slice_get sheets n ≡ Some s → WritesReach (words_of_sheet s) s.taken) →
+    (index kind : ℕ) (w : List ℤ) → words_of_all sheets index kind ≡ Some w → IsReachedIn sheets index kind
 
 -- a row shows of an index what the definitions show of its slot, where its cells have the slot's words at each kind that is fetched
 abbrev pub RowsAreShown : Type 0

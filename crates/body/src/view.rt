@@ -1,7 +1,8 @@
 // A view: what a system is shown at its start, and its outcome so far.
 
-ghost use Rattle.std.specs.Prelude.{◌≡◌, ◌<◌, ◌≤◌, [], length, option_map, IfSome, IfOk, IsTrue};
+ghost use Rattle.std.specs.Prelude.{◌≡◌, ◌<◌, ◌≤◌, [], length, option_map, unwrap_or, IfSome, IfOk, IsTrue};
 ghost use Rattle.kinds.specs.Kind.{kind_number};
+ghost use Rattle.kinds.specs.Components.{widths};
 ghost use Rattle.kinds.specs.Value.{value_number, value_words};
 ghost use Rattle.model.specs.State.{State};
 ghost use Rattle.model.specs.Query.{writes};
@@ -23,6 +24,7 @@ use entity_table::Entity;
 use kinds::component::Component;
 use kinds::kind::Kind;
 use kinds::value::Value;
+use kinds::words::Words;
 use std::alloc::{AllocError, Global};
 use std::marker::Model;
 
@@ -130,6 +132,30 @@ impl View {
         ensures { self.new ≡ with_written self.old query row (value_number value) (value_words value) }
     {
         cells::write_at(&mut self.queries, query, row, value);
+    }
+
+    /// The fields of the component of a kind in a row of a query: what was written there, else what is shown. None where there is no
+    /// component.
+    pub fn words(&self, query: usize, row: usize, kind: Kind) -> Words
+        requires query { query < length self.now.shown.rows }
+        requires row { row < length (rows_at self.now.shown query) }
+        ensures { result ≡ unwrap_or (read_at self.now query row (kind_number kind)) [] }
+    {
+        match self.read(query, row, kind) {
+            Some(value) => value.words(),
+            None => Words::none(),
+        }
+    }
+
+    /// Writes the component of a kind with these fields in a row of a query that has a `mut` term of the kind.
+    pub fn set_words(&mut self, query: usize, row: usize, kind: Kind, words: &[i64])
+        requires query { query < length self.old.shown.rows }
+        requires row { row < length (rows_at self.old.shown query) }
+        requires mut_term { IsTrue (writes (query_at self.old.params query) (kind_number kind)) }
+        requires width { length words.now ≡ widths (kind_number kind) }
+        ensures { self.new ≡ with_written self.old query row (kind_number kind) words.now }
+    {
+        self.write(query, row, Value::of(kind, words));
     }
 
     /// Lays what was written over a world at a tick, the tick of the system's start. All else of the world stays.

@@ -1,4 +1,4 @@
-use Rattle.body.proofs.Alongside.{close-together, rows-shown, cells-stored}
+use Rattle.body.proofs.Alongside.{close-together, reach-together, rows-shown, cells-stored}
 use Rattle.body.proofs.queries_agree.Goals as goal
 
 pub returns-clause-together : goal.returns-clause-together
@@ -9,3 +9,6 @@ returns-clause-shown c = rows-shown
 
 pub returns-clause-stored : goal.returns-clause-stored
 returns-clause-stored c = cells-stored
+
+pub returns-clause-reach : goal.returns-clause-reach
+returns-clause-reach c = reach-together
