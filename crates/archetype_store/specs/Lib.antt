@@ -7,5 +7,3 @@ pub mod Slots
 pub mod Resources
 pub mod Store
 pub mod View
-pub mod Lending
-pub mod Overlays

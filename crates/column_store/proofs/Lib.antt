@@ -9,4 +9,3 @@ pub mod Found
 pub mod Edited
 pub mod Made
 pub mod TheirComponents
-pub mod Wide

@@ -6,4 +6,3 @@ pub mod Table
 pub mod Places
 pub mod Inside
 pub mod Components
-pub mod Spots
