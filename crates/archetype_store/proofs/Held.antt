@@ -4,7 +4,7 @@ use Rattle.std.proofs.lemmas.Bool.Decides.{nat_tests}
 use Rattle.std.proofs.lemmas.Bool.{cases_eq, eq-eqb, ne_eqb}
 use Rattle.std.proofs.lemmas.List.{get_or-set_same, get_or-set_other}
 use Rattle.std.proofs.Math.Seq.{map-set_same}
-use Rattle.std.specs.List.{AllByRecursion}
+use Rattle.std.specs.List.{AllByRecursion, list_all}
 use Rattle.model.specs.Lists.{is_there}
 use Rattle.model.specs.State.{Component}
 use Rattle.model.specs.Rows.{cell_at}
@@ -16,14 +16,14 @@ use Rattle.column_store.specs.Cells.{stamped_number, changed_cell}
 use Rattle.column_store.specs.Kinds.{AreBelow}
 use Rattle.column_store.specs.Order.{is_before, is_same, AreRising}
 use Rattle.column_store.specs.Components.{components_of}
-use Rattle.column_store.specs.Table.{TableRow, TableValue, row_of, put_row, new_row, without_row, update_row, empty_table, with_cell_at, cell_of_kind, cell_in, write_cell}
+use Rattle.column_store.specs.Table.{TableRow, TableValue, is_owned, row_of, put_row, new_row, without_row, update_row, empty_table, with_cell_at, cell_of_kind, cell_in, write_cell}
 use Rattle.column_store.proofs.Made.{same_entity}
 use Rattle.column_store.proofs.Rising.{before_apart, after_apart}
 use Rattle.column_store.proofs.Rows.{row_of-no_entity}
 use Rattle.column_store.proofs.TheirComponents.{cells_are_theirs, writes_are_theirs}
 use Rattle.archetype_store.specs.Row.{component_of, only}
 use Rattle.archetype_store.specs.Layout.{IsShape, archetype_of, layout_of}
-use Rattle.archetype_store.specs.Tables.{table_at, kinds_at, held_in, held_at, row_or_none, shape_of, AreShaped, AreUnlike, IsHeldNow, IsGrown}
+use Rattle.archetype_store.specs.Tables.{table_at, kinds_at, held_in, held_at, row_or_none, shape_of, AreShaped, AreUnlike, AreOwned, IsHeldNow, IsGrown}
 
 -- ---- rows of one table
 
@@ -31,7 +31,7 @@ same_pair : (a b : ℕ) → ((a == a) && (b == b)) ≡ true
 same_pair a b = grind (arith, nat_tests)
 
 -- an id is itself
-same_self : (e : Entity) → is_same e e ≡ true
+pub same_self : (e : Entity) → is_same e e ≡ true
 same_self e = same_pair e.index e.generation
 
 -- the row that was put in is found
@@ -154,6 +154,14 @@ shaped_more : (tables : List TableValue) (kinds : List ℕ) → IsShape kinds (e
 shaped_more [] kinds s h = (s, tt)
 shaped_more (u ∷ us) kinds s h = (h.0, shaped_more us kinds s h.1)
 
+owned_new : (kinds : List ℕ) → list_all is_owned (empty_table kinds).standings ≡ true
+owned_new [] = refl
+owned_new (k ∷ ks) = owned_new ks
+
+owned_more : (tables : List TableValue) (kinds : List ℕ) → AreOwned tables → AreOwned (tables ++ empty_table kinds ∷ [])
+owned_more [] kinds h = (owned_new kinds, tt)
+owned_more (u ∷ us) kinds h = (h.0, owned_more us kinds h.1)
+
 each_more : {A : Type 0} (P : A → Type 0) (xs : List A) (x : A) → AllByRecursion P xs → P x → AllByRecursion P (xs ++ x ∷ [])
 each_more P [] x h p = (p, tt)
 each_more P (y ∷ ys) x h p = (h.0, each_more P ys x h.1 p)
@@ -174,6 +182,7 @@ grown_more tables kinds s new shaped unlike = record {
   kinds = kinds_more tables kinds;
   shaped = shaped_more tables kinds s shaped;
   unlike = unlike_more tables kinds new unlike;
+  owned = owned_more tables kinds;
   layout = layout_more tables kinds;
 }
 

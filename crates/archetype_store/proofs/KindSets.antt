@@ -2,7 +2,9 @@
 use Rattle.std.proofs.Common.{◌≡◌, ◌≢◌, ℕ, zero, suc, ◌+◌, ◌<◌, ◌≤◌, Bool, true, false, cond, ◌==◌, ◌&&◌, ◌||◌, List, [], ◌∷◌, ◌++◌, map, filter, position, Some, None, refl, sym, ap, ap₂, subst, ◌∙◌, arith}
 use Rattle.std.proofs.lemmas.Bool.{eqb-true, eq-eqb, and_parts}
 use Rattle.std.proofs.lemmas.Bool.Decides.{nat_tests}
-use Rattle.std.specs.List.{list_all, AllByRecursion}
+use Rattle.std.specs.List.{AllByRecursion}
+use Rattle.std.proofs.lemmas.List.{length-map}
+use Rattle.column_store.specs.Table.Standing.{Owned}
 use Rattle.kinds.specs.declared.kind.Kind.{Kind}
 use Rattle.kinds.specs.declared.kind.Kind.TheVariants.{Position, Velocity, Health, Damage, Team, Timer, Score, Energy, Charge, Target, Frozen, Hidden}
 use Rattle.kinds.specs.Kind.{kind_count, kind_number, numbers_from}
@@ -11,7 +13,7 @@ use Rattle.column_store.specs.declared.stamped.StampedValue.{StampedValue}
 use Rattle.column_store.specs.Cells.{stamped_number}
 use Rattle.column_store.specs.Kinds.{in_order, AreBelow}
 use Rattle.column_store.specs.Places.{IsPlace, IsNowhere}
-use Rattle.column_store.specs.Table.{TableValue, empty_table, is_home}
+use Rattle.column_store.specs.Table.{TableValue, empty_table}
 use Rattle.column_store.proofs.Rows.{place_from_position, nowhere_from_position}
 use Rattle.archetype_store.specs.Tables.{kinds_at, are_same, AreShaped, AreUnlike, IsGrown}
 use Rattle.archetype_store.proofs.Held.{grown_more}
@@ -136,10 +138,6 @@ in_order_kinds ks b = in_order_from 0 kind_count (map kind_number ks) b (each_fr
 
 -- ---- a table that is made
 
-home_new : (kinds : List ℕ) → list_all is_home (empty_table kinds).standings ≡ true
-home_new [] = refl
-home_new (k ∷ ks) = home_new ks
-
 -- the table of kinds that rise
 pub made_is : (made : TableValue) (ks : List Kind) (ns : List ℕ) → map kind_number ks ≡ ns → AreBelow ns → made ≡ empty_table (in_order (map kind_number ks)) → made ≡ empty_table ns
 made_is made ks ns kinds below is = is ∙ ap empty_table (in_order_kinds ks (subst AreBelow (sym kinds) below) ∙ kinds)
@@ -149,7 +147,7 @@ module _ (tables new : List TableValue) (ns : List ℕ) where
       AreShaped tables → AreUnlike tables → IsGrown tables new
   grown_by_made below some none pushed shaped unlike =
       subst (IsGrown tables) (sym pushed)
-      (grown_more tables ns (record { below = below; some = some; home = home_new ns })
+      (grown_more tables ns (record { below = below; some = some; each = length-map ns (λ _. Owned) })
       (others ns tables (nowhere_from_position (λ (t : TableValue). t.kinds) (λ ks. are_same ks ns) tables none)) shaped unlike)
 
 -- components have kinds

@@ -1,13 +1,13 @@
 -- The layout of tables is that of the rows that they hold.
 use Rattle.std.proofs.Common.{◌≡◌, ◌≢◌, ℕ, zero, suc, ◌+◌, ◌<◌, Bool, true, false, cond, ◌==◌, ◌||◌, List, [], ◌∷◌, ◌++◌, length, take, get_or, map, Option, Some, None, option_map, is_some, refl, sym, ap, ap₂, ◌∙◌, arith}
-use Rattle.std.proofs.lemmas.List.{take_more, append-nil, map-append}
+use Rattle.std.proofs.lemmas.List.{length-map, take_more, append-nil, map-append}
 use Rattle.std.proofs.lemmas.Bool.{and_parts, eqb-true}
 use Rattle.std.specs.List.{list_any, AllByRecursion}
 use Rattle.model.specs.Lists.{is_there}
 use Rattle.model.specs.State.{Component, Slot}
 use Rattle.model.specs.declared.entities.Entity.{Entity}
 use Rattle.column_store.specs.Order.{is_same}
-use Rattle.column_store.specs.Table.{TableRow, TableValue, row_of as row_in_table}
+use Rattle.column_store.specs.Table.{TableRow, TableValue, is_home, row_of as row_in_table}
 use Rattle.entity_table.specs.Rows.{with_rows}
 use Rattle.entity_table.proofs.WithRows.{is_alive-with_rows}
 use Rattle.archetype_store.specs.declared.places.Place.{Place}
@@ -66,7 +66,7 @@ there_map f (x ∷ xs) h = refl
 
 each_step : (b : Bool) (u : TableValue) (others : List Archetype) → IsShape u.kinds u.standings → (b ≡ true → is_there (archetype_of u).entities ≡ true) → AllByRecursion IsArchetype others →
     AllByRecursion IsArchetype (cond b (archetype_of u ∷ others) others)
-each_step true u others shape there rest = (record { shape = shape; peopled = there refl }, rest)
+each_step true u others shape there rest = (record { shape = record { below = shape.below; some = shape.some; each = length-map u.standings is_home ∙ shape.each }; peopled = there refl }, rest)
 each_step false u others shape there rest = rest
 
 -- each has a shape and an entity
@@ -105,11 +105,11 @@ layout-append : (ts us : List TableValue) → layout_of (ts ++ us) ≡ layout_of
 layout-append [] us = refl
 layout-append (t ∷ ts) us = append_step (is_there t.rows) t ts us (layout-append ts us)
 
-no_rows : {A : Type 0} (f : TableRow → A) (rows : List TableRow) → (length (map f rows) == 0) ≡ true → is_there rows ≡ false
+pub no_rows : {A : Type 0} (f : TableRow → A) (rows : List TableRow) → (length (map f rows) == 0) ≡ true → is_there rows ≡ false
 no_rows f [] h = refl
 no_rows f (row ∷ rows) h = absurd (let e = eqb-true (length (map f (row ∷ rows))) 0 h in omega arith)
 
-some_rows : {A : Type 0} (f : TableRow → A) (rows : List TableRow) → (length (map f rows) == 0) ≡ false → is_there rows ≡ true
+pub some_rows : {A : Type 0} (f : TableRow → A) (rows : List TableRow) → (length (map f rows) == 0) ≡ false → is_there rows ≡ true
 some_rows f [] h = absurd (let e : true ≡ false = h in cc)
 some_rows f (row ∷ rows) h = refl
 

@@ -9,3 +9,9 @@ pub mod SlotRows
 pub mod Layouts
 pub mod Edits
 mod Worlds
+pub mod Standings
+pub mod ArchetypeColumns
+pub mod ColumnSlots
+pub mod ColumnOverlays
+pub mod TakenColumns
+pub mod KindsHome

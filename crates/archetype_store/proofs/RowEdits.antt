@@ -40,7 +40,7 @@ lesser : (n k : ℕ) → nat_lt k n ≡ true → k < n
 lesser n k h = grind (arith, nat_tests)
 
 -- above a kind it isn't
-above_absent : (k : ℕ) (row : List Component) → AllByRecursion (λ c. k < c.kind) row → cell_at row k ≡ None
+pub above_absent : (k : ℕ) (row : List Component) → AllByRecursion (λ c. k < c.kind) row → cell_at row k ≡ None
 above_absent k [] h = refl
 above_absent k (c ∷ cs) h = ap (λ b. cond b (Some c.cell) (cell_at cs k)) (not_same c.kind k h.0) ∙ above_absent k cs h.1
 

@@ -2,6 +2,10 @@
 use Rattle.std.proofs.Common.{◌≡◌, ℕ, ◌≤◌, Bool, true, false, cond, ◌==◌, ◌&&◌, ◌⊎◌, inl, inr, Result, Ok, Err, ℤ, pos, List, [], ◌∷◌, length, get_or, Some, None, refl, ap, sym, ◌∙◌, arith, eqb-true}
 use Rattle.std.specs.Prelude.{OnOk, OnErr, IsErrOf}
 use Rattle.std.specs.List.{AllByRecursion}
+use Rattle.kinds.specs.declared.value.Value.{Value}
+use Rattle.kinds.specs.declared.value.Value.TheVariants as value
+use Rattle.kinds.specs.Value.{value_number, value_words}
+use Rattle.kinds.specs.Components.{widths}
 use Rattle.model.specs.declared.entities.Entity.{Entity}
 use Rattle.model.specs.Lists.{update_at}
 use Rattle.model.specs.State.{Slot, World, fresh_slot, most_indices}
@@ -26,10 +30,30 @@ outcome_of (Ok x) fault true P Q p q h = inl (refl, p)
 outcome_of (Ok x) fault false P Q p q h = let e = h refl in cc
 outcome_of (Err e) fault test P Q p q h = inr q
 
+-- what one has done that may refuse for want of memory alone
+pub ok_or_err : {T E : Type 0} (r : Result T E) (P Q : Type 0) → OnOk r P → OnErr r Q → P ⊎ Q
+ok_or_err (Ok x) P Q p q = inl p
+ok_or_err (Err e) P Q p q = inr q
+
+-- a component has the width of its kind
+pub value_width : (v : Value) → length (value_words v) ≡ widths (value_number v)
+value_width (value.Position c) = refl
+value_width (value.Velocity c) = refl
+value_width (value.Health c) = refl
+value_width (value.Damage c) = refl
+value_width (value.Team c) = refl
+value_width (value.Timer c) = refl
+value_width (value.Score c) = refl
+value_width (value.Energy c) = refl
+value_width (value.Charge c) = refl
+value_width (value.Target c) = refl
+value_width (value.Frozen c) = refl
+value_width (value.Hidden c) = refl
+
 -- ---- worlds
 
 -- a world with other slots of the shape
-world-slots : (W : ℕ → ℕ) (w : World) (slots : List Slot) → AllByRecursion (IsSlot W w.clock) slots → length slots ≤ most_indices → IsWorld W w → IsWorld W (with_slots (λ _. slots) w)
+pub world-slots : (W : ℕ → ℕ) (w : World) (slots : List Slot) → AllByRecursion (IsSlot W w.clock) slots → length slots ≤ most_indices → IsWorld W w → IsWorld W (with_slots (λ _. slots) w)
 world-slots W w slots all few p = record {
   slots = all;
   few = few;

@@ -1,13 +1,15 @@
 -- The rows by index that tables of archetypes hold, and what a change of one row leaves.
-use Rattle.std.specs.Prelude.{◌≡◌, ℕ, Bool, true, false, cond, ◌==◌, ◌&&◌, List, [], get_or, map, Option, Some, None, option_map, is_some}
+use Rattle.std.specs.Prelude.{◌≡◌, ℕ, Bool, true, false, cond, ◌==◌, ◌&&◌, List, [], ◌∷◌, get_or, map, Option, Some, None, option_map, is_some}
 use Rattle.std.specs.List.{AllByRecursion}
 use Rattle.model.specs.Lists.{map_index, with_at, is_there}
-use Rattle.model.specs.State.{Component}
+use Rattle.model.specs.State.{Cell, Component}
+use Rattle.model.specs.Rows.{cell_at}
 use Rattle.model.specs.declared.entities.Entity.{Entity}
+use Rattle.column_store.specs.Order.{is_same}
 use Rattle.column_store.specs.Table.{TableValue}
 use Rattle.archetype_store.specs.declared.places.Place.{Place}
-use Rattle.archetype_store.specs.Layout.{Archetype, layout_of, archetype_at, is_in_archetype, IsArchetype, AreOfOtherKinds}
-use Rattle.archetype_store.specs.Tables.{kinds_at, held_at, row_or_none, AreShaped, AreUnlike}
+use Rattle.archetype_store.specs.Layout.{Archetype, layout_of, archetype_at, is_in_archetype, with_home, IsArchetype, AreOfOtherKinds}
+use Rattle.archetype_store.specs.Tables.{kinds_at, held_at, row_or_none, AreShaped, AreUnlike, AreBareHome, AreUnshared}
 
 -- rows by index, of each index that has a row the generation of its entity, and how the rows are laid out
 pub record ArchetypesValue : Type 0 where
@@ -88,3 +90,38 @@ pub record AreArchetypes (tables : List TableValue) (places : List (Option Place
   pub of_kinds : (t : ℕ) (e : Entity) → IsOfKinds (kinds_at tables t) (held_at tables t e)
   pub shaped : AreShaped tables
   pub unlike : AreUnlike tables
+
+-- what holds of tables and places, and of the note whether columns are read elsewhere too: where it is false none is. A table without
+-- rows has its columns at home
+pub record IsStored (tables : List TableValue) (places : List (Option Place)) (shared : Bool) : Type 0 where
+  pub whole : AreArchetypes tables places
+  pub bare : AreBareHome tables
+  pub unshared : shared ≡ false → AreUnshared tables
+
+-- ---- cells of columns
+
+-- the cells of a kind of these entities, by rows
+abbrev pub row_cells : List (List Component) → List Entity → ℕ → List (Option Cell)
+row_cells rows entities kind = map (λ e. cell_at (row_of rows e.index) kind) entities
+
+-- the cell beside an entity
+abbrev pub cell_for : Entity → List Entity → List Cell → Option Cell
+cell_for e [] cells = None
+cell_for e (x ∷ xs) [] = None
+cell_for e (x ∷ xs) (cell ∷ cells) = cond (is_same x e) (Some cell) (cell_for e xs cells)
+
+-- the cell beside the entity of an index that has a row
+abbrev pub cell_held : List Entity → List Cell → ℕ → Option ℕ → Option Cell
+cell_held entities cells index None = None
+cell_held entities cells index (Some generation) = cell_for (record { index = index; generation = generation }) entities cells
+
+-- the row with another cell of a kind that it has
+abbrev pub row_with : ℕ → Option Cell → List Component → List Component
+row_with kind None row = row
+row_with kind (Some cell) row = map (λ c. cond (c.kind == kind) (record { kind = c.kind; cell = cell }) c) row
+
+-- a column of these cells came home to an archetype
+pub record IsFilled (old : ArchetypesValue) (n kind : ℕ) (cells : List Cell) (new : ArchetypesValue) : Type 0 where
+  pub rows : (i : ℕ) → row_of new.rows i ≡ row_with kind (cell_held (archetype_at old.layout n).entities cells i (holder_of old.holders i)) (row_of old.rows i)
+  pub holders : new.holders ≡ old.holders
+  pub layout : new.layout ≡ with_home true n kind old.layout

@@ -7,3 +7,5 @@ pub mod Slots
 pub mod Resources
 pub mod Store
 pub mod View
+pub mod Lending
+pub mod Overlays

@@ -1,10 +1,13 @@
 -- What contracts see of a store, and what its calls change.
-use Rattle.std.specs.Prelude.{ℕ, ℤ, pos, List, [], replicate, Some}
-use Rattle.model.specs.Lists.{update_at}
+use Rattle.std.specs.Prelude.{ℕ, ◌≤◌, true, ℤ, pos, List, [], replicate, Some}
+use Rattle.model.specs.Lists.{map_index, update_at}
+use Rattle.model.specs.declared.entities.Entity.{Entity}
+use Rattle.model.specs.Commands.{with_row}
 use Rattle.model.specs.State.{Cell, Slot, World, resource_count}
 use Rattle.model.specs.Loaded.{resource_given}
 use Rattle.model.specs.Overlay.{resource_after}
-use Rattle.archetype_store.specs.Layout.{Archetype}
+use Rattle.archetype_store.specs.Layout.{Archetype, archetype_at, with_home}
+use Rattle.archetype_store.specs.Archetypes.{cell_for, row_with}
 use Rattle.change_ticks.specs.declared.stamp.Stamp.{Stamp}
 
 -- a store: its state, and beside it the archetypes that have entities
@@ -19,6 +22,21 @@ empty_world clock = record { slots = []; resources = replicate resource_count (r
 -- the world with its slots changed
 abbrev pub with_slots : (List Slot → List Slot) → World → World
 with_slots f w = record { slots = f w.slots; resources = w.resources; clock = w.clock }
+
+-- the slots with the cells of a column: each entity's cell of the kind is the one beside it
+abbrev pub slots_with : List Entity → ℕ → List Cell → List Slot → List Slot
+slots_with entities kind cells slots =
+    map_index (λ i slot. with_row (row_with kind (cell_for (record { index = i; generation = slot.generation }) entities cells)) slot) slots
+
+-- the store with a column home again, of these cells
+abbrev pub homed_in : StoreValue → ℕ → ℕ → List Cell → StoreValue
+homed_in w n kind cells =
+    record { state = with_slots (slots_with (archetype_at w.layout n).entities kind cells) w.state; layout = with_home true n kind w.layout }
+
+-- stamps that aren't above a clock
+pub record IsPast (clock : ℕ) (cell : Cell) : Type 0 where
+  pub added : cell.added ≤ clock
+  pub changed : cell.changed ≤ clock
 
 -- the world with one slot changed
 abbrev pub with_slot : ℕ → (Slot → Slot) → World → World

@@ -1,13 +1,15 @@
 -- Tables of archetypes: what they hold of an entity, and what a change of one row leaves.
-use Rattle.std.specs.Prelude.{◌≡◌, ◌≢◌, ℕ, ◌<◌, Bool, true, false, cond, ◌==◌, ◌&&◌, List, [], ◌∷◌, length, get_or, map, Option, Some, None, option_map}
-use Rattle.std.specs.List.{AllByRecursion}
-use Rattle.model.specs.State.{Component}
+use Rattle.std.specs.Prelude.{◌≡◌, ◌≢◌, ℕ, zero, suc, ◌<◌, Bool, true, false, cond, ◌==◌, ◌&&◌, List, [], ◌∷◌, length, get_or, map, Option, Some, None, option_map}
+use Rattle.std.specs.List.{AllByRecursion, list_all}
+use Rattle.model.specs.Lists.{is_there}
+use Rattle.model.specs.State.{Cell, Component}
 use Rattle.model.specs.declared.entities.Entity.{Entity}
 use Rattle.archetype_store.specs.declared.places.Place.{Place}
 use Rattle.column_store.specs.Order.{is_same}
 use Rattle.column_store.specs.Components.{components_of}
 use Rattle.archetype_store.specs.Layout.{layout_of, IsShape}
-use Rattle.column_store.specs.Table.{TableValue, empty_table, row_of}
+use Rattle.column_store.specs.Table.{Standing, TableValue, is_home, is_owned, empty_table, row_of, kind_cells, IsAlike}
+use Rattle.column_store.specs.Table.Standing.{Shared}
 
 -- the table of a number: past the end one without kinds
 abbrev pub table_at : List TableValue → ℕ → TableValue
@@ -16,6 +18,11 @@ table_at tables table = get_or tables table (empty_table [])
 -- the kinds of a table
 abbrev pub kinds_at : List TableValue → ℕ → List ℕ
 kinds_at tables table = (table_at tables table).kinds
+
+-- whether a column isn't read elsewhere while it is at home
+abbrev pub is_unshared : Standing → Bool
+is_unshared Shared = false
+is_unshared _ = true
 
 -- ---- what is held
 
@@ -45,6 +52,45 @@ are_same (n ∷ ns) (m ∷ ms) = (n == m) && are_same ns ms
 abbrev pub AreShaped : List TableValue → Type 0
 AreShaped tables = AllByRecursion (λ t. IsShape t.kinds t.standings) tables
 
+-- all columns are at home
+abbrev pub AreHome : List TableValue → Type 0
+AreHome tables = AllByRecursion (λ t. list_all is_home t.standings ≡ true) tables
+
+-- all columns are the tables' alone
+abbrev pub AreOwned : List TableValue → Type 0
+AreOwned tables = AllByRecursion (λ t. list_all is_owned t.standings ≡ true) tables
+
+-- no column at home is read elsewhere too
+abbrev pub AreUnshared : List TableValue → Type 0
+AreUnshared tables = AllByRecursion (λ t. list_all is_unshared t.standings ≡ true) tables
+
+-- a table without rows has its columns at home
+abbrev pub AreBareHome : List TableValue → Type 0
+AreBareHome tables = AllByRecursion (λ t. is_there t.rows ≡ false → list_all is_home t.standings ≡ true) tables
+
+-- tables that differ in nothing but which of the columns at home are read elsewhere too
+abbrev pub AreAllAlike : List TableValue → List TableValue → Type 0
+AreAllAlike [] [] = Unit {0}
+AreAllAlike [] (u ∷ us) = ⊥
+AreAllAlike (t ∷ ts) [] = ⊥
+AreAllAlike (t ∷ ts) (u ∷ us) = IsAlike t u × AreAllAlike ts us
+
+-- the number of the archetype of a table: so many tables before it have rows
+abbrev pub number_of : List TableValue → ℕ → ℕ
+number_of [] table = zero
+number_of (t ∷ ts) zero = zero
+number_of (t ∷ ts) (suc table) = cond (is_there t.rows) (suc (number_of ts table)) (number_of ts table)
+
+-- the table of an archetype
+pub record IsTableOf (tables : List TableValue) (archetype table : ℕ) : Type 0 where
+  pub within : table < length tables
+  pub peopled : is_there (table_at tables table).rows ≡ true
+  pub number : number_of tables table ≡ archetype
+
+-- the cells of the kind with this number in a table
+abbrev pub cells_at : List TableValue → ℕ → ℕ → List (Option Cell)
+cells_at tables table kind = kind_cells (table_at tables table) kind
+
 -- no two tables have the same kinds
 abbrev pub AreUnlike : List TableValue → Type 0
 AreUnlike [] = Unit {0}
@@ -68,6 +114,7 @@ pub record IsGrown (old new : List TableValue) : Type 0 where
   pub kinds : (t : ℕ) → t < length old → kinds_at new t ≡ kinds_at old t
   pub shaped : AreShaped new
   pub unlike : AreUnlike new
+  pub owned : AreOwned old → AreOwned new
   pub layout : layout_of new ≡ layout_of old
 
 -- whether a place is in a table

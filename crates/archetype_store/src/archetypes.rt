@@ -1,24 +1,33 @@
 // The components of entities, in tables by archetype: the kinds that an entity has.
 
-ghost use Rattle.std.specs.Prelude.{◌≡◌, [], map, option_map, IfSome, IfOk, OnOk, OnErr};
+ghost use Rattle.std.specs.Prelude.{◌≡◌, true, false, [], length, Some, map, option_map, IfSome, IfOk, OnOk, OnErr};
 ghost use Rattle.kinds.specs.Value.{value_number, value_words};
 ghost use Rattle.model.specs.Rows.{cell_at, kinds_of, insert_component, remove_component};
 ghost use Rattle.model.specs.Overlay.{row_after};
 ghost use Rattle.column_store.specs.Cells.{stamped_number};
 ghost use Rattle.archetype_store.specs.Row.{component_of, only};
+ghost use Rattle.std.specs.Arc.{arc_value};
+ghost use Rattle.kinds.specs.Kind.{kind_number};
+ghost use Rattle.archetype_store.specs.Layout.{archetype_at, column_home, with_home, AreAllHome};
+ghost use Rattle.std.specs.List.{AllByRecursion};
+ghost use Rattle.column_store.specs.Order.{AreRising};
 ghost use Rattle.archetype_store.specs.View.{kinds_seen, entities_seen};
-ghost use Rattle.archetype_store.specs.Archetypes.{row_of, holder_of, IsHolder, AreAlike, HasRow, IsLaidOut};
+ghost use Rattle.archetype_store.specs.Archetypes.{row_of, holder_of, row_cells, IsHolder, AreAlike, HasRow, IsFilled, IsLaidOut};
 
 use crate::lay::{clear_in, insert_in, remove_in, write_in};
+use crate::lending::{column_at, home_at, lend_at, share_at, table_of_archetype};
+use crate::owning::own_all;
 use crate::places::{Place, place_at, reach};
 use crate::tables::{ArchetypeView, components_at, find_at, has_at, views_of};
 use change_ticks::clock::Tick;
-use column_store::stamped::StampedValue;
+use column_store::stamped::{StampedColumn, StampedValue};
 use column_store::table::Table;
 use entity_table::Entity;
+use kinds::kind::Kind;
 use kinds::value::Value;
 use std::alloc::{AllocError, Global};
 use std::marker::Model;
+use std::sync::Arc;
 
 /// The components of entities, one entity at most for each index. An entity that has some has its row in the table of just their kinds,
 /// and no two tables have the same kinds. Contracts see the rows by index, the generations of the entities
@@ -27,16 +36,18 @@ use std::marker::Model;
 pub struct Archetypes {
     tables: Vec<Table>,
     places: Vec<Option<Place>>,
+    // Whether some columns may be read elsewhere too.
+    shared: bool,
 }
 
 impl Model for Archetypes {
-    ghost use Rattle.archetype_store.specs.Archetypes.{ArchetypesValue, archetypes_of, AreArchetypes};
+    ghost use Rattle.archetype_store.specs.Archetypes.{ArchetypesValue, archetypes_of, IsStored};
 
     ghost Value = { ArchetypesValue };
 
     ghost view = { λ a. archetypes_of a.tables.items a.places.items };
 
-    ghost invariant = { λ a. AreArchetypes a.tables.items a.places.items };
+    ghost invariant = { λ a. IsStored a.tables.items a.places.items a.shared };
 }
 
 impl Archetypes {
@@ -47,11 +58,13 @@ impl Archetypes {
         Archetypes {
             tables: Vec::new(alloc),
             places: Vec::new(alloc),
+            shared: false,
         }
     }
 
     /// The component of the kind with this number of the entity of an index.
     pub fn find(&self, index: u32, number: u32) -> Option<StampedValue>
+        requires { AreAllHome self.now.layout }
         ensures cell { option_map (λ s. (component_of s).cell) result ≡ cell_at (row_of self.now.rows index) number }
         ensures number { IfSome result (λ s. stamped_number s ≡ number) }
     {
@@ -73,6 +86,7 @@ impl Archetypes {
 
     /// The components of the entity of an index, in rising kinds.
     pub fn components(&self, alloc: Global, index: u32) -> Result<Vec<StampedValue>, AllocError>
+        requires { AreAllHome self.now.layout }
         ensures { IfOk result (λ components. map component_of components.items ≡ row_of self.now.rows index) }
     {
         match place_at(&self.places, index) {
@@ -85,6 +99,7 @@ impl Archetypes {
     pub fn archetypes(&self, alloc: Global) -> Result<Vec<ArchetypeView<'_>>, AllocError>
         ensures kinds { IfOk result (λ views. map kinds_seen views.items ≡ map (λ a. a.kinds) self.now.layout) }
         ensures entities { IfOk result (λ views. map entities_seen views.items ≡ map (λ a. a.entities) self.now.layout) }
+        ensures rising { IfOk result (λ views. AllByRecursion (λ view. AreRising (entities_seen view)) views.items) }
     {
         views_of(alloc, &self.tables)
     }
@@ -97,41 +112,121 @@ impl Archetypes {
         let _tables = self.tables.len();
     }
 
+    /// The column of a kind of an archetype, which is at home.
+    pub fn column(&self, archetype: usize, kind: Kind) -> &StampedColumn
+        requires { column_home (archetype_at self.now.layout archetype) (kind_number kind) ≡ Some true }
+        ensures kind { result.now.kind ≡ kind_number kind }
+        ensures cells { map (λ cell. Some cell) result.now.cells ≡ row_cells self.now.rows (archetype_at self.now.layout archetype).entities (kind_number kind) }
+    {
+        let Some(table) = table_of_archetype(&self.tables, archetype) else {
+            unreachable!();
+        };
+        column_at(&self.tables, table, kind)
+    }
+
+    /// Takes the column of a kind of an archetype, which is at home, until it comes home. After an error nothing has changed.
+    pub fn take_column(
+        &mut self,
+        alloc: Global,
+        archetype: usize,
+        kind: Kind,
+    ) -> Result<StampedColumn, AllocError>
+        requires { column_home (archetype_at self.old.layout archetype) (kind_number kind) ≡ Some true }
+        ensures kind { IfOk result (λ column. column.kind ≡ kind_number kind) }
+        ensures cells { IfOk result (λ column. map (λ cell. Some cell) column.cells ≡ row_cells self.old.rows (archetype_at self.old.layout archetype).entities (kind_number kind)) }
+        ensures away { OnOk result (self.new ≡ record self.old { layout = with_home false archetype (kind_number kind) self.old.layout }) }
+        ensures err { OnErr result (self.new ≡ self.old) }
+    {
+        let Some(table) = table_of_archetype(&self.tables, archetype) else {
+            unreachable!();
+        };
+        lend_at(&mut self.tables, table, alloc, kind)
+    }
+
+    /// The column of a kind of an archetype, which is at home, to be read elsewhere too.
+    pub fn share_column(
+        &mut self,
+        alloc: Global,
+        archetype: usize,
+        kind: Kind,
+    ) -> Result<Arc<StampedColumn, Global>, AllocError>
+        requires { column_home (archetype_at self.old.layout archetype) (kind_number kind) ≡ Some true }
+        ensures kind { IfOk result (λ column. (arc_value column).kind ≡ kind_number kind) }
+        ensures cells { IfOk result (λ column. map (λ cell. Some cell) (arc_value column).cells ≡ row_cells self.old.rows (archetype_at self.old.layout archetype).entities (kind_number kind)) }
+        ensures same { self.new ≡ self.old }
+    {
+        let Some(table) = table_of_archetype(&self.tables, archetype) else {
+            unreachable!();
+        };
+        self.shared = true;
+        share_at(&mut self.tables, table, alloc, kind)
+    }
+
+    /// Puts a column that was taken back, with as many cells as the archetype has entities. It takes no memory.
+    pub fn put_column(&mut self, archetype: usize, column: StampedColumn)
+        requires away { column_home (archetype_at self.old.layout archetype) column.kind ≡ Some false }
+        requires same_length { length column.cells ≡ length (archetype_at self.old.layout archetype).entities }
+        ensures { IsFilled self.old archetype column.kind column.cells self.new }
+    {
+        let Some(table) = table_of_archetype(&self.tables, archetype) else {
+            unreachable!();
+        };
+        home_at(&mut self.tables, table, column);
+    }
+
     /// Inserts a component of an entity at a tick: where its kind is there the value is replaced and counts as changed, else it is added.
     /// Where memory is wanting all rows stay as they were.
     pub fn insert(&mut self, e: Entity, value: Value, tick: Tick) -> Result<(), AllocError>
-        requires { IsHolder e.generation (holder_of self.old.holders e.index) }
+        requires holder { IsHolder e.generation (holder_of self.old.holders e.index) }
+        requires home { AreAllHome self.old.layout }
         ensures ok { OnOk result (HasRow self.old e (insert_component tick (value_number value) (value_words value) (row_of self.old.rows e.index)) self.new) }
         ensures err { OnErr result (AreAlike self.old self.new) }
+        ensures home { AreAllHome self.new.layout }
     {
         reach(&mut self.places, e.index)?;
+        own_all(&mut self.tables, &mut self.shared)?;
         insert_in(&mut self.tables, &mut self.places, e, value, tick)
     }
 
     /// Removes the component of the kind with this number of an entity, where it has one. Where memory is wanting all rows stay as they
     /// were.
     pub fn remove(&mut self, e: Entity, number: u32) -> Result<(), AllocError>
-        requires { IsHolder e.generation (holder_of self.old.holders e.index) }
+        requires holder { IsHolder e.generation (holder_of self.old.holders e.index) }
+        requires home { AreAllHome self.old.layout }
         ensures ok { OnOk result (HasRow self.old e (remove_component number (row_of self.old.rows e.index)) self.new) }
         ensures err { OnErr result (AreAlike self.old self.new) }
+        ensures home { AreAllHome self.new.layout }
     {
+        own_all(&mut self.tables, &mut self.shared)?;
         remove_in(&mut self.tables, &mut self.places, e, number)
     }
 
-    /// Takes all components of an entity away. It takes no memory.
-    pub fn clear(&mut self, e: Entity)
-        requires { IsHolder e.generation (holder_of self.old.holders e.index) }
-        ensures { HasRow self.old e [] self.new }
+    /// Takes all components of an entity away. Memory can be wanting only where columns were read elsewhere too; then all rows stay as
+    /// they were.
+    pub fn clear(&mut self, e: Entity) -> Result<(), AllocError>
+        requires holder { IsHolder e.generation (holder_of self.old.holders e.index) }
+        requires home { AreAllHome self.old.layout }
+        ensures ok { OnOk result (HasRow self.old e [] self.new) }
+        ensures err { OnErr result (AreAlike self.old self.new) }
+        ensures home { AreAllHome self.new.layout }
     {
+        own_all(&mut self.tables, &mut self.shared)?;
         clear_in(&mut self.tables, &mut self.places, e);
+        Ok(())
     }
 
-    /// Writes the component of this value's kind of an entity at a tick, where it has one: its value and its changed stamp.
-    pub fn write(&mut self, e: Entity, value: Value, tick: Tick)
-        requires { IsHolder e.generation (holder_of self.old.holders e.index) }
-        ensures { HasRow self.old e (row_after tick (only (value_number value) (value_words value)) (row_of self.old.rows e.index)) self.new }
+    /// Writes the component of this value's kind of an entity at a tick, where it has one: its value and its changed stamp. Memory can be
+    /// wanting only where columns were read elsewhere too; then all rows stay as they were.
+    pub fn write(&mut self, e: Entity, value: Value, tick: Tick) -> Result<(), AllocError>
+        requires holder { IsHolder e.generation (holder_of self.old.holders e.index) }
+        requires home { AreAllHome self.old.layout }
+        ensures ok { OnOk result (HasRow self.old e (row_after tick (only (value_number value) (value_words value)) (row_of self.old.rows e.index)) self.new) }
+        ensures err { OnErr result (AreAlike self.old self.new) }
+        ensures home { AreAllHome self.new.layout }
     {
+        own_all(&mut self.tables, &mut self.shared)?;
         write_in(&mut self.tables, &self.places, e, value, tick);
+        Ok(())
     }
 }
 

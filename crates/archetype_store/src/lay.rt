@@ -7,7 +7,7 @@ ghost use Rattle.model.specs.Overlay.{row_after};
 ghost use Rattle.column_store.specs.Cells.{stamped_number};
 ghost use Rattle.column_store.specs.Kinds.{AreBelow};
 ghost use Rattle.archetype_store.specs.Row.{component_of, only};
-ghost use Rattle.archetype_store.specs.Tables.{kinds_at, held_at, AreShaped, IsLeft};
+ghost use Rattle.archetype_store.specs.Tables.{kinds_at, held_at, AreShaped, AreOwned, IsLeft};
 ghost use Rattle.archetype_store.specs.Archetypes.{archetypes_of, holder_in, place_of, row_in, AreAlike, AreArchetypes, HasRow, IsHolder};
 
 use crate::components::{added, insert_new, take_out};
@@ -24,6 +24,7 @@ use std::alloc::AllocError;
 fn leave(tables: &mut Vec<Table>, place: Option<Place>, e: Entity)
     requires shaped { AreShaped tables.old.items }
     requires there { (p : Place) → place ≡ Some p → IsSome (held_at tables.old.items p.table e) }
+    requires owned { AreOwned tables.old.items }
     ensures { IsLeft tables.old.items tables.new.items place e }
 {
     if let Some(place) = place {
@@ -40,12 +41,14 @@ fn lay(
     components: &[StampedValue],
 ) -> Result<(), AllocError>
     requires whole { AreArchetypes tables.old.items places.old.items }
+    requires owned { AreOwned tables.old.items }
     requires within { e.index < length places.old.items }
     requires holder { IsHolder e.generation (holder_in (place_of places.old.items e.index)) }
     requires below { AreBelow (map stamped_number components.now) }
     requires some { components.now ≢ [] }
     requires other { (p : Place) → place_of places.old.items e.index ≡ Some p → kinds_at tables.old.items p.table ≢ map stamped_number components.now }
     ensures whole { AreArchetypes tables.new.items places.new.items }
+    ensures owned { AreOwned tables.new.items }
     ensures ok { OnOk result (HasRow (archetypes_of tables.old.items places.old.items) e (map component_of components.now) (archetypes_of tables.new.items places.new.items)) }
     ensures err { OnErr result (AreAlike (archetypes_of tables.old.items places.old.items) (archetypes_of tables.new.items places.new.items)) }
 {
@@ -63,8 +66,10 @@ fn lay(
 // Takes the row of an entity away.
 pub(crate) fn clear_in(tables: &mut Vec<Table>, places: &mut Vec<Option<Place>>, e: Entity)
     requires whole { AreArchetypes tables.old.items places.old.items }
+    requires owned { AreOwned tables.old.items }
     requires holder { IsHolder e.generation (holder_in (place_of places.old.items e.index)) }
     ensures whole { AreArchetypes tables.new.items places.new.items }
+    ensures owned { AreOwned tables.new.items }
     ensures cleared { HasRow (archetypes_of tables.old.items places.old.items) e [] (archetypes_of tables.new.items places.new.items) }
 {
     if let Some(place) = place_at(places, e.index) {
@@ -82,9 +87,11 @@ pub(crate) fn insert_in(
     tick: Tick,
 ) -> Result<(), AllocError>
     requires whole { AreArchetypes tables.old.items places.old.items }
+    requires owned { AreOwned tables.old.items }
     requires within { e.index < length places.old.items }
     requires holder { IsHolder e.generation (holder_in (place_of places.old.items e.index)) }
     ensures whole { AreArchetypes tables.new.items places.new.items }
+    ensures owned { AreOwned tables.new.items }
     ensures ok { OnOk result (HasRow (archetypes_of tables.old.items places.old.items) e
         (insert_component tick (value_number value) (value_words value) (row_in tables.old.items e.index (place_of places.old.items e.index)))
         (archetypes_of tables.new.items places.new.items)) }
@@ -111,8 +118,10 @@ pub(crate) fn remove_in(
     number: u32,
 ) -> Result<(), AllocError>
     requires whole { AreArchetypes tables.old.items places.old.items }
+    requires owned { AreOwned tables.old.items }
     requires holder { IsHolder e.generation (holder_in (place_of places.old.items e.index)) }
     ensures whole { AreArchetypes tables.new.items places.new.items }
+    ensures owned { AreOwned tables.new.items }
     ensures ok { OnOk result (HasRow (archetypes_of tables.old.items places.old.items) e
         (remove_component number (row_in tables.old.items e.index (place_of places.old.items e.index)))
         (archetypes_of tables.new.items places.new.items)) }
@@ -143,8 +152,10 @@ pub(crate) fn write_in(
     tick: Tick,
 )
     requires whole { AreArchetypes tables.old.items places.now }
+    requires owned { AreOwned tables.old.items }
     requires holder { IsHolder e.generation (holder_in (place_of places.now e.index)) }
     ensures whole { AreArchetypes tables.new.items places.now }
+    ensures owned { AreOwned tables.new.items }
     ensures written { HasRow (archetypes_of tables.old.items places.now) e
         (row_after tick (only (value_number value) (value_words value)) (row_in tables.old.items e.index (place_of places.now e.index)))
         (archetypes_of tables.new.items places.now) }

@@ -2,9 +2,13 @@
 #![tactic(auto)]
 
 mod archetypes;
+mod columns;
 mod components;
 pub mod fault;
+pub mod laws;
 mod lay;
+mod lending;
+mod owning;
 mod places;
 mod resources;
 pub mod slot;

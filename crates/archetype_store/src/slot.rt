@@ -7,6 +7,7 @@ ghost use Rattle.column_store.specs.Cells.{stamped_number};
 ghost use Rattle.entity_table.specs.Status.{status_of};
 ghost use Rattle.archetype_store.specs.Row.{component_of};
 ghost use Rattle.archetype_store.specs.Archetypes.{row_of};
+ghost use Rattle.archetype_store.specs.Layout.{AreAllHome};
 
 use crate::archetypes::Archetypes;
 use column_store::stamped::StampedValue;
@@ -23,16 +24,21 @@ pub struct RowView<'a> {
 impl<'a> Model for RowView<'a> {
     ghost use Rattle.std.specs.Prelude.{List};
     ghost use Rattle.model.specs.State.{Component};
+    ghost use Rattle.archetype_store.specs.Layout.{AreAllHome};
     ghost use Rattle.archetype_store.specs.Archetypes.{row_of};
+    ghost use Rattle.archetype_store.specs.Layout.{AreAllHome};
 
     ghost Value = { List Component };
 
     ghost view = { λ r. row_of r.archetypes.now.rows r.index };
+
+    ghost invariant = { λ r. AreAllHome r.archetypes.now.layout };
 }
 
 impl<'a> RowView<'a> {
     // The row of an index.
     pub(crate) fn of(archetypes: &'a Archetypes, index: u32) -> Self
+        requires { AreAllHome archetypes.now.layout }
         ensures { result ≡ row_of archetypes.now.rows index }
     {
         RowView { archetypes, index }
@@ -68,9 +74,13 @@ pub struct Slot<'a> {
 impl<'a> Model for Slot<'a> {
     ghost use Rattle.model.specs.State.{Slot as ModelSlot};
     ghost use Rattle.entity_table.specs.Status.{status_of};
+    ghost use Rattle.archetype_store.specs.Layout.{AreAllHome};
     ghost use Rattle.archetype_store.specs.Archetypes.{row_of};
+    ghost use Rattle.archetype_store.specs.Layout.{AreAllHome};
 
     ghost Value = { ModelSlot };
+
+    ghost invariant = { λ s. AreAllHome s.archetypes.now.layout };
 
     ghost view = { λ s. record { generation = s.generation; status = status_of s.status; row = row_of s.archetypes.now.rows s.index } };
 }
@@ -83,6 +93,7 @@ impl<'a> Slot<'a> {
         archetypes: &'a Archetypes,
         index: u32,
     ) -> Self
+        requires { AreAllHome archetypes.now.layout }
         ensures { result ≡ record { generation = generation; status = status_of status; row = row_of archetypes.now.rows index } }
     {
         Slot {

@@ -1,6 +1,6 @@
 // The slots by index: the id book, and the rows of the entities that live.
 
-ghost use Rattle.std.specs.Prelude.{◌≡◌, ◌++◌, ◌≤◌, ◌<◌, ◌↔◌, ℕ, true, false, [], length, map, option_map, All, IsTrue, IfSome, IfNone, MatchOption, IfOk, OnOk, OnErr, IsErrOf, IsOkUnless};
+ghost use Rattle.std.specs.Prelude.{◌≡◌, ◌++◌, ◌≤◌, ◌<◌, ◌↔◌, ℕ, true, false, [], Some, length, map, option_map, is_some, All, IsTrue, IfSome, IfNone, MatchOption, IfOk, OnOk, OnErr, IsErrOf};
 ghost use Rattle.kinds.specs.Value.{value_number, value_words};
 ghost use Rattle.model.specs.Lists.{update_at};
 ghost use Rattle.model.specs.Rows.{row_at, insert_component, remove_component};
@@ -11,9 +11,14 @@ ghost use Rattle.model.specs.Overlay.{slot_after};
 ghost use Rattle.column_store.specs.Cells.{stamped_number};
 ghost use Rattle.entity_table.specs.Ids.{slot_at, lives_at, IsGranted, AreApart, settled};
 ghost use Rattle.archetype_store.specs.Row.{component_of, only};
-ghost use Rattle.archetype_store.specs.Slot.{cell_of};
+ghost use Rattle.std.specs.Arc.{arc_value};
+ghost use Rattle.kinds.specs.Kind.{kind_number};
+ghost use Rattle.archetype_store.specs.Slot.{cell_of, column_cells};
+ghost use Rattle.archetype_store.specs.Store.{slots_with};
 ghost use Rattle.archetype_store.specs.Archetypes.{row_of};
-ghost use Rattle.archetype_store.specs.Layout.{IsLayoutOf};
+ghost use Rattle.archetype_store.specs.Layout.{archetype_at, column_home, with_home, IsLayoutOf, AreAllHome};
+ghost use Rattle.std.specs.List.{AllByRecursion};
+ghost use Rattle.column_store.specs.Order.{AreRising};
 ghost use Rattle.archetype_store.specs.View.{kinds_seen, entities_seen};
 
 use crate::archetypes::Archetypes;
@@ -21,13 +26,15 @@ use crate::fault::StoreFault;
 use crate::slot::Slot;
 use crate::tables::ArchetypeView;
 use change_ticks::clock::Tick;
-use column_store::stamped::StampedValue;
+use column_store::stamped::{StampedColumn, StampedValue};
 use entity_table::Entity;
 use entity_table::fault::GrantFault;
 use entity_table::table::EntityTable;
+use kinds::kind::Kind;
 use kinds::value::Value;
 use std::alloc::{AllocError, Global};
 use std::marker::Model;
+use std::sync::Arc;
 
 /// The slots, which contracts see as a list by index, and the archetypes that have entities. An index past the end is vacant at
 /// generation 1.
@@ -69,6 +76,7 @@ impl Slots {
 
     /// The slot of an index, none past the end.
     pub fn get(&self, index: u32) -> Option<Slot<'_>>
+        requires { AreAllHome self.now.layout }
         ensures { MatchOption result (length self.now.slots ≤ index) (λ slot. slot ≡ slot_at self.now.slots index) }
     {
         if index >= self.book.len() {
@@ -101,6 +109,7 @@ impl Slots {
 
     /// The component of the kind with this number, where the entity lives and has one.
     pub fn find(&self, e: Entity, number: u32) -> Option<StampedValue>
+        requires { AreAllHome self.now.layout }
         ensures cell { option_map (λ s. (component_of s).cell) result ≡ cell_of self.now.slots e number }
         ensures number { IfSome result (λ s. stamped_number s ≡ number) }
     {
@@ -110,10 +119,77 @@ impl Slots {
         self.archetypes.find(e.index, number)
     }
 
+    /// Whether the entity lives and has a component of the kind with this number.
+    pub fn has(&self, e: Entity, number: u32) -> bool
+        ensures { result ≡ is_some (cell_of self.now.slots e number) }
+    {
+        if !self.lives(e) {
+            return false;
+        }
+        self.archetypes.has(e.index, number)
+    }
+
+    /// The column of a kind of an archetype, which is at home.
+    pub fn column(&self, archetype: usize, kind: Kind) -> &StampedColumn
+        requires { column_home (archetype_at self.now.layout archetype) (kind_number kind) ≡ Some true }
+        ensures kind { result.now.kind ≡ kind_number kind }
+        ensures cells { map (λ cell. Some cell) result.now.cells ≡ column_cells self.now.slots (archetype_at self.now.layout archetype).entities (kind_number kind) }
+    {
+        // Tells who lives.
+        self.archetypes.laid();
+        self.archetypes.column(archetype, kind)
+    }
+
+    /// Takes the column of a kind of an archetype, which is at home, until it comes home. After an error nothing has changed.
+    pub fn take_column(
+        &mut self,
+        alloc: Global,
+        archetype: usize,
+        kind: Kind,
+    ) -> Result<StampedColumn, AllocError>
+        requires { column_home (archetype_at self.old.layout archetype) (kind_number kind) ≡ Some true }
+        ensures kind { IfOk result (λ column. column.kind ≡ kind_number kind) }
+        ensures cells { IfOk result (λ column. map (λ cell. Some cell) column.cells ≡ column_cells self.old.slots (archetype_at self.old.layout archetype).entities (kind_number kind)) }
+        ensures away { OnOk result (self.new ≡ record self.old { layout = with_home false archetype (kind_number kind) self.old.layout }) }
+        ensures err { OnErr result (self.new ≡ self.old) }
+    {
+        // Tells who lives.
+        self.archetypes.laid();
+        self.archetypes.take_column(alloc, archetype, kind)
+    }
+
+    /// The column of a kind of an archetype, which is at home, to be read elsewhere too.
+    pub fn share_column(
+        &mut self,
+        alloc: Global,
+        archetype: usize,
+        kind: Kind,
+    ) -> Result<Arc<StampedColumn, Global>, AllocError>
+        requires { column_home (archetype_at self.old.layout archetype) (kind_number kind) ≡ Some true }
+        ensures kind { IfOk result (λ column. (arc_value column).kind ≡ kind_number kind) }
+        ensures cells { IfOk result (λ column. map (λ cell. Some cell) (arc_value column).cells ≡ column_cells self.old.slots (archetype_at self.old.layout archetype).entities (kind_number kind)) }
+        ensures same { self.new ≡ self.old }
+    {
+        // Tells who lives.
+        self.archetypes.laid();
+        self.archetypes.share_column(alloc, archetype, kind)
+    }
+
+    /// Puts a column that was taken back, with as many cells as the archetype has entities. It takes no memory.
+    pub fn put_column(&mut self, archetype: usize, column: StampedColumn)
+        requires away { column_home (archetype_at self.old.layout archetype) column.kind ≡ Some false }
+        requires same_length { length column.cells ≡ length (archetype_at self.old.layout archetype).entities }
+        ensures slots { self.new.slots ≡ slots_with (archetype_at self.old.layout archetype).entities column.kind column.cells self.old.slots }
+        ensures layout { self.new.layout ≡ with_home true archetype column.kind self.old.layout }
+    {
+        self.archetypes.put_column(archetype, column);
+    }
+
     /// The archetypes that have entities.
     pub fn archetypes(&self, alloc: Global) -> Result<Vec<ArchetypeView<'_>>, AllocError>
         ensures kinds { IfOk result (λ views. map kinds_seen views.items ≡ map (λ a. a.kinds) self.now.layout) }
         ensures entities { IfOk result (λ views. map entities_seen views.items ≡ map (λ a. a.entities) self.now.layout) }
+        ensures rising { IfOk result (λ views. AllByRecursion (λ view. AreRising (entities_seen view)) views.items) }
     {
         self.archetypes.archetypes(alloc)
     }
@@ -132,6 +208,7 @@ impl Slots {
         ensures each { IfOk result (λ granted. All (IsGranted self.new.slots) granted.items) }
         ensures apart { IfOk result (λ granted. AreApart granted.items) }
         ensures spent { IsErrOf result GrantFault.IdsSpent ↔ (ids.has_ids count self.old.slots ≡ false) }
+        ensures layout { self.new.layout ≡ self.old.layout }
         ensures err { OnErr result (self.new ≡ self.old) }
     {
         let granted = self.book.grant(alloc, count)?;
@@ -141,7 +218,8 @@ impl Slots {
     /// Makes the entity of a granted id live, without components.
     pub fn spawn_at(&mut self, e: Entity)
         requires { IsGranted self.old.slots e }
-        ensures { self.new.slots ≡ update_at e.index (spawned e.generation) self.old.slots }
+        ensures slots { self.new.slots ≡ update_at e.index (spawned e.generation) self.old.slots }
+        ensures layout { self.new.layout ≡ self.old.layout }
     {
         self.book.spawn_at(e);
     }
@@ -151,38 +229,43 @@ impl Slots {
         requires used { All (IsGranted self.old.slots) used.now }
         requires unused { All (IsGranted self.old.slots) unused.now }
         requires apart { AreApart (used.now ++ unused.now) }
-        ensures { self.new.slots ≡ settled used.now unused.now self.old.slots }
+        ensures slots { self.new.slots ≡ settled used.now unused.now self.old.slots }
+        ensures layout { self.new.layout ≡ self.old.layout }
     {
         self.book.settle(used, unused);
     }
 
     /// Frees each index named that is still granted.
     pub fn release(&mut self, ids: &[Entity])
-        ensures { self.new.slots ≡ commands.release ids.now self.old.slots }
+        ensures slots { self.new.slots ≡ commands.release ids.now self.old.slots }
+        ensures layout { self.new.layout ≡ self.old.layout }
     {
         self.book.release(ids);
     }
 
-    /// Frees the index of an entity, and drops its components.
+    /// Frees the index of an entity, and drops its components. After an error the slots are as they were.
     pub fn despawn(&mut self, e: Entity) -> Result<(), StoreFault>
+        requires { AreAllHome self.old.layout }
         ensures ok { OnOk result (self.new.slots ≡ update_at e.index freed self.old.slots) }
         ensures dead { IsErrOf result StoreFault.NotAlive ↔ (is_alive self.old.slots e ≡ false) }
-        ensures other { IsOkUnless result StoreFault.NotAlive }
         ensures err { OnErr result (self.new ≡ self.old) }
+        ensures home { AreAllHome self.new.layout }
     {
         if !self.lives(e) {
             return Err(StoreFault::NotAlive);
         }
-        self.archetypes.clear(e);
+        self.archetypes.clear(e)?;
         self.book.despawn(e);
         Ok(())
     }
 
     /// Inserts a component into the row of an entity at a tick. After an error the slots are as they were.
     pub fn insert(&mut self, e: Entity, value: Value, tick: Tick) -> Result<(), StoreFault>
+        requires { AreAllHome self.old.layout }
         ensures ok { OnOk result (self.new.slots ≡ update_at e.index (with_row (insert_component tick (value_number value) (value_words value))) self.old.slots) }
         ensures dead { IsErrOf result StoreFault.NotAlive ↔ (is_alive self.old.slots e ≡ false) }
         ensures err { OnErr result (self.new ≡ self.old) }
+        ensures home { AreAllHome self.new.layout }
     {
         if !self.lives(e) {
             return Err(StoreFault::NotAlive);
@@ -193,9 +276,11 @@ impl Slots {
 
     /// Removes the component of a kind from the row of an entity, where it has one. After an error the slots are as they were.
     pub fn remove(&mut self, e: Entity, number: u32) -> Result<(), StoreFault>
+        requires { AreAllHome self.old.layout }
         ensures ok { OnOk result (self.new.slots ≡ update_at e.index (with_row (remove_component number)) self.old.slots) }
         ensures dead { IsErrOf result StoreFault.NotAlive ↔ (is_alive self.old.slots e ≡ false) }
         ensures err { OnErr result (self.new ≡ self.old) }
+        ensures home { AreAllHome self.new.layout }
     {
         if !self.lives(e) {
             return Err(StoreFault::NotAlive);
@@ -205,18 +290,23 @@ impl Slots {
     }
 
     /// Writes the component of this value's kind in the row of an index at a tick, where the row has one.
-    pub fn write(&mut self, index: u32, value: Value, tick: Tick)
-        ensures { self.new.slots ≡ update_at index (slot_after tick (only (value_number value) (value_words value))) self.old.slots }
+    pub fn write(&mut self, index: u32, value: Value, tick: Tick) -> Result<(), AllocError>
+        requires { AreAllHome self.old.layout }
+        ensures ok { OnOk result (self.new.slots ≡ update_at index (slot_after tick (only (value_number value) (value_words value))) self.old.slots) }
+        ensures err { OnErr result (self.new ≡ self.old) }
+        ensures home { AreAllHome self.new.layout }
     {
         let e = Entity {
             index,
             generation: self.book.generation(index),
         };
-        self.archetypes.write(e, value, tick);
+        self.archetypes.write(e, value, tick)?;
+        Ok(())
     }
 
     /// The components of an index, in rising kinds.
     pub fn components(&self, alloc: Global, index: u32) -> Result<Vec<StampedValue>, AllocError>
+        requires { AreAllHome self.now.layout }
         ensures { IfOk result (λ components. map component_of components.items ≡ row_at self.now.slots index) }
     {
         self.archetypes.components(alloc, index)

@@ -1,6 +1,6 @@
 // The world: entities with their components, resources and the clock.
 
-ghost use Rattle.std.specs.Prelude.{◌≡◌, ◌++◌, ◌+◌, ◌≤◌, ◌<◌, ◌↔◌, ℕ, true, false, length, map, option_map, is_some, All, IfSome, IfNone, IfOk, IsErr, OnOk, OnErr, IsErrOf, IsOkUnless};
+ghost use Rattle.std.specs.Prelude.{◌≡◌, ◌++◌, ◌+◌, ◌≤◌, ◌<◌, ◌↔◌, ℕ, true, false, [], Some, length, map, option_map, is_some, All, IfSome, IfNone, IfOk, IsErr, OnOk, OnErr, IsErrOf};
 ghost use Rattle.kinds.specs.Kind.{kind_number};
 ghost use Rattle.kinds.specs.Value.{value_number, value_words};
 ghost use Rattle.model.specs.Lists.{update_at};
@@ -16,12 +16,17 @@ ghost use Rattle.model.specs.Commands.{is_alive, spawned, freed, with_row};
 ghost use Rattle.model.specs.Overlay.{slot_after};
 ghost use Rattle.archetype_store.specs.Row.{component_of, only};
 ghost use Rattle.entity_table.specs.Ids.{slot_at, lives_at, IsGranted, AreApart, settled};
-ghost use Rattle.archetype_store.specs.Slot.{cell_of};
-ghost use Rattle.archetype_store.specs.Layout.{IsLayoutOf};
+ghost use Rattle.std.specs.Arc.{arc_value};
+ghost use Rattle.std.specs.List.{AllByRecursion};
+ghost use Rattle.archetype_store.specs.Slot.{cell_of, column_cells};
+ghost use Rattle.archetype_store.specs.Layout.{archetype_at, column_home, with_home, IsLayoutOf, AreAllHome};
+ghost use Rattle.archetype_store.specs.Lending.{CanTake, CanShare, CanComeHome, AreTaken, AreShared, all_away, all_home};
+ghost use Rattle.column_store.specs.Order.{AreRising};
 ghost use Rattle.archetype_store.specs.View.{kinds_seen, entities_seen};
 ghost use Rattle.archetype_store.specs.Resources.{changed_of};
-ghost use Rattle.archetype_store.specs.Store.{empty_world, with_slots, with_slot, with_resource, at_clock, stamp_of};
+ghost use Rattle.archetype_store.specs.Store.{empty_world, with_slots, with_slot, with_resource, at_clock, stamp_of, homed_in, IsPast};
 
+pub use crate::columns::{ColumnAt, SharedColumn, TakenColumn};
 use crate::fault::{GrantFault, StoreFault};
 use crate::resources::Resources;
 use crate::slot::Slot;
@@ -29,15 +34,15 @@ use crate::slots::Slots;
 pub use crate::tables::ArchetypeView;
 use change_ticks::clock::{Clock, ClockSpent, Tick};
 use change_ticks::stamp::Stamp;
-use column_store::stamped::StampedValue;
+use column_store::stamped::{StampedColumn, StampedValue};
 use entity_table::Entity;
 use kinds::component::Component;
 use kinds::kind::Kind;
 use kinds::res::Res;
 use kinds::value::Value;
-use kinds::words::Words;
 use std::alloc::{AllocError, Global};
 use std::marker::Model;
+use std::sync::Arc;
 
 /// The world. Contracts see its state (slots by index, resources by number, the clock) and beside it how components are laid out: the
 /// archetypes that have entities.
@@ -63,7 +68,7 @@ impl Model for World {
 impl World {
     /// The world without entities, at this clock. Each resource is 0, changed at tick 1.
     pub fn new(alloc: Global, clock: Clock) -> Result<World, AllocError>
-        ensures { IfOk result (λ w. w.state ≡ empty_world clock) }
+        ensures { IfOk result (λ w. w ≡ record { state = empty_world clock; layout = [] }) }
     {
         // Tells that the clock stands at one of its ticks.
         let _now = clock.now();
@@ -86,6 +91,7 @@ impl World {
     pub fn next(&mut self) -> Result<Tick, ClockSpent>
         ensures ok { IfOk result (λ tick. tick ≡ self.old.state.clock + 1) }
         ensures moved { OnOk result (self.new.state ≡ at_clock (self.old.state.clock + 1) self.old.state) }
+        ensures layout { self.new.layout ≡ self.old.layout }
         ensures spent { IsErr result ↔ (self.old.state.clock ≡ last_tick) }
         ensures err { OnErr result (self.new ≡ self.old) }
     {
@@ -96,8 +102,123 @@ impl World {
     pub fn archetypes(&self, alloc: Global) -> Result<Vec<ArchetypeView<'_>>, AllocError>
         ensures kinds { IfOk result (λ views. map kinds_seen views.items ≡ map (λ a. a.kinds) self.now.layout) }
         ensures entities { IfOk result (λ views. map entities_seen views.items ≡ map (λ a. a.entities) self.now.layout) }
+        ensures rising { IfOk result (λ views. AllByRecursion (λ view. AreRising (entities_seen view)) views.items) }
     {
         self.slots.archetypes(alloc)
+    }
+
+    /// The column of a kind of the archetype of a number, which is at home. Its components are those of the archetype's entities, in order.
+    pub fn column(&self, archetype: usize, kind: Kind) -> &StampedColumn
+        requires { column_home (archetype_at self.now.layout archetype) (kind_number kind) ≡ Some true }
+        ensures kind { result.now.kind ≡ kind_number kind }
+        ensures cells { map (λ cell. Some cell) result.now.cells ≡ column_cells self.now.state.slots (archetype_at self.now.layout archetype).entities (kind_number kind) }
+    {
+        self.slots.column(archetype, kind)
+    }
+
+    /// Takes the column of a kind of the archetype of a number out of the world until it comes home. Meanwhile the world is as if it was
+    /// there. A column that is still read elsewhere is copied for it. After an error nothing has changed.
+    pub fn take_column(
+        &mut self,
+        alloc: Global,
+        archetype: usize,
+        kind: Kind,
+    ) -> Result<StampedColumn, AllocError>
+        requires { column_home (archetype_at self.old.layout archetype) (kind_number kind) ≡ Some true }
+        ensures kind { IfOk result (λ column. column.kind ≡ kind_number kind) }
+        ensures cells { IfOk result (λ column. map (λ cell. Some cell) column.cells ≡ column_cells self.old.state.slots (archetype_at self.old.layout archetype).entities (kind_number kind)) }
+        ensures away { OnOk result (self.new ≡ record { state = self.old.state; layout = with_home false archetype (kind_number kind) self.old.layout }) }
+        ensures err { OnErr result (self.new ≡ self.old) }
+    {
+        self.slots.take_column(alloc, archetype, kind)
+    }
+
+    /// The column of a kind of the archetype of a number, to be read elsewhere too. It stays at home, and no row is copied.
+    pub fn share_column(
+        &mut self,
+        alloc: Global,
+        archetype: usize,
+        kind: Kind,
+    ) -> Result<Arc<StampedColumn, Global>, AllocError>
+        requires { column_home (archetype_at self.old.layout archetype) (kind_number kind) ≡ Some true }
+        ensures kind { IfOk result (λ column. (arc_value column).kind ≡ kind_number kind) }
+        ensures cells { IfOk result (λ column. map (λ cell. Some cell) (arc_value column).cells ≡ column_cells self.old.state.slots (archetype_at self.old.layout archetype).entities (kind_number kind)) }
+        ensures same { self.new ≡ self.old }
+    {
+        self.slots.share_column(alloc, archetype, kind)
+    }
+
+    /// Puts a column that was taken back: each entity of its archetype has the component beside it. It takes no memory.
+    pub fn put_column(&mut self, archetype: usize, column: StampedColumn)
+        requires away { column_home (archetype_at self.old.layout archetype) column.kind ≡ Some false }
+        requires same_length { length column.cells ≡ length (archetype_at self.old.layout archetype).entities }
+        requires past { AllByRecursion (IsPast self.old.state.clock) column.cells }
+        ensures { self.new ≡ homed_in self.old archetype column.kind column.cells }
+    {
+        // Tells that the components have the fields of their kind.
+        column.law();
+        self.slots.put_column(archetype, column);
+    }
+
+    /// Takes columns out of the world, to be written, until they come home. Meanwhile the world is as if they were there. No row is
+    /// touched, but a column that is still read elsewhere is copied. After an error nothing has changed.
+    pub fn take_written(
+        &mut self,
+        alloc: Global,
+        columns: &[ColumnAt],
+    ) -> Result<Vec<TakenColumn>, AllocError>
+        requires { CanTake self.old.layout columns.now }
+        ensures taken { IfOk result (λ taken. AreTaken self.old.state.slots self.old.layout columns.now taken.items) }
+        ensures away { OnOk result (self.new ≡ record { state = self.old.state; layout = all_away columns.now self.old.layout }) }
+        ensures err { OnErr result (self.new ≡ self.old) }
+    {
+        // Tell how the layout is that of the state, and that no stamp is above the clock.
+        self.laid();
+        let _now = self.now();
+        let mut taken = Vec::with_capacity(alloc, columns.len())?;
+        for at in columns {
+            match self.take_column(alloc, at.archetype, at.kind) {
+                Ok(column) => taken.push_reserved(TakenColumn {
+                    archetype: at.archetype,
+                    column,
+                }),
+                Err(_) => {
+                    self.put_back(taken);
+                    return Err(AllocError);
+                }
+            }
+        }
+        Ok(taken)
+    }
+
+    /// Columns of the world, to be read elsewhere too. They stay at home, and no row is copied.
+    pub fn share_read(
+        &mut self,
+        alloc: Global,
+        columns: &[ColumnAt],
+    ) -> Result<Vec<SharedColumn>, AllocError>
+        requires { CanShare self.old.layout columns.now }
+        ensures shared { IfOk result (λ shared. AreShared self.old.state.slots self.old.layout columns.now shared.items) }
+        ensures same { self.new ≡ self.old }
+    {
+        let mut shared = Vec::with_capacity(alloc, columns.len())?;
+        for at in columns {
+            let column = self.share_column(alloc, at.archetype, at.kind)?;
+            let archetype = at.archetype;
+            shared.push_reserved(SharedColumn { archetype, column });
+        }
+        Ok(shared)
+    }
+
+    /// Puts columns that were taken back: each entity of their archetypes has the components beside it. It takes no memory.
+    pub fn put_back(&mut self, columns: Vec<TakenColumn>)
+        requires { CanComeHome columns.items self.old }
+        ensures { self.new ≡ all_home columns.items self.old }
+    {
+        let mut columns = columns;
+        while let Some(taken) = columns.pop() {
+            self.put_column(taken.archetype, taken.column);
+        }
     }
 
     /// The layout is that of the state: who is in an archetype lives with just its kinds, who lives with components is in one, none is
@@ -115,6 +236,7 @@ impl World {
         ensures each { IfOk result (λ granted. All (IsGranted self.new.state.slots) granted.items) }
         ensures apart { IfOk result (λ granted. AreApart granted.items) }
         ensures spent { IsErrOf result GrantFault.IdsSpent ↔ (ids.has_ids count self.old.state.slots ≡ false) }
+        ensures layout { self.new.layout ≡ self.old.layout }
         ensures err { OnErr result (self.new ≡ self.old) }
     {
         self.slots.grant(alloc, count)
@@ -123,7 +245,8 @@ impl World {
     /// Makes the entity of a granted id live, without components.
     pub fn spawn_at(&mut self, e: Entity)
         requires { IsGranted self.old.state.slots e }
-        ensures { self.new.state ≡ with_slot e.index (spawned e.generation) self.old.state }
+        ensures state { self.new.state ≡ with_slot e.index (spawned e.generation) self.old.state }
+        ensures layout { self.new.layout ≡ self.old.layout }
     {
         self.slots.spawn_at(e);
     }
@@ -133,24 +256,28 @@ impl World {
         requires used { All (IsGranted self.old.state.slots) used.now }
         requires unused { All (IsGranted self.old.state.slots) unused.now }
         requires apart { AreApart (used.now ++ unused.now) }
-        ensures { self.new.state ≡ with_slots (settled used.now unused.now) self.old.state }
+        ensures state { self.new.state ≡ with_slots (settled used.now unused.now) self.old.state }
+        ensures layout { self.new.layout ≡ self.old.layout }
     {
         self.slots.settle(used, unused);
     }
 
     /// Frees each index named that is still granted: it is vacant with one more generation, or retired where that can't grow.
     pub fn release(&mut self, ids: &[Entity])
-        ensures { self.new.state ≡ with_slots (commands.release ids.now) self.old.state }
+        ensures state { self.new.state ≡ with_slots (commands.release ids.now) self.old.state }
+        ensures layout { self.new.layout ≡ self.old.layout }
     {
         self.slots.release(ids);
     }
 
-    /// Frees the index of an entity, so that its id names nothing, and drops its components. It takes no memory.
+    /// Frees the index of an entity, so that its id names nothing, and drops its components. After an error nothing has
+    /// changed.
     pub fn despawn(&mut self, e: Entity) -> Result<(), StoreFault>
+        requires { AreAllHome self.old.layout }
         ensures ok { OnOk result (self.new.state ≡ with_slot e.index freed self.old.state) }
         ensures dead { IsErrOf result StoreFault.NotAlive ↔ (is_alive self.old.state.slots e ≡ false) }
-        ensures other { IsOkUnless result StoreFault.NotAlive }
         ensures err { OnErr result (self.new ≡ self.old) }
+        ensures home { AreAllHome self.new.layout }
     {
         self.slots.despawn(e)
     }
@@ -179,25 +306,30 @@ impl World {
         component: C,
         tick: Tick,
     ) -> Result<(), StoreFault>
-        requires { tick ≤ self.old.state.clock }
+        requires past { tick ≤ self.old.state.clock }
+        requires home { AreAllHome self.old.layout }
         ensures ok { OnOk result (self.new.state ≡ with_slot e.index (with_row (insert_component tick C.NUMBER (C.words component))) self.old.state) }
         ensures dead { IsErrOf result StoreFault.NotAlive ↔ (is_alive self.old.state.slots e ≡ false) }
         ensures err { OnErr result (self.new ≡ self.old) }
+        ensures home { AreAllHome self.new.layout }
     {
         self.slots.insert(e, component.into_value(), tick)
     }
 
     /// Removes the component of a kind of an entity. Where it has none, nothing changes. After an error nothing has changed.
     pub fn remove(&mut self, e: Entity, kind: Kind) -> Result<(), StoreFault>
+        requires { AreAllHome self.old.layout }
         ensures ok { OnOk result (self.new.state ≡ with_slot e.index (with_row (remove_component (kind_number kind))) self.old.state) }
         ensures dead { IsErrOf result StoreFault.NotAlive ↔ (is_alive self.old.state.slots e ≡ false) }
         ensures err { OnErr result (self.new ≡ self.old) }
+        ensures home { AreAllHome self.new.layout }
     {
         self.slots.remove(e, kind.number())
     }
 
     /// The component of this kind of an entity that lives.
     pub fn get<C: Component>(&self, e: Entity) -> Option<C>
+        requires { AreAllHome self.now.layout }
         ensures { option_map C.words result ≡ words_of (cell_of self.now.state.slots e C.NUMBER) }
     {
         match self.slots.find(e, C::NUMBER) {
@@ -210,11 +342,12 @@ impl World {
     pub fn has(&self, e: Entity, kind: Kind) -> bool
         ensures { result ≡ is_some (cell_of self.now.state.slots e (kind_number kind)) }
     {
-        self.slots.find(e, kind.number()).is_some()
+        self.slots.has(e, kind.number())
     }
 
     /// The stamps of a component of an entity that lives.
     pub fn stamp(&self, e: Entity, kind: Kind) -> Option<Stamp>
+        requires { AreAllHome self.now.layout }
         ensures { result ≡ option_map stamp_of (cell_of self.now.state.slots e (kind_number kind)) }
     {
         match self.slots.find(e, kind.number()) {
@@ -233,7 +366,8 @@ impl World {
     /// Writes a resource at a tick.
     pub fn set_res(&mut self, res: Res, value: i64, tick: Tick)
         requires { tick ≤ self.old.state.clock }
-        ensures { self.new.state ≡ with_resource (res_number res) value tick self.old.state }
+        ensures state { self.new.state ≡ with_resource (res_number res) value tick self.old.state }
+        ensures layout { self.new.layout ≡ self.old.layout }
     {
         self.resources.set(res, value, tick);
     }
@@ -254,7 +388,8 @@ impl World {
 
     /// The slot of an index.
     pub fn slot_at(&self, index: u32) -> Slot<'_>
-        requires { index < length self.now.state.slots }
+        requires within { index < length self.now.state.slots }
+        requires home { AreAllHome self.now.layout }
         ensures { result ≡ slot_at self.now.state.slots index }
     {
         match self.slots.get(index) {
@@ -265,29 +400,22 @@ impl World {
 
     /// The components of an index, in rising kinds: none unless an entity of it lives.
     pub fn components(&self, alloc: Global, index: u32) -> Result<Vec<StampedValue>, AllocError>
+        requires { AreAllHome self.now.layout }
         ensures { IfOk result (λ components. map component_of components.items ≡ row_at self.now.state.slots index) }
     {
         self.slots.components(alloc, index)
     }
 
-    /// Writes one component at a tick: its value and its changed stamp. A kind that the row doesn't have is not written.
-    pub fn write(&mut self, index: u32, value: Value, tick: Tick)
-        requires { tick ≤ self.old.state.clock }
-        ensures { self.new.state ≡ with_slot index (slot_after tick (only (value_number value) (value_words value))) self.old.state }
+    /// Writes one component at a tick: its value and its changed stamp. A kind that the row doesn't have is not written. Memory can be
+    /// wanting only where columns were read elsewhere too; then nothing has changed.
+    pub fn write(&mut self, index: u32, value: Value, tick: Tick) -> Result<(), AllocError>
+        requires past { tick ≤ self.old.state.clock }
+        requires home { AreAllHome self.old.layout }
+        ensures ok { OnOk result (self.new.state ≡ with_slot index (slot_after tick (only (value_number value) (value_words value))) self.old.state) }
+        ensures err { OnErr result (self.new ≡ self.old) }
+        ensures home { AreAllHome self.new.layout }
     {
-        let words = value.words();
-        self.write_words(index, value.kind(), &words, tick);
-    }
-
-    /// Writes the words of one component at a tick: its value and its changed stamp. A kind that the row doesn't have is not
-    /// written.
-    pub fn write_words(&mut self, index: u32, kind: Kind, words: &Words, tick: Tick)
-        requires width { length words.now ≡ widths (kind_number kind) }
-        requires tick { tick ≤ self.old.state.clock }
-        ensures { self.new.state ≡ with_slot index (slot_after tick (only (kind_number kind) words.now)) self.old.state }
-    {
-        self.slots
-            .write(index, Value::of(kind, words.as_slice()), tick);
+        self.slots.write(index, value, tick)
     }
 }
 

@@ -1,7 +1,8 @@
 // The tables of archetypes, and what is done in them to the row of one entity.
 
 ghost use Rattle.std.specs.Prelude.{◌≡◌, ◌≢◌, ◌==◌, ◌<◌, [], length, map, option_map, position, None, Some, IsSome, IfSome, IfOk, OnOk, OnErr};
-ghost use Rattle.std.specs.List.{list_any};
+ghost use Rattle.std.specs.List.{list_any, AllByRecursion};
+ghost use Rattle.column_store.specs.Order.{AreRising};
 ghost use Rattle.kinds.specs.Kind.{kind_number};
 ghost use Rattle.kinds.specs.Value.{value_number, value_words};
 ghost use Rattle.model.specs.Lists.{has};
@@ -9,11 +10,12 @@ ghost use Rattle.model.specs.Rows.{cell_at};
 ghost use Rattle.model.specs.Overlay.{row_after};
 ghost use Rattle.column_store.specs.Cells.{stamped_number};
 ghost use Rattle.column_store.specs.Kinds.{AreBelow};
-ghost use Rattle.column_store.specs.Table.{empty_table};
+ghost use Rattle.column_store.specs.Table.{TableRow, empty_table, kind_cells, standing_of, lent, homed, IsHome};
+ghost use Rattle.column_store.specs.Table.Standing.{Away};
 ghost use Rattle.archetype_store.specs.Row.{component_of, only};
 ghost use Rattle.archetype_store.specs.Layout.{layout_of};
 ghost use Rattle.archetype_store.specs.View.{kinds_seen, entities_seen};
-ghost use Rattle.archetype_store.specs.Tables.{kinds_at, held_at, row_or_none, are_same, AreShaped, AreUnlike, IsHeldNow, IsGrown};
+ghost use Rattle.archetype_store.specs.Tables.{table_at, kinds_at, held_at, row_or_none, are_same, AreShaped, AreUnlike, AreHome, AreOwned, IsHeldNow, IsGrown};
 
 use change_ticks::clock::Tick;
 use column_store::stamped::StampedValue;
@@ -39,6 +41,7 @@ pub(crate) fn views_of(
 ) -> Result<Vec<ArchetypeView<'_>>, AllocError>
     ensures kinds { IfOk result (λ views. map kinds_seen views.items ≡ map (λ a. a.kinds) (layout_of tables.now)) }
     ensures entities { IfOk result (λ views. map entities_seen views.items ≡ map (λ a. a.entities) (layout_of tables.now)) }
+    ensures rising { IfOk result (λ views. AllByRecursion (λ view. AreRising (entities_seen view)) views.items) }
 {
     let mut views = Vec::new(alloc);
     for table in tables {
@@ -130,6 +133,7 @@ pub(crate) fn find_at(
 ) -> Option<StampedValue>
     requires there { IsSome (held_at tables.now table e) }
     requires shaped { AreShaped tables.now }
+    requires home { AreHome tables.now }
     ensures cell { option_map (λ s. (component_of s).cell) result ≡ cell_at (row_or_none (held_at tables.now table e)) number }
     ensures number { IfSome result (λ s. stamped_number s ≡ number) }
 {
@@ -160,6 +164,7 @@ pub(crate) fn components_at(
 ) -> Result<Vec<StampedValue>, AllocError>
     requires there { IsSome (held_at tables.now table e) }
     requires shaped { AreShaped tables.now }
+    requires home { AreHome tables.now }
     ensures row { IfOk result (λ components. held_at tables.now table e ≡ Some (map component_of components.items)) }
     ensures kinds { IfOk result (λ components. map stamped_number components.items ≡ kinds_at tables.now table) }
 {
@@ -170,6 +175,7 @@ pub(crate) fn components_at(
 pub(crate) fn write_at(tables: &mut Vec<Table>, table: usize, e: Entity, value: Value, tick: Tick)
     requires shaped { AreShaped tables.old.items }
     requires there { IsSome (cell_at (row_or_none (held_at tables.old.items table e)) (value_number value)) }
+    requires owned { AreOwned tables.old.items }
     ensures { IsHeldNow tables.old.items tables.new.items table e
         (Some (row_after tick (only (value_number value) (value_words value)) (row_or_none (held_at tables.old.items table e)))) }
 {
@@ -188,6 +194,7 @@ pub(crate) fn put_at(
     requires within { table < length tables.old.items }
     requires absent { held_at tables.old.items table e ≡ None }
     requires kinds { kinds_at tables.old.items table ≡ map stamped_number components.now }
+    requires owned { AreOwned tables.old.items }
     ensures ok { OnOk result (IsHeldNow tables.old.items tables.new.items table e (Some (map component_of components.now))) }
     ensures err { OnErr result (tables.new.items ≡ tables.old.items) }
 {
@@ -199,6 +206,7 @@ pub(crate) fn put_at(
 pub(crate) fn remove_at(tables: &mut Vec<Table>, table: usize, e: Entity)
     requires shaped { AreShaped tables.old.items }
     requires there { IsSome (held_at tables.old.items table e) }
+    requires owned { AreOwned tables.old.items }
     ensures { IsHeldNow tables.old.items tables.new.items table e None }
 {
     let there = &mut tables[table];

@@ -1,5 +1,8 @@
 -- What the steps of a run do to the parts of a state.
-use Rattle.std.specs.Prelude.{ℕ, []}
+use Rattle.std.specs.Prelude.{ℕ, ◌≤◌, List, []}
+use Rattle.std.specs.List.{AllByRecursion}
+use Rattle.archetype_store.specs.Layout.{AreAllHome}
+use Rattle.archetype_store.specs.Store.{StoreValue}
 use Rattle.model.specs.Lists.{update_at}
 use Rattle.model.specs.State.{Memory, State}
 use Rattle.model.specs.Overlay.{slots_after}
@@ -33,3 +36,8 @@ laid n tick seen state = record {
   conditions = state.conditions;
   passed_over = state.passed_over;
 }
+
+-- what holds of every state: no last run is above the clock, and all columns are at home
+pub record IsState (world : StoreValue) (memories : List Memory) : Type 0 where
+  pub last_runs : AllByRecursion (λ m. m.last_run ≤ world.state.clock) memories
+  pub home : AreAllHome world.layout

@@ -4,6 +4,7 @@ ghost use Rattle.std.specs.Prelude.{◌≡◌, None, map, IfOk};
 ghost use Rattle.std.specs.List.{AllByRecursion};
 ghost use Rattle.model.specs.Input.{rows_of};
 ghost use Rattle.model.specs.Outcome.{untouched_rows, untouched_cells};
+ghost use Rattle.archetype_store.specs.Layout.{AreAllHome};
 ghost use Rattle.query_plan.specs.Term.{term_of};
 ghost use Rattle.query_plan.specs.Fetched.{AreFetched};
 ghost use Rattle.body.specs.ViewRow.{IsRowOf, AreRows, row_cells, query_cells, shown_rows, terms_of};
@@ -49,6 +50,7 @@ fn open_query(
     world: &World,
     last_run: Tick,
 ) -> Result<ViewQuery, AllocError>
+    requires { AreAllHome world.now.layout }
     ensures terms { IfOk result (λ q. terms_of q ≡ query.now) }
     ensures shown { IfOk result (λ q. shown_rows q ≡ rows_of query.now last_run world.now.state.slots) }
     ensures cells { IfOk result (λ q. query_cells q ≡ untouched_rows query.now (shown_rows q)) }
@@ -70,6 +72,7 @@ pub(crate) fn open_queries(
     world: &World,
     last_run: Tick,
 ) -> Result<Vec<ViewQuery>, AllocError>
+    requires { AreAllHome world.now.layout }
     ensures terms { IfOk result (λ v. map terms_of v.items ≡ queries.now) }
     ensures shown { IfOk result (λ v. map shown_rows v.items ≡ map (λ query. rows_of query last_run world.now.state.slots) queries.now) }
     ensures cells { IfOk result (λ v. map query_cells v.items ≡ untouched_cells (map terms_of v.items) (map shown_rows v.items)) }

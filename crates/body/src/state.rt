@@ -4,6 +4,7 @@ ghost use Rattle.std.specs.Prelude.{◌≡◌, ◌<◌, ◌≤◌, [], length, r
 ghost use Rattle.std.specs.List.{AllByRecursion};
 ghost use Rattle.model.specs.State.{no_memory, event_count, empty_queue};
 ghost use Rattle.model.specs.Loaded.{first_memory};
+ghost use Rattle.archetype_store.specs.Layout.{AreAllHome};
 
 use crate::memory::Memory;
 use archetype_store::store::World;
@@ -13,7 +14,7 @@ use std::marker::Model;
 mod steps;
 
 /// The state of an engine. Contracts see the state that the definitions speak of, with no events, no conditions and nothing passed
-/// over. No last run is above the clock.
+/// over. No last run is above the clock, and all columns are at home.
 #[derive(Drop, Debug)]
 pub struct State {
     world: World,
@@ -24,18 +25,20 @@ impl Model for State {
     ghost use Rattle.std.specs.Prelude.{[], replicate, ◌≤◌};
     ghost use Rattle.std.specs.List.{AllByRecursion};
     ghost use Rattle.model.specs.State.{State as ModelState, event_count, empty_queue};
+    ghost use Rattle.body.specs.Steps.{IsState};
 
     ghost Value = { ModelState };
 
     ghost view = { λ s. record { world = s.world.state; events = replicate event_count empty_queue; systems = s.systems.items; conditions = []; passed_over = 0 } };
 
-    ghost invariant = { λ s. AllByRecursion (λ m. m.last_run ≤ s.world.state.clock) s.systems.items };
+    ghost invariant = { λ s. IsState s.world s.systems.items };
 }
 
 impl State {
     /// The state of a world with this many systems that never ran.
     #[tactic(auto, using(crate::proofs::States::repeated))]
     pub fn new(alloc: Global, world: World, systems: usize) -> Result<Self, AllocError>
+        requires { AreAllHome world.layout }
         ensures { IfOk result (λ s. s ≡ record { world = world.state; events = replicate event_count empty_queue; systems = replicate systems (first_memory []); conditions = []; passed_over = 0 }) }
     {
         let systems = memories(alloc, systems)?;
@@ -44,7 +47,8 @@ impl State {
 
     /// The state of a world with these memories.
     pub fn of_parts(world: World, systems: Vec<Memory>) -> Self
-        requires { AllByRecursion (λ m. m.last_run ≤ world.state.clock) systems.items }
+        requires last_runs { AllByRecursion (λ m. m.last_run ≤ world.state.clock) systems.items }
+        requires home { AreAllHome world.layout }
         ensures { result ≡ record { world = world.state; events = replicate event_count empty_queue; systems = systems.items; conditions = []; passed_over = 0 } }
     {
         State { world, systems }
@@ -56,6 +60,7 @@ impl State {
         ensures systems { result.1.items ≡ self.systems }
         ensures whole { self ≡ record { world = result.0.state; events = replicate event_count empty_queue; systems = result.1.items; conditions = []; passed_over = 0 } }
         ensures last_runs { AllByRecursion (λ m. m.last_run ≤ result.0.state.clock) result.1.items }
+        ensures home { AreAllHome result.0.layout }
     {
         let State { world, systems } = self;
         (world, systems)
@@ -63,7 +68,8 @@ impl State {
 
     /// The world.
     pub fn world(&self) -> &World
-        ensures { result.now.state ≡ self.now.world }
+        ensures world { result.now.state ≡ self.now.world }
+        ensures home { AreAllHome result.now.layout }
     {
         &self.world
     }

@@ -1,6 +1,6 @@
 // A view: what a system is shown at its start, and its outcome so far.
 
-ghost use Rattle.std.specs.Prelude.{◌≡◌, ◌<◌, ◌≤◌, [], length, option_map, unwrap_or, IfSome, IfOk, IsTrue};
+ghost use Rattle.std.specs.Prelude.{◌≡◌, ◌<◌, ◌≤◌, [], length, option_map, unwrap_or, IfSome, IfOk, IsTrue, OnOk};
 ghost use Rattle.kinds.specs.Kind.{kind_number};
 ghost use Rattle.kinds.specs.Components.{widths};
 ghost use Rattle.kinds.specs.Value.{value_number, value_words};
@@ -9,6 +9,7 @@ ghost use Rattle.model.specs.Query.{writes};
 ghost use Rattle.model.specs.Input.{shown};
 ghost use Rattle.model.specs.Outcome.{untouched, words_written};
 ghost use Rattle.model.specs.Overlay.{slots_after};
+ghost use Rattle.archetype_store.specs.Layout.{AreAllHome};
 ghost use Rattle.query_plan.specs.Fetched.{words_fetched};
 ghost use Rattle.body.specs.Laid.{with_slots};
 ghost use Rattle.body.specs.Seen.{query_at, rows_at, row_at, read_at, with_written};
@@ -56,6 +57,7 @@ impl View {
         memory: &Memory,
         world: &World,
     ) -> Result<Self, AllocError>
+        requires { AreAllHome world.now.layout }
         ensures params { IfOk result (λ v. v.params ≡ params.now) }
         ensures shown { IfOk result (λ v. (state : State) → state.world ≡ world.now.state → v.shown ≡ shown params.now memory.now state []) }
         ensures untouched { IfOk result (λ v. v.outcome ≡ untouched v.params v.shown) }
@@ -158,11 +160,15 @@ impl View {
         self.write(query, row, Value::of(kind, words));
     }
 
-    /// Lays what was written over a world at a tick, the tick of the system's start. All else of the world stays.
-    pub fn close(self, world: &mut World, tick: Tick)
-        requires { tick ≤ world.old.state.clock }
-        ensures { world.new.state ≡ with_slots world.old.state (slots_after tick (words_written self.params.queries self.shown.rows self.outcome.cells) world.old.state.slots) }
+    /// Lays what was written over a world at a tick, the tick of the system's start. All else of the world stays. Memory can be wanting
+    /// only where columns of the world are read elsewhere too.
+    pub fn close(self, world: &mut World, tick: Tick) -> Result<(), AllocError>
+        requires past { tick ≤ world.old.state.clock }
+        requires home { AreAllHome world.old.layout }
+        ensures laid { OnOk result (world.new.state ≡ with_slots world.old.state (slots_after tick (words_written self.params.queries self.shown.rows self.outcome.cells) world.old.state.slots)) }
+        ensures clock { world.new.state.clock ≡ world.old.state.clock }
+        ensures home { AreAllHome world.new.layout }
     {
-        lay_queries(self.queries.as_slice(), world, tick);
+        lay_queries(self.queries.as_slice(), world, tick)
     }
 }

@@ -7,7 +7,7 @@ use Rattle.change_ticks.specs.declared.stamp.Stamp.{Stamp}
 use Rattle.model.specs.State.{Cell}
 use Rattle.model.specs.Lists.{update_at}
 use Rattle.column_store.specs.Column.{cell_of, cells_of}
-use Rattle.column_store.specs.Cells.{changed_cell}
+use Rattle.column_store.specs.Cells.{stamp_of, changed_cell}
 
 -- as many cells as words
 pub length-cells_of : (ws : List (List ℤ)) (ss : List Stamp) → length ws ≡ length ss → length (cells_of ws ss) ≡ length ss
@@ -58,6 +58,13 @@ words-cells_of (x ∷ ws) [] i w l h = absurd (omega arith)
 words-cells_of (x ∷ ws) (y ∷ ss) zero w l h = cc
 words-cells_of (x ∷ ws) (y ∷ ss) (suc i) w l h = words-cells_of ws ss i w (omega arith) h
 
+-- the stamp at a place
+pub stamp-cells_of : (ws : List (List ℤ)) (ss : List Stamp) (i : ℕ) (s : Stamp) → length ws ≡ length ss → slice_get ss i ≡ Some s → option_map stamp_of (slice_get (cells_of ws ss) i) ≡ Some s
+stamp-cells_of ws [] i s l h = absurd (cc)
+stamp-cells_of [] (y ∷ ss) i s l h = absurd (omega arith)
+stamp-cells_of (x ∷ ws) (y ∷ ss) zero s l h = h
+stamp-cells_of (x ∷ ws) (y ∷ ss) (suc i) s l h = stamp-cells_of ws ss i s (omega arith) h
+
 -- an element that was read
 pub get-there : {A : Type 0} (xs : List A) (i : ℕ) (x : A) → i < length xs → x ≡ get_or xs i x → slice_get xs i ≡ Some x
 get-there [] i x l e = absurd (omega arith)
@@ -68,4 +75,4 @@ get-there (y ∷ ys) (suc i) x l e = get-there ys i x (omega arith) e
 pub length-removed : {A B : Type 0} (xs : List A) (ys : List B) (i : ℕ) → length xs ≡ length ys → i < length ys → length (remove xs i) ≡ length (remove ys i)
 length-removed xs ys i h l = omega (arith, length-remove xs i (omega arith), length-remove ys i l)
 
-pub ruleset cell_edits = (length-cells_of, get-cells_of, cells_of-set, cells_of-insert, cells_of-remove, words-cells_of, get-there, length-removed)
+pub ruleset cell_edits = (length-cells_of, get-cells_of, cells_of-set, cells_of-insert, cells_of-remove, words-cells_of, stamp-cells_of, get-there, length-removed)

@@ -1,17 +1,18 @@
 -- Rows as columns: what a change of the columns is of the rows.
-use Rattle.std.proofs.Common.{◌≡◌, ℕ, zero, suc, ◌<◌, ◌≤◌, ℤ, cond, List, [], ◌∷◌, length, get_or, map, option_map, option_and_then, Option, Some, None, refl, ap, ap₂, ◌∙◌, arith}
+use Rattle.std.proofs.Common.{◌≡◌, ℕ, zero, suc, ◌<◌, ◌≤◌, ℤ, cond, List, [], ◌∷◌, length, get_or, map, option_map, option_and_then, Option, Some, refl, sym, ap, ap₂, ◌∙◌, arith}
 use Rattle.std.specs.List.{insert, remove, AllByRecursion}
 use Rattle.std.specs.Prelude.{slice_get}
 use Rattle.std.proofs.lemmas.List.{length-map}
+use Rattle.std.proofs.lemmas.Simd.{map-map}
 use Rattle.model.specs.Lists.{tail_of, update_at}
 use Rattle.model.specs.State.{Cell}
 use Rattle.model.specs.declared.entities.Entity.{Entity}
-use Rattle.column_store.specs.declared.place.Place.{Place}
-use Rattle.column_store.specs.declared.place.Place.TheVariants as place
 use Rattle.column_store.specs.Cells.{changed_cell}
 use Rattle.column_store.specs.Order.{is_same}
 use Rattle.column_store.specs.Places.{IsPlace, IsNowhere, IsGap}
-use Rattle.column_store.specs.Table.{TableRow, put_row}
+use Rattle.column_store.specs.Column.{ColumnCells}
+use Rattle.column_store.specs.Table.{Standing, ColumnSlotValue, TableRow, put_row}
+use Rattle.column_store.specs.Table.Standing.{Owned}
 use Rattle.column_store.specs.Inside.{cell_at, tail_in, write_in, remove_in, insert_all, rows_of, IsOfLength}
 use Rattle.column_store.proofs.Lists.{map-update_at, map-update_at_same, get-map}
 
@@ -29,9 +30,9 @@ filled j cells [] = []
 filled j [] (row ∷ rows) = row ∷ rows
 filled j (cell ∷ cells) (row ∷ rows) = with_cell j (λ _. Some cell) row ∷ filled j cells rows
 
--- a column at home
-abbrev home : ℕ → List Cell → Place
-home k cells = place.Home (record { kind = k; cells = cells })
+-- a slot by its parts
+abbrev slot : Standing → ℕ → List Cell → ColumnSlotValue
+slot s k cells = record { standing = s; column = record { kind = k; cells = cells } }
 
 -- the row of an entity with these cells
 abbrev row : Entity → List (Option Cell) → TableRow
@@ -42,44 +43,43 @@ row_cons e cs ds rs ss h k = ap₂ (λ c r. row e c ∷ r) h k
 
 -- ---- rows by their place
 
-cell_at-tail : (i : ℕ) (p : Place) → cell_at i (tail_in p) ≡ cell_at (suc i) p
-cell_at-tail i (place.Home c) = go c.cells
+cell_at-tail : (i : ℕ) (p : ColumnSlotValue) → cell_at i (tail_in p) ≡ cell_at (suc i) p
+cell_at-tail i p = go p.column.cells
   where
     go : (cells : List Cell) → slice_get (tail_of cells) i ≡ slice_get cells (suc i)
     go [] = refl
     go (x ∷ xs) = refl
-cell_at-tail i place.Away = refl
 
-map_cell_at-tail : (i : ℕ) (ps : List Place) → map (cell_at i) (map tail_in ps) ≡ map (cell_at (suc i)) ps
+map_cell_at-tail : (i : ℕ) (ps : List ColumnSlotValue) → map (cell_at i) (map tail_in ps) ≡ map (cell_at (suc i)) ps
 map_cell_at-tail i [] = refl
 map_cell_at-tail i (p ∷ ps) = ap₂ ◌∷◌ (cell_at-tail i p) (map_cell_at-tail i ps)
 
 -- the row at a place
-pub get_or-rows_of : (es : List Entity) (ps : List Place) (i : ℕ) (e : Entity) (d : TableRow) → i < length es →
+pub get_or-rows_of : (es : List Entity) (ps : List ColumnSlotValue) (i : ℕ) (e : Entity) (d : TableRow) → i < length es →
     get_or (rows_of es ps) i d ≡ row (get_or es i e) (map (cell_at i) ps)
 get_or-rows_of [] ps i e d l = absurd (omega arith)
 get_or-rows_of (x ∷ es) ps zero e d l = refl
 get_or-rows_of (x ∷ es) ps (suc i) e d l =
     get_or-rows_of es (map tail_in ps) i e d (omega arith) ∙ ap (row (get_or es i e)) (map_cell_at-tail i ps)
 
-pub length-rows_of : (es : List Entity) (ps : List Place) → length (rows_of es ps) ≡ length es
+pub length-rows_of : (es : List Entity) (ps : List ColumnSlotValue) → length (rows_of es ps) ≡ length es
 length-rows_of [] ps = refl
 length-rows_of (e ∷ es) ps = ap suc (length-rows_of es (map tail_in ps))
 
-pub entities-rows_of : (es : List Entity) (ps : List Place) → map (λ (r : TableRow). r.entity) (rows_of es ps) ≡ es
+pub entities-rows_of : (es : List Entity) (ps : List ColumnSlotValue) → map (λ (r : TableRow). r.entity) (rows_of es ps) ≡ es
 entities-rows_of [] ps = refl
 entities-rows_of (e ∷ es) ps = ap (λ xs. e ∷ xs) (entities-rows_of es (map tail_in ps))
 
-pub place-rows_of : (e : Entity) (es : List Entity) (ps : List Place) (i : ℕ) → IsPlace (λ x. is_same x e) es i → IsPlace (λ (r : TableRow). is_same r.entity e) (rows_of es ps) i
+pub place-rows_of : (e : Entity) (es : List Entity) (ps : List ColumnSlotValue) (i : ℕ) → IsPlace (λ x. is_same x e) es i → IsPlace (λ (r : TableRow). is_same r.entity e) (rows_of es ps) i
 place-rows_of e [] ps i p = p
 place-rows_of e (x ∷ es) ps zero p = p
 place-rows_of e (x ∷ es) ps (suc i) p = (p.0, place-rows_of e es (map tail_in ps) i p.1)
 
-pub nowhere-rows_of : (e : Entity) (es : List Entity) (ps : List Place) → IsNowhere (λ x. is_same x e) es → IsNowhere (λ (r : TableRow). is_same r.entity e) (rows_of es ps)
+pub nowhere-rows_of : (e : Entity) (es : List Entity) (ps : List ColumnSlotValue) → IsNowhere (λ x. is_same x e) es → IsNowhere (λ (r : TableRow). is_same r.entity e) (rows_of es ps)
 nowhere-rows_of e [] ps p = tt
 nowhere-rows_of e (x ∷ es) ps p = (p.0, nowhere-rows_of e es (map tail_in ps) p.1)
 
-pub put_row-rows_of : (es : List Entity) (ps : List Place) (i : ℕ) (new : TableRow) → IsGap new.entity es i → put_row new (rows_of es ps) ≡ insert (rows_of es ps) i new
+pub put_row-rows_of : (es : List Entity) (ps : List ColumnSlotValue) (i : ℕ) (new : TableRow) → IsGap new.entity es i → put_row new (rows_of es ps) ≡ insert (rows_of es ps) i new
 put_row-rows_of [] ps zero new g = refl
 put_row-rows_of [] ps (suc i) new g = absurd g
 put_row-rows_of (x ∷ es) ps zero new g =
@@ -107,23 +107,19 @@ tail_updated i f [] = refl
 tail_updated i f (x ∷ xs) = refl
 
 module _ (w : List ℤ) (t : ℕ) where
-  write_head : (p : Place) → cell_at 0 (write_in 0 w t p) ≡ option_map (changed_cell w t) (cell_at 0 p)
-  write_head (place.Home c) = head_updated (changed_cell w t) c.cells
-  write_head place.Away = refl
+  write_head : (p : ColumnSlotValue) → cell_at 0 (write_in 0 w t p) ≡ option_map (changed_cell w t) (cell_at 0 p)
+  write_head p = head_updated (changed_cell w t) p.column.cells
 
-  write_other : (i : ℕ) (p : Place) → cell_at 0 (write_in (suc i) w t p) ≡ cell_at 0 p
-  write_other i (place.Home c) = head_kept i (changed_cell w t) c.cells
-  write_other i place.Away = refl
+  write_other : (i : ℕ) (p : ColumnSlotValue) → cell_at 0 (write_in (suc i) w t p) ≡ cell_at 0 p
+  write_other i p = head_kept i (changed_cell w t) p.column.cells
 
-  write_before : (p : Place) → tail_in (write_in 0 w t p) ≡ tail_in p
-  write_before (place.Home c) = ap (home c.kind) (tail_kept (changed_cell w t) c.cells)
-  write_before place.Away = refl
+  write_before : (p : ColumnSlotValue) → tail_in (write_in 0 w t p) ≡ tail_in p
+  write_before p = ap (slot p.standing p.column.kind) (tail_kept (changed_cell w t) p.column.cells)
 
-  write_behind : (i : ℕ) (p : Place) → tail_in (write_in (suc i) w t p) ≡ write_in i w t (tail_in p)
-  write_behind i (place.Home c) = ap (home c.kind) (tail_updated i (changed_cell w t) c.cells)
-  write_behind i place.Away = refl
+  write_behind : (i : ℕ) (p : ColumnSlotValue) → tail_in (write_in (suc i) w t p) ≡ write_in i w t (tail_in p)
+  write_behind i p = ap (slot p.standing p.column.kind) (tail_updated i (changed_cell w t) p.column.cells)
 
-  pub rows_of-write : (es : List Entity) (ps : List Place) (i j : ℕ) →
+  pub rows_of-write : (es : List Entity) (ps : List ColumnSlotValue) (i j : ℕ) →
       rows_of es (update_at j (write_in i w t) ps) ≡ update_at i (with_cell j (option_map (changed_cell w t))) (rows_of es ps)
   rows_of-write [] ps i j = refl
   rows_of-write (e ∷ es) ps zero j = row_cons e _ _ _ _
@@ -134,143 +130,132 @@ module _ (w : List ℤ) (t : ℕ) where
       (ap (rows_of es) (map-update_at tail_in (write_in (suc i) w t) (write_in i w t) (write_behind i) j ps)
       ∙ rows_of-write es (map tail_in ps) i j)
 
--- ---- a column that is lent or comes home
+-- ---- columns that leave or come home
 
-pub rows_of-lend : (es : List Entity) (ps : List Place) (j : ℕ) → rows_of es (update_at j (λ _. place.Away) ps) ≡ map (with_cell j (λ _. None)) (rows_of es ps)
-rows_of-lend [] ps j = refl
-rows_of-lend (e ∷ es) ps j = row_cons e _ _ _ _
-    (map-update_at (cell_at 0) (λ _. place.Away) (λ _. None) (λ p. refl) j ps)
-    (ap (rows_of es) (map-update_at tail_in (λ _. place.Away) (λ _. place.Away) (λ p. refl) j ps) ∙ rows_of-lend es (map tail_in ps) j)
+-- rows depend on the columns alone, wherever they stand
+pub rows_of-columns : (es : List Entity) (ps qs : List ColumnSlotValue) → map (λ (p : ColumnSlotValue). p.column) qs ≡ map (λ (p : ColumnSlotValue). p.column) ps → rows_of es qs ≡ rows_of es ps
+rows_of-columns [] ps qs h = refl
+rows_of-columns (e ∷ es) ps qs h = row_cons e _ _ _ _ (heads ps qs h) (rows_of-columns es (map tail_in ps) (map tail_in qs) (tails ps qs h))
+  where
+    heads : (ps qs : List ColumnSlotValue) → map (λ (p : ColumnSlotValue). p.column) qs ≡ map (λ (p : ColumnSlotValue). p.column) ps → map (cell_at 0) qs ≡ map (cell_at 0) ps
+    heads ps qs h = sym (map-map (λ (c : ColumnCells). slice_get c.cells 0) (λ (p : ColumnSlotValue). p.column) qs)
+        ∙ ap (map (λ (c : ColumnCells). slice_get c.cells 0)) h ∙ map-map (λ (c : ColumnCells). slice_get c.cells 0) (λ (p : ColumnSlotValue). p.column) ps
 
--- the cells of a column that is at home
-pub cells-rows_of : (es : List Entity) (ps : List Place) (j k : ℕ) (cells : List Cell) → slice_get ps j ≡ Some (home k cells) → length cells ≡ length es →
+    tail : (ps : List ColumnSlotValue) → map (λ (p : ColumnSlotValue). p.column) (map tail_in ps) ≡ map (λ (c : ColumnCells). let d : ColumnCells = record { kind = c.kind; cells = tail_of c.cells } in d) (map (λ (p : ColumnSlotValue). p.column) ps)
+    tail ps = map-map (λ (p : ColumnSlotValue). p.column) tail_in ps
+        ∙ sym (map-map (λ (c : ColumnCells). let d : ColumnCells = record { kind = c.kind; cells = tail_of c.cells } in d) (λ (p : ColumnSlotValue). p.column) ps)
+
+    tails : (ps qs : List ColumnSlotValue) → map (λ (p : ColumnSlotValue). p.column) qs ≡ map (λ (p : ColumnSlotValue). p.column) ps →
+        map (λ (p : ColumnSlotValue). p.column) (map tail_in qs) ≡ map (λ (p : ColumnSlotValue). p.column) (map tail_in ps)
+    tails ps qs h = tail qs ∙ ap (map (λ (c : ColumnCells). let d : ColumnCells = record { kind = c.kind; cells = tail_of c.cells } in d)) h ∙ sym (tail ps)
+
+-- the cells of a column
+pub cells-rows_of : (es : List Entity) (ps : List ColumnSlotValue) (j k : ℕ) (s : Standing) (cells : List Cell) → slice_get ps j ≡ Some (slot s k cells) → length cells ≡ length es →
     map (cell_of_column j) (rows_of es ps) ≡ map (λ c. Some c) cells
-cells-rows_of [] ps j k [] h l = refl
-cells-rows_of [] ps j k (c ∷ cs) h l = absurd (omega arith)
-cells-rows_of (e ∷ es) ps j k [] h l = absurd (omega arith)
-cells-rows_of (e ∷ es) ps j k (c ∷ cs) h l = ap₂ ◌∷◌
+cells-rows_of [] ps j k s [] h l = refl
+cells-rows_of [] ps j k s (c ∷ cs) h l = absurd (omega arith)
+cells-rows_of (e ∷ es) ps j k s [] h l = absurd (omega arith)
+cells-rows_of (e ∷ es) ps j k s (c ∷ cs) h l = ap₂ ◌∷◌
     (ap (option_and_then (λ cell. cell)) (get-map (cell_at 0) ps j ∙ ap (option_map (cell_at 0)) h))
-    (cells-rows_of es (map tail_in ps) j k cs (get-map tail_in ps j ∙ ap (option_map tail_in) h) (omega arith))
+    (cells-rows_of es (map tail_in ps) j k s cs (get-map tail_in ps j ∙ ap (option_map tail_in) h) (omega arith))
 
-pub rows_of-home : (es : List Entity) (ps : List Place) (j k : ℕ) (cells : List Cell) → length cells ≡ length es →
-    rows_of es (update_at j (λ _. home k cells) ps) ≡ filled j cells (rows_of es ps)
+pub rows_of-home : (es : List Entity) (ps : List ColumnSlotValue) (j k : ℕ) (cells : List Cell) → length cells ≡ length es →
+    rows_of es (update_at j (λ _. slot Owned k cells) ps) ≡ filled j cells (rows_of es ps)
 rows_of-home [] ps j k cells l = refl
 rows_of-home (e ∷ es) ps j k [] l = absurd (omega arith)
 rows_of-home (e ∷ es) ps j k (c ∷ cs) l = row_cons e _ _ _ _
-    (map-update_at (cell_at 0) (λ _. home k (c ∷ cs)) (λ _. Some c) (λ p. refl) j ps)
-    (ap (rows_of es) (map-update_at tail_in (λ _. home k (c ∷ cs)) (λ _. home k cs) (λ p. refl) j ps) ∙ rows_of-home es (map tail_in ps) j k cs (omega arith))
+    (map-update_at (cell_at 0) (λ _. slot Owned k (c ∷ cs)) (λ _. Some c) (λ p. refl) j ps)
+    (ap (rows_of es) (map-update_at tail_in (λ _. slot Owned k (c ∷ cs)) (λ _. slot Owned k cs) (λ p. refl) j ps) ∙ rows_of-home es (map tail_in ps) j k cs (omega arith))
 
 -- ---- a further row
 
--- a column at home that has so many cells
-abbrev pub IsHome : ℕ → Place → Type 0
-IsHome n (place.Home c) = length c.cells ≡ n
-IsHome n place.Away = ⊥
-
-tails_home : (n : ℕ) (ps : List Place) → AllByRecursion (IsHome (suc n)) ps → AllByRecursion (IsHome n) (map tail_in ps)
-tails_home n [] h = tt
-tails_home n (place.Home c ∷ ps) h = (go c.cells h.0, tails_home n ps h.1)
+tails_of_length : (n : ℕ) (ps : List ColumnSlotValue) → AllByRecursion (IsOfLength (suc n)) ps → AllByRecursion (IsOfLength n) (map tail_in ps)
+tails_of_length n [] h = tt
+tails_of_length n (p ∷ ps) h = (go p.column.cells h.0, tails_of_length n ps h.1)
   where
     go : (cells : List Cell) → length cells ≡ suc n → length (tail_of cells) ≡ n
     go [] l = absurd (omega arith)
     go (x ∷ xs) l = omega arith
-tails_home n (place.Away ∷ ps) h = absurd h.0
 
-first_heads : (n : ℕ) (ps : List Place) (cs : List Cell) → length ps ≡ length cs → AllByRecursion (IsHome n) ps → map (cell_at 0) (insert_all 0 ps cs) ≡ map (λ c. Some c) cs
+first_heads : (n : ℕ) (ps : List ColumnSlotValue) (cs : List Cell) → length ps ≡ length cs → AllByRecursion (IsOfLength n) ps → map (cell_at 0) (insert_all 0 ps cs) ≡ map (λ c. Some c) cs
 first_heads n [] [] l h = refl
 first_heads n [] (c ∷ cs) l h = absurd (omega arith)
 first_heads n (p ∷ ps) [] l h = absurd (omega arith)
-first_heads n (place.Home col ∷ ps) (c ∷ cs) l h = ap₂ ◌∷◌ (go col.cells) (first_heads n ps cs (omega arith) h.1)
+first_heads n (p ∷ ps) (c ∷ cs) l h = ap₂ ◌∷◌ (go p.column.cells) (first_heads n ps cs (omega arith) h.1)
   where
     go : (cells : List Cell) → slice_get (insert cells 0 c) 0 ≡ Some c
     go [] = refl
     go (x ∷ xs) = refl
-first_heads n (place.Away ∷ ps) (c ∷ cs) l h = absurd h.0
 
-first_tails : (n : ℕ) (ps : List Place) (cs : List Cell) → length ps ≡ length cs → AllByRecursion (IsHome n) ps → map tail_in (insert_all 0 ps cs) ≡ ps
+first_tails : (n : ℕ) (ps : List ColumnSlotValue) (cs : List Cell) → length ps ≡ length cs → AllByRecursion (IsOfLength n) ps → map tail_in (insert_all 0 ps cs) ≡ ps
 first_tails n [] [] l h = refl
 first_tails n [] (c ∷ cs) l h = absurd (omega arith)
 first_tails n (p ∷ ps) [] l h = absurd (omega arith)
-first_tails n (place.Home col ∷ ps) (c ∷ cs) l h = ap₂ ◌∷◌ (ap (home col.kind) (go col.cells)) (first_tails n ps cs (omega arith) h.1)
+first_tails n (p ∷ ps) (c ∷ cs) l h = ap₂ ◌∷◌ (ap (slot p.standing p.column.kind) (go p.column.cells)) (first_tails n ps cs (omega arith) h.1)
   where
     go : (cells : List Cell) → tail_of (insert cells 0 c) ≡ cells
     go [] = refl
     go (x ∷ xs) = refl
-first_tails n (place.Away ∷ ps) (c ∷ cs) l h = absurd h.0
 
-later_heads : (n i : ℕ) (ps : List Place) (cs : List Cell) → length ps ≡ length cs → AllByRecursion (IsHome (suc n)) ps → map (cell_at 0) (insert_all (suc i) ps cs) ≡ map (cell_at 0) ps
+later_heads : (n i : ℕ) (ps : List ColumnSlotValue) (cs : List Cell) → length ps ≡ length cs → AllByRecursion (IsOfLength (suc n)) ps → map (cell_at 0) (insert_all (suc i) ps cs) ≡ map (cell_at 0) ps
 later_heads n i [] [] l h = refl
 later_heads n i [] (c ∷ cs) l h = absurd (omega arith)
 later_heads n i (p ∷ ps) [] l h = absurd (omega arith)
-later_heads n i (place.Home col ∷ ps) (c ∷ cs) l h = ap₂ ◌∷◌ (go col.cells h.0) (later_heads n i ps cs (omega arith) h.1)
+later_heads n i (p ∷ ps) (c ∷ cs) l h = ap₂ ◌∷◌ (go p.column.cells h.0) (later_heads n i ps cs (omega arith) h.1)
   where
     go : (cells : List Cell) → length cells ≡ suc n → slice_get (insert cells (suc i) c) 0 ≡ slice_get cells 0
     go [] k = absurd (omega arith)
     go (x ∷ xs) k = refl
-later_heads n i (place.Away ∷ ps) (c ∷ cs) l h = absurd h.0
 
-later_tails : (n i : ℕ) (ps : List Place) (cs : List Cell) → length ps ≡ length cs → AllByRecursion (IsHome (suc n)) ps → map tail_in (insert_all (suc i) ps cs) ≡ insert_all i (map tail_in ps) cs
+later_tails : (n i : ℕ) (ps : List ColumnSlotValue) (cs : List Cell) → length ps ≡ length cs → AllByRecursion (IsOfLength (suc n)) ps → map tail_in (insert_all (suc i) ps cs) ≡ insert_all i (map tail_in ps) cs
 later_tails n i [] [] l h = refl
 later_tails n i [] (c ∷ cs) l h = absurd (omega arith)
 later_tails n i (p ∷ ps) [] l h = absurd (omega arith)
-later_tails n i (place.Home col ∷ ps) (c ∷ cs) l h = ap₂ ◌∷◌ (ap (home col.kind) (go col.cells h.0)) (later_tails n i ps cs (omega arith) h.1)
+later_tails n i (p ∷ ps) (c ∷ cs) l h = ap₂ ◌∷◌ (ap (slot p.standing p.column.kind) (go p.column.cells h.0)) (later_tails n i ps cs (omega arith) h.1)
   where
     go : (cells : List Cell) → length cells ≡ suc n → tail_of (insert cells (suc i) c) ≡ insert (tail_of cells) i c
     go [] k = absurd (omega arith)
     go (x ∷ xs) k = refl
-later_tails n i (place.Away ∷ ps) (c ∷ cs) l h = absurd h.0
 
-length-tails : (ps : List Place) (cs : List Cell) → length ps ≡ length cs → length (map tail_in ps) ≡ length cs
+length-tails : (ps : List ColumnSlotValue) (cs : List Cell) → length ps ≡ length cs → length (map tail_in ps) ≡ length cs
 length-tails ps cs l = length-map ps tail_in ∙ l
 
-pub rows_of-insert : (es : List Entity) (e : Entity) (ps : List Place) (cs : List Cell) (i : ℕ) → length ps ≡ length cs → AllByRecursion (IsHome (length es)) ps → i ≤ length es →
+pub rows_of-insert : (es : List Entity) (e : Entity) (ps : List ColumnSlotValue) (cs : List Cell) (i : ℕ) → length ps ≡ length cs → AllByRecursion (IsOfLength (length es)) ps → i ≤ length es →
     rows_of (insert es i e) (insert_all i ps cs) ≡ insert (rows_of es ps) i (row e (map (λ c. Some c) cs))
 rows_of-insert [] e ps cs zero l h le = row_cons e _ _ _ _ (first_heads 0 ps cs l h) refl
 rows_of-insert [] e ps cs (suc i) l h le = absurd (omega arith)
 rows_of-insert (x ∷ es) e ps cs zero l h le = row_cons e _ _ _ _ (first_heads (length (x ∷ es)) ps cs l h) (ap (rows_of (x ∷ es)) (first_tails (length (x ∷ es)) ps cs l h))
 rows_of-insert (x ∷ es) e ps cs (suc i) l h le = row_cons x _ _ _ _ (later_heads (length es) i ps cs l h)
     (ap (rows_of (insert es i e)) (later_tails (length es) i ps cs l h)
-    ∙ rows_of-insert es e (map tail_in ps) cs i (length-tails ps cs l) (tails_home (length es) ps h) (omega arith))
+    ∙ rows_of-insert es e (map tail_in ps) cs i (length-tails ps cs l) (tails_of_length (length es) ps h) (omega arith))
 
 -- ---- a row less
 
-tails_of_length : (n : ℕ) (ps : List Place) → AllByRecursion (IsOfLength (suc n)) ps → AllByRecursion (IsOfLength n) (map tail_in ps)
-tails_of_length n [] h = tt
-tails_of_length n (place.Home c ∷ ps) h = (go c.cells h.0, tails_of_length n ps h.1)
-  where
-    go : (cells : List Cell) → length cells ≡ suc n → length (tail_of cells) ≡ n
-    go [] l = absurd (omega arith)
-    go (x ∷ xs) l = omega arith
-tails_of_length n (place.Away ∷ ps) h = (tt, tails_of_length n ps h.1)
-
-removed_first : (ps : List Place) → map (remove_in 0) ps ≡ map tail_in ps
+removed_first : (ps : List ColumnSlotValue) → map (remove_in 0) ps ≡ map tail_in ps
 removed_first [] = refl
-removed_first (place.Home c ∷ ps) = ap₂ ◌∷◌ (ap (home c.kind) (go c.cells)) (removed_first ps)
+removed_first (p ∷ ps) = ap₂ ◌∷◌ (ap (slot p.standing p.column.kind) (go p.column.cells)) (removed_first ps)
   where
     go : (cells : List Cell) → remove cells 0 ≡ tail_of cells
     go [] = refl
     go (x ∷ xs) = refl
-removed_first (place.Away ∷ ps) = ap₂ ◌∷◌ refl (removed_first ps)
 
-removed_heads : (n i : ℕ) (ps : List Place) → AllByRecursion (IsOfLength (suc n)) ps → map (cell_at 0) (map (remove_in (suc i)) ps) ≡ map (cell_at 0) ps
+removed_heads : (n i : ℕ) (ps : List ColumnSlotValue) → AllByRecursion (IsOfLength (suc n)) ps → map (cell_at 0) (map (remove_in (suc i)) ps) ≡ map (cell_at 0) ps
 removed_heads n i [] h = refl
-removed_heads n i (place.Home c ∷ ps) h = ap₂ ◌∷◌ (go c.cells h.0) (removed_heads n i ps h.1)
+removed_heads n i (p ∷ ps) h = ap₂ ◌∷◌ (go p.column.cells h.0) (removed_heads n i ps h.1)
   where
     go : (cells : List Cell) → length cells ≡ suc n → slice_get (remove cells (suc i)) 0 ≡ slice_get cells 0
     go [] l = absurd (omega arith)
     go (x ∷ xs) l = refl
-removed_heads n i (place.Away ∷ ps) h = ap₂ ◌∷◌ refl (removed_heads n i ps h.1)
 
-removed_tails : (n i : ℕ) (ps : List Place) → AllByRecursion (IsOfLength (suc n)) ps → map tail_in (map (remove_in (suc i)) ps) ≡ map (remove_in i) (map tail_in ps)
+removed_tails : (n i : ℕ) (ps : List ColumnSlotValue) → AllByRecursion (IsOfLength (suc n)) ps → map tail_in (map (remove_in (suc i)) ps) ≡ map (remove_in i) (map tail_in ps)
 removed_tails n i [] h = refl
-removed_tails n i (place.Home c ∷ ps) h = ap₂ ◌∷◌ (ap (home c.kind) (go c.cells h.0)) (removed_tails n i ps h.1)
+removed_tails n i (p ∷ ps) h = ap₂ ◌∷◌ (ap (slot p.standing p.column.kind) (go p.column.cells h.0)) (removed_tails n i ps h.1)
   where
     go : (cells : List Cell) → length cells ≡ suc n → tail_of (remove cells (suc i)) ≡ remove (tail_of cells) i
     go [] l = absurd (omega arith)
     go (x ∷ xs) l = refl
-removed_tails n i (place.Away ∷ ps) h = ap₂ ◌∷◌ refl (removed_tails n i ps h.1)
 
-pub rows_of-remove : (es : List Entity) (ps : List Place) (i : ℕ) → AllByRecursion (IsOfLength (length es)) ps → i < length es →
+pub rows_of-remove : (es : List Entity) (ps : List ColumnSlotValue) (i : ℕ) → AllByRecursion (IsOfLength (length es)) ps → i < length es →
     rows_of (remove es i) (map (remove_in i) ps) ≡ remove (rows_of es ps) i
 rows_of-remove [] ps i h l = absurd (omega arith)
 rows_of-remove (x ∷ es) ps zero h l = ap (rows_of es) (removed_first ps)

@@ -1,25 +1,23 @@
 -- Where a cell is in the inside of a table.
-use Rattle.std.proofs.Common.{◌≡◌, ℕ, ◌<◌, ◌==◌, List, length, get_or, Option, Some, sym, ap, subst, ◌∙◌, arith, map, MatchOption, None}
+use Rattle.std.proofs.Common.{◌≡◌, ℕ, ◌<◌, ◌==◌, true, List, length, get_or, set, Result, Ok, Err, OnOk, OnErr, Option, Some, option_map, sym, ap, subst, ◌∙◌, arith, map, MatchOption, None}
 use Rattle.std.specs.List.{position}
+use Rattle.std.proofs.Math.Seq.{map-set_same}
 use Rattle.kinds.specs.declared.kind.Kind.{Kind}
 use Rattle.kinds.specs.Kind.{kind_number}
 use Rattle.model.proofs.Each.{each-at}
 use Rattle.model.specs.declared.entities.Entity.{Entity}
-use Rattle.column_store.specs.declared.place.Place.{Place}
-use Rattle.column_store.specs.declared.place.Place.TheVariants as place
 use Rattle.column_store.specs.Order.{is_same}
 use Rattle.column_store.specs.Places.{IsPlace}
-use Rattle.column_store.specs.Inside.{standing_in, IsOfKind, IsOfLength, IsTable, IsCellPlace, IsKindPlace, IsKindPlaced, IsNoKind}
-use Rattle.column_store.specs.Column.{ColumnCells}
-use Rattle.column_store.specs.Table.{Standing}
-use Rattle.column_store.specs.Table.Standing.{Owned}
-use Rattle.column_store.proofs.Lists.{get-there}
+use Rattle.column_store.specs.Inside.{standing_at, table_of, IsOfLength, IsTable, IsCellPlace, IsKindPlace, IsKindPlaced, IsNoKind}
+use Rattle.column_store.specs.Table.{Standing, ColumnSlotValue, is_home, is_owned, is_not_away, is_own_if, lent, IsHome, IsAlike}
+use Rattle.column_store.specs.Table.Standing.{Away}
+use Rattle.column_store.proofs.Lists.{get-there, set-changed, set-same}
 use Rattle.column_store.proofs.Rows.{place_from_position, nowhere_from_position}
-use Rattle.column_store.proofs.Tables.{place-within, length-of_kinds, cell_in-place, table-write, standing-place, standing-nowhere, kind_cells-place, table-lend, table-home}
-use Rattle.column_store.proofs.Kept.{has_row, kind-place, kept-lend, kept-home}
+use Rattle.column_store.proofs.Tables.{place-within, length-of_kinds, cell_in-place, table-write, standing-place, standing-nowhere, kind_cells-place, table-move, table-home, table-alike}
+use Rattle.column_store.proofs.Kept.{kind-place, kept-move, kept-home, kept-columns}
 
 pub place-found : (ns : List ℕ) (es : List Entity) (e : Entity) (k i j : ℕ) → IsPlace (λ x. is_same x e) es i → IsPlace (λ n. n == k) ns j →
-    (ps : List Place) → IsTable ns es ps → IsCellPlace ns es ps e k i j
+    (ps : List ColumnSlotValue) → IsTable ns es ps → IsCellPlace ns es ps e k i j
 place-found ns es e k i j at of ps h =
     let row : i < length es = place-within (λ x. is_same x e) es i at in
     let column : j < length ns = place-within (λ n. n == k) ns j of in
@@ -27,21 +25,16 @@ place-found ns es e k i j at of ps h =
     let within : j < length ps = omega arith in
     record {
       within = within;
-      has_row = λ d. has_row (length es) i row (get_or ps j d) (each-at (IsOfLength (length es)) ps j d within h.of_length);
+      has_row = λ d. (let l : length (get_or ps j d).column.cells ≡ length es = each-at (IsOfLength (length es)) ps j d within h.of_length in omega arith);
       of_kind = λ d. kind-place k j ns ps (get_or ps j d) of h.of_kinds (get-there ps j d within);
+      standing = λ d. standing-place ns es ps k j (get_or ps j d) of same (get-there ps j d within);
       cell = λ d. cell_in-place ns es ps e k i j (get_or ps j d) at of same (get-there ps j d within);
       written = λ w t. table-write ns es ps e k i j w t at of;
     }
 
 -- ---- a column
 
-of_kind_home : (k : ℕ) (c : ColumnCells) (p : Place) → place.Home c ≡ p → IsOfKind k p → c.kind ≡ k
-of_kind_home k c p e h = let g : IsOfKind k (place.Home c) = subst (IsOfKind k) (sym e) h in g
-
-of_length_home : (n : ℕ) (c : ColumnCells) (p : Place) → place.Home c ≡ p → IsOfLength n p → length c.cells ≡ n
-of_length_home n c p e h = let g : IsOfLength n (place.Home c) = subst (IsOfLength n) (sym e) h in g
-
-kind-found : (ns : List ℕ) (k j : ℕ) → IsPlace (λ n. n == k) ns j → (es : List Entity) (ps : List Place) → IsTable ns es ps → IsKindPlace ns es ps k j
+kind-found : (ns : List ℕ) (k j : ℕ) → IsPlace (λ n. n == k) ns j → (es : List Entity) (ps : List ColumnSlotValue) → IsTable ns es ps → IsKindPlace ns es ps k j
 kind-found ns k j of es ps h =
     let column : j < length ns = place-within (λ n. n == k) ns j of in
     let same : length ns ≡ length ps = length-of_kinds ns ps h.of_kinds in
@@ -49,11 +42,11 @@ kind-found ns k j of es ps h =
     record {
       within = within;
       standing = λ d. standing-place ns es ps k j (get_or ps j d) of same (get-there ps j d within);
-      of_kind = λ c d e. of_kind_home k c (get_or ps j d) e (kind-place k j ns ps (get_or ps j d) of h.of_kinds (get-there ps j d within));
-      cells = λ c d e. sym (kind_cells-place ns es ps k j c of same (get-there ps j d within ∙ ap (λ p. Some p) (sym e))
-          (of_length_home (length es) c (get_or ps j d) e (each-at (IsOfLength (length es)) ps j d within h.of_length)));
-      lends = table-lend ns es ps k j of;
-      lends_table = kept-lend ns es ps j h;
+      of_kind = λ d. kind-place k j ns ps (get_or ps j d) of h.of_kinds (get-there ps j d within);
+      cells = λ d. sym (kind_cells-place ns es ps k j (get_or ps j d) of same (get-there ps j d within)
+          (each-at (IsOfLength (length es)) ps j d within h.of_length));
+      moves = λ s. table-move ns es ps k j s of;
+      moves_table = λ s. kept-move ns es ps j s h;
       homes = λ c e l. table-home ns es ps j c (subst (λ m. IsPlace (λ n. n == m) ns j) (sym e) of) l;
       homes_table = λ c e l. kept-home ns es ps j c (subst (λ m. IsPlace (λ n. n == m) ns j) (sym e) of) l h;
     }
@@ -64,7 +57,50 @@ kind-answer ks n None h = let nowhere = nowhere_from_position kind_number (λ m.
     λ es ps. standing-nowhere (map kind_number ks) es ps n 0 nowhere
 kind-answer ks n (Some j) h = kind-found (map kind_number ks) n j (place_from_position kind_number (λ m. m == n) ks j (sym h))
 
--- a column that stands as its own is at home
-pub owned_home : (p : Place) (s : Option Standing) → s ≡ Some (standing_in p) → s ≡ Some Owned → p ≡ place.Away → ⊥
-owned_home (place.Home c) s h e away = cc
-owned_home place.Away s h e away = cc
+-- ---- where a column that was found stands
+
+pub home_found : (s : Standing) (o : Option Standing) → o ≡ Some s → IsHome o → is_home s ≡ true
+home_found s o at h = let e : option_map is_home (Some s) ≡ Some true = subst IsHome at h in cc
+
+pub not_away_found : (s : Standing) (o : Option Standing) → o ≡ Some s → is_not_away o ≡ true → is_home s ≡ true
+not_away_found s o at h = sym (ap is_not_away at) ∙ h
+
+pub own_found : (s : Standing) (o : Option Standing) → o ≡ Some s → is_own_if o ≡ true → is_owned s ≡ true
+own_found s o at h = sym (ap is_own_if at) ∙ h
+
+-- one that isn't there isn't at home
+pub home_there : (o : Option Standing) → o ≡ None → IsHome o → ⊥
+home_there o none h = let e : option_map is_home None ≡ Some true = subst IsHome none h in cc
+
+-- ---- a slot that was changed
+
+column_kept : {A E : Type 0} (r : Result A E) (p q : ColumnSlotValue) → OnOk r (q ≡ standing_at Away p) → OnErr r (q ≡ p) → q.column ≡ p.column
+column_kept (Ok a) p q h k = ap (λ (x : ColumnSlotValue). x.column) h
+column_kept (Err e) p q h k = ap (λ (x : ColumnSlotValue). x.column) k
+
+set_kept : {A E : Type 0} (r : Result A E) (ps : List ColumnSlotValue) (j : ℕ) (d q : ColumnSlotValue) → j < length ps → OnErr r (q ≡ get_or ps j d) → OnErr r (set ps j q ≡ ps)
+set_kept (Ok a) ps j d q l h = tt
+set_kept (Err e) ps j d q l h = ap (set ps j) h ∙ set-same ps j d l
+
+module _ (ns : List ℕ) (es : List Entity) (ps : List ColumnSlotValue) (k j : ℕ) (at : IsKindPlace ns es ps k j) (d q : ColumnSlotValue) where
+  module _ {A E : Type 0} where
+    -- a column that left
+    pub lent_there : (r : Result A E) → OnOk r (q ≡ standing_at Away (get_or ps j d)) → OnOk r (table_of ns es (set ps j q) ≡ lent (table_of ns es ps) k)
+    lent_there (Ok a) h = ap (table_of ns es) (set-changed (standing_at Away) ps j d q at.within h) ∙ at.moves Away
+    lent_there (Err e) h = tt
+
+    pub lent_err : (r : Result A E) → OnErr r (q ≡ get_or ps j d) → OnErr r (set ps j q ≡ ps)
+    lent_err r h = set_kept r ps j d q at.within h
+
+    pub lent_kept : (r : Result A E) → OnOk r (q ≡ standing_at Away (get_or ps j d)) → OnErr r (q ≡ get_or ps j d) → IsTable ns es ps → IsTable ns es (set ps j q)
+    lent_kept r h e table = kept-columns ns es ps (set ps j q) (map-set_same (λ (p : ColumnSlotValue). p.column) ps j q d (column_kept r (get_or ps j d) q h e)) table
+
+  -- one that is read elsewhere too
+  pub shared_alike : q.column ≡ (get_or ps j d).column → is_home q.standing ≡ true → is_home (get_or ps j d).standing ≡ true → IsAlike (table_of ns es ps) (table_of ns es (set ps j q))
+  shared_alike column home old = table-alike ns es ps (set ps j q) (record {
+    columns = map-set_same (λ (p : ColumnSlotValue). p.column) ps j q d column;
+    homes = map-set_same (λ (p : ColumnSlotValue). is_home p.standing) ps j q d (home ∙ sym old);
+  })
+
+  pub shared_kept : q.column ≡ (get_or ps j d).column → IsTable ns es ps → IsTable ns es (set ps j q)
+  shared_kept column table = kept-columns ns es ps (set ps j q) (map-set_same (λ (p : ColumnSlotValue). p.column) ps j q d column) table

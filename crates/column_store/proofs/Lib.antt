@@ -9,3 +9,4 @@ pub mod Found
 pub mod Edited
 pub mod Made
 pub mod TheirComponents
+pub mod Wide

@@ -85,3 +85,9 @@ get-there (x ∷ xs) (suc i) d l = get-there xs i d (omega arith)
 -- a write of what a function makes of it
 pub set-changed : {A : Type 0} (f : A → A) (xs : List A) (i : ℕ) (d y : A) → i < length xs → y ≡ f (get_or xs i d) → set xs i y ≡ update_at i f xs
 set-changed f xs i d y l h = set-update_at f xs i (get_or xs i d) y (get-there xs i d l) h
+
+-- a write of what is there
+pub set-same : {A : Type 0} (xs : List A) (i : ℕ) (d : A) → i < length xs → set xs i (get_or xs i d) ≡ xs
+set-same [] i d l = absurd (omega arith)
+set-same (x ∷ xs) zero d l = refl
+set-same (x ∷ xs) (suc i) d l = ap (λ ys. x ∷ ys) (set-same xs i d (omega arith))

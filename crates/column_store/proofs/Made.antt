@@ -1,23 +1,21 @@
 -- A table without rows, and the components of a row.
-use Rattle.std.proofs.Common.{◌≡◌, ℕ, zero, suc, ◌+◌, ◌<◌, ◌==◌, Bool, true, false, cond, ◌&&◌, ◌||◌, List, [], ◌∷◌, length, get_or, map, filter, Some, Result, Ok, Err, IfOk, refl, sym, ap, ap₂, subst, ◌∙◌, arith}
+use Rattle.std.proofs.Common.{◌≡◌, ℕ, zero, suc, ◌+◌, ◌<◌, ◌==◌, Bool, true, false, cond, ◌&&◌, ◌||◌, List, [], ◌∷◌, get_or, map, filter, Some, Result, Ok, Err, IfOk, refl, sym, ap, ap₂, subst, ◌∙◌, arith}
 use Rattle.std.proofs.lemmas.Bool.Decides.{nat_tests}
 use Rattle.std.specs.List.{list_any, AllByRecursion}
 use Rattle.kinds.specs.declared.kind.Kind.{Kind}
 use Rattle.kinds.specs.Kind.{kind_count, kind_number, numbers_from}
 use Rattle.model.specs.Lists.{has}
 use Rattle.model.specs.declared.entities.Entity.{Entity}
-use Rattle.column_store.specs.declared.place.Place.{Place}
-use Rattle.column_store.specs.declared.place.Place.TheVariants as place
 use Rattle.column_store.specs.declared.stamped.StampedValue.{StampedValue}
 use Rattle.column_store.specs.Cells.{stamped_number}
 use Rattle.column_store.specs.Order.{is_same}
 use Rattle.column_store.specs.Kinds.{in_order, AreBelow}
 use Rattle.column_store.specs.Places.{IsPlace}
-use Rattle.column_store.specs.Table.{TableRow, row_of, new_row, empty_table}
+use Rattle.column_store.specs.Table.{ColumnSlotValue, TableRow, row_of, new_row, empty_table}
 use Rattle.column_store.specs.Table.Standing.{Owned}
-use Rattle.column_store.specs.Inside.{standing_in, kind_in, empty_column, rows_of, table_of, AreOfKinds, IsOfLength, HoldsRow, IsTable, AreReadAt}
+use Rattle.column_store.specs.Inside.{standing_in, kind_in, empty_column, rows_of, table_of, IsOfLength, IsTable, AreReadAt}
 use Rattle.column_store.proofs.Rows.{row_of-place}
-use Rattle.column_store.proofs.Columns.{IsHome, get_or-rows_of, place-rows_of}
+use Rattle.column_store.proofs.Columns.{get_or-rows_of, place-rows_of}
 use Rattle.column_store.proofs.Tables.{place-within}
 
 -- ---- kinds in order
@@ -69,9 +67,9 @@ below_filter p (x ∷ xs) h = go (p x) (each_filter (λ m. x < m) p xs h.0) (bel
 
 -- ---- a table without rows
 
-empty_kinds : (ks : List Kind) → AreOfKinds (map kind_number ks) (map empty_column ks)
-empty_kinds [] = tt
-empty_kinds (k ∷ ks) = (refl, empty_kinds ks)
+empty_kinds : (ks : List Kind) → map kind_in (map empty_column ks) ≡ map kind_number ks
+empty_kinds [] = refl
+empty_kinds (k ∷ ks) = ap (λ ns. kind_number k ∷ ns) (empty_kinds ks)
 
 empty_lengths : (ks : List Kind) → AllByRecursion (IsOfLength 0) (map empty_column ks)
 empty_lengths [] = tt
@@ -84,24 +82,18 @@ empty_standings (k ∷ ks) = ap (λ ss. Owned ∷ ss) (empty_standings ks)
 empty_kept : (ks : List Kind) → AreBelow (map kind_number ks) → IsTable (map kind_number ks) [] (map empty_column ks)
 empty_kept ks h = record { below = h; rising = tt; of_kinds = empty_kinds ks; of_length = empty_lengths ks }
 
-pub made_kept : (ks given : List Kind) (es : List Entity) (ps : List Place) → map kind_number ks ≡ in_order (map kind_number given) → es ≡ [] → ps ≡ map empty_column ks →
+pub made_kept : (ks given : List Kind) (es : List Entity) (ps : List ColumnSlotValue) → map kind_number ks ≡ in_order (map kind_number given) → es ≡ [] → ps ≡ map empty_column ks →
     IsTable (map kind_number ks) es ps
 made_kept ks given es ps k e p =
     let below = subst AreBelow (sym k) (below_filter (λ n. has n (map kind_number given)) (numbers_from 0 kind_count) (below_from 0 kind_count)) in
     subst (IsTable (map kind_number ks) es) (sym p) (subst (λ xs. IsTable (map kind_number ks) xs (map empty_column ks)) (sym e) (empty_kept ks below))
 
-pub made_view : (ks given : List Kind) (es : List Entity) (ps : List Place) → map kind_number ks ≡ in_order (map kind_number given) → es ≡ [] → ps ≡ map empty_column ks →
+pub made_view : (ks given : List Kind) (es : List Entity) (ps : List ColumnSlotValue) → map kind_number ks ≡ in_order (map kind_number given) → es ≡ [] → ps ≡ map empty_column ks →
     table_of (map kind_number ks) es ps ≡ empty_table (in_order (map kind_number given))
 made_view ks given es ps k e p =
     ap₂ (table_of (map kind_number ks)) e p ∙ ap (λ ss. record (empty_table (map kind_number ks)) { standings = ss }) (empty_standings ks) ∙ ap empty_table k
 
 -- ---- the components of a row
-
-pub held_rows : (n i : ℕ) (ps : List Place) → i < n → AllByRecursion (IsHome n) ps → AllByRecursion (HoldsRow i) ps
-held_rows n i [] l h = tt
-held_rows n i (place.Home c ∷ ps) l h =
-    ((let k : length c.cells ≡ n = h.0 in let g : i < length c.cells = omega arith in g), held_rows n i ps l h.1)
-held_rows n i (place.Away ∷ ps) l h = absurd h.0
 
 same_numbers : (a b c d : ℕ) → ((a == c) && (b == d)) ≡ true → (a ≡ c) × (b ≡ d)
 same_numbers a b c d h = (grind (arith, nat_tests), grind (arith, nat_tests))
@@ -115,28 +107,15 @@ entity_at_place e [] i d p = absurd p
 entity_at_place e (x ∷ es) zero d p = same_entity x e p
 entity_at_place e (x ∷ es) (suc i) d p = entity_at_place e es i d p.1
 
-pub read_is_row : (e : Entity) (ss : List StampedValue) (es : List Entity) (ps : List Place) → AreReadAt e ss es ps → row_of e (rows_of es ps) ≡ Some (new_row e ss)
+pub read_is_row : (e : Entity) (ss : List StampedValue) (es : List Entity) (ps : List ColumnSlotValue) → AreReadAt e ss es ps → row_of e (rows_of es ps) ≡ Some (new_row e ss)
 read_is_row e ss es ps h =
     let d = new_row e ss in
     row_of-place e (rows_of es ps) h.row d (place-rows_of e es ps h.row h.place)
     ∙ ap (λ r. Some r) (get_or-rows_of es ps h.row e d (place-within (λ x. is_same x e) es h.row h.place)
     ∙ ap₂ (λ x cs. let r : TableRow = record { entity = x; cells = cs } in r) (entity_at_place e es h.row e h.place) (sym h.cells))
 
-numbers_read : (ns : List ℕ) (ps : List Place) (ss : List StampedValue) (n : ℕ) → AreOfKinds ns ps → AllByRecursion (IsHome n) ps → map (λ s. Some (stamped_number s)) ss ≡ map kind_in ps →
-    map stamped_number ss ≡ ns
-numbers_read [] [] [] n k h e = refl
-numbers_read [] [] (s ∷ ss) n k h e = absurd (cc)
-numbers_read [] (p ∷ ps) ss n k h e = absurd k
-numbers_read (m ∷ ns) [] ss n k h e = absurd k
-numbers_read (m ∷ ns) (p ∷ ps) [] n k h e = absurd (cc)
-numbers_read (m ∷ ns) (place.Home c ∷ ps) (s ∷ ss) n k h e =
-    let here : stamped_number s ≡ c.kind = cc in
-    ap₂ ◌∷◌ (here ∙ k.0) (numbers_read ns ps ss n k.1 h.1 (cc))
-numbers_read (m ∷ ns) (place.Away ∷ ps) (s ∷ ss) n k h e = absurd h.0
-
-pub read_numbers : (e : Entity) (ns : List ℕ) (ss : List StampedValue) (es : List Entity) (ps : List Place) (n : ℕ) → AreOfKinds ns ps → AllByRecursion (IsHome n) ps → AreReadAt e ss es ps →
-    map stamped_number ss ≡ ns
-read_numbers e ns ss es ps n k h r = numbers_read ns ps ss n k h r.kinds
+pub read_numbers : (e : Entity) (ns : List ℕ) (ss : List StampedValue) (es : List Entity) (ps : List ColumnSlotValue) → map kind_in ps ≡ ns → AreReadAt e ss es ps → map stamped_number ss ≡ ns
+read_numbers e ns ss es ps k r = r.kinds ∙ k
 
 -- what holds of a result holds of what follows
 pub if_ok : {A E : Type 0} (r : Result A E) (P Q : A → Type 0) → ((x : A) → P x → Q x) → IfOk r P → IfOk r Q

@@ -6,3 +6,4 @@ pub mod Table
 pub mod Places
 pub mod Inside
 pub mod Components
+pub mod Spots

@@ -1,5 +1,5 @@
 -- What a table is: the rows of the entities of one archetype, and which of its columns are at home.
-use Rattle.std.specs.Prelude.{ℕ, ℤ, Bool, true, false, cond, List, [], ◌∷◌, map, Option, Some, None, option_map, option_and_then}
+use Rattle.std.specs.Prelude.{◌≡◌, ℕ, ℤ, Bool, true, false, cond, List, [], ◌∷◌, map, Option, Some, None, option_map, option_and_then}
 use Rattle.model.specs.State.{Cell}
 use Rattle.model.specs.declared.entities.Entity.{Entity}
 use Rattle.column_store.specs.Order.{is_before, is_same}
@@ -12,12 +12,18 @@ use Rattle.column_store.specs.Column.{ColumnCells}
 pub data Standing : Type 0 where
   Owned Shared Away : Standing
 
--- a row: an entity, and its cell of each of the table's kinds, none where the column is away
+-- the slot of a column in a table: where the column is, and the column, which is as it left where it is away
+pub record ColumnSlotValue : Type 0 where
+  pub standing : Standing
+  pub column : ColumnCells
+
+-- a row: an entity, and its cell of each of the table's kinds
 pub record TableRow : Type 0 where
   pub entity : Entity
   pub cells : List (Option Cell)
 
--- a table: the numbers of its kinds, rising, where the column of each is, and the rows
+-- a table: the numbers of its kinds, rising, where the column of each is, and the rows. A column that is away has in them the cells with
+-- which it left
 pub record TableValue : Type 0 where
   pub kinds : List ℕ
   pub standings : List Standing
@@ -27,6 +33,25 @@ pub record TableValue : Type 0 where
 abbrev pub is_home : Standing → Bool
 is_home Away = false
 is_home _ = true
+
+-- whether a column is the table's alone
+abbrev pub is_owned : Standing → Bool
+is_owned Owned = true
+is_owned _ = false
+
+-- a column that is there is at home
+abbrev pub IsHome : Option Standing → Type 0
+IsHome standing = option_map is_home standing ≡ Some true
+
+-- whether a column is at home, where it is there
+abbrev pub is_not_away : Option Standing → Bool
+is_not_away None = true
+is_not_away (Some standing) = is_home standing
+
+-- whether a column is the table's alone, where it is there
+abbrev pub is_own_if : Option Standing → Bool
+is_own_if None = true
+is_own_if (Some standing) = is_owned standing
 
 -- ---- rows
 
@@ -58,7 +83,7 @@ update_row e f (row ∷ rows) = cond (is_same row.entity e) (f row ∷ rows) (ro
 abbrev pub with_cell_at : List ℕ → ℕ → (Option Cell → Option Cell) → TableRow → TableRow
 with_cell_at kinds kind f row = record { entity = row.entity; cells = update_kind kinds kind f row.cells }
 
--- the cell of a kind in a row, none where the kind isn't the table's or its column is away
+-- the cell of a kind in a row, none where the kind isn't the table's
 abbrev pub cell_of_kind : List ℕ → ℕ → TableRow → Option Cell
 cell_of_kind kinds kind row = option_and_then (λ cell. cell) (at_kind kinds kind row.cells)
 
@@ -71,7 +96,7 @@ filled_rows kinds kind (cell ∷ cells) (row ∷ rows) =
 
 -- ---- a table
 
--- the cell of a kind of an entity: there where the entity is there, the kind is the table's, and its column is at home
+-- the cell of a kind of an entity: there where the entity is there and the kind is the table's
 abbrev pub cell_in : TableValue → Entity → ℕ → Option Cell
 cell_in t e kind = option_and_then (cell_of_kind t.kinds kind) (row_of e t.rows)
 
@@ -91,13 +116,27 @@ write_cell t e kind words tick = record {
   rows = update_row e (with_cell_at t.kinds kind (option_map (changed_cell words tick))) t.rows;
 }
 
--- the table without the column of a kind
-abbrev pub lent : TableValue → ℕ → TableValue
-lent t kind = record {
+-- the table whose column of a kind stands otherwise
+abbrev pub moved_to : Standing → TableValue → ℕ → TableValue
+moved_to standing t kind = record {
   kinds = t.kinds;
-  standings = update_kind t.kinds kind (λ _. Away) t.standings;
-  rows = map (with_cell_at t.kinds kind (λ _. None)) t.rows;
+  standings = update_kind t.kinds kind (λ _. standing) t.standings;
+  rows = t.rows;
 }
+
+-- the table whose column of a kind has left
+abbrev pub lent : TableValue → ℕ → TableValue
+lent t kind = moved_to Away t kind
+
+-- the table whose columns are its alone
+abbrev pub owned : TableValue → TableValue
+owned t = record { kinds = t.kinds; standings = map (λ _. Owned) t.standings; rows = t.rows }
+
+-- tables that differ in nothing but which of the columns at home are read elsewhere too
+pub record IsAlike (old new : TableValue) : Type 0 where
+  pub kinds : new.kinds ≡ old.kinds
+  pub homes : map is_home new.standings ≡ map is_home old.standings
+  pub rows : new.rows ≡ old.rows
 
 -- the table with a column home again
 abbrev pub homed : TableValue → ColumnCells → TableValue

@@ -2,7 +2,7 @@
 
 ghost use Rattle.column_store.specs.Components.{ComponentsRise, CellsAreTheirs, WritesAreTheirs};
 
-/// The components of a row, those of the columns that are at home, are in strictly rising kinds. They have the cells that the row
+/// The components of a row are in strictly rising kinds. They have the cells that the row
 /// has, and a write of a cell is a write of the component.
 pub fn rows_are_components()
     ensures rise { ComponentsRise }

@@ -1,10 +1,10 @@
 // Tables: the components of the entities of one archetype, in typed columns with stamps.
 #![tactic(auto)]
 
+mod column_slot;
 pub mod laws;
 mod order;
 mod parts;
-mod place;
 pub mod stamped;
 pub mod table;
 mod typed;

@@ -1,23 +1,24 @@
 // What a table's calls do to its parts: its kinds, its entities and its columns.
 
-ghost use Rattle.std.specs.Prelude.{◌≡◌, ◌==◌, ℕ, ◌<◌, ◌≤◌, length, map, MatchOption, option_map, Some, IsSome, IfSome, IfOk, OnOk, OnErr};
+ghost use Rattle.std.specs.Prelude.{◌≡◌, ◌==◌, ℕ, ◌<◌, ◌≤◌, length, map, MatchOption, option_map, Some, IsSome, IsTrue, IfSome, IfOk, OnOk, OnErr};
 ghost use Rattle.std.specs.List.{list_any, filter, AllByRecursion};
 ghost use Rattle.kinds.specs.Kind.{kind_number};
 ghost use Rattle.kinds.specs.Value.{value_number, value_words};
 ghost use Rattle.column_store.specs.Cells.{stamped_number, stamped_cell};
-ghost use Rattle.column_store.specs.Table.{Standing, cell_in, standing_of, kind_cells, write_cell, lent, homed};
+ghost use Rattle.column_store.specs.Table.{Standing, is_not_away, is_own_if, cell_in, standing_of, kind_cells, write_cell, lent, homed, IsHome, IsAlike};
 ghost use Rattle.column_store.specs.Order.{AreRising};
-ghost use Rattle.column_store.specs.Inside.{table_of, IsTable, IsPlaced, IsAbsent, IsKindPlaced, IsNoKind, IsOfLength, AllTake, IsPutAt, IsRemovedAt, IsThere, AreReadAt, HoldsRow};
+ghost use Rattle.std.specs.Arc.{arc_value};
+ghost use Rattle.column_store.specs.Inside.{table_of, IsTable, IsPlaced, IsAbsent, IsKindPlaced, IsNoKind, AllTake, IsPutAt, IsRemovedAt, IsThere, AreReadAt, HoldsRow, OwnsRow};
 
+use crate::column_slot::{ColumnSlot, insert_row, read_row, remove_row};
 use crate::order::{column_in, gap_in, row_in};
-use crate::place::{Place, insert_row, read_row, remove_row};
 use crate::stamped::{StampedColumn, StampedValue};
 use change_ticks::clock::Tick;
 use entity_table::Entity;
 use kinds::kind::Kind;
 use kinds::value::Value;
 use std::alloc::{AllocError, Global};
-use std::mem;
+use std::sync::Arc;
 
 // The row of an entity and the column of a kind, where there are both.
 fn cell_place(kinds: &[Kind], entities: &[Entity], e: Entity, number: u32) -> Option<(usize, usize)>
@@ -38,17 +39,18 @@ fn cell_place(kinds: &[Kind], entities: &[Entity], e: Entity, number: u32) -> Op
 pub(crate) fn find_in(
     kinds: &[Kind],
     entities: &[Entity],
-    columns: &[Place],
+    columns: &[ColumnSlot],
     e: Entity,
     number: u32,
 ) -> Option<StampedValue>
-    requires { IsTable (map kind_number kinds.now) entities.now columns.now }
+    requires table { IsTable (map kind_number kinds.now) entities.now columns.now }
+    requires home { IsTrue (is_not_away (standing_of (table_of (map kind_number kinds.now) entities.now columns.now) number)) }
     ensures cell { option_map stamped_cell result ≡ cell_in (table_of (map kind_number kinds.now) entities.now columns.now) e number }
     ensures number { IfSome result (λ s. stamped_number s ≡ number) }
 {
     match cell_place(kinds, entities, e, number) {
         None => None,
-        Some((row, column)) => columns[column].at(row),
+        Some((row, column)) => Some(columns[column].at(row)),
     }
 }
 
@@ -56,13 +58,14 @@ pub(crate) fn find_in(
 pub(crate) fn write_in(
     kinds: &[Kind],
     entities: &[Entity],
-    columns: &mut [Place],
+    columns: &mut [ColumnSlot],
     e: Entity,
     value: Value,
     tick: Tick,
 )
     requires table { IsTable (map kind_number kinds.now) entities.now columns.old }
     requires there { IsSome (cell_in (table_of (map kind_number kinds.now) entities.now columns.old) e (value_number value)) }
+    requires owned { IsTrue (is_own_if (standing_of (table_of (map kind_number kinds.now) entities.now columns.old) (value_number value))) }
     ensures written { table_of (map kind_number kinds.now) entities.now columns.new
         ≡ write_cell (table_of (map kind_number kinds.now) entities.now columns.old) e (value_number value) (value_words value) tick }
     ensures table { IsTable (map kind_number kinds.now) entities.now columns.new }
@@ -81,36 +84,76 @@ fn kind_place(kinds: &[Kind], kind: Kind) -> Option<usize>
     column_in(kinds, kind.number())
 }
 
-// Takes the column of a kind.
+// Takes the column of a kind, which is at home, out of the table. Where memory is wanting it stays.
 pub(crate) fn lend_in(
     kinds: &[Kind],
     entities: &[Entity],
-    columns: &mut [Place],
+    columns: &mut [ColumnSlot],
+    alloc: Global,
     kind: Kind,
-) -> StampedColumn
+) -> Result<StampedColumn, AllocError>
     requires table { IsTable (map kind_number kinds.now) entities.now columns.old }
-    requires there { standing_of (table_of (map kind_number kinds.now) entities.now columns.old) (kind_number kind) ≡ Some Standing.Owned }
-    ensures kind { result.kind ≡ kind_number kind }
-    ensures cells { map (λ cell. Some cell) result.cells
-        ≡ kind_cells (table_of (map kind_number kinds.now) entities.now columns.old) (kind_number kind) }
-    ensures away { table_of (map kind_number kinds.now) entities.now columns.new
-        ≡ lent (table_of (map kind_number kinds.now) entities.now columns.old) (kind_number kind) }
+    requires home { IsHome (standing_of (table_of (map kind_number kinds.now) entities.now columns.old) (kind_number kind)) }
+    ensures kind { IfOk result (λ column. column.kind ≡ kind_number kind) }
+    ensures cells { IfOk result (λ column. map (λ cell. Some cell) column.cells
+        ≡ kind_cells (table_of (map kind_number kinds.now) entities.now columns.old) (kind_number kind)) }
+    ensures away { OnOk result (table_of (map kind_number kinds.now) entities.now columns.new
+        ≡ lent (table_of (map kind_number kinds.now) entities.now columns.old) (kind_number kind)) }
+    ensures err { OnErr result (columns.new ≡ columns.old) }
     ensures table { IsTable (map kind_number kinds.now) entities.now columns.new }
 {
     let Some(place) = kind_place(kinds, kind) else {
         unreachable!();
     };
-    match mem::replace(&mut columns[place], Place::Away) {
-        Place::Home(column) => column,
-        Place::Away => unreachable!(),
-    }
+    columns[place].lend(alloc)
+}
+
+// The column of a kind, which is at home, to be read elsewhere too.
+pub(crate) fn share_in(
+    kinds: &[Kind],
+    entities: &[Entity],
+    columns: &mut [ColumnSlot],
+    alloc: Global,
+    kind: Kind,
+) -> Result<Arc<StampedColumn, Global>, AllocError>
+    requires table { IsTable (map kind_number kinds.now) entities.now columns.old }
+    requires home { IsHome (standing_of (table_of (map kind_number kinds.now) entities.now columns.old) (kind_number kind)) }
+    ensures kind { IfOk result (λ column. (arc_value column).kind ≡ kind_number kind) }
+    ensures cells { IfOk result (λ column. map (λ cell. Some cell) (arc_value column).cells
+        ≡ kind_cells (table_of (map kind_number kinds.now) entities.now columns.old) (kind_number kind)) }
+    ensures alike { IsAlike (table_of (map kind_number kinds.now) entities.now columns.old) (table_of (map kind_number kinds.now) entities.now columns.new) }
+    ensures table { IsTable (map kind_number kinds.now) entities.now columns.new }
+{
+    let Some(place) = kind_place(kinds, kind) else {
+        unreachable!();
+    };
+    columns[place].share(alloc)
+}
+
+// The column of a kind, which is at home.
+pub(crate) fn seen_in<'a>(
+    kinds: &[Kind],
+    entities: &[Entity],
+    columns: &'a [ColumnSlot],
+    kind: Kind,
+) -> &'a StampedColumn
+    requires table { IsTable (map kind_number kinds.now) entities.now columns.now }
+    requires home { IsHome (standing_of (table_of (map kind_number kinds.now) entities.now columns.now) (kind_number kind)) }
+    ensures kind { result.now.kind ≡ kind_number kind }
+    ensures cells { map (λ cell. Some cell) result.now.cells
+        ≡ kind_cells (table_of (map kind_number kinds.now) entities.now columns.now) (kind_number kind) }
+{
+    let Some(place) = kind_place(kinds, kind) else {
+        unreachable!();
+    };
+    columns[place].seen()
 }
 
 // Puts a column back.
 pub(crate) fn home_in(
     kinds: &[Kind],
     entities: &[Entity],
-    columns: &mut [Place],
+    columns: &mut [ColumnSlot],
     column: StampedColumn,
 )
     requires table { IsTable (map kind_number kinds.now) entities.now columns.old }
@@ -123,13 +166,13 @@ pub(crate) fn home_in(
     let Some(place) = kind_place(kinds, column.kind()) else {
         unreachable!();
     };
-    columns[place] = Place::Home(column);
+    columns[place] = ColumnSlot::of(column);
 }
 
 // Adds the row of an entity.
 pub(crate) fn put_in(
     entities: &mut Vec<Entity>,
-    columns: &mut [Place],
+    columns: &mut [ColumnSlot],
     e: Entity,
     components: &[StampedValue],
 ) -> Result<(), AllocError>
@@ -149,10 +192,10 @@ pub(crate) fn put_in(
 }
 
 // Removes the row of an entity.
-pub(crate) fn remove_in(entities: &mut Vec<Entity>, columns: &mut [Place], e: Entity)
+pub(crate) fn remove_in(entities: &mut Vec<Entity>, columns: &mut [ColumnSlot], e: Entity)
     requires rising { AreRising entities.old.items }
     requires there { IsThere e entities.old.items }
-    requires lengths { AllByRecursion (IsOfLength (length entities.old.items)) columns.old }
+    requires owned { (row : ℕ) → row < length entities.old.items → AllByRecursion (OwnsRow row) columns.old }
     ensures { IsRemovedAt e entities.old.items entities.new.items columns.old columns.new }
 {
     match row_in(entities, e) {
@@ -168,7 +211,7 @@ pub(crate) fn remove_in(entities: &mut Vec<Entity>, columns: &mut [Place], e: En
 pub(crate) fn read_in(
     alloc: Global,
     entities: &[Entity],
-    columns: &[Place],
+    columns: &[ColumnSlot],
     e: Entity,
 ) -> Result<Vec<StampedValue>, AllocError>
     requires rising { AreRising entities.now }

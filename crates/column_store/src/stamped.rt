@@ -1,13 +1,15 @@
 // A column with the stamps of its components.
 
-ghost use Rattle.std.specs.Prelude.{◌≡◌, ◌<◌, ◌≤◌, [], Some, length, insert, remove, slice_get, option_map, OnOk, OnErr};
+ghost use Rattle.std.specs.Prelude.{◌≡◌, ◌<◌, ◌≤◌, [], Some, length, insert, remove, slice_get, option_map, IfOk, OnOk, OnErr};
+ghost use Rattle.std.specs.List.{AllByRecursion};
 ghost use Rattle.kinds.specs.Kind.{kind_number};
 ghost use Rattle.kinds.specs.Value.{value_number, value_words};
+ghost use Rattle.kinds.specs.Components.{widths};
 ghost use Rattle.model.specs.Lists.{update_at};
-ghost use Rattle.column_store.specs.Cells.{stamped_number, stamped_cell, changed_cell};
+ghost use Rattle.column_store.specs.Cells.{stamped_number, stamped_cell, stamp_of, changed_cell};
 
 use crate::typed::{
-    component_at, empty, insert_value, remove_value, set_component, set_value, value_at,
+    component_at, copied, empty, insert_value, remove_value, set_component, set_value, value_at,
 };
 use change_ticks::clock::Tick;
 use change_ticks::stamp::Stamp;
@@ -70,6 +72,30 @@ impl StampedColumn {
         ensures { result ≡ length self.now.cells }
     {
         self.stamps.len()
+    }
+
+    /// A column of the same components with the same stamps.
+    pub fn try_copy(&self, alloc: Global) -> Result<Self, AllocError>
+        ensures { IfOk result (λ column. column ≡ self.now) }
+    {
+        let column = copied(alloc, &self.column)?;
+        let stamps = self.stamps.iter().copied().collect(alloc)?;
+        Ok(StampedColumn { column, stamps })
+    }
+
+    /// Each component has as many fields as the kind.
+    pub fn law(&self)
+        ensures { AllByRecursion (λ c. length c.words ≡ widths self.now.kind) self.now.cells }
+    {
+        let _ = &self.column;
+    }
+
+    /// The stamp of the component at a place.
+    pub fn stamp(&self, place: usize) -> Stamp
+        requires { place < length self.now.cells }
+        ensures { option_map stamp_of (slice_get self.now.cells place) ≡ Some result }
+    {
+        self.stamps[place]
     }
 
     /// The component at a place, with its stamp.

@@ -7,11 +7,14 @@ ghost use Rattle.kinds.specs.Value.{value_number, value_words};
 ghost use Rattle.column_store.specs.Cells.{stamped_number, stamped_cell, stamp_of};
 ghost use Rattle.column_store.specs.Kinds.{in_order, AreBelow};
 ghost use Rattle.column_store.specs.Order.{AreRising};
-ghost use Rattle.column_store.specs.Table.{Standing, empty_table, is_home, row_of, put_row, new_row, without_row, cell_in, standing_of, kind_cells, write_cell, lent, homed};
+ghost use Rattle.std.specs.Arc.{arc_value};
+ghost use Rattle.column_store.specs.Table.{Standing, empty_table, is_home, is_owned, is_not_away, is_own_if, row_of, put_row, new_row, without_row, cell_in, standing_of, kind_cells, write_cell, lent, owned, homed, IsHome, IsAlike};
 
+use crate::column_slot::{ColumnSlot, empty_columns, own_each};
 use crate::order::row_in;
-use crate::parts::{among, find_in, home_in, lend_in, put_in, read_in, remove_in, write_in};
-use crate::place::{Place, empty_columns};
+use crate::parts::{
+    among, find_in, home_in, lend_in, put_in, read_in, remove_in, seen_in, share_in, write_in,
+};
 use crate::stamped::{StampedColumn, StampedValue};
 use change_ticks::clock::Tick;
 use change_ticks::stamp::Stamp;
@@ -21,14 +24,15 @@ use kinds::kind::Kind;
 use kinds::value::Value;
 use std::alloc::{AllocError, Global};
 use std::marker::Model;
+use std::sync::Arc;
 
 /// The entities of one archetype with their components: a row for each entity, in rising ids, and a column for each kind, in rising
-/// kinds. A column can be lent, and its kind then has no cells until it comes home.
+/// kinds. A column can leave and come home, and be read elsewhere too. To contracts one that is away has the cells with which it left.
 #[derive(Drop, Debug)]
 pub struct Table {
     kinds: Vec<Kind>,
     entities: Vec<Entity>,
-    columns: Vec<Place>,
+    columns: Vec<ColumnSlot>,
 }
 
 impl Model for Table {
@@ -99,9 +103,9 @@ impl Table {
         }
     }
 
-    /// The component of the kind with this number of an entity, where the entity is there, the kind is the table's, and its column
-    /// is at home.
+    /// The component of the kind with this number of an entity, where the entity is there and the kind is the table's.
     pub fn find(&self, e: Entity, number: u32) -> Option<StampedValue>
+        requires { IsTrue (is_not_away (standing_of self.now number)) }
         ensures cell { option_map stamped_cell result ≡ cell_in self.now e number }
         ensures number { IfSome result (λ s. stamped_number s ≡ number) }
     {
@@ -110,6 +114,7 @@ impl Table {
 
     /// The component of a kind of an entity.
     pub fn value(&self, e: Entity, kind: Kind) -> Option<Value>
+        requires { IsTrue (is_not_away (standing_of self.now (kind_number kind))) }
         ensures words { option_map value_words result ≡ option_map (λ c. c.words) (cell_in self.now e (kind_number kind)) }
         ensures number { IfSome result (λ value. value_number value ≡ kind_number kind) }
     {
@@ -121,6 +126,7 @@ impl Table {
 
     /// When the component of a kind of an entity was added and last changed.
     pub fn stamp(&self, e: Entity, kind: Kind) -> Option<Stamp>
+        requires { IsTrue (is_not_away (standing_of self.now (kind_number kind))) }
         ensures { result ≡ option_map stamp_of (cell_in self.now e (kind_number kind)) }
     {
         match self.find(e, kind.number()) {
@@ -131,7 +137,8 @@ impl Table {
 
     /// The component of an entity.
     pub fn get<C: Component>(&self, e: Entity) -> C
-        requires { IsSome (cell_in self.now e C.NUMBER) }
+        requires there { IsSome (cell_in self.now e C.NUMBER) }
+        requires home { IsTrue (is_not_away (standing_of self.now C.NUMBER)) }
         ensures { option_map (λ c. c.words) (cell_in self.now e C.NUMBER) ≡ Some (C.words result) }
     {
         match self.find(e, C::NUMBER) {
@@ -145,7 +152,8 @@ impl Table {
 
     /// Replaces a component of an entity, which counts as changed at this tick, also where the value stays.
     pub fn write(&mut self, e: Entity, value: Value, tick: Tick)
-        requires { IsSome (cell_in self.old e (value_number value)) }
+        requires there { IsSome (cell_in self.old e (value_number value)) }
+        requires owned { IsTrue (is_own_if (standing_of self.old (value_number value))) }
         ensures { self.new ≡ write_cell self.old e (value_number value) (value_words value) tick }
     {
         write_in(
@@ -163,7 +171,7 @@ impl Table {
     pub fn put(&mut self, e: Entity, components: &[StampedValue]) -> Result<(), AllocError>
         requires absent { IsNone (row_of e self.old.rows) }
         requires kinds { map stamped_number components.now ≡ self.old.kinds }
-        requires home { IsTrue (list_all is_home self.old.standings) }
+        requires owned { IsTrue (list_all is_owned self.old.standings) }
         ensures ok { OnOk result (self.new ≡ record self.old { rows = put_row (new_row e components.now) self.old.rows }) }
         ensures err { OnErr result (self.new ≡ self.old) }
     {
@@ -173,7 +181,7 @@ impl Table {
     /// Removes the row of an entity.
     pub fn remove(&mut self, e: Entity)
         requires there { IsSome (row_of e self.old.rows) }
-        requires home { IsTrue (list_all is_home self.old.standings) }
+        requires owned { IsTrue (list_all is_owned self.old.standings) }
         ensures { self.new ≡ record self.old { rows = without_row e self.old.rows } }
     {
         remove_in(&mut self.entities, &mut self.columns, e);
@@ -193,7 +201,7 @@ impl Table {
     /// it was.
     pub fn take(&mut self, alloc: Global, e: Entity) -> Result<Vec<StampedValue>, AllocError>
         requires there { IsSome (row_of e self.old.rows) }
-        requires home { IsTrue (list_all is_home self.old.standings) }
+        requires owned { IsTrue (list_all is_owned self.old.standings) }
         ensures row { IfOk result (λ components. row_of e self.old.rows ≡ Some (new_row e components.items)) }
         ensures kinds { IfOk result (λ components. map stamped_number components.items ≡ self.old.kinds) }
         ensures ok { OnOk result (self.new ≡ record self.old { rows = without_row e self.old.rows }) }
@@ -204,14 +212,49 @@ impl Table {
         Ok(components)
     }
 
-    /// Takes a column out of the table, as it is, until it comes home. Meanwhile its kind has no cells.
-    pub fn lend(&mut self, kind: Kind) -> StampedColumn
-        requires { standing_of self.old (kind_number kind) ≡ Some Standing.Owned }
-        ensures kind { result.kind ≡ kind_number kind }
-        ensures cells { map (λ cell. Some cell) result.cells ≡ kind_cells self.old (kind_number kind) }
-        ensures away { self.new ≡ lent self.old (kind_number kind) }
+    /// The column of a kind, which is at home.
+    pub fn column(&self, kind: Kind) -> &StampedColumn
+        requires { IsHome (standing_of self.now (kind_number kind)) }
+        ensures kind { result.now.kind ≡ kind_number kind }
+        ensures cells { map (λ cell. Some cell) result.now.cells ≡ kind_cells self.now (kind_number kind) }
     {
-        lend_in(&self.kinds, &self.entities, &mut self.columns, kind)
+        seen_in(&self.kinds, &self.entities, &self.columns, kind)
+    }
+
+    /// Takes a column that is at home out of the table until it comes home. One that is still read elsewhere is copied for it. After an
+    /// error the table is as it was.
+    pub fn lend(&mut self, alloc: Global, kind: Kind) -> Result<StampedColumn, AllocError>
+        requires { IsHome (standing_of self.old (kind_number kind)) }
+        ensures kind { IfOk result (λ column. column.kind ≡ kind_number kind) }
+        ensures cells { IfOk result (λ column. map (λ cell. Some cell) column.cells ≡ kind_cells self.old (kind_number kind)) }
+        ensures away { OnOk result (self.new ≡ lent self.old (kind_number kind)) }
+        ensures err { OnErr result (self.new ≡ self.old) }
+    {
+        lend_in(&self.kinds, &self.entities, &mut self.columns, alloc, kind)
+    }
+
+    /// A column that is at home, to be read elsewhere too. No row is copied.
+    pub fn share(
+        &mut self,
+        alloc: Global,
+        kind: Kind,
+    ) -> Result<Arc<StampedColumn, Global>, AllocError>
+        requires { IsHome (standing_of self.old (kind_number kind)) }
+        ensures kind { IfOk result (λ column. (arc_value column).kind ≡ kind_number kind) }
+        ensures cells { IfOk result (λ column. map (λ cell. Some cell) (arc_value column).cells ≡ kind_cells self.old (kind_number kind)) }
+        ensures alike { IsAlike self.old self.new }
+    {
+        share_in(&self.kinds, &self.entities, &mut self.columns, alloc, kind)
+    }
+
+    /// Takes every column for the table alone. One that is still read elsewhere is copied for it. Where memory is wanting some may be the
+    /// table's alone that were read elsewhere too.
+    pub fn own(&mut self, alloc: Global) -> Result<(), AllocError>
+        requires { IsTrue (list_all is_home self.old.standings) }
+        ensures ok { OnOk result (self.new ≡ owned self.old) }
+        ensures alike { IsAlike self.old self.new }
+    {
+        own_each(&mut self.columns, alloc)
     }
 
     /// Puts a column that was lent back.
@@ -225,7 +268,8 @@ impl Table {
 
     /// Replaces a component of an entity, which counts as changed at this tick, also where the value stays.
     pub fn set<C: Component>(&mut self, e: Entity, component: C, tick: Tick)
-        requires { IsSome (cell_in self.old e C.NUMBER) }
+        requires there { IsSome (cell_in self.old e C.NUMBER) }
+        requires owned { IsTrue (is_own_if (standing_of self.old C.NUMBER)) }
         ensures { self.new ≡ write_cell self.old e C.NUMBER (C.words component) tick }
     {
         self.write(e, component.into_value(), tick);
@@ -291,8 +335,8 @@ mod tests {
     fn columns_leave_and_come_home(rt: HostRuntime) -> Result<(), Fail> {
         let mut table = Table::new(rt.alloc(), &[Kind::Health])?;
         table.put(FIRST, &[added(Value::Health(Health { v: 5 }))])?;
-        let mut column = table.lend(Kind::Health);
-        assert_eq!(rt; table.value(FIRST, Kind::Health), None);
+        let mut column = table.lend(rt.alloc(), Kind::Health)?;
+        assert!(rt; table.has(FIRST));
         assert_eq!(rt; column.len(), 1);
         column.set(0, Health { v: 5 }, 4);
         assert_eq!(rt; column.len(), table.len());
@@ -302,6 +346,26 @@ mod tests {
             changed: 4,
         };
         assert_eq!(rt; table.stamp(FIRST, Kind::Health), Some(stamp));
+        Ok(())
+    }
+
+    #[test]
+    fn a_column_that_is_read_elsewhere_is_copied(rt: HostRuntime) -> Result<(), Fail> {
+        let mut table = Table::new(rt.alloc(), &[Kind::Health])?;
+        table.put(FIRST, &[added(Value::Health(Health { v: 5 }))])?;
+        let shared = table.share(rt.alloc(), Kind::Health)?;
+        let mut column = table.lend(rt.alloc(), Kind::Health)?;
+        assert_eq!(rt; column.at(0), shared.at(0));
+        column.set(0, Health { v: 6 }, 4);
+        table.home(column);
+        assert_eq!(rt; shared.get::<Health>(0), Health { v: 5 });
+        assert_eq!(rt;
+            table.column(Kind::Health).get::<Health>(0),
+            Health { v: 6 }
+        );
+        let again = table.share(rt.alloc(), Kind::Health)?;
+        table.own(rt.alloc())?;
+        assert_eq!(rt; again.stamp(0), table.column(Kind::Health).stamp(0));
         Ok(())
     }
 }

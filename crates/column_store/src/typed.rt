@@ -1,6 +1,6 @@
 // Columns as their own types: what is done to a column is written once over a type of components, and chosen by its kind.
 
-ghost use Rattle.std.specs.Prelude.{◌≡◌, ◌<◌, ◌≤◌, [], ◌∷◌, Some, length, insert, remove, slice_get, slice_set, OnOk, OnErr};
+ghost use Rattle.std.specs.Prelude.{◌≡◌, ◌<◌, ◌≤◌, [], ◌∷◌, Some, length, insert, remove, slice_get, slice_set, IfOk, OnOk, OnErr};
 ghost use Rattle.kinds.specs.Kind.{kind_number};
 ghost use Rattle.kinds.specs.Value.{value_number, value_words};
 ghost use Rattle.kinds.specs.Column.{column_number, column_words};
@@ -25,6 +25,25 @@ fn empty_of<C: Component>(alloc: Global) -> Column
     ensures words { column_words result ≡ [] }
 {
     C::into_column(Vec::new(alloc))
+}
+
+// A column of the same components.
+pub(crate) fn copied(alloc: Global, column: &Column) -> Result<Column, AllocError>
+    ensures number { IfOk result (λ copy. column_number copy ≡ column_number column.now) }
+    ensures words { IfOk result (λ copy. column_words copy ≡ column_words column.now) }
+{
+    each_kind!(column.kind(), K => { copied_of::<K>(alloc, column) })
+}
+
+fn copied_of<C: Component>(alloc: Global, column: &Column) -> Result<Column, AllocError>
+    requires { column_number column.now ≡ C.NUMBER }
+    ensures number { IfOk result (λ copy. column_number copy ≡ C.NUMBER) }
+    ensures words { IfOk result (λ copy. column_words copy ≡ column_words column.now) }
+{
+    match C::in_column(column) {
+        Some(items) => Ok(C::into_column(items.iter().copied().collect(alloc)?)),
+        None => unreachable!(),
+    }
 }
 
 // The component at a place of a column of its kind.

@@ -1,6 +1,7 @@
 // The work of a command line, on readers and writers.
 
 ghost use Rattle.std.specs.Prelude.{◌≡◌, length, string_bytes, IfOk, OnOk, IsFalse};
+ghost use Rattle.archetype_store.specs.Layout.{AreAllHome};
 ghost use Rattle.engine.specs.EngineValue.{meanings};
 ghost use Rattle.ecsrun.specs.Fault.{status_of};
 ghost use Rattle.ecsrun.specs.Served.{HaveRun, IsRunText, IsServed, IsTextOfRuns};
@@ -77,6 +78,7 @@ fn run(
     world: World,
 ) -> Result<String, Fault>
     requires scripts { AreScriptsOf built bodies.items }
+    requires home { AreAllHome world.layout }
     ensures { IfOk result (λ text. IsTextOfRuns built (meanings built bodies.items) (start_of built world.state) times (string_bytes text)) }
 {
     let state = State::new(alloc, world, built.count() as usize)?;

@@ -61,6 +61,6 @@ pub fn start(
     let tick = state.next()?;
     let mut view = state.open(alloc, params, system as usize)?;
     bodies[system as usize].run(&mut view);
-    state.close(view, system as usize, tick);
+    state.close(view, system as usize, tick)?;
     Ok(())
 }

@@ -6,6 +6,7 @@ ghost use Rattle.model.specs.Loaded.{slot_given};
 ghost use Rattle.model.specs.Rows.{insert_component};
 ghost use Rattle.model.specs.State.{resource_count};
 ghost use Rattle.entity_table.specs.Ids.{IsGranted};
+ghost use Rattle.archetype_store.specs.Layout.{AreAllHome};
 ghost use Rattle.archetype_store.specs.Store.{with_slot};
 ghost use Rattle.kinds.specs.Value.{value_number, value_words};
 ghost use Rattle.program_file.specs.Load.{given_of, entity_given, loaded_world, with_resources, with_entities};
@@ -30,7 +31,8 @@ pub fn world_of(
     entities: &[Vec<Value>],
     resources: &[i64; 8],
 ) -> Result<World, ContentFault>
-    ensures { IfOk result (λ world. world.state ≡ loaded_world (map entity_given entities.now) resources.now) }
+    ensures world { IfOk result (λ world. world.state ≡ loaded_world (map entity_given entities.now) resources.now) }
+    ensures home { IfOk result (λ world. AreAllHome world.layout) }
 {
     let mut world = World::new(alloc, Clock::at(LOADING))?;
     give_resources(&mut world, resources);
@@ -42,7 +44,8 @@ pub fn world_of(
 fn give_resources(world: &mut World, values: &[i64; 8])
     requires clock { 1 ≤ world.old.state.clock }
     requires count { length world.old.state.resources ≡ resource_count }
-    ensures { world.new.state ≡ with_resources values.now world.old.state }
+    ensures resources { world.new.state ≡ with_resources values.now world.old.state }
+    ensures layout { world.new.layout ≡ world.old.layout }
 {
     for (number, value) in values.iter().enumerate() {
         world.set_res(Res::ALL[number], *value, LOADING);
@@ -57,7 +60,9 @@ fn give_entities(
 ) -> Result<(), ContentFault>
     requires clock { 1 ≤ world.old.state.clock }
     requires empty { world.old.state.slots ≡ [] }
-    ensures { OnOk result (world.new.state ≡ with_entities (map entity_given entities.now) world.old.state) }
+    requires home { AreAllHome world.old.layout }
+    ensures given { OnOk result (world.new.state ≡ with_entities (map entity_given entities.now) world.old.state) }
+    ensures home { AreAllHome world.new.layout }
 {
     let Ok(count) = u32::try_from(entities.len()) else {
         return Err(ContentFault::IdsSpent);
@@ -74,7 +79,9 @@ fn give_entity(world: &mut World, entity: Entity, components: &[Value]) -> Resul
     requires clock { 1 ≤ world.old.state.clock }
     requires granted { IsGranted world.old.state.slots entity }
     requires first { entity.generation ≡ 1 }
-    ensures { OnOk result (world.new.state ≡ with_slot entity.index (λ slot. slot_given (map given_of components.now)) world.old.state) }
+    requires home { AreAllHome world.old.layout }
+    ensures given { OnOk result (world.new.state ≡ with_slot entity.index (λ slot. slot_given (map given_of components.now)) world.old.state) }
+    ensures home { AreAllHome world.new.layout }
 {
     world.spawn_at(entity);
     for value in components {
@@ -87,7 +94,9 @@ fn give_entity(world: &mut World, entity: Entity, components: &[Value]) -> Resul
 fn give(world: &mut World, entity: Entity, value: Value) -> Result<(), AllocError>
     requires clock { 1 ≤ world.old.state.clock }
     requires alive { is_alive world.old.state.slots entity ≡ true }
-    ensures { OnOk result (world.new.state ≡ with_slot entity.index (with_row (insert_component 1 (value_number value) (value_words value))) world.old.state) }
+    requires home { AreAllHome world.old.layout }
+    ensures given { OnOk result (world.new.state ≡ with_slot entity.index (with_row (insert_component 1 (value_number value) (value_words value))) world.old.state) }
+    ensures home { AreAllHome world.new.layout }
 {
     each_kind!(value.kind(), K => { give_of::<K>(world, entity, value) })
 }
@@ -96,8 +105,10 @@ fn give(world: &mut World, entity: Entity, value: Value) -> Result<(), AllocErro
 fn give_of<C: Component>(world: &mut World, entity: Entity, value: Value) -> Result<(), AllocError>
     requires clock { 1 ≤ world.old.state.clock }
     requires alive { is_alive world.old.state.slots entity ≡ true }
+    requires home { AreAllHome world.old.layout }
     requires kind { value_number value ≡ C.NUMBER }
-    ensures { OnOk result (world.new.state ≡ with_slot entity.index (with_row (insert_component 1 (value_number value) (value_words value))) world.old.state) }
+    ensures given { OnOk result (world.new.state ≡ with_slot entity.index (with_row (insert_component 1 (value_number value) (value_words value))) world.old.state) }
+    ensures home { AreAllHome world.new.layout }
 {
     let Some(component) = C::from_value(value) else {
         unreachable!()

@@ -7,6 +7,7 @@ ghost use Rattle.model.specs.Query as query;
 ghost use Rattle.model.specs.Rows.{cell_at, kinds_of};
 ghost use Rattle.kinds.specs.Kind.{kind_number};
 ghost use Rattle.kinds.specs.Value.{value_number};
+ghost use Rattle.archetype_store.specs.Layout.{AreAllHome};
 ghost use Rattle.query_plan.specs.Term.{term_of};
 ghost use Rattle.query_plan.specs.Fetched.{IsFetched, AreFetched, words_fetched};
 ghost use Rattle.query_plan.specs.QueryRow.{shown_of};
@@ -33,8 +34,9 @@ pub struct QueryRow {
 }
 
 /// The plan of a query for an observer with this last run: its rows, in rising index, each with what every term fetches, and the
-/// columns that it picks.
+/// columns that it picks. All columns are at home.
 pub fn plan(alloc: Global, query: &Query, world: &World, last_run: u64) -> Result<Plan, AllocError>
+    requires { AreAllHome world.now.layout }
     ensures rows { IfOk result (λ plan. map shown_of plan.rows.items ≡ input.rows_of query.now last_run world.now.state.slots) }
     ensures fetched { IfOk result (λ plan. AllByRecursion (λ row. AreFetched query.now row.values.items) plan.rows.items) }
     ensures picks { IfOk result (λ plan. map pick_seen plan.picks.items ≡ picks_of query.now world.now.layout) }
@@ -52,6 +54,7 @@ fn rows_in(
     world: &World,
     last_run: u64,
 ) -> Result<Vec<QueryRow>, AllocError>
+    requires { AreAllHome world.now.layout }
     ensures rows { IfOk result (λ rows. map shown_of rows.items ≡ input.rows_of query.now last_run world.now.state.slots) }
     ensures fetched { IfOk result (λ rows. AllByRecursion (λ row. AreFetched query.now row.values.items) rows.items) }
 {

@@ -3,6 +3,7 @@
 ghost use Rattle.std.specs.Prelude.{◌≡◌, ◌++◌, ◌<◌, ◌≤◌, map, length, OnOk, IfOk, string_bytes, codes};
 ghost use Rattle.kinds.specs.Value.{value_number, value_words};
 ghost use Rattle.archetype_store.specs.Row.{component_of};
+ghost use Rattle.archetype_store.specs.Layout.{AreAllHome};
 ghost use Rattle.entity_table.specs.Ids.{slot_at};
 ghost use Rattle.world_text.specs.WorldText.{words_text, component_text, row_text, entity_line, slot_line, slot_lines, resource_line, lines_of, count_line, printed};
 
@@ -20,6 +21,7 @@ pub fn text_of(
     world: &World,
     passed_over: u64,
 ) -> Result<String, AllocError>
+    requires { AreAllHome world.now.layout }
     ensures { IfOk result (λ text. string_bytes text ≡ printed runs world.now.state passed_over) }
 {
     let mut text = String::new(alloc);
@@ -56,6 +58,7 @@ fn push_resource(text: &mut String, res: Res, value: i64) -> Result<(), AllocErr
 
 // Adds the line of each entity that lives.
 fn push_entities(alloc: Global, text: &mut String, world: &World) -> Result<(), AllocError>
+    requires { AreAllHome world.now.layout }
     ensures { OnOk result (string_bytes text.new ≡ string_bytes text.old ++ slot_lines 0 world.now.state.slots) }
 {
     for index in 0..world.slot_count() {
@@ -66,7 +69,8 @@ fn push_entities(alloc: Global, text: &mut String, world: &World) -> Result<(), 
 
 // Adds the line of an index, if its entity lives.
 fn push_slot(alloc: Global, text: &mut String, index: u32, world: &World) -> Result<(), AllocError>
-    requires { index < length world.now.state.slots }
+    requires within { index < length world.now.state.slots }
+    requires home { AreAllHome world.now.layout }
     ensures { OnOk result (string_bytes text.new ≡ string_bytes text.old ++ slot_line index (slot_at world.now.state.slots index)) }
 {
     let slot = world.slot_at(index);

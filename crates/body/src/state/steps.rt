@@ -46,15 +46,18 @@ impl State {
         View::open(alloc, params, &self.systems[system], &self.world)
     }
 
-    /// Lays what was written in a view over the state, as the run of a system at a tick that is not above the clock.
+    /// Lays what was written in a view over the state, as the run of a system at a tick that is not above the clock. Memory can be wanting
+    /// only where columns of the world are read elsewhere too; then some may have been laid.
     #[tactic(auto, using(crate::proofs::Times::ran_in_time))]
-    pub fn close(&mut self, view: View, system: usize, tick: Tick)
+    pub fn close(&mut self, view: View, system: usize, tick: Tick) -> Result<(), AllocError>
         requires known { system < length self.old.systems }
         requires past { tick ≤ self.old.world.clock }
-        ensures { self.new ≡ laid system tick view self.old }
+        ensures laid { OnOk result (self.new ≡ laid system tick view self.old) }
+        ensures memories { length self.new.systems ≡ length self.old.systems }
     {
-        view.close(&mut self.world, tick);
+        view.close(&mut self.world, tick)?;
         ran_at(&mut self.systems, system, tick);
+        Ok(())
     }
 }
 

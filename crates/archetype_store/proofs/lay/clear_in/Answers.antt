@@ -2,7 +2,11 @@ use Rattle.std.proofs.Common.{◌≡◌, None, sym, ap, subst, ◌∙◌}
 use Rattle.archetype_store.specs.Archetypes.{archetypes_of, place_of, row_in, HasRow}
 use Rattle.archetype_store.proofs.Moves.{has_row_kept}
 use Rattle.archetype_store.proofs.Steps.{cleared, none_of}
+use Rattle.archetype_store.proofs.Standings.{owned_kept}
 use Rattle.archetype_store.proofs.lay.clear_in.Goals as goal
+
+pub returns-in-Some-clause-owned : goal.returns-in-Some-clause-owned
+returns-in-Some-clause-owned c = owned_kept c.args.tables.now.items c.remove_at.new.tables.items c.remove_at.ensures.shapes c.requires.owned
 
 pub returns-in-Some-clause-whole : goal.returns-in-Some-clause-whole
 returns-in-Some-clause-whole c =

@@ -8,7 +8,18 @@ use Rattle.archetype_store.specs.Row.{component_of}
 use Rattle.archetype_store.specs.Tables.{held_at, row_or_none}
 use Rattle.archetype_store.specs.Archetypes.{archetypes_of, HasRow}
 use Rattle.archetype_store.proofs.Steps.{written, inserted_there, row_read, below_inserted, some_seen}
+use Rattle.archetype_store.specs.Tables.{AreHome}
+use Rattle.archetype_store.proofs.Standings.{owned_kept, owned_are_home}
 use Rattle.archetype_store.proofs.lay.insert_in.Goals as goal
+
+pub find_at-requires-clause-home : goal.find_at-requires-clause-home
+find_at-requires-clause-home c = subst AreHome (sym c.deref-2.ensures.value) (owned_are_home c.args.tables.now.items c.requires.owned)
+
+pub components_at-requires-clause-home : goal.components_at-requires-clause-home
+components_at-requires-clause-home c = subst AreHome (sym c.deref-3.ensures.value) (owned_are_home c.args.tables.now.items c.requires.owned)
+
+pub returns-then-is_some-clause-owned : goal.returns-then-is_some-clause-owned
+returns-then-is_some-clause-owned c = owned_kept c.args.tables.now.items c.write_at.new.tables.items c.write_at.ensures.shapes c.requires.owned
 
 pub returns-then-is_some-clause-whole : goal.returns-then-is_some-clause-whole
 returns-then-is_some-clause-whole c =

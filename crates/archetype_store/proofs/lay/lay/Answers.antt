@@ -3,7 +3,17 @@ use Rattle.archetype_store.specs.Tables.{IsLeft}
 use Rattle.archetype_store.specs.Archetypes.{place_of}
 use Rattle.archetype_store.proofs.Laid.{shaped_kept}
 use Rattle.archetype_store.proofs.Steps.{laid}
+use Rattle.archetype_store.proofs.Standings.{owned_kept}
 use Rattle.archetype_store.proofs.lay.lay.Goals as goal
+
+pub leave-requires-clause-owned : goal.leave-requires-clause-owned
+leave-requires-clause-owned c =
+    owned_kept c.table_for.new.tables.items c.put_at.new.tables.items c.in_ok-put_at.ensures.ok.shapes (c.in_ok-table.ensures.grown.owned c.requires.owned)
+
+pub returns-clause-owned : goal.returns-clause-owned
+returns-clause-owned c =
+    owned_kept c.put_at.new.tables.items c.leave.new.tables.items c.leave.ensures.shapes
+    (owned_kept c.table_for.new.tables.items c.put_at.new.tables.items c.in_ok-put_at.ensures.ok.shapes (c.in_ok-table.ensures.grown.owned c.requires.owned))
 
 pub leave-requires-clause-shaped : goal.leave-requires-clause-shaped
 leave-requires-clause-shaped c = shaped_kept c.table_for.new.tables.items c.put_at.new.tables.items c.in_ok-put_at.ensures.ok.shapes c.in_ok-table.ensures.grown.shaped

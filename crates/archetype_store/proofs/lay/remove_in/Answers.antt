@@ -9,7 +9,15 @@ use Rattle.archetype_store.specs.Archetypes.{archetypes_of, place_of, row_in, Ha
 use Rattle.archetype_store.proofs.Moves.{has_row_kept}
 use Rattle.archetype_store.proofs.RowEdits.{absent-removed}
 use Rattle.archetype_store.proofs.Steps.{row_is, row_read, below_removed, none_seen, none_of}
+use Rattle.archetype_store.specs.Tables.{AreHome}
+use Rattle.archetype_store.proofs.Standings.{owned_are_home}
 use Rattle.archetype_store.proofs.lay.remove_in.Goals as goal
+
+pub find_at-requires-clause-home : goal.find_at-requires-clause-home
+find_at-requires-clause-home c = subst AreHome (sym c.deref-2.ensures.value) (owned_are_home c.args.tables.now.items c.requires.owned)
+
+pub components_at-requires-clause-home : goal.components_at-requires-clause-home
+components_at-requires-clause-home c = subst AreHome (sym c.deref-3.ensures.value) (owned_are_home c.args.tables.now.items c.requires.owned)
 
 pub returns-in_default-clause-ok : goal.returns-in_default-clause-ok
 returns-in_default-clause-ok c =

@@ -9,7 +9,15 @@ use Rattle.archetype_store.specs.Archetypes.{archetypes_of, place_of, row_in, Ha
 use Rattle.archetype_store.proofs.Moves.{has_row_kept}
 use Rattle.archetype_store.proofs.RowEdits.{absent-written}
 use Rattle.archetype_store.proofs.Steps.{written, row_is, none_seen, none_of}
+use Rattle.archetype_store.specs.Tables.{AreHome}
+use Rattle.archetype_store.proofs.Standings.{owned_kept, owned_are_home}
 use Rattle.archetype_store.proofs.lay.write_in.Goals as goal
+
+pub find_at-requires-clause-home : goal.find_at-requires-clause-home
+find_at-requires-clause-home c = subst AreHome (sym c.deref.ensures.value) (owned_are_home c.args.tables.now.items c.requires.owned)
+
+pub returns-then-is_some-clause-owned : goal.returns-then-is_some-clause-owned
+returns-then-is_some-clause-owned c = owned_kept c.args.tables.now.items c.write_at.new.tables.items c.write_at.ensures.shapes c.requires.owned
 
 pub returns-then-is_some-clause-whole : goal.returns-then-is_some-clause-whole
 returns-then-is_some-clause-whole c =

@@ -1,4 +1,7 @@
-use Rattle.std.proofs.Common.{sym, ◌∙◌}
+use Rattle.std.proofs.Common.{sym, subst, ◌∙◌}
+use Rattle.std.specs.List.{AllByRecursion}
+use Rattle.model.proofs.Each.{each-append}
+use Rattle.column_store.specs.Order.{AreRising}
 use Rattle.archetype_store.specs.View.{kinds_seen, entities_seen}
 use Rattle.archetype_store.proofs.Layouts.{view_passed, view_added}
 use Rattle.archetype_store.proofs.tables.views_of.Goals as goal
@@ -13,6 +16,7 @@ loop-table-preserved-then-is_empty c =
           c.entities-entities.ensures.entities c.loop-table.invariant.kinds none;
       entities = view_passed (λ a. a.entities) entities_seen c.entities-entities.result.now c.args.tables.now i c.table-item.result c.loop-table.views.items c.loop-table-test.true c.table-item.is
           c.entities-entities.ensures.entities c.loop-table.invariant.entities none;
+      rising = c.loop-table.invariant.rising;
     }
 
 -- one with rows is seen
@@ -25,4 +29,6 @@ loop-table-preserved c =
           c.entities-entities.ensures.entities c.loop-table.invariant.kinds _ c.push.new.self.items some c.kinds.ensures.kinds c.in_ok-push.ensures.items;
       entities = view_added (λ a. a.entities) entities_seen c.entities-entities.result.now c.args.tables.now i c.table-item.result c.loop-table.views.items c.loop-table-test.true c.table-item.is
           c.entities-entities.ensures.entities c.loop-table.invariant.entities _ c.push.new.self.items some c.entities-entities.ensures.entities c.in_ok-push.ensures.items;
+      rising = subst (AllByRecursion (λ view. AreRising (entities_seen view))) (sym c.in_ok-push.ensures.items)
+          (each-append (λ view. AreRising (entities_seen view)) c.loop-table.views.items _ c.loop-table.invariant.rising (c.entities-entities.ensures.rising, tt));
     }

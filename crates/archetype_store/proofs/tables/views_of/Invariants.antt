@@ -1,4 +1,6 @@
 use Rattle.std.proofs.Common.{◌≡◌, map, take}
+use Rattle.std.specs.List.{AllByRecursion}
+use Rattle.column_store.specs.Order.{AreRising}
 use Rattle.archetype_store.specs.Layout.{layout_of}
 use Rattle.archetype_store.specs.View.{kinds_seen, entities_seen}
 use Rattle.archetype_store.proofs.tables.views_of.Given as goal
@@ -8,4 +10,5 @@ abbrev pub invariant-loop-table : goal.invariant-loop-table
 invariant-loop-table l = record {
   kinds : map kinds_seen l.views.items ≡ map (λ a. a.kinds) (layout_of (take l.table-index l.tables));
   entities : map entities_seen l.views.items ≡ map (λ a. a.entities) (layout_of (take l.table-index l.tables));
+  rising : AllByRecursion (λ view. AreRising (entities_seen view)) l.views.items;
 }

@@ -6,10 +6,21 @@ use Rattle.column_store.specs.Table.{TableValue, empty_table}
 use Rattle.archetype_store.specs.Layout.{IsShape}
 use Rattle.archetype_store.specs.Tables.{table_at, held_in, row_or_none}
 use Rattle.archetype_store.proofs.Held.{written_within, shape_at, cell_held, held_written}
+use Rattle.column_store.specs.Table.{is_own_if, standing_of}
+use Rattle.archetype_store.proofs.Standings.{own_at}
 use Rattle.archetype_store.proofs.tables.write_at.Goals as goal
 
-pub write-requires : goal.write-requires
-write-requires c =
+pub write-requires-clause-owned : goal.write-requires-clause-owned
+write-requires-clause-owned c =
+    let tables = c.args.tables.now.items in
+    let there = c.index_mut-there.result.now in
+    let kind = value_number c.args.value in
+    let within = written_within tables c.args.table c.args.e kind c.requires.there in
+    let is : there ≡ table_at tables c.args.table = c.index_mut-there.ensures.value ∙ get_or_default tables c.args.table there (empty_table []) within in
+    ap (λ (t : TableValue). is_own_if (standing_of t kind)) is ∙ own_at tables c.args.table kind within c.requires.owned
+
+pub write-requires-clause-there : goal.write-requires-clause-there
+write-requires-clause-there c =
     let tables = c.args.tables.now.items in
     let there = c.index_mut-there.result.now in
     let kind = value_number c.args.value in

@@ -10,6 +10,7 @@ pub loop-left-init : goal.loop-left-init
 loop-left-init c = record {
   left = omega arith;
   laid = laid-none c.args.tick (queries_words (drop (length c.args.queries.now) c.args.queries.now)) c.args.world.now.state (λ i k. queries_words-end c.args.queries.now (length c.args.queries.now) i k refl);
+  home = c.requires.home;
 }
 
 pub loop-left-preserved : goal.loop-left-preserved
@@ -27,5 +28,6 @@ loop-left-preserved c =
           ∙ ap (λ (q : ViewQuery). first_some (words_in_query (terms_of q) (shown_rows q) (query_cells q) i k) (queries_words (drop (suc (n - 1)) queries) i k)) (sym c.index-queries-left.is)
           ∙ ap (λ m. first_some (one i k) (queries_words (drop m queries) i k)) next)
           c.loop-left.invariant.laid
-          c.lay_query.ensures;
+          c.in_ok-lay_query.ensures.laid;
+      home = c.in_ok-lay_query.ensures.home;
     }

@@ -18,6 +18,7 @@ loop-left-init c =
       left = omega arith;
       laid = laid-none c.args.tick (rows_words (terms_of c.args.query.now) (drop c.len-left.result rows)) c.args.world.now.state
           (λ i k. rows_words-end (terms_of c.args.query.now) rows c.len-left.result i k e);
+      home = c.requires.home;
     }
 
 pub lay_row-requires-clause-same : goal.lay_row-requires-clause-same
@@ -45,5 +46,6 @@ loop-left-preserved c =
           ∙ ap (λ (r : ViewRow). first_some (at_index r.shown.entity.index (words_in_row terms (row_cells r)) i k) (rows_words terms (drop (suc (n - 1)) rows) i k)) (sym c.index-row.ensures)
           ∙ ap (λ m. first_some (one i k) (rows_words terms (drop m rows) i k)) next)
           c.loop-left.invariant.laid
-          (rw (c.as_slice.ensures.value, c.as_slice-in-loop-left.ensures.value) at c.lay_row.ensures);
+          (rw (c.as_slice.ensures.value, c.as_slice-in-loop-left.ensures.value) at c.in_ok-lay_row.ensures.laid);
+      home = c.in_ok-lay_row.ensures.home;
     }

@@ -1,5 +1,6 @@
 use Rattle.std.proofs.Common.{◌≡◌, ◌≤◌, length, drop}
 use Rattle.model.specs.Overlay.{slots_after}
+use Rattle.archetype_store.specs.Layout.{AreAllHome}
 use Rattle.body.specs.Laid.{with_slots}
 use Rattle.body.specs.ViewRow.{terms_of}
 use Rattle.body.proofs.Laying.{rows_words}
@@ -9,6 +10,7 @@ abbrev pub invariant-loop-left : goal.invariant-loop-left
 invariant-loop-left l = record {
   left : l.left ≤ length l.query.rows.items;
   laid : l.world.state ≡ with_slots l.fn.world.state (slots_after l.tick (rows_words (terms_of l.query) (drop l.left l.query.rows.items)) l.fn.world.state.slots);
+  home : AreAllHome l.world.layout;
 }
 
 abbrev pub decreases-loop-left : goal.decreases-loop-left

@@ -1,8 +1,7 @@
-use Rattle.std.proofs.Common.{◌≡◌, ◌<◌, length, None, arith, map, sym, ap, subst, refl, ◌∙◌}
+use Rattle.std.proofs.Common.{◌≡◌, ◌<◌, length, None, arith, map, sym, ap, subst, ◌∙◌}
 use Rattle.kinds.specs.Kind.{kind_number}
-use Rattle.column_store.specs.declared.place.Place.TheVariants as place
 use Rattle.column_store.specs.Table.{standing_of}
-use Rattle.column_store.specs.Inside.{table_of, IsTable}
+use Rattle.column_store.specs.Inside.{owned_slot, table_of, IsTable}
 use Rattle.column_store.proofs.Lists.{set-changed}
 use Rattle.column_store.proofs.parts.home_in.Goals as goal
 
@@ -23,12 +22,12 @@ pub returns-clause-home : goal.returns-clause-home
 returns-clause-home c =
     let at = c.in-Some.ensures c.args.entities.now c.args.columns.now c.requires.table in
     ap (table_of (map kind_number c.args.kinds.now) c.args.entities.now)
-    (set-changed (λ _. place.Home c.args.column) c.args.columns.now c.in-Some.place place.Away (place.Home c.args.column) at.within refl)
+    (set-changed (λ _. owned_slot c.args.column) c.args.columns.now c.in-Some.place (owned_slot c.args.column) c.of.result at.within c.of.ensures)
     ∙ at.homes c.args.column (sym c.kind.ensures) c.requires.same_length
 
 pub returns-clause-table : goal.returns-clause-table
 returns-clause-table c =
     let at = c.in-Some.ensures c.args.entities.now c.args.columns.now c.requires.table in
     subst (IsTable (map kind_number c.args.kinds.now) c.args.entities.now)
-    (sym (set-changed (λ _. place.Home c.args.column) c.args.columns.now c.in-Some.place place.Away (place.Home c.args.column) at.within refl))
+    (sym (set-changed (λ _. owned_slot c.args.column) c.args.columns.now c.in-Some.place (owned_slot c.args.column) c.of.result at.within c.of.ensures))
     (at.homes_table c.args.column (sym c.kind.ensures) c.requires.same_length)

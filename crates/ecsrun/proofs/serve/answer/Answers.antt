@@ -28,5 +28,5 @@ returns g c =
       entities = entities;
       values = c.in_ok-resources.field-0.resources;
       runs = runs-loaded s scripts c.in_ok-world.world.state entities c.in_ok-resources.field-0.resources c.args.times (string_bytes text) c.in_ok-built.ensures.conditions
-          c.in_ok-bodies.ensures.readers c.in_ok-world.ensures h;
+          c.in_ok-bodies.ensures.readers c.in_ok-world.ensures.world h;
     }) c.run.ensures

@@ -21,14 +21,14 @@ returns-clause-started c =
     let ran = ran_there s c.args.bodies.now n state c.next.new.self c.params-params.result.now c.in_ok-view.view seen c.index-bodies-system.result (next_tick state) known
     c.in_ok-tick.ensures.moved c.params-params.ensures c.in_ok-view.ensures.params c.in_ok-view.ensures.shown c.run.ensures.meaning c.run.ensures.shown c.run.ensures.params c.requires.suits.body_count in
     start_laid s (meanings s c.args.bodies.now) n state seen alone c.law-2.ensures.few (has_tick_from state _ c.in_ok-tick.ensures.spent refl) ran
-    ∙ ap (λ (x : State). Some (between x)) (sym (laid_there n c.in_ok-tick.tick seen state c.next.new.self c.close.new.self c.close.ensures c.in_ok-tick.ensures.ok c.in_ok-tick.ensures.moved))
+    ∙ ap (λ (x : State). Some (between x)) (sym (laid_there n c.in_ok-tick.tick seen state c.next.new.self c.close.new.self c.in_ok-close.ensures.laid c.in_ok-tick.ensures.ok c.in_ok-tick.ensures.moved))
 
 pub returns-clause-memories : goal.returns-clause-memories
 returns-clause-memories c =
     let n = c.args.system in
     let state = c.args.state.now in
     ap (λ (x : State). length x.systems)
-    (laid_there n c.in_ok-tick.tick c.run.new.view state c.next.new.self c.close.new.self c.close.ensures c.in_ok-tick.ensures.ok c.in_ok-tick.ensures.moved)
+    (laid_there n c.in_ok-tick.tick c.run.new.view state c.next.new.self c.close.new.self c.in_ok-close.ensures.laid c.in_ok-tick.ensures.ok c.in_ok-tick.ensures.moved)
     ∙ length-update_at n (memory_ran (next_tick state)) state.systems
 
 pub run-requires-clause-fits : goal.run-requires-clause-fits

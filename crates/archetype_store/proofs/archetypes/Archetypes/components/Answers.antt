@@ -4,7 +4,16 @@ use Rattle.archetype_store.specs.Row.{component_of}
 use Rattle.archetype_store.specs.Tables.{row_or_none}
 use Rattle.archetype_store.specs.Archetypes.{ArchetypesValue, row_of, place_of, row_in}
 use Rattle.archetype_store.proofs.Laid.{row_seen}
+use Rattle.std.proofs.Common.{subst}
+use Rattle.archetype_store.specs.Layout.{AreAllHome}
+use Rattle.archetype_store.specs.Tables.{AreHome}
+use Rattle.archetype_store.proofs.Standings.{home_tables}
 use Rattle.archetype_store.proofs.archetypes.Archetypes.components.Goals as goal
+
+pub components_at-requires-clause-home : goal.components_at-requires-clause-home
+components_at-requires-clause-home c =
+    subst AreHome (sym c.deref-in-Some.ensures.value)
+    (home_tables c.self.inside.tables.items c.self.invariant.bare (subst (λ (v : ArchetypesValue). AreAllHome v.layout) (sym c.self.view_is) c.requires))
 
 pub returns-in-None : goal.returns-in-None
 returns-in-None c =

@@ -2,7 +2,16 @@ use Rattle.std.proofs.Common.{◌≡◌, Some, None, sym, ap, ◌∙◌}
 use Rattle.model.specs.Rows.{cell_at}
 use Rattle.archetype_store.specs.Archetypes.{ArchetypesValue, row_of, place_of, row_in}
 use Rattle.archetype_store.proofs.Laid.{row_seen}
+use Rattle.std.proofs.Common.{subst}
+use Rattle.archetype_store.specs.Layout.{AreAllHome}
+use Rattle.archetype_store.specs.Tables.{AreHome}
+use Rattle.archetype_store.proofs.Standings.{home_tables}
 use Rattle.archetype_store.proofs.archetypes.Archetypes.find.Goals as goal
+
+pub find_at-requires-clause-home : goal.find_at-requires-clause-home
+find_at-requires-clause-home c =
+    subst AreHome (sym c.deref-in-Some.ensures.value)
+    (home_tables c.self.inside.tables.items c.self.invariant.bare (subst (λ (v : ArchetypesValue). AreAllHome v.layout) (sym c.self.view_is) c.requires))
 
 pub returns-in-None-clause-cell : goal.returns-in-None-clause-cell
 returns-in-None-clause-cell c =

@@ -1,10 +1,13 @@
-use Rattle.std.proofs.Common.{◌≡◌, OnOk, OnErr, sym, ap, subst, ◌∙◌}
+use Rattle.std.proofs.Common.{List, OnOk, OnErr, sym, subst}
 use Rattle.std.proofs.lemmas.Result.{on_ok_weaker, on_err_weaker}
 use Rattle.kinds.specs.Value.{value_number, value_words}
+use Rattle.model.specs.State.{Component}
 use Rattle.model.specs.Rows.{insert_component}
+use Rattle.archetype_store.specs.Layout.{AreAllHome}
 use Rattle.archetype_store.specs.Archetypes.{ArchetypesValue, archetypes_of, row_of, place_of, row_in, AreAlike, HasRow}
 use Rattle.archetype_store.proofs.Laid.{row_seen}
-use Rattle.archetype_store.proofs.Moves.{row_from_alike, alike_trans, reached_alike, on_err_from}
+use Rattle.archetype_store.proofs.Moves.{alike_trans, reached_alike, on_err_from}
+use Rattle.archetype_store.proofs.Standings.{home_tables, alike_value, value_alike, alike_whole, alike_stored, alike_all_home, owned_stored, owned_layout, reached_whole, moved_from}
 use Rattle.archetype_store.proofs.archetypes.Archetypes.insert.Goals as goal
 
 pub returns-in_err-reach-clause-err : goal.returns-in_err-reach-clause-err
@@ -14,27 +17,83 @@ returns-in_err-reach-clause-err c =
     subst (λ (v : ArchetypesValue). OnErr c.from_residual.result (AreAlike v new)) c.self.view_is
     (on_err_from c.from_residual.result (AreAlike (archetypes_of tables c.self.inside.places.items) new) (reached_alike tables c.self.inside.places.items c.reach.new.places.items c.reach.ensures.same))
 
+pub own_all-requires-clause-home : goal.own_all-requires-clause-home
+own_all-requires-clause-home c =
+    home_tables c.self.inside.tables.items c.self.invariant.bare (subst (λ (v : ArchetypesValue). AreAllHome v.layout) (sym c.self.view_is) c.requires.home)
+
+pub invariant_of-self-in_err-own_all : goal.invariant_of-self-in_err-own_all
+invariant_of-self-in_err-own_all c =
+    let T = c.self.inside.tables.items in
+    let P = c.self.inside.places.items in
+    let Q = c.reach.new.places.items in
+    let T1 = c.own_all.new.tables.items in
+    alike_stored T T1 Q c.self.inside.shared c.own_all.new.shared c.own_all.ensures.alike (reached_whole T P Q c.reach.ensures.same c.self.invariant.whole) c.self.invariant.bare c.own_all.ensures.unshared
+
+pub returns-in_err-own_all-clause-err : goal.returns-in_err-own_all-clause-err
+returns-in_err-own_all-clause-err c =
+    let T = c.self.inside.tables.items in
+    let P = c.self.inside.places.items in
+    let Q = c.reach.new.places.items in
+    let T1 = c.own_all.new.tables.items in
+    let new = archetypes_of T1 Q in
+    subst (λ (v : ArchetypesValue). OnErr c.from_residual-in_err-own_all.result (AreAlike v new)) c.self.view_is
+    (on_err_from c.from_residual-in_err-own_all.result (AreAlike (archetypes_of T P) new) (alike_trans (archetypes_of T P) (archetypes_of T Q) (archetypes_of T1 Q) (reached_alike T P Q c.reach.ensures.same) (value_alike (archetypes_of T Q) (archetypes_of T1 Q) (alike_value T T1 Q c.own_all.ensures.alike))))
+
+pub returns-in_err-own_all-clause-home : goal.returns-in_err-own_all-clause-home
+returns-in_err-own_all-clause-home c =
+    let T = c.self.inside.tables.items in
+    let P = c.self.inside.places.items in
+    let Q = c.reach.new.places.items in
+    let T1 = c.own_all.new.tables.items in
+    alike_all_home T T1 Q c.self.inside.shared c.own_all.new.shared c.own_all.ensures.alike
+    (home_tables T c.self.invariant.bare (subst (λ (v : ArchetypesValue). AreAllHome v.layout) (sym c.self.view_is) c.requires.home))
+
+pub insert_in-requires-clause-whole : goal.insert_in-requires-clause-whole
+insert_in-requires-clause-whole c =
+    let T = c.self.inside.tables.items in
+    let P = c.self.inside.places.items in
+    let Q = c.reach.new.places.items in
+    let T1 = c.own_all.new.tables.items in
+    alike_whole T T1 Q c.self.inside.shared c.own_all.new.shared c.own_all.ensures.alike (reached_whole T P Q c.reach.ensures.same c.self.invariant.whole)
+
+pub invariant_of-self-2 : goal.invariant_of-self-2
+invariant_of-self-2 c =
+    let T = c.self.inside.tables.items in
+    let P = c.self.inside.places.items in
+    let Q = c.reach.new.places.items in
+    let T1 = c.own_all.new.tables.items in
+    owned_stored c.insert_in.new.tables.items c.insert_in.new.places.items c.own_all.new.shared c.insert_in.ensures.whole c.insert_in.ensures.owned
+
+pub returns-clause-home : goal.returns-clause-home
+returns-clause-home c =
+    let T = c.self.inside.tables.items in
+    let P = c.self.inside.places.items in
+    let Q = c.reach.new.places.items in
+    let T1 = c.own_all.new.tables.items in
+    owned_layout c.insert_in.new.tables.items c.insert_in.new.places.items c.own_all.new.shared c.insert_in.ensures.owned
+
 pub returns-clause-ok : goal.returns-clause-ok
 returns-clause-ok c =
-    let tables = c.self.inside.tables.items in
-    let places = c.self.inside.places.items in
-    let reached = c.reach.new.places.items in
+    let T = c.self.inside.tables.items in
+    let P = c.self.inside.places.items in
+    let Q = c.reach.new.places.items in
+    let T1 = c.own_all.new.tables.items in
     let i = c.args.e.index in
-    let old = archetypes_of tables places in
     let new = archetypes_of c.insert_in.new.tables.items c.insert_in.new.places.items in
-    let f = insert_component c.args.tick (value_number c.args.value) (value_words c.args.value) in
-    let row : f (row_in tables i (place_of reached i)) ≡ f (row_of old.rows i) = ap f (ap (row_in tables i) (c.reach.ensures.same i) ∙ sym (row_seen tables places i)) in
+    let f : List Component → List Component = insert_component c.args.tick (value_number c.args.value) (value_words c.args.value) in
+    let alike = alike_trans (archetypes_of T P) (archetypes_of T Q) (archetypes_of T1 Q) (reached_alike T P Q c.reach.ensures.same) (value_alike (archetypes_of T Q) (archetypes_of T1 Q) (alike_value T T1 Q c.own_all.ensures.alike)) in
+    let from : HasRow (archetypes_of T1 Q) c.args.e (f (row_in T1 i (place_of Q i))) new → HasRow (archetypes_of T P) c.args.e (f (row_of (archetypes_of T P).rows i)) new
+    = moved_from (archetypes_of T P) (archetypes_of T1 Q) new c.args.e f (row_in T1 i (place_of Q i)) alike (sym (row_seen T1 Q i)) in
     subst (λ (v : ArchetypesValue). OnOk c.insert_in.result (HasRow v c.args.e (f (row_of v.rows i)) new)) c.self.view_is
-    (subst (λ r. OnOk c.insert_in.result (HasRow old c.args.e r new)) row
-    (on_ok_weaker c.insert_in.result (row_from_alike old (archetypes_of tables reached) new c.args.e (f (row_in tables i (place_of reached i)))
-    (reached_alike tables places reached c.reach.ensures.same)) c.insert_in.ensures.ok))
+    (on_ok_weaker c.insert_in.result from c.insert_in.ensures.ok)
 
 pub returns-clause-err : goal.returns-clause-err
 returns-clause-err c =
-    let tables = c.self.inside.tables.items in
-    let places = c.self.inside.places.items in
-    let reached = c.reach.new.places.items in
-    let old = archetypes_of tables places in
+    let T = c.self.inside.tables.items in
+    let P = c.self.inside.places.items in
+    let Q = c.reach.new.places.items in
+    let T1 = c.own_all.new.tables.items in
     let new = archetypes_of c.insert_in.new.tables.items c.insert_in.new.places.items in
+    let alike = alike_trans (archetypes_of T P) (archetypes_of T Q) (archetypes_of T1 Q) (reached_alike T P Q c.reach.ensures.same) (value_alike (archetypes_of T Q) (archetypes_of T1 Q) (alike_value T T1 Q c.own_all.ensures.alike)) in
     subst (λ (v : ArchetypesValue). OnErr c.insert_in.result (AreAlike v new)) c.self.view_is
-    (on_err_weaker c.insert_in.result (alike_trans old (archetypes_of tables reached) new (reached_alike tables places reached c.reach.ensures.same)) c.insert_in.ensures.err)
+    (on_err_weaker c.insert_in.result (alike_trans (archetypes_of T P) (archetypes_of T1 Q) new alike) c.insert_in.ensures.err)

@@ -1,13 +1,91 @@
-use Rattle.std.proofs.Common.{OnOk, sym, subst}
+use Rattle.std.proofs.Common.{List, OnOk, OnErr, sym, subst}
+use Rattle.std.proofs.lemmas.Result.{on_ok_weaker, on_err_weaker}
+use Rattle.model.specs.State.{Component}
 use Rattle.model.specs.Rows.{remove_component}
-use Rattle.archetype_store.specs.Archetypes.{ArchetypesValue, archetypes_of, row_of, HasRow}
+use Rattle.archetype_store.specs.Layout.{AreAllHome}
+use Rattle.archetype_store.specs.Archetypes.{ArchetypesValue, archetypes_of, row_of, place_of, row_in, AreAlike, HasRow}
 use Rattle.archetype_store.proofs.Laid.{row_seen}
+use Rattle.archetype_store.proofs.Moves.{alike_trans, on_err_from}
+use Rattle.archetype_store.proofs.Standings.{home_tables, alike_value, value_alike, alike_whole, alike_stored, alike_all_home, owned_stored, owned_layout, moved_from}
 use Rattle.archetype_store.proofs.archetypes.Archetypes.remove.Goals as goal
+
+pub own_all-requires-clause-home : goal.own_all-requires-clause-home
+own_all-requires-clause-home c =
+    home_tables c.self.inside.tables.items c.self.invariant.bare (subst (λ (v : ArchetypesValue). AreAllHome v.layout) (sym c.self.view_is) c.requires.home)
+
+pub invariant_of-self : goal.invariant_of-self
+invariant_of-self c =
+    let T = c.self.inside.tables.items in
+    let P = c.self.inside.places.items in
+    let Q = c.self.inside.places.items in
+    let T1 = c.own_all.new.tables.items in
+    alike_stored T T1 Q c.self.inside.shared c.own_all.new.shared c.own_all.ensures.alike c.self.invariant.whole c.self.invariant.bare c.own_all.ensures.unshared
+
+pub returns-in_err-own_all-clause-err : goal.returns-in_err-own_all-clause-err
+returns-in_err-own_all-clause-err c =
+    let T = c.self.inside.tables.items in
+    let P = c.self.inside.places.items in
+    let Q = c.self.inside.places.items in
+    let T1 = c.own_all.new.tables.items in
+    let new = archetypes_of T1 Q in
+    subst (λ (v : ArchetypesValue). OnErr c.from_residual.result (AreAlike v new)) c.self.view_is
+    (on_err_from c.from_residual.result (AreAlike (archetypes_of T P) new) (value_alike (archetypes_of T P) (archetypes_of T1 P) (alike_value T T1 P c.own_all.ensures.alike)))
+
+pub returns-in_err-own_all-clause-home : goal.returns-in_err-own_all-clause-home
+returns-in_err-own_all-clause-home c =
+    let T = c.self.inside.tables.items in
+    let P = c.self.inside.places.items in
+    let Q = c.self.inside.places.items in
+    let T1 = c.own_all.new.tables.items in
+    alike_all_home T T1 Q c.self.inside.shared c.own_all.new.shared c.own_all.ensures.alike
+    (home_tables T c.self.invariant.bare (subst (λ (v : ArchetypesValue). AreAllHome v.layout) (sym c.self.view_is) c.requires.home))
+
+pub remove_in-requires-clause-whole : goal.remove_in-requires-clause-whole
+remove_in-requires-clause-whole c =
+    let T = c.self.inside.tables.items in
+    let P = c.self.inside.places.items in
+    let Q = c.self.inside.places.items in
+    let T1 = c.own_all.new.tables.items in
+    alike_whole T T1 Q c.self.inside.shared c.own_all.new.shared c.own_all.ensures.alike c.self.invariant.whole
+
+pub invariant_of-self-2 : goal.invariant_of-self-2
+invariant_of-self-2 c =
+    let T = c.self.inside.tables.items in
+    let P = c.self.inside.places.items in
+    let Q = c.self.inside.places.items in
+    let T1 = c.own_all.new.tables.items in
+    owned_stored c.remove_in.new.tables.items c.remove_in.new.places.items c.own_all.new.shared c.remove_in.ensures.whole c.remove_in.ensures.owned
+
+pub returns-clause-home : goal.returns-clause-home
+returns-clause-home c =
+    let T = c.self.inside.tables.items in
+    let P = c.self.inside.places.items in
+    let Q = c.self.inside.places.items in
+    let T1 = c.own_all.new.tables.items in
+    owned_layout c.remove_in.new.tables.items c.remove_in.new.places.items c.own_all.new.shared c.remove_in.ensures.owned
 
 pub returns-clause-ok : goal.returns-clause-ok
 returns-clause-ok c =
-    let tables = c.self.inside.tables.items in
-    let places = c.self.inside.places.items in
+    let T = c.self.inside.tables.items in
+    let P = c.self.inside.places.items in
+    let Q = c.self.inside.places.items in
+    let T1 = c.own_all.new.tables.items in
+    let i = c.args.e.index in
     let new = archetypes_of c.remove_in.new.tables.items c.remove_in.new.places.items in
-    subst (λ (v : ArchetypesValue). OnOk c.remove_in.result (HasRow v c.args.e (remove_component c.args.number (row_of v.rows c.args.e.index)) new)) c.self.view_is
-    (subst (λ row. OnOk c.remove_in.result (HasRow (archetypes_of tables places) c.args.e (remove_component c.args.number row) new)) (sym (row_seen tables places c.args.e.index)) c.remove_in.ensures.ok)
+    let f : List Component → List Component = remove_component c.args.number in
+    let alike = value_alike (archetypes_of T P) (archetypes_of T1 P) (alike_value T T1 P c.own_all.ensures.alike) in
+    let from : HasRow (archetypes_of T1 Q) c.args.e (f (row_in T1 i (place_of Q i))) new → HasRow (archetypes_of T P) c.args.e (f (row_of (archetypes_of T P).rows i)) new
+    = moved_from (archetypes_of T P) (archetypes_of T1 Q) new c.args.e f (row_in T1 i (place_of Q i)) alike (sym (row_seen T1 Q i)) in
+    subst (λ (v : ArchetypesValue). OnOk c.remove_in.result (HasRow v c.args.e (f (row_of v.rows i)) new)) c.self.view_is
+    (on_ok_weaker c.remove_in.result from c.remove_in.ensures.ok)
+
+pub returns-clause-err : goal.returns-clause-err
+returns-clause-err c =
+    let T = c.self.inside.tables.items in
+    let P = c.self.inside.places.items in
+    let Q = c.self.inside.places.items in
+    let T1 = c.own_all.new.tables.items in
+    let new = archetypes_of c.remove_in.new.tables.items c.remove_in.new.places.items in
+    let alike = value_alike (archetypes_of T P) (archetypes_of T1 P) (alike_value T T1 P c.own_all.ensures.alike) in
+    subst (λ (v : ArchetypesValue). OnErr c.remove_in.result (AreAlike v new)) c.self.view_is
+    (on_err_weaker c.remove_in.result (alike_trans (archetypes_of T P) (archetypes_of T1 Q) new alike) c.remove_in.ensures.err)

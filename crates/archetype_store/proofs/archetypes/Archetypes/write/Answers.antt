@@ -1,17 +1,80 @@
-use Rattle.std.proofs.Common.{sym, subst}
+use Rattle.std.proofs.Common.{List, OnErr, sym, subst}
 use Rattle.kinds.specs.Value.{value_number, value_words}
+use Rattle.model.specs.State.{Component}
 use Rattle.model.specs.Overlay.{row_after}
 use Rattle.archetype_store.specs.Row.{only}
-use Rattle.archetype_store.specs.Archetypes.{ArchetypesValue, archetypes_of, row_of, HasRow}
+use Rattle.archetype_store.specs.Layout.{AreAllHome}
+use Rattle.archetype_store.specs.Archetypes.{ArchetypesValue, AreArchetypes, archetypes_of, row_of, place_of, row_in, AreAlike, HasRow}
 use Rattle.archetype_store.proofs.Laid.{row_seen}
+use Rattle.archetype_store.proofs.Moves.{on_err_from}
+use Rattle.archetype_store.proofs.Standings.{home_tables, alike_value, value_alike, alike_whole, alike_stored, alike_all_home, owned_stored, owned_layout, moved_from}
 use Rattle.archetype_store.proofs.archetypes.Archetypes.write.Goals as goal
 
-pub returns : goal.returns
-returns c =
-    let tables = c.self.inside.tables.items in
-    let places = c.self.inside.places.items in
-    let new = archetypes_of c.write_in.new.tables.items places in
-    let after = row_after c.args.tick (only (value_number c.args.value) (value_words c.args.value)) in
-    let written = rw c.deref.ensures.value at c.write_in.ensures.written in
-    subst (λ (v : ArchetypesValue). HasRow v c.args.e (after (row_of v.rows c.args.e.index)) new) c.self.view_is
-    (subst (λ row. HasRow (archetypes_of tables places) c.args.e (after row) new) (sym (row_seen tables places c.args.e.index)) written)
+pub own_all-requires-clause-home : goal.own_all-requires-clause-home
+own_all-requires-clause-home c =
+    home_tables c.self.inside.tables.items c.self.invariant.bare (subst (λ (v : ArchetypesValue). AreAllHome v.layout) (sym c.self.view_is) c.requires.home)
+
+pub invariant_of-self : goal.invariant_of-self
+invariant_of-self c =
+    let T = c.self.inside.tables.items in
+    let P = c.self.inside.places.items in
+    let Q = c.self.inside.places.items in
+    let T1 = c.own_all.new.tables.items in
+    alike_stored T T1 Q c.self.inside.shared c.own_all.new.shared c.own_all.ensures.alike c.self.invariant.whole c.self.invariant.bare c.own_all.ensures.unshared
+
+pub returns-in_err-own_all-clause-err : goal.returns-in_err-own_all-clause-err
+returns-in_err-own_all-clause-err c =
+    let T = c.self.inside.tables.items in
+    let P = c.self.inside.places.items in
+    let Q = c.self.inside.places.items in
+    let T1 = c.own_all.new.tables.items in
+    let new = archetypes_of T1 Q in
+    subst (λ (v : ArchetypesValue). OnErr c.from_residual.result (AreAlike v new)) c.self.view_is
+    (on_err_from c.from_residual.result (AreAlike (archetypes_of T P) new) (value_alike (archetypes_of T P) (archetypes_of T1 P) (alike_value T T1 P c.own_all.ensures.alike)))
+
+pub returns-in_err-own_all-clause-home : goal.returns-in_err-own_all-clause-home
+returns-in_err-own_all-clause-home c =
+    let T = c.self.inside.tables.items in
+    let P = c.self.inside.places.items in
+    let Q = c.self.inside.places.items in
+    let T1 = c.own_all.new.tables.items in
+    alike_all_home T T1 Q c.self.inside.shared c.own_all.new.shared c.own_all.ensures.alike
+    (home_tables T c.self.invariant.bare (subst (λ (v : ArchetypesValue). AreAllHome v.layout) (sym c.self.view_is) c.requires.home))
+
+pub write_in-requires-clause-whole : goal.write_in-requires-clause-whole
+write_in-requires-clause-whole c =
+    let T = c.self.inside.tables.items in
+    let P = c.self.inside.places.items in
+    let Q = c.self.inside.places.items in
+    let T1 = c.own_all.new.tables.items in
+    subst (AreArchetypes T1) (sym c.deref.ensures.value) (alike_whole T T1 Q c.self.inside.shared c.own_all.new.shared c.own_all.ensures.alike c.self.invariant.whole)
+
+pub invariant_of-self-2 : goal.invariant_of-self-2
+invariant_of-self-2 c =
+    let T = c.self.inside.tables.items in
+    let P = c.self.inside.places.items in
+    let Q = c.self.inside.places.items in
+    let T1 = c.own_all.new.tables.items in
+    owned_stored c.write_in.new.tables.items P c.own_all.new.shared (rw c.deref.ensures.value at c.write_in.ensures.whole) c.write_in.ensures.owned
+
+pub returns-clause-home : goal.returns-clause-home
+returns-clause-home c =
+    let T = c.self.inside.tables.items in
+    let P = c.self.inside.places.items in
+    let Q = c.self.inside.places.items in
+    let T1 = c.own_all.new.tables.items in
+    owned_layout c.write_in.new.tables.items P c.own_all.new.shared c.write_in.ensures.owned
+
+pub returns-clause-ok : goal.returns-clause-ok
+returns-clause-ok c =
+    let T = c.self.inside.tables.items in
+    let P = c.self.inside.places.items in
+    let Q = c.self.inside.places.items in
+    let T1 = c.own_all.new.tables.items in
+    let i = c.args.e.index in
+    let new = archetypes_of c.write_in.new.tables.items P in
+    let f : List Component → List Component = row_after c.args.tick (only (value_number c.args.value) (value_words c.args.value)) in
+    let alike = value_alike (archetypes_of T P) (archetypes_of T1 P) (alike_value T T1 P c.own_all.ensures.alike) in
+    let from : HasRow (archetypes_of T1 Q) c.args.e (f (row_in T1 i (place_of Q i))) new → HasRow (archetypes_of T P) c.args.e (f (row_of (archetypes_of T P).rows i)) new
+    = moved_from (archetypes_of T P) (archetypes_of T1 Q) new c.args.e f (row_in T1 i (place_of Q i)) alike (sym (row_seen T1 Q i)) in
+    subst (λ (v : ArchetypesValue). HasRow v c.args.e (f (row_of v.rows i)) new) c.self.view_is (from (rw c.deref.ensures.value at c.write_in.ensures.written))

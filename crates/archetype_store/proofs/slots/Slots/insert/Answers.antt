@@ -8,8 +8,8 @@ use Rattle.archetype_store.specs.Slots.{SlotsValue}
 use Rattle.archetype_store.proofs.SlotRows.{alive_in_book, holder_lives, rows-written, slots-written}
 use Rattle.archetype_store.proofs.slots.Slots.insert.Goals as goal
 
-pub insert-requires : goal.insert-requires
-insert-requires c =
+pub insert-requires-clause-holder : goal.insert-requires-clause-holder
+insert-requires-clause-holder c =
     let alive = alive_in_book c.self.inside.book (row_of c.self.inside.archetypes.rows) c.args.self.now.slots c.args.e (ap (λ (v : SlotsValue). v.slots) c.self.view_is) (search rules) in
     holder_lives c.self.inside.book c.self.inside.archetypes c.self.invariant c.args.e alive
 

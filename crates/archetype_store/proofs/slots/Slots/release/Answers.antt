@@ -11,8 +11,8 @@ use Rattle.archetype_store.proofs.slots.Slots.release.Goals as goal
 pub invariant_of-self : goal.invariant_of-self
 invariant_of-self c = rw c.release.ensures (rows-kept c.self.inside.book (release c.args.ids.now c.self.inside.book) c.self.inside.archetypes (alive-release c.args.ids.now c.self.inside.book) c.self.invariant)
 
-pub returns : goal.returns
-returns c =
+pub returns-clause-slots : goal.returns-clause-slots
+returns-clause-slots c =
     let rows = row_of c.self.inside.archetypes.rows in
     ap (with_rows rows) c.release.ensures
     ∙ sym (release-with_rows c.args.ids.now rows c.self.inside.book (granted_bare c.self.inside.book c.self.inside.archetypes c.self.invariant))

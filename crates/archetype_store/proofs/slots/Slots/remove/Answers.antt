@@ -7,8 +7,8 @@ use Rattle.archetype_store.specs.Slots.{SlotsValue}
 use Rattle.archetype_store.proofs.SlotRows.{alive_in_book, holder_lives, rows-written, slots-written}
 use Rattle.archetype_store.proofs.slots.Slots.remove.Goals as goal
 
-pub remove-requires : goal.remove-requires
-remove-requires c =
+pub remove-requires-clause-holder : goal.remove-requires-clause-holder
+remove-requires-clause-holder c =
     let alive = alive_in_book c.self.inside.book (row_of c.self.inside.archetypes.rows) c.args.self.now.slots c.args.e (ap (λ (v : SlotsValue). v.slots) c.self.view_is) (search rules) in
     holder_lives c.self.inside.book c.self.inside.archetypes c.self.invariant c.args.e alive
 

@@ -18,8 +18,8 @@ pub invariant_of-self : goal.invariant_of-self
 invariant_of-self c = rw c.settle.ensures (rows-kept c.self.inside.book (settled c.args.used.now c.args.unused.now c.self.inside.book) c.self.inside.archetypes
     (alive-settled c.args.used.now c.args.unused.now c.self.inside.book) c.self.invariant)
 
-pub returns : goal.returns
-returns c =
+pub returns-clause-slots : goal.returns-clause-slots
+returns-clause-slots c =
     let rows = row_of c.self.inside.archetypes.rows in
     ap (with_rows rows) c.settle.ensures
     ∙ sym (settled-with_rows c.args.used.now c.args.unused.now rows c.self.inside.book (granted_bare c.self.inside.book c.self.inside.archetypes c.self.invariant))

@@ -16,8 +16,8 @@ pub invariant_of-self : goal.invariant_of-self
 invariant_of-self c = rw c.spawn_at.ensures (rows-kept c.self.inside.book (update_at c.args.e.index (spawned c.args.e.generation) c.self.inside.book) c.self.inside.archetypes
     (alive-spawned c.args.e.index c.args.e.generation c.self.inside.book) c.self.invariant)
 
-pub returns : goal.returns
-returns c =
+pub returns-clause-slots : goal.returns-clause-slots
+returns-clause-slots c =
     let rows = row_of c.self.inside.archetypes.rows in
     ap (with_rows rows) c.spawn_at.ensures
     ∙ sym (spawned-with_rows c.args.e.index c.args.e.generation rows c.self.inside.book (granted_bare c.self.inside.book c.self.inside.archetypes c.self.invariant c.args.e.index))

@@ -3,4 +3,4 @@ use Rattle.archetype_store.proofs.Worlds.{world-settle}
 use Rattle.archetype_store.proofs.store.World.settle.Goals as goal
 
 pub invariant_of-self : goal.invariant_of-self
-invariant_of-self c = rw c.settle.ensures (world-settle widths _ c.args.used.now c.args.unused.now c.self.invariant)
+invariant_of-self c = rw c.settle.ensures.slots (world-settle widths _ c.args.used.now c.args.unused.now c.self.invariant)

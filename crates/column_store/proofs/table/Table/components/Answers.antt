@@ -3,8 +3,8 @@ use Rattle.std.specs.List.{list_all, AllByRecursion}
 use Rattle.kinds.specs.Kind.{kind_number}
 use Rattle.column_store.specs.Table.{TableValue, is_home, row_of}
 use Rattle.column_store.specs.Inside.{IsThere, HoldsRow, AreReadAt}
-use Rattle.column_store.proofs.Edited.{there_from_rows, all_home}
-use Rattle.column_store.proofs.Made.{held_rows, read_is_row, read_numbers, if_ok}
+use Rattle.column_store.proofs.Edited.{there_from_rows, all_home, held_rows}
+use Rattle.column_store.proofs.Made.{read_is_row, read_numbers, if_ok}
 use Rattle.column_store.proofs.table.Table.components.Goals as goal
 
 pub read_in-requires-clause-there : goal.read_in-requires-clause-there
@@ -15,10 +15,10 @@ read_in-requires-clause-there c =
 pub read_in-requires-clause-home : goal.read_in-requires-clause-home
 read_in-requires-clause-home c =
     let n = length c.self.inside.entities.items in
+    let ps = c.self.inside.columns.items in
     let stand = subst (λ (t : TableValue). list_all is_home t.standings ≡ true) (sym c.self.view_is) c.requires.home in
-    let home = all_home n c.self.inside.columns.items stand c.self.invariant.of_length in
     λ row within. subst (AllByRecursion (HoldsRow row)) (sym c.deref-2.ensures.value)
-    (held_rows n row c.self.inside.columns.items (rw c.deref.ensures.value at within) home)
+    (held_rows n row ps (rw c.deref.ensures.value at within) c.self.invariant.of_length (all_home ps stand))
 
 pub returns-clause-row : goal.returns-clause-row
 returns-clause-row c =
@@ -29,10 +29,7 @@ returns-clause-row c =
 
 pub returns-clause-kinds : goal.returns-clause-kinds
 returns-clause-kinds c =
-    let n = length c.self.inside.entities.items in
-    let stand = subst (λ (t : TableValue). list_all is_home t.standings ≡ true) (sym c.self.view_is) c.requires.home in
-    let home = all_home n c.self.inside.columns.items stand c.self.invariant.of_length in
     if_ok c.read_in.result (λ ss. AreReadAt c.args.e ss.items c.deref.result.now c.deref-2.result.now) _
-    (λ ss read. read_numbers c.args.e (map kind_number c.self.inside.kinds.items) ss.items c.self.inside.entities.items c.self.inside.columns.items n c.self.invariant.of_kinds home
+    (λ ss read. read_numbers c.args.e (map kind_number c.self.inside.kinds.items) ss.items c.self.inside.entities.items c.self.inside.columns.items c.self.invariant.of_kinds
     (rw (c.deref.ensures.value, c.deref-2.ensures.value) at read) ∙ ap (λ (t : TableValue). t.kinds) c.self.view_is)
     c.read_in.ensures

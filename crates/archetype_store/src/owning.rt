@@ -1,0 +1,46 @@
+// Columns that are read elsewhere too, taken for their tables alone before rows change.
+
+ghost use Rattle.std.specs.Prelude.{◌≡◌, false, OnOk};
+ghost use Rattle.archetype_store.specs.Tables.{AreHome, AreOwned, AreUnshared, AreAllAlike};
+
+use column_store::table::Table;
+use std::alloc::{AllocError, Global};
+
+// Takes the columns of these tables for them alone. Where memory is wanting some of them may be.
+fn own_each(tables: &mut [Table], alloc: Global) -> Result<(), AllocError>
+    requires { AreHome tables.old }
+    ensures ok { OnOk result (AreOwned tables.new) }
+    ensures alike { AreAllAlike tables.old tables.new }
+{
+    if let Some((table, other_tables)) = tables.split_first_mut() {
+        table.own(alloc)?;
+        own_each(other_tables, alloc)?;
+    }
+    Ok(())
+}
+
+// The same of a vector of tables.
+fn own_tables(tables: &mut Vec<Table>) -> Result<(), AllocError>
+    requires { AreHome tables.old.items }
+    ensures ok { OnOk result (AreOwned tables.new.items) }
+    ensures alike { AreAllAlike tables.old.items tables.new.items }
+{
+    let alloc = *tables.allocator();
+    own_each(tables, alloc)
+}
+
+// Takes all columns for the tables alone, where it is noted that some are read elsewhere too.
+pub(crate) fn own_all(tables: &mut Vec<Table>, shared: &mut bool) -> Result<(), AllocError>
+    requires home { AreHome tables.old.items }
+    requires unshared { shared.old ≡ false → AreUnshared tables.old.items }
+    ensures ok { OnOk result (AreOwned tables.new.items) }
+    ensures alike { AreAllAlike tables.old.items tables.new.items }
+    ensures unshared { shared.new ≡ false → AreUnshared tables.new.items }
+{
+    if !*shared {
+        return Ok(());
+    }
+    own_tables(tables)?;
+    *shared = false;
+    Ok(())
+}
