@@ -10,7 +10,7 @@ use Rattle.model.specs.Conflict.Datum.{OfKind, OfResource, OfEvent}
 use Rattle.model.proofs.Lists.{list_any-IsIn, IsIn_from_any, has-IsIn, IsIn_from_has}
 use Rattle.model.proofs.Members.{number-of}
 use Rattle.model.proofs.Tests.{test-queries, conflict-queries}
-use Rattle.query_plan.proofs.Terms.{list_any-map}
+use Rattle.query.proofs.Terms.{list_any-map}
 use Rattle.access_set.specs.Meets.{MeetAtKind, MeetAtResource, MeetAtEvent, meets_at, queries_meet}
 
 -- a test of numbers is a test of what has them

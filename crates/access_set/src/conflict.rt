@@ -4,7 +4,7 @@ ghost use Rattle.std.specs.Prelude.{◌≡◌, ◌↔◌, ◌||◌, IsTrue};
 ghost use Rattle.std.specs.List.{list_any, list_all};
 ghost use Rattle.kinds.specs.Kind.{kind_number};
 ghost use Rattle.kinds.specs.Res.{res_number, event_number};
-ghost use Rattle.query_plan.specs.Term.{term_of};
+ghost use Rattle.query.specs.Term.{term_of};
 ghost use Rattle.model.specs.Query.{admits, matches, touched, writes};
 ghost use Rattle.model.specs.Access.{names_resource, names_event};
 ghost use Rattle.model.specs.Conflict.{Conflict, least_kinds, queries_conflict_at};
@@ -13,7 +13,7 @@ ghost use Rattle.access_set.specs.Meets.{MeetAtKind, MeetAtResource, MeetAtEvent
 use crate::params::Params;
 use kinds::kind::Kind;
 use kinds::res::{Event, Res};
-use query_plan::query::{Query, Term};
+use query::{Presence, Query, Term};
 
 /// Whether two accesses conflict: they name a resource or an event kind that one of them writes, or some set of kinds
 /// matches a query of each and holds a kind that both touch and one writes.
@@ -51,7 +51,7 @@ fn any_query_meets(query: &Query, others: &[Query]) -> bool
 }
 
 // Whether two queries conflict at a kind that the first touches.
-#[tactic(auto, using(query_plan::proofs::Terms::any_of_terms))]
+#[tactic(auto, using(query::proofs::Terms::any_of_terms))]
 fn queries_meet(query: &Query, other: &Query) -> bool
     ensures { result ≡ queries_meet query.now other.now }
 {
@@ -105,7 +105,7 @@ fn one_writes(query: &Query, other: &Query, kind: Kind) -> bool
 }
 
 // Whether the one query matches the least set of kinds.
-#[tactic(auto, using(query_plan::proofs::Terms::all_of_terms))]
+#[tactic(auto, using(query::proofs::Terms::all_of_terms))]
 fn matches_least(one: &Query, query: &Query, other: &Query, kind: Kind) -> bool
     ensures { result ≡ matches one.now (least_kinds query.now other.now (kind_number kind)) }
 {
@@ -126,15 +126,10 @@ fn all_admit_least(terms: &[Term], query: &Query, other: &Query, kind: Kind) -> 
 fn admits_least(term: Term, query: &Query, other: &Query, kind: Kind) -> bool
     ensures { result ≡ admits (least_kinds query.now other.now (kind_number kind)) (term_of term) }
 {
-    match term {
-        Term::Entity => true,
-        Term::Opt(_) => true,
-        Term::Without(excluded) => !is_least(query, other, kind, excluded),
-        Term::Read(wanted) => is_least(query, other, kind, wanted),
-        Term::Mut(wanted) => is_least(query, other, kind, wanted),
-        Term::With(wanted) => is_least(query, other, kind, wanted),
-        Term::Added(wanted) => is_least(query, other, kind, wanted),
-        Term::Changed(wanted) => is_least(query, other, kind, wanted),
+    match term.presence() {
+        Presence::Free => true,
+        Presence::Has(wanted) => is_least(query, other, kind, wanted),
+        Presence::Lacks(excluded) => !is_least(query, other, kind, excluded),
     }
 }
 
@@ -211,12 +206,8 @@ mod tests {
 
     // The access of one query.
     fn access(alloc: Global, terms: &[Term]) -> Result<Params, AllocError> {
-        let mut query = Query::new(alloc);
-        for term in terms {
-            query.push(*term)?;
-        }
         let mut params = Params::new(alloc);
-        params.add_query(query)?;
+        params.add_query(Query::of_terms(alloc, terms)?)?;
         Ok(params)
     }
 

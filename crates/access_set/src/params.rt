@@ -7,7 +7,7 @@ ghost use Rattle.model.specs.Access.{no_params, names_resource, names_event};
 ghost use Rattle.model.specs.Lists.{has};
 
 use kinds::res::{Event, Res};
-use query_plan::query::Query;
+use query::Query;
 use std::alloc::{AllocError, Global};
 use std::marker::Model;
 

@@ -10,8 +10,8 @@ use Rattle.model.specs.Overlay.{cell_after, row_after, slot_after, slots_after}
 use Rattle.kinds.specs.declared.value.Value.{Value}
 use Rattle.kinds.specs.Value.{value_number, value_words}
 use Rattle.archetype_store.specs.Row.{only}
-use Rattle.query_plan.specs.declared.query.Term.{Term}
-use Rattle.query_plan.specs.Term.{term_of}
+use Rattle.query.specs.declared.term.Term.{Term}
+use Rattle.query.specs.Term.{term_of}
 use Rattle.query_plan.specs.Fetched.{words_fetched}
 use Rattle.query_plan.specs.QueryRow.{shown_of}
 use Rattle.body.specs.declared.cells.ViewRow.{ViewRow}

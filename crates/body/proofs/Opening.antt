@@ -4,8 +4,8 @@ use Rattle.std.specs.List.{AllByRecursion}
 use Rattle.std.proofs.lemmas.List.{map-append}
 use Rattle.std.proofs.Math.Seq.{take-suc}
 use Rattle.model.specs.Outcome.{untouched_rows, untouched_cells}
-use Rattle.query_plan.specs.declared.query.Term.{Term}
-use Rattle.query_plan.specs.Term.{term_of}
+use Rattle.query.specs.declared.term.Term.{Term}
+use Rattle.query.specs.Term.{term_of}
 use Rattle.query_plan.specs.Fetched.{words_fetched}
 use Rattle.query_plan.specs.QueryRow.{shown_of}
 use Rattle.body.specs.declared.cells.ViewRow.{ViewRow}

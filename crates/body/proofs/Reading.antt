@@ -8,8 +8,8 @@ use Rattle.model.specs.Query.Term.{Entity, Read, Mut, Opt, With, Without, Added,
 use Rattle.model.specs.Outcome.{words_in_row}
 use Rattle.kinds.specs.declared.value.Value.{Value}
 use Rattle.kinds.specs.Value.{value_number, value_words}
-use Rattle.query_plan.specs.declared.query.Term.{Term}
-use Rattle.query_plan.specs.Term.{term_of}
+use Rattle.query.specs.declared.term.Term.{Term}
+use Rattle.query.specs.Term.{term_of}
 use Rattle.query_plan.specs.Fetched.{IsFetched, AreFetched, IsOfKind, IsNoneOrOfKind, words_fetched}
 use Rattle.body.specs.Seen.{fetched, words_shown}
 use Rattle.body.specs.Cells.{IsWritten, AreWritten}

@@ -5,7 +5,7 @@ use Rattle.std.proofs.lemmas.List.{get_or-set_same, get_or-set_other, length-set
 use Rattle.std.proofs.lemmas.Option.{slice_get-map, slice_get_within, slice_get_read}
 use Rattle.std.proofs.lemmas.List.{length-map}
 use Rattle.std.specs.List.{AllByRecursion}
-use Rattle.query_plan.proofs.Terms.{list_any-map}
+use Rattle.query.proofs.Terms.{list_any-map}
 use Rattle.kinds.specs.Kind.{kind_count}
 use Rattle.model.specs.Lists.{update_at}
 use Rattle.model.specs.Query.{Term}

@@ -5,8 +5,8 @@ use Rattle.model.specs.Lists.{is_number}
 use Rattle.model.specs.Query.{written}
 use Rattle.kinds.specs.declared.value.Value.{Value}
 use Rattle.kinds.specs.Value.{value_number, value_words}
-use Rattle.query_plan.specs.declared.query.Term.{Term}
-use Rattle.query_plan.specs.Term.{term_of}
+use Rattle.query.specs.declared.term.Term.{Term}
+use Rattle.query.specs.Term.{term_of}
 use Rattle.query_plan.specs.Fetched.{words_fetched}
 use Rattle.body.specs.Seen.{with_words}
 use Rattle.body.specs.Cells.{AreWritten}

@@ -3,7 +3,7 @@ use Rattle.std.specs.Prelude.{ℤ, List, [], map, Option, None}
 use Rattle.std.specs.List.{AllByRecursion}
 use Rattle.model.specs.Query.{Term}
 use Rattle.model.specs.Input.{ShownRow}
-use Rattle.query_plan.specs.Term.{term_of}
+use Rattle.query.specs.Term.{term_of}
 use Rattle.query_plan.specs.Fetched.{AreFetched, words_fetched}
 use Rattle.query_plan.specs.QueryRow.{shown_of}
 use Rattle.body.specs.declared.cells.ViewRow.{ViewRow}

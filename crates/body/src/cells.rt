@@ -6,7 +6,7 @@ ghost use Rattle.model.specs.Lists.{is_number, update_at};
 ghost use Rattle.model.specs.Query.{written as written_kind};
 ghost use Rattle.model.specs.Outcome.{words_in_row};
 ghost use Rattle.kinds.specs.Value.{value_number, value_words};
-ghost use Rattle.query_plan.specs.Term.{term_of};
+ghost use Rattle.query.specs.Term.{term_of};
 ghost use Rattle.query_plan.specs.Fetched.{AreFetched, words_fetched};
 ghost use Rattle.body.specs.Seen.{fetched, words_shown, words_read, with_words, no_row};
 ghost use Rattle.body.specs.Cells.{AreWritten};
@@ -14,7 +14,7 @@ ghost use Rattle.body.specs.ViewRow.{IsRowOf, AreRows, row_cells, query_cells, s
 
 use kinds::value::Value;
 use query_plan::plan::QueryRow;
-use query_plan::query::Term;
+use query::Term;
 
 /// A row of a view: what it shows, and for each term the component written there, if any.
 #[derive(Drop, Debug)]

@@ -5,7 +5,7 @@ ghost use Rattle.std.specs.List.{AllByRecursion};
 ghost use Rattle.model.specs.Outcome.{words_in_row, words_in_query, words_written};
 ghost use Rattle.model.specs.Overlay.{slots_after};
 ghost use Rattle.archetype_store.specs.Layout.{AreAllHome};
-ghost use Rattle.query_plan.specs.Term.{term_of};
+ghost use Rattle.query.specs.Term.{term_of};
 ghost use Rattle.query_plan.specs.Fetched.{words_fetched};
 ghost use Rattle.body.specs.Cells.{AreWritten};
 ghost use Rattle.body.specs.Laid.{with_slots, at_index};
@@ -15,7 +15,7 @@ use crate::cells::ViewQuery;
 use archetype_store::store::World;
 use change_ticks::clock::Tick;
 use kinds::value::Value;
-use query_plan::query::Term;
+use query::Term;
 use std::alloc::AllocError;
 
 // Lays what was written in a row over the entity of an index.

@@ -5,7 +5,7 @@ ghost use Rattle.std.specs.List.{AllByRecursion};
 ghost use Rattle.model.specs.Input.{rows_of};
 ghost use Rattle.model.specs.Outcome.{untouched_rows, untouched_cells};
 ghost use Rattle.archetype_store.specs.Layout.{AreAllHome};
-ghost use Rattle.query_plan.specs.Term.{term_of};
+ghost use Rattle.query.specs.Term.{term_of};
 ghost use Rattle.query_plan.specs.Fetched.{AreFetched};
 ghost use Rattle.body.specs.ViewRow.{IsRowOf, AreRows, row_cells, query_cells, shown_rows, terms_of};
 
@@ -14,7 +14,7 @@ use archetype_store::store::World;
 use change_ticks::clock::Tick;
 use kinds::value::Value;
 use query_plan::plan::{QueryRow, plan};
-use query_plan::query::{Query, Term};
+use query::{Query, Term};
 use std::alloc::{AllocError, Global};
 
 // No component for each term.

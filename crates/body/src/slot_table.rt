@@ -4,7 +4,7 @@ ghost use Rattle.std.specs.Prelude.{◌≡◌, ◌<◌, Some, None, replicate, m
 ghost use Rattle.std.specs.List.{list_any, AllByRecursion};
 ghost use Rattle.kinds.specs.Kind.{kind_number, kind_count};
 ghost use Rattle.model.specs.Lists.{is_number, update_at};
-ghost use Rattle.query_plan.specs.Term.{term_of};
+ghost use Rattle.query.specs.Term.{term_of};
 ghost use Rattle.body.specs.HeldColumns.{held_seen, slots_seen};
 ghost use Rattle.body.specs.Seen.{fetched, fetches as query_fetches};
 ghost use Rattle.body.specs.SlotTable.{AreSlotsOf, is_slot_kind, with_slot};
@@ -13,7 +13,7 @@ use crate::cells::fetches as fetches_at;
 use crate::held::Held;
 use crate::view_query::Slots;
 use kinds::kind::{Kind, kinds_are_apart};
-use query_plan::query::Term;
+use query::Term;
 use std::alloc::{AllocError, Global};
 
 // Whether one of these terms fetches a kind.

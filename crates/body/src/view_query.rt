@@ -7,7 +7,7 @@ ghost use Rattle.model.specs.Lists.{update_at};
 ghost use Rattle.model.specs.Query.{writes};
 ghost use Rattle.model.specs.Input.{words_of};
 ghost use Rattle.model.specs.Outcome.{untouched_rows, words_in_query};
-ghost use Rattle.query_plan.specs.Term.{term_of};
+ghost use Rattle.query.specs.Term.{term_of};
 ghost use Rattle.body.specs.Columns.{with_cell, column_after};
 ghost use Rattle.body.specs.HeldColumns.{held_seen, slots_seen};
 ghost use Rattle.body.specs.Seen.{words_read, with_words, no_row};
@@ -19,7 +19,7 @@ use change_ticks::clock::Tick;
 use entity_table::Entity;
 use kinds::component::Component;
 use kinds::kind::Kind;
-use query_plan::query::Term;
+use query::Term;
 use std::marker::Model;
 use std::snapshot::Snapshot;
 
@@ -49,7 +49,7 @@ pub struct ViewQuery {
 
 impl Model for ViewQuery {
     ghost use Rattle.std.specs.Prelude.{map};
-    ghost use Rattle.query_plan.specs.Term.{term_of};
+    ghost use Rattle.query.specs.Term.{term_of};
     ghost use Rattle.body.specs.Sheet.{Sheet, sheet_of, IsSheet};
 
     ghost Value = { Sheet };

@@ -9,7 +9,7 @@ use entity_table::Entity;
 use executor_core::Step;
 use kinds::component::{Position, Velocity};
 use kinds::kind::Kind;
-use query_plan::query::{Query, Term};
+use query::{Query, Term};
 use schedule_builder::builder::build;
 use schedule_builder::built::Built;
 use schedule_builder::desc::{ScheduleDesc, SystemDesc};

@@ -265,7 +265,7 @@ mod tests {
     use super::*;
     use access_set::params::Params;
     use kinds::kind::Kind;
-    use query_plan::query::{Query, Term};
+    use query::{Query, Term};
     use schedule_builder::builder::build;
     use schedule_builder::desc::{ScheduleDesc, SystemDesc};
     use schedule_builder::fault::BuildFault;

@@ -2,12 +2,12 @@
 
 ghost use Rattle.std.specs.Prelude.{◌≡◌, length, vec_len, map, Any, IfOk, IsErrOf};
 ghost use Rattle.texts.specs.Reads.{SpellsNone};
-ghost use Rattle.query_plan.specs.Grammar.{IsQuery};
+ghost use Rattle.query.specs.Grammar.{IsQuery};
 ghost use Rattle.script.specs.Instruction.{IsInstruction};
 ghost use Rattle.program_file.specs.Readings.{AreSpelled};
 
 use crate::misfit::Misfit;
-use query_plan::query::Query;
+use query::Query;
 use script::instruction::Instruction;
 use std::alloc::Global;
 

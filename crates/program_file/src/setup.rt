@@ -6,7 +6,7 @@ ghost use Rattle.program_file.specs.Setup.{AreScriptsOf, HasNoReaders};
 use crate::fault::ContentFault;
 use crate::tree::SystemRow;
 use access_set::params::Params;
-use query_plan::query::Query;
+use query::Query;
 use schedule_builder::built::Built;
 use schedule_builder::desc::{ScheduleDesc, SystemDesc};
 use script::fault::CheckFault;

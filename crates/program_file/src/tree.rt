@@ -12,7 +12,7 @@ use crate::readings::{instructions_of, queries_of};
 use kinds::kind::Kind;
 use kinds::res::Res;
 use kinds::value::Value;
-use query_plan::query::Query;
+use query::Query;
 use script::script_body::Block;
 use std::alloc::Global;
 use toml::Table;
@@ -196,7 +196,7 @@ fn read_blocks(alloc: Global, blocks: &[BlockTexts<'_>]) -> Result<Vec<Block>, M
 mod tests {
     use super::*;
     use crate::document::document_of;
-    use query_plan::query::Term;
+    use query::Term;
     use script::instruction::Instruction;
     use std::test::Fail;
 

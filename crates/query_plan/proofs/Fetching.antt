@@ -7,8 +7,8 @@ use Rattle.model.specs.State.{Component}
 use Rattle.model.specs.Query as query
 use Rattle.model.specs.Input.{ShownRow, fetch}
 use Rattle.kinds.specs.declared.value.Value.{Value}
-use Rattle.query_plan.specs.declared.query.Term.{Term}
-use Rattle.query_plan.specs.Term.{term_of}
+use Rattle.query.specs.declared.term.Term.{Term}
+use Rattle.query.specs.Term.{term_of}
 use Rattle.query_plan.specs.Fetched.{IsFetched, AreFetched, words_fetched}
 
 -- the terms up to one more

@@ -1,11 +1,8 @@
-// Queries: their terms, what they ask of an entity, their texts, and their rows.
+// The rows of queries: which entities, what each shows, and the columns that they are in.
 #![tactic(auto)]
 
-pub mod check;
 pub mod picks;
 pub mod plan;
 #[cfg(test)]
 mod plan_tests;
 pub mod planned;
-pub mod query;
-pub mod reading;

@@ -6,10 +6,10 @@ ghost use Rattle.kinds.specs.Kind.{kind_number};
 ghost use Rattle.model.specs.Lists.{has};
 ghost use Rattle.model.specs.Query.{matches, admits as term_admits};
 ghost use Rattle.archetype_store.specs.View.{kinds_seen};
-ghost use Rattle.query_plan.specs.Term.{term_of};
+ghost use Rattle.query.specs.Term.{term_of};
 ghost use Rattle.query_plan.specs.Picks.{picked_in, picked_of, picked_from, picks_of, pick_seen};
 
-use crate::query::{Query, Term};
+use query::{Presence, Query, Term};
 use archetype_store::store::{ArchetypeView, World};
 use kinds::kind::Kind;
 use std::alloc::{AllocError, Global};
@@ -105,19 +105,15 @@ fn admit_all(terms: &[Term], kinds: &[Kind]) -> bool
 fn admits(term: Term, kinds: &[Kind]) -> bool
     ensures { result ≡ term_admits (λ kind. has kind (map kind_number kinds.now)) (term_of term) }
 {
-    match term {
-        Term::Entity | Term::Opt(_) => true,
-        Term::Without(kind) => !is_among(kind, kinds),
-        Term::Read(kind)
-        | Term::Mut(kind)
-        | Term::With(kind)
-        | Term::Added(kind)
-        | Term::Changed(kind) => is_among(kind, kinds),
+    match term.presence() {
+        Presence::Free => true,
+        Presence::Has(kind) => is_among(kind, kinds),
+        Presence::Lacks(kind) => !is_among(kind, kinds),
     }
 }
 
 // Whether a kind is among these.
-#[tactic(auto, using(crate::proofs::Terms::of_kinds))]
+#[tactic(auto, using(query::proofs::Terms::of_kinds))]
 fn is_among(kind: Kind, kinds: &[Kind]) -> bool
     ensures { result ≡ has (kind_number kind) (map kind_number kinds.now) }
 {

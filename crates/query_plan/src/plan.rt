@@ -8,14 +8,14 @@ ghost use Rattle.model.specs.Rows.{cell_at, kinds_of};
 ghost use Rattle.kinds.specs.Kind.{kind_number};
 ghost use Rattle.kinds.specs.Value.{value_number};
 ghost use Rattle.archetype_store.specs.Layout.{AreAllHome};
-ghost use Rattle.query_plan.specs.Term.{term_of};
+ghost use Rattle.query.specs.Term.{term_of};
 ghost use Rattle.query_plan.specs.Fetched.{IsFetched, AreFetched, words_fetched};
 ghost use Rattle.query_plan.specs.QueryRow.{shown_of};
 ghost use Rattle.query_plan.specs.Picks.{picks_of, pick_seen};
 
 use crate::picks::picks;
 use crate::planned::Plan;
-use crate::query::{Query, Term};
+use query::{Presence, Query, Term};
 use archetype_store::slot::{RowView, Slot};
 use archetype_store::store::World;
 use change_ticks::stamp::newer;
@@ -103,14 +103,10 @@ fn has(row: &RowView<'_>, kind: Kind) -> bool
 fn admits(term: Term, row: &RowView<'_>) -> bool
     ensures { result ≡ query.admits (kinds_of row.now) (term_of term) }
 {
-    match term {
-        Term::Entity | Term::Opt(_) => true,
-        Term::Without(kind) => !has(row, kind),
-        Term::Read(kind)
-        | Term::Mut(kind)
-        | Term::With(kind)
-        | Term::Added(kind)
-        | Term::Changed(kind) => has(row, kind),
+    match term.presence() {
+        Presence::Free => true,
+        Presence::Has(kind) => has(row, kind),
+        Presence::Lacks(kind) => !has(row, kind),
     }
 }
 
@@ -160,9 +156,9 @@ fn fetch(term: Term, row: &RowView<'_>) -> Option<Value>
     ensures words { words_fetched result ≡ input.fetch row.now (term_of term) }
     ensures fetched { query.admits (kinds_of row.now) (term_of term) ≡ true → IsFetched (term_of term) result }
 {
-    match term {
-        Term::Read(kind) | Term::Mut(kind) | Term::Opt(kind) => value_in(row, kind),
-        _ => None,
+    match term.fetched() {
+        Some(kind) => value_in(row, kind),
+        None => None,
     }
 }
 

@@ -1,7 +1,7 @@
 // The rows of queries in a small world.
 
 use crate::plan::plan;
-use crate::query::Query;
+use query::Query;
 use archetype_store::store::World;
 use change_ticks::clock::Clock;
 use entity_table::Entity;

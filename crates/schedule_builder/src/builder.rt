@@ -180,7 +180,7 @@ mod tests {
     use super::*;
     use access_set::params::Params;
     use kinds::kind::Kind;
-    use query_plan::query::{Query, Term};
+    use query::{Query, Term};
     use std::test::Fail;
 
     /// A system of this name before one and after another, where these are named.

@@ -5,7 +5,7 @@ ghost use Rattle.model.specs.QueryFaults.{query_fault};
 ghost use Rattle.schedule_builder.specs.Queries.{TellsFault, TellsFirstFault};
 
 use crate::desc::SystemDesc;
-use query_plan::query::Query;
+use query::Query;
 
 /// The number of the least fault of a query.
 fn fault_of(query: &Query) -> Option<u32>

@@ -1,5 +1,5 @@
 -- Tests of the terms of a query.
-use Rattle.query_plan.proofs.Terms.{list_any-map}
+use Rattle.query.proofs.Terms.{list_any-map}
 
 -- a test of each term, as the definitions have them
 pub ruleset over_terms = (list_any-map)

@@ -7,14 +7,14 @@ ghost use Rattle.model.specs.Lists.{is_number};
 ghost use Rattle.model.specs.Query.{written, writes as query_writes};
 ghost use Rattle.body.specs.Seen.{fetched, fetches as query_fetches};
 ghost use Rattle.kinds.specs.Kind.{kind_number};
-ghost use Rattle.query_plan.specs.Term.{term_of};
+ghost use Rattle.query.specs.Term.{term_of};
 ghost use Rattle.script.specs.Script.{place_in};
 ghost use Rattle.script.specs.Faults.{has_field, fetches_source, has_source, change_cause, instruction_cause, code_fault};
 
 use crate::fault::{Cause, ScriptFault};
 use crate::instruction::{Axis, Field, Instruction, Source};
 use kinds::kind::Kind;
-use query_plan::query::Term;
+use query::Term;
 
 /// The place of a field among the fields of a kind, by how many the kind has.
 pub fn place(width: usize, axis: Axis) -> Option<usize>
@@ -34,38 +34,18 @@ fn has(field: Field) -> bool
     place(field.kind.width(), field.axis).is_some()
 }
 
-// Whether a term writes a kind.
-fn writes_at(term: Term, kind: Kind) -> bool
-    ensures { result ≡ is_number (kind_number kind) (written (term_of term)) }
-{
-    match term {
-        Term::Mut(there) => there.number() == kind.number(),
-        _ => false,
-    }
-}
-
-// Whether a term fetches a kind.
-fn fetches_at(term: Term, kind: Kind) -> bool
-    ensures { result ≡ is_number (kind_number kind) (fetched (term_of term)) }
-{
-    match term {
-        Term::Read(there) | Term::Mut(there) | Term::Opt(there) => there.number() == kind.number(),
-        _ => false,
-    }
-}
-
 // Whether one of these terms writes a kind.
 fn any_writes(terms: &[Term], kind: Kind) -> bool
     ensures { result ≡ list_any (λ term. is_number (kind_number kind) (written (term_of term))) terms.now }
 {
-    terms.iter().any(|term| writes_at(*term, kind))
+    terms.iter().any(|term| term.writes(kind))
 }
 
 // Whether one of these terms fetches a kind.
 fn any_fetches(terms: &[Term], kind: Kind) -> bool
     ensures { result ≡ list_any (λ term. is_number (kind_number kind) (fetched (term_of term))) terms.now }
 {
-    terms.iter().any(|term| fetches_at(*term, kind))
+    terms.iter().any(|term| term.fetches(kind))
 }
 
 // Whether a query with these terms has a `mut` term of a kind.

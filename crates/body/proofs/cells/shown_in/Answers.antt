@@ -1,5 +1,5 @@
 use Rattle.std.proofs.Common.{None, sym, length, ◌<◌, arith}
-use Rattle.query_plan.specs.declared.query.Term.TheVariants.{Entity}
+use Rattle.query.specs.declared.term.Term.TheVariants.{Entity}
 use Rattle.body.proofs.Reading.{shown-on, shown-empty, shown-kind}
 use Rattle.body.proofs.cells.shown_in.Goals as goal
 

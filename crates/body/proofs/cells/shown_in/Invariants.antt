@@ -1,5 +1,5 @@
 use Rattle.std.proofs.Common.{◌≡◌, map, drop}
-use Rattle.query_plan.specs.Term.{term_of}
+use Rattle.query.specs.Term.{term_of}
 use Rattle.query_plan.specs.Fetched.{words_fetched}
 use Rattle.body.specs.Seen.{words_shown}
 use Rattle.body.proofs.cells.shown_in.Given as goal

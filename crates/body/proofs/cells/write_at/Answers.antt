@@ -1,7 +1,7 @@
 use Rattle.std.proofs.Common.{[], get_or, map, ap}
 use Rattle.std.proofs.lemmas.List.{get_or-map}
 use Rattle.kinds.specs.Value.{value_number, value_words}
-use Rattle.query_plan.specs.Term.{term_of}
+use Rattle.query.specs.Term.{term_of}
 use Rattle.model.specs.Lists.{update_at}
 use Rattle.body.specs.Seen.{with_words}
 use Rattle.body.specs.ViewRow.{shown_rows, query_cells, terms_of}

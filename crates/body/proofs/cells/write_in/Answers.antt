@@ -1,6 +1,6 @@
 use Rattle.std.proofs.Common.{sym}
 use Rattle.kinds.specs.Value.{value_number, value_words}
-use Rattle.query_plan.specs.declared.query.Term.TheVariants.{Entity}
+use Rattle.query.specs.declared.term.Term.TheVariants.{Entity}
 use Rattle.body.proofs.Writing.{NoneBefore-next, with_words-set, with_words-none, AreWritten-set}
 use Rattle.body.proofs.cells.write_in.Goals as goal
 

@@ -1,6 +1,6 @@
 use Rattle.std.proofs.Common.{◌≡◌}
 use Rattle.kinds.specs.Value.{value_number}
-use Rattle.query_plan.specs.declared.query.Term.TheVariants.{Entity}
+use Rattle.query.specs.declared.term.Term.TheVariants.{Entity}
 use Rattle.body.proofs.Writing.{NoneBefore}
 use Rattle.body.proofs.cells.write_in.Given as goal
 

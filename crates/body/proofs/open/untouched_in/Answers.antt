@@ -2,7 +2,7 @@ use Rattle.std.proofs.Common.{◌≡◌, ◌++◌, [], ◌∷◌, None, length, 
 use Rattle.std.proofs.lemmas.List.{map-append, length_push, take_all}
 use Rattle.std.proofs.lemmas.Iterator.Adapters.{YieldsList-from_vec}
 use Rattle.std.proofs.lemmas.Iterator.Consumers.{YieldsList-turn, YieldsList-end}
-use Rattle.query_plan.specs.Term.{term_of}
+use Rattle.query.specs.Term.{term_of}
 use Rattle.query_plan.specs.Fetched.{AreFetched}
 use Rattle.query_plan.specs.declared.plan.QueryRow.{QueryRow}
 use Rattle.body.specs.declared.cells.ViewRow.{ViewRow}

@@ -1,6 +1,6 @@
 use Rattle.std.proofs.Common.{◌≡◌, None, length, map, take}
 use Rattle.std.specs.List.{AllByRecursion}
-use Rattle.query_plan.specs.Term.{term_of}
+use Rattle.query.specs.Term.{term_of}
 use Rattle.body.specs.ViewRow.{IsRowOf}
 use Rattle.body.proofs.open.untouched_in.Given as goal
 

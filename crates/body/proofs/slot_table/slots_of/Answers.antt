@@ -1,6 +1,6 @@
 use Rattle.std.proofs.Common.{◌<◌, ◌≤◌, length, map, arith}
 use Rattle.std.proofs.lemmas.List.{length-map}
-use Rattle.query_plan.specs.Term.{term_of}
+use Rattle.query.specs.Term.{term_of}
 use Rattle.body.specs.HeldColumns.{held_seen, slots_seen}
 use Rattle.body.proofs.Tables.{slots-begun, slots-more, slots-ended, archetype-below}
 use Rattle.body.proofs.slot_table.slots_of.Goals as goal

@@ -1,5 +1,5 @@
 use Rattle.std.proofs.Common.{map}
-use Rattle.query_plan.specs.Term.{term_of}
+use Rattle.query.specs.Term.{term_of}
 use Rattle.body.specs.HeldColumns.{held_seen, slots_seen}
 use Rattle.body.specs.SlotTable.{AreSlotsBelow}
 use Rattle.body.proofs.slot_table.slots_of.Given as goal

@@ -1,5 +1,5 @@
 use Rattle.std.proofs.Common.{rules}
-use Rattle.query_plan.specs.Grammar.{IsQuery}
+use Rattle.query.specs.Grammar.{IsQuery}
 use Rattle.program_file.proofs.Spelled.{AreSpelled-take}
 use Rattle.program_file.proofs.readings.queries_of.Goals as goal
 

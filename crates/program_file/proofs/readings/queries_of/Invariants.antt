@@ -1,5 +1,5 @@
 use Rattle.std.proofs.Common.{◌≡◌, map, take, vec_len}
-use Rattle.query_plan.specs.Grammar.{IsQuery}
+use Rattle.query.specs.Grammar.{IsQuery}
 use Rattle.program_file.specs.Readings.{AreSpelled}
 use Rattle.program_file.proofs.readings.queries_of.Given as goal
 

@@ -1,5 +1,5 @@
 use Rattle.std.proofs.Common.{◌≡◌, map, drop}
-use Rattle.query_plan.specs.Term.{term_of}
+use Rattle.query.specs.Term.{term_of}
 use Rattle.script.specs.Faults.{code_fault}
 use Rattle.script.proofs.check.check_code.Given as goal
 

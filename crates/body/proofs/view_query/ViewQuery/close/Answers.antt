@@ -1,6 +1,6 @@
 use Rattle.std.proofs.Common.{◌≡◌, List, map, sym, ap, ◌∙◌, subst}
 use Rattle.model.specs.Outcome.{words_in_query}
-use Rattle.query_plan.specs.Term.{term_of}
+use Rattle.query.specs.Term.{term_of}
 use Rattle.body.specs.Columns.{Column, column_after}
 use Rattle.body.specs.Sheet.{Sheet, WritesReach}
 use Rattle.body.specs.HeldColumns.{held_seen, slots_seen}

@@ -1,0 +1,4 @@
+pub mod QueryTexts
+pub mod Named
+pub mod Fetches
+pub mod Terms

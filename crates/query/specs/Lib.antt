@@ -1,0 +1,4 @@
+pub mod Term
+pub mod Named
+pub mod BadQuery
+pub mod Grammar

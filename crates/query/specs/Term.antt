@@ -1,0 +1,25 @@
+-- A term of a query as the definitions have it: over the number of its kind; and what a term asks of kinds.
+use Rattle.std.specs.Prelude.{ℕ, Bool, true, not}
+use Rattle.model.specs.Query.{Term as ModelTerm}
+use Rattle.kinds.specs.Kind.{kind_number}
+use Rattle.query.specs.declared.term.Term.{Term}
+use Rattle.query.specs.declared.term.Presence.{Presence}
+use Rattle.query.specs.declared.term.Presence.TheVariants.{Free, Has, Lacks}
+use Rattle.query.specs.declared.term.Term.TheVariants.{Entity, Read, Mut, Opt, With, Without, Added, Changed}
+
+-- the term that the definitions speak of
+abbrev pub term_of : Term → ModelTerm
+term_of Entity = ModelTerm.Entity
+term_of (Read kind) = ModelTerm.Read (kind_number kind)
+term_of (Mut kind) = ModelTerm.Mut (kind_number kind)
+term_of (Opt kind) = ModelTerm.Opt (kind_number kind)
+term_of (With kind) = ModelTerm.With (kind_number kind)
+term_of (Without kind) = ModelTerm.Without (kind_number kind)
+term_of (Added kind) = ModelTerm.Added (kind_number kind)
+term_of (Changed kind) = ModelTerm.Changed (kind_number kind)
+
+-- whether a set of kinds has what is asked of it
+abbrev pub is_present : (ℕ → Bool) → Presence → Bool
+is_present kinds Free = true
+is_present kinds (Has kind) = kinds (kind_number kind)
+is_present kinds (Lacks kind) = not (kinds (kind_number kind))

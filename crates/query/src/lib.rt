@@ -1,0 +1,11 @@
+// Queries: what their terms ask of an entity and show of it, their texts, and what is wrong with one by itself.
+#![tactic(auto)]
+
+mod check;
+mod query;
+mod reading;
+mod term;
+
+pub use check::BadQuery;
+pub use query::Query;
+pub use term::{Presence, Term};

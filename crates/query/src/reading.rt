@@ -1,0 +1,144 @@
+// Queries read from texts.
+
+ghost use Rattle.std.specs.Prelude.{map, [], ◌∷◌};
+ghost use Rattle.std.specs.List.{AllZip};
+ghost use Rattle.kinds.specs.Kind.{kind_name};
+ghost use Rattle.texts.specs.Reads.{Reads, ReadsUnlessMemory, SpellsSeen};
+ghost use Rattle.query.specs.Term.{term_of};
+ghost use Rattle.query.specs.Grammar.{AreTerm, IsTerm, IsQuery};
+
+use crate::query::Query;
+use crate::term::Term;
+use kinds::kind::Kind;
+use std::alloc::Global;
+use texts::parts::parts_of;
+use texts::read_error::ReadError;
+use texts::words::{is_blank, words_of};
+
+impl Term {
+    /// Reads a term: `entity`, `read K`, `mut K`, `opt K`, `with K` or `without K`, with one or more spaces between the words
+    /// and any number at either end.
+    pub fn read(alloc: Global, text: &str) -> Result<Term, ReadError>
+        ensures { ReadsUnlessMemory IsTerm text.now result }
+    {
+        let words = words_of(alloc, text)?;
+        match Term::of_words(words.as_slice()) {
+            Some(term) => Ok(term),
+            None => Err(ReadError::Outside),
+        }
+    }
+
+    // The term that the words are.
+    fn of_words(words: &[&str]) -> Option<Term>
+        ensures { Reads AreTerm (map (λ word. word.now) words.now) result }
+    {
+        match words {
+            [word] => Term::of_word(word),
+            [word, name] => Term::of_kind(word, Kind::named(name)?),
+            _ => None,
+        }
+    }
+
+    // The term that a word is by itself.
+    fn of_word(word: &str) -> Option<Term>
+        ensures { Reads AreTerm (word.now ∷ []) result }
+    {
+        match word {
+            "entity" => Some(Term::Entity),
+            _ => None,
+        }
+    }
+
+    // The term that a word makes of a kind.
+    fn of_kind(word: &str, kind: Kind) -> Option<Term>
+        ensures { Reads AreTerm (word.now ∷ kind_name kind ∷ []) result }
+    {
+        match word {
+            "read" => Some(Term::Read(kind)),
+            "mut" => Some(Term::Mut(kind)),
+            "opt" => Some(Term::Opt(kind)),
+            "with" => Some(Term::With(kind)),
+            "without" => Some(Term::Without(kind)),
+            _ => None,
+        }
+    }
+}
+
+impl Query {
+    /// Reads a query: terms with commas between. The empty text, or one of spaces alone, is the query without terms. Elsewhere
+    /// each part needs a term: a last comma is refused.
+    #[tactic(auto, using(crate::proofs::QueryTexts::read_parts))]
+    pub fn read(alloc: Global, text: &str) -> Result<Query, ReadError>
+        ensures { ReadsUnlessMemory IsQuery text.now result }
+    {
+        if is_blank(text) {
+            return Ok(Query::new(alloc));
+        }
+        let parts = parts_of(alloc, text)?;
+        Query::of_parts(alloc, parts.as_slice())
+    }
+
+    // The query of which each part is a term.
+    fn of_parts(alloc: Global, parts: &[&str]) -> Result<Query, ReadError>
+        ensures { ReadsUnlessMemory (AllZip (SpellsSeen term_of IsTerm)) (map (λ part. part.now) parts.now) result }
+    {
+        let mut query = Query::new(alloc);
+        for part in parts {
+            query.push(Term::read(alloc, part)?)?;
+        }
+        Ok(query)
+    }
+}
+
+#[cfg(test)]
+mod tests {
+    use super::*;
+    use std::test::Fail;
+
+    #[test]
+    fn queries(rt: HostRuntime) -> Result<(), Fail> {
+        let query = Query::read(rt.alloc(), " read  Position , mut Velocity")?;
+        assert_eq!(rt;
+            query.terms(),
+            [Term::Read(Kind::Position), Term::Mut(Kind::Velocity)].as_slice()
+        );
+        let every = Query::read(
+            rt.alloc(),
+            "entity,opt Health,with Frozen , without  Hidden ",
+        )?;
+        assert_eq!(rt;
+            every.terms(),
+            [
+                Term::Entity,
+                Term::Opt(Kind::Health),
+                Term::With(Kind::Frozen),
+                Term::Without(Kind::Hidden)
+            ]
+            .as_slice()
+        );
+        let empty = Query::read(rt.alloc(), "  ")?;
+        assert_eq!(rt; empty.terms().len(), 0);
+        for text in [
+            "read Position,",
+            ",",
+            "read Position,,mut Velocity",
+            "read\tPosition",
+            "mut",
+            "write Position",
+            "entity Position",
+            "entities",
+            "opt",
+            "opt Round",
+            "with Frozen Hidden",
+            "added Health",
+            "changed Health",
+        ] {
+            assert_eq!(rt;
+                Query::read(rt.alloc(), text).err(),
+                Some(ReadError::Outside),
+                "at {text}"
+            );
+        }
+        Ok(())
+    }
+}

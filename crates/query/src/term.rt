@@ -1,0 +1,182 @@
+// A term of a query: which kinds it touches, writes, fetches, and what it asks of the kinds that an entity has.
+
+ghost use Rattle.std.specs.Prelude.{◌≡◌, ℕ, Bool};
+ghost use Rattle.std.specs.Option.{option_map};
+ghost use Rattle.kinds.specs.Kind.{kind_number};
+ghost use Rattle.model.specs.Lists.{is_number};
+ghost use Rattle.model.specs.Query.{admits, touched, written};
+ghost use Rattle.model.specs.Conflict.{required};
+ghost use Rattle.model.specs.QueryFaults.{excluded, optional, fetched};
+ghost use Rattle.query.specs.Term.{term_of, is_present};
+
+use kinds::kind::Kind;
+
+/// A term of a query.
+#[derive(Clone, Copy, PartialEq, Eq, Debug, Default)]
+pub enum Term {
+    /// The row shows the id of its entity.
+    #[default]
+    Entity,
+    /// The component is required and read.
+    Read(Kind),
+    /// The component is required, read and written.
+    Mut(Kind),
+    /// The component is read where the entity has it.
+    Opt(Kind),
+    /// The entity has the component.
+    With(Kind),
+    /// The entity does not have the component.
+    Without(Kind),
+    /// The component was added since the last run.
+    Added(Kind),
+    /// The component was changed since the last run.
+    Changed(Kind),
+}
+
+/// What a term asks of the kinds that an entity has.
+#[derive(Clone, Copy, PartialEq, Eq, Debug)]
+pub enum Presence {
+    /// Nothing.
+    Free,
+    /// That it has the kind.
+    Has(Kind),
+    /// That it does not have the kind.
+    Lacks(Kind),
+}
+
+impl Term {
+    /// The kind that the term touches: of a component that a row shows, or whose stamps are asked for.
+    pub fn touched(self) -> Option<Kind>
+        ensures { option_map kind_number result ≡ touched (term_of self) }
+    {
+        match self {
+            Term::Entity | Term::With(_) | Term::Without(_) => None,
+            Term::Read(kind) => Some(kind),
+            Term::Mut(kind) => Some(kind),
+            Term::Opt(kind) => Some(kind),
+            Term::Added(kind) => Some(kind),
+            Term::Changed(kind) => Some(kind),
+        }
+    }
+
+    /// The kind that the term writes.
+    pub fn written(self) -> Option<Kind>
+        ensures { option_map kind_number result ≡ written (term_of self) }
+    {
+        match self {
+            Term::Mut(kind) => Some(kind),
+            _ => None,
+        }
+    }
+
+    /// The kind that an entity must have for the term.
+    pub fn required(self) -> Option<Kind>
+        ensures { option_map kind_number result ≡ required (term_of self) }
+    {
+        match self {
+            Term::Entity | Term::Opt(_) | Term::Without(_) => None,
+            Term::Read(kind) => Some(kind),
+            Term::Mut(kind) => Some(kind),
+            Term::With(kind) => Some(kind),
+            Term::Added(kind) => Some(kind),
+            Term::Changed(kind) => Some(kind),
+        }
+    }
+
+    /// The kind whose component the term fetches.
+    pub fn fetched(self) -> Option<Kind>
+        ensures { option_map kind_number result ≡ fetched (term_of self) }
+    {
+        match self {
+            Term::Read(kind) | Term::Mut(kind) | Term::Opt(kind) => Some(kind),
+            _ => None,
+        }
+    }
+
+    /// The kind that an entity must lack for the term.
+    pub fn excluded(self) -> Option<Kind>
+        ensures { option_map kind_number result ≡ excluded (term_of self) }
+    {
+        match self {
+            Term::Without(kind) => Some(kind),
+            _ => None,
+        }
+    }
+
+    /// The kind that the term reads where an entity has it.
+    pub fn optional(self) -> Option<Kind>
+        ensures { option_map kind_number result ≡ optional (term_of self) }
+    {
+        match self {
+            Term::Opt(kind) => Some(kind),
+            _ => None,
+        }
+    }
+
+    /// What the term asks of the kinds that an entity has.
+    pub fn presence(self) -> Presence
+        ensures { (kinds : ℕ → Bool) → admits kinds (term_of self) ≡ is_present kinds result }
+    {
+        match self {
+            Term::Entity | Term::Opt(_) => Presence::Free,
+            Term::Without(kind) => Presence::Lacks(kind),
+            Term::Read(kind)
+            | Term::Mut(kind)
+            | Term::With(kind)
+            | Term::Added(kind)
+            | Term::Changed(kind) => Presence::Has(kind),
+        }
+    }
+
+    /// Whether the term touches the kind.
+    pub fn touches(self, kind: Kind) -> bool
+        ensures { result ≡ is_number (kind_number kind) (touched (term_of self)) }
+    {
+        is_kind(kind, self.touched())
+    }
+
+    /// Whether the term writes the kind.
+    pub fn writes(self, kind: Kind) -> bool
+        ensures { result ≡ is_number (kind_number kind) (written (term_of self)) }
+    {
+        is_kind(kind, self.written())
+    }
+
+    /// Whether the term fetches a component of the kind.
+    pub fn fetches(self, kind: Kind) -> bool
+        ensures { result ≡ is_number (kind_number kind) (fetched (term_of self)) }
+    {
+        is_kind(kind, self.fetched())
+    }
+
+    /// Whether an entity must have the kind for the term.
+    pub fn requires_kind(self, kind: Kind) -> bool
+        ensures { result ≡ is_number (kind_number kind) (required (term_of self)) }
+    {
+        is_kind(kind, self.required())
+    }
+
+    /// Whether an entity must lack the kind for the term.
+    pub fn excludes(self, kind: Kind) -> bool
+        ensures { result ≡ is_number (kind_number kind) (excluded (term_of self)) }
+    {
+        is_kind(kind, self.excluded())
+    }
+
+    /// Whether the term reads the kind where an entity has it.
+    pub fn is_optional(self, kind: Kind) -> bool
+        ensures { result ≡ is_number (kind_number kind) (optional (term_of self)) }
+    {
+        is_kind(kind, self.optional())
+    }
+}
+
+// Whether the kind is the named one.
+fn is_kind(kind: Kind, named: Option<Kind>) -> bool
+    ensures { result ≡ is_number (kind_number kind) (option_map kind_number named) }
+{
+    match named {
+        None => false,
+        Some(other) => other.number() == kind.number(),
+    }
+}

@@ -1,8 +1,0 @@
--- Every kind is looked at.
-use Rattle.std.proofs.Common.{◌∙◌}
-use Rattle.model.specs.Conflict.{required}
-use Rattle.query_plan.proofs.Named.{required_listed, any_excluded}
-use Rattle.query_plan.proofs.check.requires_excluded.Goals as goal
-
-pub returns : goal.returns
-returns c = c.any_required_excluded.ensures ∙ any_excluded required c.args.terms.now c.every.result.now required_listed c.every.ensures
