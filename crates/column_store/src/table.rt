@@ -1,8 +1,9 @@
 // Tables.
 
-ghost use Rattle.std.specs.Prelude.{◌≡◌, ◌<◌, length, map, option_map, Some, IsSome, IsNone, IfSome, IfOk, OnOk, OnErr, IsTrue, slice_get, is_some};
+ghost use Rattle.std.specs.Prelude.{◌≡◌, ◌<◌, ◌∷◌, [], true, length, map, option_map, Some, IsSome, IsNone, IfSome, IfOk, OnOk, OnErr, IsTrue, slice_get, is_some};
 ghost use Rattle.std.specs.List.{list_all};
 ghost use Rattle.kinds.specs.Kind.{kind_number};
+ghost use Rattle.kinds.specs.declared.kind.Kind.TheVariants as the_kinds;
 ghost use Rattle.kinds.specs.Value.{value_number, value_words};
 ghost use Rattle.column_store.specs.Cells.{stamped_number, stamped_cell, stamp_of};
 ghost use Rattle.column_store.specs.Kinds.{in_order, AreBelow};
@@ -349,23 +350,89 @@ mod tests {
         Ok(())
     }
 
+    // The table of one entity with this health.
+    fn of_health(alloc: Global, health: i64) -> Result<Table, Fail>
+        ensures kinds { IfOk result (λ table. table.kinds ≡ kind_number the_kinds.Health ∷ []) }
+        ensures homes { IfOk result (λ table. map is_home table.standings ≡ true ∷ []) }
+        ensures rows { IfOk result (λ table. length table.rows ≡ 1) }
+    {
+        let mut table = Table::new(alloc, &[Kind::Health])?;
+        table.put(FIRST, &[added(Value::Health(Health { v: health }))])?;
+        Ok(table)
+    }
+
+    // The column of a table of one health, to be read elsewhere too.
+    fn read_elsewhere(
+        alloc: Global,
+        table: &mut Table,
+    ) -> Result<Arc<StampedColumn, Global>, AllocError>
+        requires kinds { table.old.kinds ≡ kind_number the_kinds.Health ∷ [] }
+        requires homes { map is_home table.old.standings ≡ true ∷ [] }
+        requires rows { length table.old.rows ≡ 1 }
+        ensures kinds { table.new.kinds ≡ kind_number the_kinds.Health ∷ [] }
+        ensures homes { map is_home table.new.standings ≡ true ∷ [] }
+        ensures rows { length table.new.rows ≡ 1 }
+        ensures kind { IfOk result (λ column. (arc_value column).kind ≡ kind_number the_kinds.Health) }
+        ensures cells { IfOk result (λ column. length (arc_value column).cells ≡ 1) }
+    {
+        table.share(alloc, Kind::Health)
+    }
+
+    // Sets the health of a table of one in its column, which leaves and comes home.
+    fn set_away(alloc: Global, table: &mut Table, health: i64) -> Result<(), AllocError>
+        requires kinds { table.old.kinds ≡ kind_number the_kinds.Health ∷ [] }
+        requires homes { map is_home table.old.standings ≡ true ∷ [] }
+        requires rows { length table.old.rows ≡ 1 }
+        ensures kinds { table.new.kinds ≡ kind_number the_kinds.Health ∷ [] }
+        ensures homes { map is_home table.new.standings ≡ true ∷ [] }
+        ensures rows { length table.new.rows ≡ 1 }
+    {
+        let mut column = table.lend(alloc, Kind::Health)?;
+        column.set(0, Health { v: health }, 4);
+        table.home(column);
+        Ok(())
+    }
+
+    // Takes the column of a table of one health for the table alone.
+    fn own_alone(alloc: Global, table: &mut Table) -> Result<(), AllocError>
+        requires kinds { table.old.kinds ≡ kind_number the_kinds.Health ∷ [] }
+        requires homes { map is_home table.old.standings ≡ true ∷ [] }
+        requires rows { length table.old.rows ≡ 1 }
+        ensures kinds { table.new.kinds ≡ kind_number the_kinds.Health ∷ [] }
+        ensures homes { map is_home table.new.standings ≡ true ∷ [] }
+        ensures rows { length table.new.rows ≡ 1 }
+    {
+        table.own(alloc)
+    }
+
+    // The health and its stamp in a table of one.
+    fn seen(table: &Table) -> StampedValue
+        requires kinds { table.now.kinds ≡ kind_number the_kinds.Health ∷ [] }
+        requires homes { map is_home table.now.standings ≡ true ∷ [] }
+        requires rows { length table.now.rows ≡ 1 }
+    {
+        table.column(Kind::Health).at(0)
+    }
+
+    // A health that was added at tick 1 and changed at this tick.
+    fn health(v: i64, changed: Tick) -> StampedValue {
+        let value = Value::Health(Health { v });
+        let stamp = Stamp { added: 1, changed };
+        StampedValue { value, stamp }
+    }
+
     #[test]
     fn a_column_that_is_read_elsewhere_is_copied(rt: HostRuntime) -> Result<(), Fail> {
-        let mut table = Table::new(rt.alloc(), &[Kind::Health])?;
-        table.put(FIRST, &[added(Value::Health(Health { v: 5 }))])?;
-        let shared = table.share(rt.alloc(), Kind::Health)?;
-        let mut column = table.lend(rt.alloc(), Kind::Health)?;
-        assert_eq!(rt; column.at(0), shared.at(0));
-        column.set(0, Health { v: 6 }, 4);
-        table.home(column);
-        assert_eq!(rt; shared.get::<Health>(0), Health { v: 5 });
-        assert_eq!(rt;
-            table.column(Kind::Health).get::<Health>(0),
-            Health { v: 6 }
-        );
-        let again = table.share(rt.alloc(), Kind::Health)?;
-        table.own(rt.alloc())?;
-        assert_eq!(rt; again.stamp(0), table.column(Kind::Health).stamp(0));
+        let mut table = of_health(rt.alloc(), 5)?;
+        let early = read_elsewhere(rt.alloc(), &mut table)?;
+        set_away(rt.alloc(), &mut table, 6)?;
+        assert_eq!(rt; early.at(0), health(5, 1));
+        assert_eq!(rt; early.get::<Health>(0), Health { v: 5 });
+        assert_eq!(rt; seen(&table), health(6, 4));
+        let late = read_elsewhere(rt.alloc(), &mut table)?;
+        own_alone(rt.alloc(), &mut table)?;
+        assert_eq!(rt; late.at(0), health(6, 4));
+        assert_eq!(rt; seen(&table), health(6, 4));
         Ok(())
     }
 }

@@ -1,5 +1,7 @@
 // The rows of queries in a small world.
 
+ghost use Rattle.archetype_store.specs.Layout.{AreAllHome};
+
 use crate::plan::plan;
 use query::Query;
 use archetype_store::store::World;
@@ -19,7 +21,9 @@ fn entity(index: u32) -> Entity {
 }
 
 // The rows of a query: each entity, with what each term fetches behind it.
-fn planned(alloc: Global, world: &World, text: &str) -> Result<String, Fail> {
+fn planned(alloc: Global, world: &World, text: &str) -> Result<String, Fail>
+    requires { AreAllHome world.now.layout }
+{
     let query = Query::read(alloc, text)?;
     let mut shown = String::new(alloc);
     for row in plan(alloc, &query, world, 0)?.rows {

@@ -1,7 +1,8 @@
 // What the store does in a row of calls.
 
-ghost use Rattle.std.specs.Prelude.{◌≡◌, All};
+ghost use Rattle.std.specs.Prelude.{◌≡◌, ◌≤◌, All, IfOk};
 ghost use Rattle.entity_table.specs.Ids.{IsGranted, AreApart};
+ghost use Rattle.archetype_store.specs.Layout.{AreAllHome};
 
 use super::*;
 use kinds::component::{Frozen, Health, Position, Velocity};
@@ -23,7 +24,9 @@ const THIRD: Entity = Entity {
 };
 
 // Makes so many entities live, at indices from the first one on.
-fn spawn(alloc: Global, world: &mut World, count: u32) -> Result<(), Fail> {
+fn spawn(alloc: Global, world: &mut World, count: u32) -> Result<(), Fail>
+    ensures { world.new.layout ≡ world.old.layout }
+{
     let ids = world.grant(alloc, count)?;
     settle_used(world, ids.as_slice());
     Ok(())
@@ -33,12 +36,15 @@ fn spawn(alloc: Global, world: &mut World, count: u32) -> Result<(), Fail> {
 fn settle_used(world: &mut World, ids: &[Entity])
     requires granted { All (IsGranted world.old.state.slots) ids.now }
     requires apart { AreApart ids.now }
+    ensures { world.new.layout ≡ world.old.layout }
 {
     world.settle(ids, &[]);
 }
 
 // Three entities: the first is frozen, the second has health, the third both. All were added at tick 1.
-fn three(alloc: Global) -> Result<World, Fail> {
+fn three(alloc: Global) -> Result<World, Fail>
+    ensures { IfOk result (λ world. AreAllHome world.layout) }
+{
     let mut world = World::new(alloc, Clock::at(4))?;
     spawn(alloc, &mut world, 3)?;
     world.insert(FIRST, Frozen, 1)?;
@@ -235,13 +241,18 @@ fn entity(index: u32) -> Entity {
 }
 
 // Whether an entity has this health, and whether it is frozen.
-fn is_so(world: &World, index: u32, health: Option<i64>, frozen: bool) -> bool {
+fn is_so(world: &World, index: u32, health: Option<i64>, frozen: bool) -> bool
+    requires { AreAllHome world.now.layout }
+{
     world.get::<Health>(entity(index)) == health.map(|v| Health { v })
         && world.has(entity(index), Kind::Frozen) == frozen
 }
 
 // Gives each of so many entities its index as health.
-fn fill(world: &mut World, count: u32) -> Result<(), Fail> {
+fn fill(world: &mut World, count: u32) -> Result<(), Fail>
+    requires { AreAllHome world.old.layout }
+    ensures { AreAllHome world.new.layout }
+{
     for index in 0..count {
         let now = world.now();
         world.insert(
@@ -255,6 +266,53 @@ fn fill(world: &mut World, count: u32) -> Result<(), Fail> {
     Ok(())
 }
 
+// Takes the health of so many entities away, from the last on.
+fn strip(world: &mut World, count: u32) -> Result<(), Fail>
+    requires { AreAllHome world.old.layout }
+    ensures { AreAllHome world.new.layout }
+{
+    for back in 0..count {
+        world.remove(entity(count - 1 - back), Kind::Health)?;
+    }
+    Ok(())
+}
+
+// Despawns so many entities, from the last on.
+fn clear(world: &mut World, count: u32) -> Result<(), Fail>
+    requires { AreAllHome world.old.layout }
+    ensures { AreAllHome world.new.layout }
+{
+    for back in 0..count {
+        world.despawn(entity(count - 1 - back))?;
+    }
+    Ok(())
+}
+
+// Despawns so many entities, from the first on.
+fn clear_from_the_first(world: &mut World, count: u32) -> Result<(), Fail>
+    requires { AreAllHome world.old.layout }
+    ensures { AreAllHome world.new.layout }
+{
+    for index in 0..count {
+        world.despawn(entity(index))?;
+    }
+    Ok(())
+}
+
+// Freezes each of so many entities.
+fn freeze(world: &mut World, count: u32) -> Result<(), Fail>
+    requires few { count ≤ 4000 }
+    requires home { AreAllHome world.old.layout }
+    ensures { AreAllHome world.new.layout }
+{
+    for turn in 0..count {
+        let now = world.now();
+        // 1,999 has no factor in common with 4,000: each index has its turn.
+        world.insert(entity(turn * 1_999 % count), Frozen, now)?;
+    }
+    Ok(())
+}
+
 #[test]
 fn holds_many(rt: HostRuntime) -> Result<(), Fail> {
     let count = 100_000;
@@ -263,14 +321,10 @@ fn holds_many(rt: HostRuntime) -> Result<(), Fail> {
     fill(&mut world, count)?;
     assert!(rt; is_so(&world, 0, Some(0), false));
     assert!(rt; is_so(&world, 99_999, Some(99_999), false));
-    for back in 0..count {
-        world.remove(entity(count - 1 - back), Kind::Health)?;
-    }
+    strip(&mut world, count)?;
     assert!(rt; is_so(&world, 50_000, None, false));
     fill(&mut world, count)?;
-    for back in 0..count {
-        world.despawn(entity(count - 1 - back))?;
-    }
+    clear(&mut world, count)?;
     assert_eq!(rt; world.next_living(0), None);
     assert!(rt; is_so(&world, 0, None, false));
     Ok(())
@@ -282,20 +336,12 @@ fn moves_many(rt: HostRuntime) -> Result<(), Fail> {
     let mut world = World::new(rt.alloc(), Clock::at(4))?;
     spawn(rt.alloc(), &mut world, count)?;
     fill(&mut world, count)?;
-    for turn in 0..count {
-        let now = world.now();
-        // 1,999 has no factor in common with 4,000: each index has its turn.
-        world.insert(entity(turn * 1_999 % count), Frozen, now)?;
-    }
+    freeze(&mut world, count)?;
     assert!(rt; is_so(&world, 0, Some(0), true));
     assert!(rt; is_so(&world, 3_999, Some(3_999), true));
-    for back in 0..count {
-        world.remove(entity(count - 1 - back), Kind::Health)?;
-    }
+    strip(&mut world, count)?;
     assert!(rt; is_so(&world, 2_000, None, true));
-    for index in 0..count {
-        world.despawn(entity(index))?;
-    }
+    clear_from_the_first(&mut world, count)?;
     assert_eq!(rt; world.next_living(0), None);
     Ok(())
 }
