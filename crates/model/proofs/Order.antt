@@ -9,7 +9,6 @@ use Rattle.model.specs.Lawful.{is_skip, started, skipped, begun, ended, runs, Ma
 use Rattle.model.specs.Ambiguity.{Reaches, Before}
 use Rattle.model.specs.Ambiguity.Reaches.{Edge, Onward}
 use Rattle.model.specs.Ambiguity.Before.{ByPath, ByLevel}
-use Rattle.model.specs.Order.{KeepsOrder}
 use Rattle.model.specs.Laws.{ListsKeepOrder}
 use Rattle.model.proofs.Conflicts.{conflict_swap}
 use Rattle.model.proofs.Histories.{any_later, lawful_before, may_at, ended_begun, started_not-skipped, HasBegun, free_found, begun_found, runs-start, runs-finish, level_ended, above_waits, idle}

@@ -1,5 +1,5 @@
 -- With room for one, the lists, runs and stops of a coordinator are those of one thread.
-use Rattle.std.proofs.Common.{ℕ, ◌<◌, ◌==◌, Bool, true, false, cond, ◌≡◌, List, [], ◌∷◌, ◌++◌, length, Option, Some, None, IsSome, is_some, option_map, option_and_then, refl, sym, ap, ap₂, ◌∙◌, subst, inl, inr, arith}
+use Rattle.std.proofs.Common.{ℕ, ◌<◌, ◌==◌, Bool, true, false, ◌≡◌, List, [], ◌∷◌, length, Option, Some, None, IsSome, is_some, option_map, option_and_then, refl, sym, ap, ap₂, ◌∙◌, subst, inl, inr, arith}
 use Rattle.std.proofs.lemmas.Bool.{or_cases, eqb-true, eq-eqb, both_ways, false≢true, cond-true}
 use Rattle.model.specs.declared.steps.Step.{Step}
 use Rattle.model.specs.declared.steps.Step.TheVariants.{Cond, Start, Skip, Finish, Sync}
@@ -9,8 +9,8 @@ use Rattle.model.specs.State.{State}
 use Rattle.model.specs.Outcome.{BodyMeaning}
 use Rattle.model.specs.Schedule.{Schedule}
 use Rattle.model.specs.Lawful.{runs, NoneRuns, May, IsLawful}
-use Rattle.model.specs.Widths.{IsChosen, just_started, IsNextSingle, IsSingle, running_after, IsNextWide, IsWide}
-use Rattle.model.specs.RunState.{RunState, RunningSystem, can_open, can_start, started_system, after_start}
+use Rattle.model.specs.Widths.{IsChosen, just_started, IsNextSingle, IsSingle, running_after, IsNextWide}
+use Rattle.model.specs.RunState.{RunState, can_open, can_start, started_system, after_start}
 use Rattle.model.specs.Meaning.{Interleaved, running_system, with_running_systems, interleaved, interleaved_step, serial}
 use Rattle.model.specs.Causes.{Cause, unless, cause_of_start, cause_of_finish, cause_of_running, serial_cause_at, serial_cause, interleaved_cause_at, interleaved_cause}
 use Rattle.model.specs.Causes.Cause.{NoTick}

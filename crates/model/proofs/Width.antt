@@ -1,5 +1,5 @@
 -- In a list with room for so many running systems no more run, and a finish waits while there is room and something is ready.
-use Rattle.std.proofs.Common.{ℕ, ◌<◌, ◌≤◌, ◌==◌, Bool, true, false, not, cond, ◌&&◌, ◌||◌, ◌≡◌, List, [], ◌∷◌, ◌++◌, length, Option, Some, None, refl, sym, ap, ◌∙◌, subst, inl, inr, arith}
+use Rattle.std.proofs.Common.{ℕ, ◌≤◌, ◌==◌, Bool, true, false, not, cond, ◌&&◌, ◌||◌, ◌≡◌, List, [], ◌∷◌, ◌++◌, length, Some, None, refl, sym, ap, ◌∙◌, subst, inl, inr, arith}
 use Rattle.std.proofs.lemmas.Bool.{eqb-true, eq-eqb, ne_eqb, both_ways, or_parts, and_parts}
 use Rattle.model.specs.declared.steps.Step.{Step}
 use Rattle.model.specs.declared.steps.Step.TheVariants.{Cond, Start, Skip, Finish, Sync}
@@ -8,7 +8,7 @@ use Rattle.model.specs.declared.steps.Ready.TheVariants as ready
 use Rattle.model.specs.Lists.{has}
 use Rattle.model.specs.Schedule.{Schedule}
 use Rattle.model.specs.Lawful.{started, finished, runs, IsFree, IsLawful}
-use Rattle.model.specs.Ready.{IsReadySync, IsReadyAmong}
+use Rattle.model.specs.Ready.{IsReadyAmong}
 use Rattle.model.specs.Widths.{without, running_after, IsWide}
 use Rattle.model.specs.Laws.{AtMostRun, FinishesWait}
 use Rattle.model.proofs.Histories.{start_runs}

@@ -8,6 +8,7 @@ pub mod Conditions
 pub mod Filters
 pub mod Lawful
 pub mod Orders
+pub mod Levels
 pub mod Agreement
 pub mod Single
 pub mod One

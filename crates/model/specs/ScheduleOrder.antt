@@ -2,20 +2,21 @@
 use Rattle.std.specs.Prelude.{ℕ, ◌<◌, ◌≡◌, ◌↔◌, true, false, List, ◌∷◌, ◌++◌, length, map}
 use Rattle.model.specs.Lists.{has}
 use Rattle.model.specs.Schedule.{Schedule, ScheduledSystem, has_edge, level_of}
+use Rattle.model.specs.Ambiguity.{Before}
 use Rattle.model.specs.Declarations.{Declared, DeclaredSystem, IsOrdered}
 
--- a system that is not placed yet and whose predecessors are all placed
+-- a system that is not placed yet, where all that are before it are placed
 pub record IsPlaceable (s : Schedule) (placed : List ℕ) (n : ℕ) : Type 0 where
   pub known : n < length s.systems
   pub open_yet : has n placed ≡ false
-  pub after : (m : ℕ) → has_edge s m n ≡ true → has m placed ≡ true
+  pub after : (m : ℕ) → m < length s.systems → Before s m n → has m placed ≡ true
 
 -- the least declared such system
 pub record IsNextPlaced (s : Schedule) (placed : List ℕ) (n : ℕ) : Type 0 where
   pub placeable : IsPlaceable s placed n
   pub least : (m : ℕ) → m < n → IsPlaceable s placed m → ⊥
 
--- the schedule order: always the least declared system whose predecessors are all placed, until each system is placed
+-- the schedule order: always the least declared system of which all that are before it are placed, until each system is placed
 pub record IsScheduleOrder (s : Schedule) : Type 0 where
   pub next : (front rest : List ℕ) (n : ℕ) → s.order ≡ front ++ n ∷ rest → IsNextPlaced s front n
   pub whole : (n : ℕ) → n < length s.systems → has n s.order ≡ true

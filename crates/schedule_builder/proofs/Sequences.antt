@@ -1,12 +1,13 @@
 -- The schedule order: one more system, and why it ends with every system.
-use Rattle.std.proofs.Common.{◌≡◌, ℕ, zero, suc, ◌<◌, ◌≤◌, ◌+◌, Bool, true, false, not, ◌&&◌, eqb, List, [], ◌∷◌, ◌++◌, length, get_or, refl, arith, subst, sym, ap, ◌∙◌, inl, inr}
+use Rattle.std.proofs.Common.{◌≡◌, ℕ, zero, suc, ◌<◌, ◌≤◌, ◌+◌, Bool, true, false, not, ◌&&◌, eqb, List, [], ◌∷◌, ◌++◌, length, get_or, refl, arith, subst, sym, ap, ◌∙◌, append_assoc, inl, inr}
 use Rattle.std.specs.List.{list_all}
 use Rattle.std.proofs.lemmas.Bool.{false≢true, or_cases, or_left, or_right, eqb-true, eq-eqb}
 use Rattle.model.specs.Lists.{has}
-use Rattle.model.specs.Schedule.{ScheduledSystem, system_at}
+use Rattle.model.specs.Schedule.{ScheduledSystem, system_at, level_of}
+use Rattle.model.specs.Ambiguity.{Reaches, Before}
 use Rattle.model.specs.ScheduleOrder.{IsPlaceable, IsNextPlaced, IsScheduleOrder}
 use Rattle.cycle_search.specs.Cycles.{IsRankable}
-use Rattle.schedule_builder.specs.Sequence.{schedule_of, can_place, IsEdge, HasSourcesBelow, IsSequence}
+use Rattle.schedule_builder.specs.Sequence.{schedule_of, can_place, IsEdge, HasSourcesBelow, IsOpen, IsNextOpen, IsSequence, HasNoLevels}
 
 -- ---- tests on each of a list's numbers
 
@@ -48,7 +49,7 @@ not_true true h = absurd (false≢true h)
 false_not : (b : Bool) → b ≡ false → not b ≡ true
 false_not b h = ap not h
 
-placeable : (systems : List ScheduledSystem) (placed : List Bool) (order : List ℕ) (n : ℕ) → ((m : ℕ) → get_or placed m false ≡ has m order) → n < length systems → can_place systems placed n ≡ true → IsPlaceable (schedule_of systems []) order n
+placeable : (systems : List ScheduledSystem) (placed : List Bool) (order : List ℕ) (n : ℕ) → ((m : ℕ) → get_or placed m false ≡ has m order) → n < length systems → can_place systems placed n ≡ true → IsOpen systems order n
 placeable systems placed order n same l h =
     let both = both_parts (not (get_or placed n false)) (list_all (λ m. get_or placed m false) (system_at (schedule_of systems []) n).predecessors) h in
     record {
@@ -57,15 +58,15 @@ placeable systems placed order n same l h =
       after = λ m e. sym (same m) ∙ passes (λ k. get_or placed k false) (system_at (schedule_of systems []) n).predecessors m both.1 e;
     }
 
-can_place-of : (systems : List ScheduledSystem) (placed : List Bool) (order : List ℕ) (n : ℕ) → ((m : ℕ) → get_or placed m false ≡ has m order) → IsPlaceable (schedule_of systems []) order n → can_place systems placed n ≡ true
+can_place-of : (systems : List ScheduledSystem) (placed : List Bool) (order : List ℕ) (n : ℕ) → ((m : ℕ) → get_or placed m false ≡ has m order) → IsOpen systems order n → can_place systems placed n ≡ true
 can_place-of systems placed order n same p =
     both_from (not (get_or placed n false)) (list_all (λ m. get_or placed m false) (system_at (schedule_of systems []) n).predecessors)
     (false_not (get_or placed n false) (same n ∙ p.open_yet))
     (all_pass (λ k. get_or placed k false) (system_at (schedule_of systems []) n).predecessors (λ m e. same m ∙ p.after m e))
 
-pub next_is : (systems : List ScheduledSystem) (placed : List Bool) (order : List ℕ) (n : ℕ) → ((m : ℕ) → get_or placed m false ≡ has m order) → n < length systems → can_place systems placed n ≡ true → ((k : ℕ) → k < n → can_place systems placed k ≡ false) → IsNextPlaced (schedule_of systems []) order n
+pub next_is : (systems : List ScheduledSystem) (placed : List Bool) (order : List ℕ) (n : ℕ) → ((m : ℕ) → get_or placed m false ≡ has m order) → n < length systems → can_place systems placed n ≡ true → ((k : ℕ) → k < n → can_place systems placed k ≡ false) → IsNextOpen systems order n
 next_is systems placed order n same l h below = record {
-  placeable = placeable systems placed order n same l h;
+  is_open = placeable systems placed order n same l h;
   least = λ m low p. false≢true (sym (below m low) ∙ can_place-of systems placed order m same p);
 }
 
@@ -85,8 +86,8 @@ push_split P (x ∷ xs) n h p (y ∷ front) rest m e =
     let here : P (x ∷ front) m = push_split (λ f k. P (x ∷ f) k) xs n (λ f r k q. h (x ∷ f) r k (ap (λ (zs : List ℕ). x ∷ zs) q)) p front rest m tail in
     subst (λ (k : ℕ). P (k ∷ front) m) same here
 
-pub sequence_more : (systems : List ScheduledSystem) (order : List ℕ) (n : ℕ) → IsSequence systems order → IsNextPlaced (schedule_of systems []) order n → IsSequence systems (order ++ n ∷ [])
-sequence_more systems order n s p = push_split (IsNextPlaced (schedule_of systems [])) order n s p
+pub sequence_more : (systems : List ScheduledSystem) (order : List ℕ) (n : ℕ) → IsSequence systems order → IsNextOpen systems order n → IsSequence systems (order ++ n ∷ [])
+sequence_more systems order n s p = push_split (IsNextOpen systems) order n s p
 
 -- ---- the end
 
@@ -112,14 +113,58 @@ whole_by : (systems : List ScheduledSystem) (placed : List Bool) (r : IsRankable
 whole_by systems placed r sources none n l true e = refl
 whole_by systems placed r sources none n l false e = absurd (unplaced_left systems placed r sources none r.bound n l e (omega arith))
 
-moved : (systems : List ScheduledSystem) (a b placed : List ℕ) (n : ℕ) → IsPlaceable (schedule_of systems a) placed n → IsPlaceable (schedule_of systems b) placed n
-moved systems a b placed n p = record { known = p.known; open_yet = p.open_yet; after = p.after }
+-- ---- by edges, and by what is before
 
-pub schedule_order : (systems : List ScheduledSystem) (placed : List Bool) (order : List ℕ) → IsRankable (IsEdge systems) → HasSourcesBelow systems → ((m : ℕ) → get_or placed m false ≡ has m order) → IsSequence systems order → ((k : ℕ) → k < length systems → can_place systems placed k ≡ false)
+has-front : (m : ℕ) (front rest : List ℕ) → has m front ≡ true → has m (front ++ rest) ≡ true
+has-front m [] rest h = absurd (false≢true h)
+has-front m (x ∷ front) rest h = elim (or_cases (eqb x m) (has m front) h) [
+    | inl e ↦ or_left (eqb x m) (has m (front ++ rest)) e
+    | inr e ↦ or_right (eqb x m) (has m (front ++ rest)) (has-front m front rest e)
+  ]
+
+-- a number of a list stands at some place of it
+split_at : (m : ℕ) (xs : List ℕ) → has m xs ≡ true → (front : List ℕ) × (rest : List ℕ) × (xs ≡ front ++ m ∷ rest)
+split_at m [] h = absurd (false≢true h)
+split_at m (x ∷ xs) h = elim (or_cases (eqb x m) (has m xs) h) [
+    | inl e ↦ ([], xs, ap (λ (y : ℕ). y ∷ xs) (eqb-true x m e))
+    | inr e ↦ let at = split_at m xs e in (x ∷ at.0, at.1, ap (λ (ys : List ℕ). x ∷ ys) at.2)
+  ]
+
+-- what has an edge to a placed system is placed
+closed : (systems : List ScheduledSystem) (order front rest : List ℕ) → IsSequence systems order → order ≡ front ++ rest
+    → (k m : ℕ) → has m front ≡ true → IsEdge systems k m → has k front ≡ true
+closed systems order front rest s e k m h edge =
+    let at = split_at m front h in
+    let whole : order ≡ at.0 ++ m ∷ (at.1 ++ rest) = e ∙ ap (λ (xs : List ℕ). xs ++ rest) at.2 ∙ append_assoc at.0 (m ∷ at.1) rest in
+    let before : has k at.0 ≡ true = (s at.0 (at.1 ++ rest) m whole).is_open.after k edge in
+    subst (λ (xs : List ℕ). has k xs ≡ true) (sym at.2) (has-front k at.0 (m ∷ at.1) before)
+
+-- so is what a path of edges leads from
+reached : (systems : List ScheduledSystem) (order front rest : List ℕ) (n : ℕ) → IsSequence systems order → order ≡ front ++ n ∷ rest
+    → (m : ℕ) → Reaches (schedule_of systems order) m n → has m front ≡ true
+reached systems order front rest n s e m (Reaches.Edge m n h) = (s front rest n e).is_open.after m h
+reached systems order front rest n s e m (Reaches.Onward m k n h onward) = closed systems order front (n ∷ rest) s e m k (reached systems order front rest n s e k onward) h
+
+-- and, with no levels, all that is before
+before_placed : (systems : List ScheduledSystem) (order front rest : List ℕ) (n : ℕ) → HasNoLevels systems → IsSequence systems order → order ≡ front ++ n ∷ rest
+    → (m : ℕ) → Before (schedule_of systems order) m n → has m front ≡ true
+before_placed systems order front rest n flat s e m (Before.ByPath path) = reached systems order front rest n s e m path
+before_placed systems order front rest n flat s e m (Before.ByLevel low) =
+    let here : level_of (schedule_of systems order) n ≡ 0 = flat n in
+    absurd (omega arith)
+
+next_placed : (systems : List ScheduledSystem) (order front rest : List ℕ) (n : ℕ) → HasSourcesBelow systems → HasNoLevels systems → IsSequence systems order → order ≡ front ++ n ∷ rest
+    → IsNextPlaced (schedule_of systems order) front n
+next_placed systems order front rest n sources flat s e =
+    let here = s front rest n e in
+    record {
+      placeable = record { known = here.is_open.known; open_yet = here.is_open.open_yet; after = λ m l. before_placed systems order front rest n flat s e m };
+      least = λ m l q. here.least m l (record { known = q.known; open_yet = q.open_yet; after = λ k edge. q.after k (sources k m edge) (Before.ByPath (Reaches.Edge k m edge)) });
+    }
+
+pub schedule_order : (systems : List ScheduledSystem) (placed : List Bool) (order : List ℕ) → IsRankable (IsEdge systems) → HasSourcesBelow systems → HasNoLevels systems → ((m : ℕ) → get_or placed m false ≡ has m order) → IsSequence systems order → ((k : ℕ) → k < length systems → can_place systems placed k ≡ false)
     → IsScheduleOrder (schedule_of systems order)
-schedule_order systems placed order r sources same s none = record {
-  next = λ front rest n e.
-      let p = s front rest n e in
-      record { placeable = moved systems [] order front n p.placeable; least = λ m l q. p.least m l (moved systems order [] front m q) };
+schedule_order systems placed order r sources flat same s none = record {
+  next = λ front rest n e. next_placed systems order front rest n sources flat s e;
   whole = λ n l. sym (same n) ∙ whole_by systems placed r sources none n l (get_or placed n false) refl;
 }

@@ -3,8 +3,8 @@ use Rattle.std.specs.Prelude.{ℕ, ◌<◌, ◌≡◌, ◌++◌, ◌∷◌, Bool
 use Rattle.std.specs.List.{list_all, filter}
 use Rattle.model.specs.Access.{Params}
 use Rattle.model.specs.Declarations.{DeclaredSystem, declared_at}
-use Rattle.model.specs.Schedule.{Schedule, ScheduledSystem, system_at, has_edge}
-use Rattle.model.specs.ScheduleOrder.{IsNextPlaced}
+use Rattle.model.specs.Schedule.{Schedule, ScheduledSystem, system_at, has_edge, level_of}
+use Rattle.model.specs.Lists.{has}
 use Rattle.cycle_search.specs.declared.order.Order.{Order}
 
 -- a schedule of these systems in this order, with one sync point
@@ -31,9 +31,24 @@ IsEdge systems m n = has_edge (schedule_of systems []) m n ≡ true
 abbrev pub HasSourcesBelow : List ScheduledSystem → Type 0
 HasSourcesBelow systems = (m n : ℕ) → IsEdge systems m n → m < length systems
 
--- the list follows the rule of the schedule order as far as it goes
+-- a system that is not placed yet, where all that have an edge to it are placed
+pub record IsOpen (systems : List ScheduledSystem) (placed : List ℕ) (n : ℕ) : Type 0 where
+  pub known : n < length systems
+  pub open_yet : has n placed ≡ false
+  pub after : (m : ℕ) → IsEdge systems m n → has m placed ≡ true
+
+-- the least declared such system
+pub record IsNextOpen (systems : List ScheduledSystem) (placed : List ℕ) (n : ℕ) : Type 0 where
+  pub is_open : IsOpen systems placed n
+  pub least : (m : ℕ) → m < n → IsOpen systems placed m → ⊥
+
+-- the list follows the rule of the schedule order as far as it goes, edge by edge
 abbrev pub IsSequence : List ScheduledSystem → List ℕ → Type 0
-IsSequence systems order = (front rest : List ℕ) (n : ℕ) → order ≡ front ++ n ∷ rest → IsNextPlaced (schedule_of systems []) front n
+IsSequence systems order = (front rest : List ℕ) (n : ℕ) → order ≡ front ++ n ∷ rest → IsNextOpen systems front n
+
+-- no system is of a level above the first
+abbrev pub HasNoLevels : List ScheduledSystem → Type 0
+HasNoLevels systems = (n : ℕ) → level_of (schedule_of systems []) n ≡ 0
 
 -- the systems, each with its parameters and the predecessors that orders give it
 pub record AreScheduled (orders : List Order) (systems : List DeclaredSystem) (built : List ScheduledSystem) : Type 0 where

@@ -6,7 +6,7 @@ ghost use Rattle.model.specs.Schedule.{has_edge};
 ghost use Rattle.model.specs.ScheduleOrder.{IsScheduleOrder};
 ghost use Rattle.cycle_search.specs.Cycles.{IsRankable};
 ghost use Rattle.cycle_search.specs.Orders.{IsBetween};
-ghost use Rattle.schedule_builder.specs.Sequence.{schedule_of, can_place, items_before, IsEdge, HasSourcesBelow};
+ghost use Rattle.schedule_builder.specs.Sequence.{schedule_of, can_place, items_before, IsEdge, HasSourcesBelow, HasNoLevels};
 
 use crate::built::System;
 use cycle_search::Order;
@@ -61,6 +61,7 @@ pub(crate) fn order_of(alloc: Global, systems: &[System]) -> Result<Vec<u32>, Al
     requires few { length systems.now ≤ 256 }
     requires falls { IsRankable (IsEdge systems.now) }
     requires sources { HasSourcesBelow systems.now }
+    requires flat { HasNoLevels systems.now }
     ensures { IfOk result (λ order. IsScheduleOrder (schedule_of systems.now order.items)) }
 {
     let mut placed = vec![in alloc; false; systems.len()]?;

@@ -1,6 +1,6 @@
 -- Readers and registers over several runs: a reader before and after the writer, one system with two readers, registers that stay;
 -- and change filters over three runs.
-use Rattle.std.proofs.Common.{◌≡◌, ℕ, ℤ, pos, ◌+ℤ◌, List, [], ◌∷◌, map, fold, length, get_or, Option, Some, None, Ok, option_map, refl}
+use Rattle.std.proofs.Common.{◌≡◌, ℤ, pos, ◌+ℤ◌, List, [], ◌∷◌, map, fold, length, get_or, Option, Some, None, Ok, option_map, refl}
 use Rattle.model.specs.declared.steps.Step.{Step}
 use Rattle.model.specs.declared.steps.Step.TheVariants.{Start, Finish, Sync}
 use Rattle.model.specs.Lists.{head_or}

@@ -1,5 +1,5 @@
 -- The members of sets in sets, computed.
-use Rattle.std.proofs.Common.{ℕ, ◌≡◌, false, List, [], ◌∷◌, refl}
+use Rattle.std.proofs.Common.{◌≡◌, false, [], ◌∷◌, refl}
 use Rattle.model.specs.Hierarchy.{Hierarchy, Reaches, reaches_within, members_of}
 use Rattle.model.proofs.Hierarchies.{reaches_from_test}
 

@@ -1,4 +1,4 @@
-use Rattle.std.proofs.Common.{◌≡◌, ℕ, List, sym, subst}
+use Rattle.std.proofs.Common.{◌≡◌, ℕ, List, [], sym, subst}
 use Rattle.model.specs.Declarations.{DeclaredSystem}
 use Rattle.model.specs.Refusals.{IsBuildable}
 use Rattle.model.specs.Schedule.{Schedule, ScheduledSystem}
@@ -6,7 +6,7 @@ use Rattle.model.specs.ScheduleOrder.{IsScheduleOrder, HasDeclaredSystems, HasDe
 use Rattle.cycle_search.specs.declared.order.Order.{Order}
 use Rattle.schedule_builder.specs.Orders.{items_of, AreDeclared}
 use Rattle.schedule_builder.specs.Sequence.{schedule_of, AreScheduled}
-use Rattle.schedule_builder.proofs.Assembly.{edges_rankable, edges_from, is_built, declared_systems, declared_edges}
+use Rattle.schedule_builder.proofs.Assembly.{edges_rankable, edges_from, no_levels, is_built, declared_systems, declared_edges}
 use Rattle.schedule_builder.proofs.builder.build.Goals as goal
 
 -- the systems of the schedule are those of the declared ones
@@ -28,6 +28,13 @@ order_of-requires-clause-sources c =
     let a = are_scheduled orders c.as_slice.result.now systems c.into_systems.result.items c.in_ok-systems.systems.items c.as_slice.ensures.value c.into_systems.ensures c.in_ok-systems.ensures in
     let d : AreDeclared systems orders = subst (λ (xs : List DeclaredSystem). AreDeclared xs orders) c.systems.ensures c.in_ok-orders.ensures.declared in
     rw c.as_slice-2.ensures.value (edges_from orders systems c.in_ok-systems.systems.items d a)
+
+pub order_of-requires-clause-flat : goal.order_of-requires-clause-flat
+order_of-requires-clause-flat c =
+    let orders : List Order = c.in_ok-orders.orders.items in
+    let systems : List DeclaredSystem = c.args.desc.systems in
+    let a = are_scheduled orders c.as_slice.result.now systems c.into_systems.result.items c.in_ok-systems.systems.items c.as_slice.ensures.value c.into_systems.ensures c.in_ok-systems.ensures in
+    rw c.as_slice-2.ensures.value (no_levels orders systems c.in_ok-systems.systems.items [] a)
 
 pub of_parts-requires : goal.of_parts-requires
 of_parts-requires c =

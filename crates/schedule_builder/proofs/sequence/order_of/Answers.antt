@@ -31,4 +31,4 @@ returns-in-None c =
     let inv = c.loop-order.invariant in
     let same : c.as_slice.result.now ≡ placed = c.as_slice.ensures.value in
     let none : (k : ℕ) → k < length systems → can_place systems placed k ≡ false = λ k l. subst (λ (xs : List Bool). can_place systems xs k ≡ false) same (c.in-None.ensures.none k l) in
-    schedule_order systems placed c.loop-order.order.items c.requires.falls c.requires.sources inv.placed inv.sequence none
+    schedule_order systems placed c.loop-order.order.items c.requires.falls c.requires.sources c.requires.flat inv.placed inv.sequence none
