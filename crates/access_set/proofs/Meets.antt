@@ -3,13 +3,13 @@ use Rattle.std.proofs.Common.{ℕ, Bool, true, ◌||◌, ◌≡◌, ◌↔◌, �
 use Rattle.std.proofs.lemmas.Bool.{or_cases, or_left, or_right, false≢true}
 use Rattle.std.specs.List.{list_any}
 use Rattle.model.specs.Lists.{has, is_number}
-use Rattle.model.specs.Query.{Term, touched}
-use Rattle.model.specs.Access.{Params, names_resource, names_event}
-use Rattle.model.specs.Conflict.{Conflict, QueriesConflictAt, queries_conflict_at}
-use Rattle.model.specs.Conflict.Datum.{OfKind, OfResource, OfEvent}
-use Rattle.model.proofs.Lists.{list_any-IsIn, IsIn_from_any, has-IsIn, IsIn_from_has}
-use Rattle.model.proofs.Members.{number-of}
-use Rattle.model.proofs.Tests.{test-queries, conflict-queries}
+use Rattle.model.specs.access.Query.{Term, touched}
+use Rattle.model.specs.access.Access.{Params, names_resource, names_event}
+use Rattle.model.specs.access.Conflict.{Conflict, QueriesConflictAt, queries_conflict_at}
+use Rattle.model.specs.access.Conflict.Datum.{OfKind, OfResource, OfEvent}
+use Rattle.model.proofs.lists.Lists.{list_any-IsIn, IsIn_from_any, has-IsIn, IsIn_from_has}
+use Rattle.model.proofs.lists.Members.{number-of}
+use Rattle.model.proofs.serial.ConflictTests.{test-queries, conflict-queries}
 use Rattle.query.proofs.Terms.{list_any-map}
 use Rattle.access_set.specs.Meets.{MeetAtKind, MeetAtResource, MeetAtEvent, meets_at, queries_meet}
 

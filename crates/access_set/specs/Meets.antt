@@ -1,10 +1,10 @@
 -- Where two accesses conflict, in three parts, as they are looked for.
 use Rattle.std.specs.Prelude.{ℕ, Bool, false, List, Option, Some, None}
 use Rattle.std.specs.List.{list_any}
-use Rattle.model.specs.Query.{Term, touched}
-use Rattle.model.specs.Access.{Params}
-use Rattle.model.specs.Conflict.{ConflictAt, queries_conflict_at}
-use Rattle.model.specs.Conflict.Datum.{OfKind, OfResource, OfEvent}
+use Rattle.model.specs.access.Query.{Term, touched}
+use Rattle.model.specs.access.Access.{Params}
+use Rattle.model.specs.access.Conflict.{ConflictAt, queries_conflict_at}
+use Rattle.model.specs.access.Conflict.Datum.{OfKind, OfResource, OfEvent}
 
 -- at some kind
 abbrev pub MeetAtKind : Params → Params → Type 0

@@ -5,9 +5,9 @@ ghost use Rattle.std.specs.List.{list_any, list_all};
 ghost use Rattle.kinds.specs.Kind.{kind_number};
 ghost use Rattle.kinds.specs.Res.{res_number, event_number};
 ghost use Rattle.query.specs.Term.{term_of};
-ghost use Rattle.model.specs.Query.{admits, matches, touched, writes};
-ghost use Rattle.model.specs.Access.{names_resource, names_event};
-ghost use Rattle.model.specs.Conflict.{Conflict, least_kinds, queries_conflict_at};
+ghost use Rattle.model.specs.access.Query.{admits, matches, touched, writes};
+ghost use Rattle.model.specs.access.Access.{names_resource, names_event};
+ghost use Rattle.model.specs.access.Conflict.{Conflict, least_kinds, queries_conflict_at};
 ghost use Rattle.access_set.specs.Meets.{MeetAtKind, MeetAtResource, MeetAtEvent, meets_at, queries_meet};
 
 use crate::params::Params;

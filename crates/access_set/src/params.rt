@@ -3,7 +3,7 @@
 ghost use Rattle.std.specs.Prelude.{◌≡◌, ◌==◌, [], ◌∷◌, ◌++◌, map, OnOk, OnErr, None};
 ghost use Rattle.kinds.specs.Res.{res_number, event_number};
 ghost use Rattle.std.specs.List.{list_any};
-ghost use Rattle.model.specs.Access.{no_params, names_resource, names_event};
+ghost use Rattle.model.specs.access.Access.{no_params, names_resource, names_event};
 ghost use Rattle.model.specs.Lists.{has};
 
 use kinds::res::{Event, Res};
@@ -26,7 +26,7 @@ pub struct Params {
 
 impl Model for Params {
     ghost use Rattle.std.specs.Prelude.{◌≡◌, [], map, None};
-    ghost use Rattle.model.specs.Access as access;
+    ghost use Rattle.model.specs.access.Access as access;
     ghost use Rattle.kinds.specs.Res.{res_number, event_number};
 
     ghost Value = { access.Params };

@@ -6,10 +6,10 @@ use Rattle.std.proofs.lemmas.Bool.{cases_eq, and_parts, eqb-true, eq-eqb, ne_eqb
 use Rattle.std.proofs.lemmas.Bool.Decides.{nat_tests}
 use Rattle.std.proofs.lemmas.List.{get_or-set_same, get_or-set_other, get_or_past, get_or_default}
 use Rattle.model.specs.Lists.{is_there, update_at, IsIn}
-use Rattle.model.specs.State.{Cell, Component}
-use Rattle.model.specs.Rows.{cell_at}
+use Rattle.model.specs.state.State.{Cell, Component}
+use Rattle.model.specs.state.Rows.{cell_at}
 use Rattle.model.specs.declared.entities.Entity.{Entity}
-use Rattle.model.proofs.Lists.{map-same}
+use Rattle.model.proofs.lists.Lists.{map-same}
 use Rattle.column_store.specs.Column.{ColumnCells}
 use Rattle.column_store.specs.Kinds.{AreBelow, at_kind, update_kind}
 use Rattle.column_store.specs.Order.{is_before, is_same, AreRising}

@@ -3,14 +3,14 @@ use Rattle.std.proofs.Common.{◌≡◌, ℕ, zero, suc, ℤ, ◌<◌, Bool, tru
 use Rattle.std.specs.List.{list_any, AllByRecursion}
 use Rattle.std.proofs.lemmas.Bool.{and_parts, eqb-true}
 use Rattle.model.specs.Lists.{map_index}
-use Rattle.model.specs.State.{Cell, Component, Slot, fresh_slot, is_living}
-use Rattle.model.specs.Rows.{cell_at, IsRising}
-use Rattle.model.specs.Commands.{is_alive, with_row}
-use Rattle.model.specs.Overlay.{cell_after, component_after, row_after, slot_after, slots_after}
-use Rattle.model.specs.Shape.{IsSlot, IsWorld}
+use Rattle.model.specs.state.State.{Cell, Component, Slot, fresh_slot, is_living}
+use Rattle.model.specs.state.Rows.{cell_at, IsRising}
+use Rattle.model.specs.state.Commands.{is_alive, with_row}
+use Rattle.model.specs.shown.Overlay.{cell_after, component_after, row_after, slot_after, slots_after}
+use Rattle.model.specs.state.Shape.{IsSlot, IsWorld}
 use Rattle.model.specs.declared.entities.Entity.{Entity}
-use Rattle.model.proofs.Each.{each-weaker}
-use Rattle.model.proofs.Lists.{IsIn_from_any, list_any-IsIn, map_index-same, map_index-map_index, get_or-update_at-view}
+use Rattle.model.proofs.lists.Each.{each-weaker}
+use Rattle.model.proofs.lists.Lists.{IsIn_from_any, list_any-IsIn, map_index-same, map_index-map_index, get_or-update_at-view}
 use Rattle.kinds.specs.Components.{widths}
 use Rattle.column_store.specs.Order.{is_same}
 use Rattle.column_store.proofs.Made.{same_entity}

@@ -2,13 +2,13 @@
 use Rattle.std.proofs.Common.{◌≡◌, ℕ, Bool, true, false, cond, ◌==◌, List, [], ◌∷◌, length, Option, Some, None, refl, sym, ap, subst, ◌∙◌, arith}
 use Rattle.std.specs.List.{AllByRecursion}
 use Rattle.std.proofs.lemmas.Bool.{and_parts, eqb-true}
-use Rattle.model.specs.State.{Cell, Component, Slot, World, fresh_slot}
-use Rattle.model.specs.Rows.{row_at, cell_at, IsRising}
-use Rattle.model.specs.Commands.{is_alive, with_row}
-use Rattle.model.specs.Shape.{IsComponent, IsSlot, IsWorld}
+use Rattle.model.specs.state.State.{Cell, Component, Slot, World, fresh_slot}
+use Rattle.model.specs.state.Rows.{row_at, cell_at, IsRising}
+use Rattle.model.specs.state.Commands.{is_alive, with_row}
+use Rattle.model.specs.state.Shape.{IsComponent, IsSlot, IsWorld}
 use Rattle.model.specs.declared.entities.Entity.{Entity}
-use Rattle.model.proofs.Lists.{map-same, list_any-IsIn, map_index-same, map_index-map_index, length-map_index}
-use Rattle.model.proofs.Each.{each-map_index}
+use Rattle.model.proofs.lists.Lists.{map-same, list_any-IsIn, map_index-same, map_index-map_index, length-map_index}
+use Rattle.model.proofs.lists.Each.{each-map_index}
 use Rattle.column_store.specs.Order.{is_same}
 use Rattle.entity_table.specs.Ids.{slot_at, lives_at}
 use Rattle.entity_table.specs.Rows.{with_rows}

@@ -1,7 +1,7 @@
 -- A write of a resource.
 use Rattle.std.proofs.Common.{◌≡◌, ℕ, zero, suc, ℤ, List, [], ◌∷◌, set, map, Some, refl, ap}
 use Rattle.model.specs.Lists.{update_at}
-use Rattle.model.specs.Overlay.{resource_after}
+use Rattle.model.specs.shown.Overlay.{resource_after}
 use Rattle.archetype_store.specs.declared.resources.Resource.{Resource}
 use Rattle.archetype_store.specs.Resources.{resource_of}
 

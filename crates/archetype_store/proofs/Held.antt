@@ -6,11 +6,11 @@ use Rattle.std.proofs.lemmas.List.{get_or-set_same, get_or-set_other}
 use Rattle.std.proofs.Math.Seq.{map-set_same}
 use Rattle.std.specs.List.{AllByRecursion, list_all}
 use Rattle.model.specs.Lists.{is_there}
-use Rattle.model.specs.State.{Component}
-use Rattle.model.specs.Rows.{cell_at}
-use Rattle.model.specs.Overlay.{row_after}
+use Rattle.model.specs.state.State.{Component}
+use Rattle.model.specs.state.Rows.{cell_at}
+use Rattle.model.specs.shown.Overlay.{row_after}
 use Rattle.model.specs.declared.entities.Entity.{Entity}
-use Rattle.model.proofs.Each.{each-weaker}
+use Rattle.model.proofs.lists.Each.{each-weaker}
 use Rattle.column_store.specs.declared.stamped.StampedValue.{StampedValue}
 use Rattle.column_store.specs.Cells.{stamped_number, changed_cell}
 use Rattle.column_store.specs.Kinds.{AreBelow}

@@ -4,7 +4,7 @@ use Rattle.std.proofs.lemmas.List.{length-map, take_more, append-nil, map-append
 use Rattle.std.proofs.lemmas.Bool.{and_parts, eqb-true}
 use Rattle.std.specs.List.{list_any, AllByRecursion}
 use Rattle.model.specs.Lists.{is_there}
-use Rattle.model.specs.State.{Component, Slot}
+use Rattle.model.specs.state.State.{Component, Slot}
 use Rattle.model.specs.declared.entities.Entity.{Entity}
 use Rattle.column_store.specs.Order.{is_same}
 use Rattle.column_store.specs.Table.{TableRow, TableValue, is_home, row_of as row_in_table}

@@ -3,7 +3,7 @@ use Rattle.std.proofs.Common.{◌≡◌, ◌≢◌, ℕ, ◌<◌, Bool, true, fa
 use Rattle.std.proofs.lemmas.Bool.{cases_eq, ne_eqb, eqb-true}
 use Rattle.std.proofs.lemmas.List.{get_or-set_same, get_or-set_other}
 use Rattle.model.specs.Lists.{with_at, is_there}
-use Rattle.model.specs.State.{Component}
+use Rattle.model.specs.state.State.{Component}
 use Rattle.model.specs.declared.entities.Entity.{Entity}
 use Rattle.column_store.specs.Table.{TableValue}
 use Rattle.archetype_store.specs.declared.places.Place.{Place}

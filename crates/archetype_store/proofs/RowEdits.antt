@@ -4,9 +4,9 @@ use Rattle.std.proofs.lemmas.Bool.{eqb-true}
 use Rattle.std.proofs.lemmas.Bool.Decides.{nat_tests}
 use Rattle.std.specs.List.{AllByRecursion}
 use Rattle.model.specs.Lists.{has}
-use Rattle.model.specs.State.{Cell, Component}
-use Rattle.model.specs.Rows.{cell_at, IsRising, insert_component, remove_component, new_component, changed_component}
-use Rattle.model.specs.Overlay.{row_after, cell_after}
+use Rattle.model.specs.state.State.{Cell, Component}
+use Rattle.model.specs.state.Rows.{cell_at, IsRising, insert_component, remove_component, new_component, changed_component}
+use Rattle.model.specs.shown.Overlay.{row_after, cell_after}
 use Rattle.column_store.specs.declared.stamped.StampedValue.{StampedValue}
 use Rattle.column_store.specs.Cells.{stamped_number}
 use Rattle.column_store.specs.Kinds.{AreBelow}

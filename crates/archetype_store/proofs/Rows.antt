@@ -5,8 +5,8 @@ use Rattle.std.proofs.lemmas.List.{map-append}
 use Rattle.std.proofs.lemmas.Bool.Decides.{nat_tests}
 use Rattle.kinds.specs.declared.value.Value.{Value}
 use Rattle.kinds.specs.Value.{value_number, value_words}
-use Rattle.model.specs.State.{Cell, Component}
-use Rattle.model.specs.Rows.{cell_at, new_component, insert_component, remove_component}
+use Rattle.model.specs.state.State.{Cell, Component}
+use Rattle.model.specs.state.Rows.{cell_at, new_component, insert_component, remove_component}
 use Rattle.column_store.specs.declared.stamped.StampedValue.{StampedValue}
 use Rattle.column_store.proofs.Lists.{map-insert}
 use Rattle.archetype_store.specs.Row.{component_of, added_at}

@@ -4,9 +4,9 @@ use Rattle.std.proofs.lemmas.Bool.{cases_eq, cases_lt, and_parts, eqb-true, eq-e
 use Rattle.std.proofs.lemmas.List.{get_or_past}
 use Rattle.model.specs.declared.entities.Entity.{Entity}
 use Rattle.model.specs.Lists.{update_at, with_at, is_there}
-use Rattle.model.specs.State.{Component, Slot, fresh_slot, is_living, is_granted}
-use Rattle.model.specs.Rows.{row_at}
-use Rattle.model.specs.Commands.{is_alive, freed, with_row}
+use Rattle.model.specs.state.State.{Component, Slot, fresh_slot, is_living, is_granted}
+use Rattle.model.specs.state.Rows.{row_at}
+use Rattle.model.specs.state.Commands.{is_alive, freed, with_row}
 use Rattle.entity_table.specs.Ids.{slot_at, lives_at}
 use Rattle.entity_table.specs.Rows.{with_rows}
 use Rattle.entity_table.proofs.Living.{alive-freed_other}

@@ -3,9 +3,9 @@ use Rattle.std.proofs.Common.{◌≡◌, ℕ, zero, suc, ◌<◌, Bool, true, fa
 use Rattle.std.specs.List.{list_all, AllByRecursion}
 use Rattle.std.proofs.lemmas.List.{length-map}
 use Rattle.model.specs.Lists.{is_there}
-use Rattle.model.specs.State.{Component}
+use Rattle.model.specs.state.State.{Component}
 use Rattle.model.specs.declared.entities.Entity.{Entity}
-use Rattle.model.proofs.Lists.{map_index-same}
+use Rattle.model.proofs.lists.Lists.{map_index-same}
 use Rattle.column_store.specs.Kinds.{at_kind, AreBelow}
 use Rattle.column_store.specs.Table.{Standing, TableRow, TableValue, is_home, is_owned, is_not_away, is_own_if, standing_of, IsAlike}
 use Rattle.column_store.specs.Table.Standing.{Owned, Shared, Away}

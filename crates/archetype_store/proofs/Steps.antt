@@ -1,11 +1,11 @@
 -- What the steps of one row come to: insertions, removals and writes of a kind.
 use Rattle.std.proofs.Common.{◌≡◌, ◌≢◌, ℕ, zero, suc, ◌<◌, true, false, ℤ, List, [], ◌∷◌, length, set, map, Option, Some, None, option_map, is_some, refl, sym, ap, subst, ◌∙◌, arith}
 use Rattle.model.specs.Lists.{is_there}
-use Rattle.model.specs.State.{Component}
+use Rattle.model.specs.state.State.{Component}
 use Rattle.model.specs.declared.entities.Entity.{Entity}
-use Rattle.model.specs.Rows.{cell_at, IsRising, insert_component, remove_component}
-use Rattle.model.specs.Overlay.{row_after}
-use Rattle.model.proofs.RowShapes.{rising-insert, rising-remove}
+use Rattle.model.specs.state.Rows.{cell_at, IsRising, insert_component, remove_component}
+use Rattle.model.specs.shown.Overlay.{row_after}
+use Rattle.model.proofs.shape.Rows.{rising-insert, rising-remove}
 use Rattle.column_store.specs.declared.stamped.StampedValue.{StampedValue}
 use Rattle.column_store.specs.Cells.{stamped_number}
 use Rattle.column_store.specs.Kinds.{AreBelow}

@@ -6,13 +6,13 @@ use Rattle.std.specs.Arc.{arc_value}
 use Rattle.std.proofs.lemmas.List.{length-map, take_more}
 use Rattle.kinds.specs.Kind.{kind_number}
 use Rattle.kinds.specs.Components.{widths}
-use Rattle.model.specs.State.{Cell, Component, Slot, World}
-use Rattle.model.specs.Rows.{row_at, cell_at, IsRising}
-use Rattle.model.specs.Commands.{is_alive}
-use Rattle.model.specs.Shape.{IsComponent, IsSlot, IsWorld}
+use Rattle.model.specs.state.State.{Cell, Component, Slot, World}
+use Rattle.model.specs.state.Rows.{row_at, cell_at, IsRising}
+use Rattle.model.specs.state.Commands.{is_alive}
+use Rattle.model.specs.state.Shape.{IsComponent, IsSlot, IsWorld}
 use Rattle.model.specs.declared.entities.Entity.{Entity}
-use Rattle.model.proofs.Each.{each-weaker}
-use Rattle.model.proofs.Lists.{get_or-update_at-view}
+use Rattle.model.proofs.lists.Each.{each-weaker}
+use Rattle.model.proofs.lists.Lists.{get_or-update_at-view}
 use Rattle.column_store.specs.Kinds.{at_kind, update_kind}
 use Rattle.archetype_store.specs.declared.columns.ColumnAt.{ColumnAt}
 use Rattle.archetype_store.specs.declared.columns.TakenColumn.{TakenColumn}

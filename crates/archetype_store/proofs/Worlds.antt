@@ -8,16 +8,16 @@ use Rattle.kinds.specs.Value.{value_number, value_words}
 use Rattle.kinds.specs.Components.{widths}
 use Rattle.model.specs.declared.entities.Entity.{Entity}
 use Rattle.model.specs.Lists.{update_at}
-use Rattle.model.specs.State.{Slot, World, fresh_slot, most_indices}
-use Rattle.model.specs.Rows.{insert_component, remove_component}
-use Rattle.model.specs.Ids.{has_ids, grant}
-use Rattle.model.specs.Commands.{is_alive, spawned, freed, with_row, release}
-use Rattle.model.specs.Loaded.{resource_given}
-use Rattle.model.specs.Overlay.{slot_after, resource_after}
-use Rattle.model.specs.Shape.{IsSlot, IsWorld}
-use Rattle.model.proofs.Each.{each-update_at}
-use Rattle.model.proofs.Lists.{length-update_at}
-use Rattle.model.proofs.SlotShapes.{slot-spawned, slot-inserted, slot-removed, slot-after, slot-freed, slots-grant, length-grant, slots-release, length-release}
+use Rattle.model.specs.state.State.{Slot, World, fresh_slot, most_indices}
+use Rattle.model.specs.state.Rows.{insert_component, remove_component}
+use Rattle.model.specs.state.Ids.{has_ids, grant}
+use Rattle.model.specs.state.Commands.{is_alive, spawned, freed, with_row, release}
+use Rattle.model.specs.state.Loaded.{resource_given}
+use Rattle.model.specs.shown.Overlay.{slot_after, resource_after}
+use Rattle.model.specs.state.Shape.{IsSlot, IsWorld}
+use Rattle.model.proofs.lists.Each.{each-update_at}
+use Rattle.model.proofs.lists.Lists.{length-update_at}
+use Rattle.model.proofs.shape.Slots.{slot-spawned, slot-inserted, slot-removed, slot-after, slot-freed, slots-grant, length-grant, slots-release, length-release}
 use Rattle.entity_table.specs.Ids.{spawned_all, settled}
 use Rattle.archetype_store.specs.Row.{only}
 use Rattle.archetype_store.specs.Store.{with_slots, with_slot, with_resource}

@@ -2,8 +2,8 @@
 use Rattle.std.specs.Prelude.{◌≡◌, ℕ, Bool, true, false, cond, ◌==◌, ◌&&◌, List, [], ◌∷◌, get_or, map, Option, Some, None, option_map, is_some}
 use Rattle.std.specs.List.{AllByRecursion}
 use Rattle.model.specs.Lists.{map_index, with_at, is_there}
-use Rattle.model.specs.State.{Cell, Component}
-use Rattle.model.specs.Rows.{cell_at}
+use Rattle.model.specs.state.State.{Cell, Component}
+use Rattle.model.specs.state.Rows.{cell_at}
 use Rattle.model.specs.declared.entities.Entity.{Entity}
 use Rattle.column_store.specs.Order.{is_same}
 use Rattle.column_store.specs.Table.{TableValue}

@@ -3,9 +3,9 @@ use Rattle.std.specs.Prelude.{◌≡◌, ◌≢◌, ℕ, Bool, true, cond, ◌==
 use Rattle.std.specs.List.{list_any, list_all, AllByRecursion}
 use Rattle.model.specs.Lists.{is_there, update_at}
 use Rattle.model.specs.declared.entities.Entity.{Entity}
-use Rattle.model.specs.State.{Slot}
-use Rattle.model.specs.Rows.{row_at}
-use Rattle.model.specs.Commands.{is_alive}
+use Rattle.model.specs.state.State.{Slot}
+use Rattle.model.specs.state.Rows.{row_at}
+use Rattle.model.specs.state.Commands.{is_alive}
 use Rattle.column_store.specs.Order.{is_same}
 use Rattle.column_store.specs.Kinds.{AreBelow, at_kind, update_kind}
 use Rattle.column_store.specs.Table.{TableValue, is_home}

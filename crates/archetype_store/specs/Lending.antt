@@ -4,7 +4,7 @@ use Rattle.std.specs.List.{AllByRecursion}
 use Rattle.std.specs.Arc.{arc_value}
 use Rattle.kinds.specs.Kind.{kind_number}
 use Rattle.model.specs.Lists.{has}
-use Rattle.model.specs.State.{Slot}
+use Rattle.model.specs.state.State.{Slot}
 use Rattle.column_store.specs.Column.{ColumnCells}
 use Rattle.archetype_store.specs.declared.columns.ColumnAt.{ColumnAt}
 use Rattle.archetype_store.specs.declared.columns.TakenColumn.{TakenColumn}

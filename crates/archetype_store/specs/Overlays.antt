@@ -1,10 +1,10 @@
 -- Columns that come home as writes laid over a state.
 use Rattle.std.specs.Prelude.{◌≡◌, ℕ, ℤ, true, Bool, cond, ◌==◌, ◌&&◌, List, [], ◌∷◌, map, Option, Some, None, option_map}
 use Rattle.std.specs.List.{list_any, AllByRecursion}
-use Rattle.model.specs.State.{Cell, Slot}
-use Rattle.model.specs.Rows.{IsRising}
-use Rattle.model.specs.Overlay.{cell_after, slots_after}
-use Rattle.model.specs.Shape.{IsWorld}
+use Rattle.model.specs.state.State.{Cell, Slot}
+use Rattle.model.specs.state.Rows.{IsRising}
+use Rattle.model.specs.shown.Overlay.{cell_after, slots_after}
+use Rattle.model.specs.state.Shape.{IsWorld}
 use Rattle.model.specs.declared.entities.Entity.{Entity}
 use Rattle.kinds.specs.Components.{widths}
 use Rattle.archetype_store.specs.declared.columns.TakenColumn.{TakenColumn}

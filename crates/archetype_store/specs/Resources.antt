@@ -1,6 +1,6 @@
 -- A resource as the definitions have it.
 use Rattle.std.specs.Prelude.{ℕ, List, get_or}
-use Rattle.model.specs.State.{Resource as ModelResource, no_resource}
+use Rattle.model.specs.state.State.{Resource as ModelResource, no_resource}
 use Rattle.archetype_store.specs.declared.resources.Resource.{Resource}
 
 -- the resource that the definitions speak of

@@ -1,6 +1,6 @@
 -- A stamped component as the definitions have it, and the writes of one kind.
 use Rattle.std.specs.Prelude.{ℕ, ℤ, List, Option, Some, None}
-use Rattle.model.specs.State.{Component}
+use Rattle.model.specs.state.State.{Component}
 use Rattle.model.specs.Lists.{with_at}
 use Rattle.kinds.specs.declared.value.Value.{Value}
 use Rattle.column_store.specs.declared.stamped.StampedValue.{StampedValue}

@@ -1,9 +1,9 @@
 -- What is known of an index.
 use Rattle.std.specs.Prelude.{ℕ, cond, List, map, Option, None}
 use Rattle.model.specs.declared.entities.Entity.{Entity}
-use Rattle.model.specs.State.{Cell, Slot}
-use Rattle.model.specs.Rows.{cell_at, row_at}
-use Rattle.model.specs.Commands.{is_alive}
+use Rattle.model.specs.state.State.{Cell, Slot}
+use Rattle.model.specs.state.Rows.{cell_at, row_at}
+use Rattle.model.specs.state.Commands.{is_alive}
 
 -- the cell of a kind of an entity that lives
 abbrev pub cell_of : List Slot → Entity → ℕ → Option Cell

@@ -1,7 +1,7 @@
 -- Slots by index, and the rows of an id book.
 use Rattle.std.specs.Prelude.{◌≡◌, ℕ, true, List, [], Some, None}
-use Rattle.model.specs.State.{Slot}
-use Rattle.model.specs.Commands.{is_alive}
+use Rattle.model.specs.state.State.{Slot}
+use Rattle.model.specs.state.Commands.{is_alive}
 use Rattle.archetype_store.specs.Layout.{Archetype}
 use Rattle.archetype_store.specs.Archetypes.{ArchetypesValue, row_of, holder_of}
 

@@ -2,10 +2,10 @@
 use Rattle.std.specs.Prelude.{ℕ, ◌≤◌, true, ℤ, pos, List, [], replicate, Some}
 use Rattle.model.specs.Lists.{map_index, update_at}
 use Rattle.model.specs.declared.entities.Entity.{Entity}
-use Rattle.model.specs.Commands.{with_row}
-use Rattle.model.specs.State.{Cell, Slot, World, resource_count}
-use Rattle.model.specs.Loaded.{resource_given}
-use Rattle.model.specs.Overlay.{resource_after}
+use Rattle.model.specs.state.Commands.{with_row}
+use Rattle.model.specs.state.State.{Cell, Slot, World, resource_count}
+use Rattle.model.specs.state.Loaded.{resource_given}
+use Rattle.model.specs.shown.Overlay.{resource_after}
 use Rattle.archetype_store.specs.Layout.{Archetype, archetype_at, with_home}
 use Rattle.archetype_store.specs.Archetypes.{cell_for, row_with}
 use Rattle.change_ticks.specs.declared.stamp.Stamp.{Stamp}

@@ -2,7 +2,7 @@
 use Rattle.std.specs.Prelude.{◌≡◌, ◌≢◌, ℕ, zero, suc, ◌<◌, Bool, true, false, cond, ◌==◌, ◌&&◌, List, [], ◌∷◌, length, get_or, map, Option, Some, None, option_map}
 use Rattle.std.specs.List.{AllByRecursion, list_all}
 use Rattle.model.specs.Lists.{is_there}
-use Rattle.model.specs.State.{Cell, Component}
+use Rattle.model.specs.state.State.{Cell, Component}
 use Rattle.model.specs.declared.entities.Entity.{Entity}
 use Rattle.archetype_store.specs.declared.places.Place.{Place}
 use Rattle.column_store.specs.Order.{is_same}

@@ -2,8 +2,8 @@
 
 ghost use Rattle.std.specs.Prelude.{◌≡◌, true, false, [], length, Some, map, option_map, IfSome, IfOk, OnOk, OnErr};
 ghost use Rattle.kinds.specs.Value.{value_number, value_words};
-ghost use Rattle.model.specs.Rows.{cell_at, kinds_of, insert_component, remove_component};
-ghost use Rattle.model.specs.Overlay.{row_after};
+ghost use Rattle.model.specs.state.Rows.{cell_at, kinds_of, insert_component, remove_component};
+ghost use Rattle.model.specs.shown.Overlay.{row_after};
 ghost use Rattle.column_store.specs.Cells.{stamped_number};
 ghost use Rattle.archetype_store.specs.Row.{component_of, only};
 ghost use Rattle.std.specs.Arc.{arc_value};

@@ -2,7 +2,7 @@
 
 ghost use Rattle.std.specs.Prelude.{◌≡◌, ◌==◌, nat_le, suc, length, map, position, None, IsSome, OnOk, OnErr};
 ghost use Rattle.kinds.specs.Value.{value_number, value_words};
-ghost use Rattle.model.specs.Rows.{cell_at, insert_component, remove_component};
+ghost use Rattle.model.specs.state.Rows.{cell_at, insert_component, remove_component};
 ghost use Rattle.archetype_store.specs.Row.{component_of, added_at};
 
 use change_ticks::clock::Tick;

@@ -2,8 +2,8 @@
 
 ghost use Rattle.std.specs.Prelude.{◌≡◌, ◌≢◌, ◌<◌, [], length, map, None, Some, IsSome, OnOk, OnErr};
 ghost use Rattle.kinds.specs.Value.{value_number, value_words};
-ghost use Rattle.model.specs.Rows.{insert_component, remove_component};
-ghost use Rattle.model.specs.Overlay.{row_after};
+ghost use Rattle.model.specs.state.Rows.{insert_component, remove_component};
+ghost use Rattle.model.specs.shown.Overlay.{row_after};
 ghost use Rattle.column_store.specs.Cells.{stamped_number};
 ghost use Rattle.column_store.specs.Kinds.{AreBelow};
 ghost use Rattle.archetype_store.specs.Row.{component_of, only};

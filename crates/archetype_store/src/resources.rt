@@ -3,10 +3,10 @@
 ghost use Rattle.std.specs.Prelude.{◌≡◌, pos, replicate, Some};
 ghost use Rattle.kinds.specs.Res.{res_number};
 ghost use Rattle.model.specs.Lists.{update_at};
-ghost use Rattle.model.specs.State.{resource_count};
-ghost use Rattle.model.specs.Input.{value_of};
-ghost use Rattle.model.specs.Loaded.{resource_given};
-ghost use Rattle.model.specs.Overlay.{resource_after};
+ghost use Rattle.model.specs.state.State.{resource_count};
+ghost use Rattle.model.specs.shown.Input.{value_of};
+ghost use Rattle.model.specs.state.Loaded.{resource_given};
+ghost use Rattle.model.specs.shown.Overlay.{resource_after};
 ghost use Rattle.archetype_store.specs.Resources.{changed_of};
 
 use change_ticks::clock::Tick;
@@ -28,7 +28,7 @@ pub struct Resources {
 
 impl Model for Resources {
     ghost use Rattle.std.specs.Prelude.{List, map};
-    ghost use Rattle.model.specs.State.{Resource as ModelResource};
+    ghost use Rattle.model.specs.state.State.{Resource as ModelResource};
     ghost use Rattle.archetype_store.specs.Resources.{resource_of};
 
     ghost Value = { List ModelResource };

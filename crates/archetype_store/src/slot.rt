@@ -1,8 +1,8 @@
 // One index: its generation, its status, and the row of its entity.
 
 ghost use Rattle.std.specs.Prelude.{◌≡◌, option_map, IfSome};
-ghost use Rattle.model.specs.State.{is_living, is_vacant};
-ghost use Rattle.model.specs.Rows.{cell_at, kinds_of};
+ghost use Rattle.model.specs.state.State.{is_living, is_vacant};
+ghost use Rattle.model.specs.state.Rows.{cell_at, kinds_of};
 ghost use Rattle.column_store.specs.Cells.{stamped_number};
 ghost use Rattle.entity_table.specs.Status.{status_of};
 ghost use Rattle.archetype_store.specs.Row.{component_of};
@@ -23,7 +23,7 @@ pub struct RowView<'a> {
 
 impl<'a> Model for RowView<'a> {
     ghost use Rattle.std.specs.Prelude.{List};
-    ghost use Rattle.model.specs.State.{Component};
+    ghost use Rattle.model.specs.state.State.{Component};
     ghost use Rattle.archetype_store.specs.Layout.{AreAllHome};
     ghost use Rattle.archetype_store.specs.Archetypes.{row_of};
     ghost use Rattle.archetype_store.specs.Layout.{AreAllHome};
@@ -72,7 +72,7 @@ pub struct Slot<'a> {
 }
 
 impl<'a> Model for Slot<'a> {
-    ghost use Rattle.model.specs.State.{Slot as ModelSlot};
+    ghost use Rattle.model.specs.state.State.{Slot as ModelSlot};
     ghost use Rattle.entity_table.specs.Status.{status_of};
     ghost use Rattle.archetype_store.specs.Layout.{AreAllHome};
     ghost use Rattle.archetype_store.specs.Archetypes.{row_of};

@@ -3,11 +3,11 @@
 ghost use Rattle.std.specs.Prelude.{◌≡◌, ◌++◌, ◌≤◌, ◌<◌, ◌↔◌, ℕ, true, false, [], Some, length, map, option_map, is_some, All, IsTrue, IfSome, IfNone, MatchOption, IfOk, OnOk, OnErr, IsErrOf};
 ghost use Rattle.kinds.specs.Value.{value_number, value_words};
 ghost use Rattle.model.specs.Lists.{update_at};
-ghost use Rattle.model.specs.Rows.{row_at, insert_component, remove_component};
-ghost use Rattle.model.specs.Ids as ids;
-ghost use Rattle.model.specs.Commands as commands;
-ghost use Rattle.model.specs.Commands.{is_alive, spawned, freed, with_row};
-ghost use Rattle.model.specs.Overlay.{slot_after};
+ghost use Rattle.model.specs.state.Rows.{row_at, insert_component, remove_component};
+ghost use Rattle.model.specs.state.Ids as ids;
+ghost use Rattle.model.specs.state.Commands as commands;
+ghost use Rattle.model.specs.state.Commands.{is_alive, spawned, freed, with_row};
+ghost use Rattle.model.specs.shown.Overlay.{slot_after};
 ghost use Rattle.column_store.specs.Cells.{stamped_number};
 ghost use Rattle.entity_table.specs.Ids.{slot_at, lives_at, IsGranted, AreApart, settled};
 ghost use Rattle.archetype_store.specs.Row.{component_of, only};

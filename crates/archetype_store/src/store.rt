@@ -6,14 +6,14 @@ ghost use Rattle.kinds.specs.Value.{value_number, value_words};
 ghost use Rattle.model.specs.Lists.{update_at};
 ghost use Rattle.kinds.specs.Res.{res_number};
 ghost use Rattle.kinds.specs.Components.{widths};
-ghost use Rattle.model.specs.State.{last_tick};
-ghost use Rattle.model.specs.Shape.{IsWorld};
-ghost use Rattle.model.specs.Rows.{insert_component, remove_component, row_at};
-ghost use Rattle.model.specs.Input.{value_of, words_of};
-ghost use Rattle.model.specs.Ids as ids;
-ghost use Rattle.model.specs.Commands as commands;
-ghost use Rattle.model.specs.Commands.{is_alive, spawned, freed, with_row};
-ghost use Rattle.model.specs.Overlay.{slot_after};
+ghost use Rattle.model.specs.state.State.{last_tick};
+ghost use Rattle.model.specs.state.Shape.{IsWorld};
+ghost use Rattle.model.specs.state.Rows.{insert_component, remove_component, row_at};
+ghost use Rattle.model.specs.shown.Input.{value_of, words_of};
+ghost use Rattle.model.specs.state.Ids as ids;
+ghost use Rattle.model.specs.state.Commands as commands;
+ghost use Rattle.model.specs.state.Commands.{is_alive, spawned, freed, with_row};
+ghost use Rattle.model.specs.shown.Overlay.{slot_after};
 ghost use Rattle.archetype_store.specs.Row.{component_of, only};
 ghost use Rattle.entity_table.specs.Ids.{slot_at, lives_at, IsGranted, AreApart, settled};
 ghost use Rattle.std.specs.Arc.{arc_value};
@@ -55,7 +55,7 @@ pub struct World {
 
 impl Model for World {
     ghost use Rattle.kinds.specs.Components.{widths};
-    ghost use Rattle.model.specs.Shape.{IsWorld};
+    ghost use Rattle.model.specs.state.Shape.{IsWorld};
     ghost use Rattle.archetype_store.specs.Store.{StoreValue};
 
     ghost Value = { StoreValue };

@@ -4,12 +4,12 @@ use mathlib.Core.Path.{fun_ext}
 use Rattle.std.specs.List.{AllByRecursion, list_all}
 use Rattle.model.specs.Lists.{has, is_number}
 use Rattle.model.specs.declared.entities.Entity.{Entity}
-use Rattle.model.specs.State.{Slot, Component, fresh_slot, is_living}
-use Rattle.model.specs.Rows.{cell_at, kinds_of, row_at}
-use Rattle.model.specs.Query.{Term, matches, written, writes, touched, touches}
-use Rattle.model.specs.Query.Term.{Entity as IdOnly, Read, Mut, Opt, With, Without, Added, Changed}
-use Rattle.model.specs.Conflict.{QueriesConflictAt}
-use Rattle.model.specs.Input.{ShownRow, is_row, passes, shown_row, rows_from, rows_of}
+use Rattle.model.specs.state.State.{Slot, Component, fresh_slot, is_living}
+use Rattle.model.specs.state.Rows.{cell_at, kinds_of, row_at}
+use Rattle.model.specs.access.Query.{Term, matches, written, writes, touched, touches}
+use Rattle.model.specs.access.Query.Term.{Entity as IdOnly, Read, Mut, Opt, With, Without, Added, Changed}
+use Rattle.model.specs.access.Conflict.{QueriesConflictAt}
+use Rattle.model.specs.shown.Input.{ShownRow, is_row, passes, shown_row, rows_from, rows_of}
 use Rattle.archetype_store.specs.Layout.{Archetype, archetype_at, IsLayoutOf}
 use Rattle.body.specs.Columns.{Column}
 use Rattle.body.specs.Sheet.{Sheet}

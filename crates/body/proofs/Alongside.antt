@@ -3,14 +3,14 @@ use Rattle.std.proofs.Common.{◌≡◌, ◌≢◌, ℕ, zero, suc, ◌<◌, Boo
 use Rattle.std.proofs.lemmas.Bool.{eqb-true, eq-eqb}
 use Rattle.model.specs.Lists.{is_number, first_some}
 use Rattle.model.specs.declared.entities.Entity.{Entity}
-use Rattle.model.specs.State.{Cell, Slot, Component}
-use Rattle.model.specs.Rows.{cell_at}
-use Rattle.model.specs.Query.{Term, written, writes}
-use Rattle.model.specs.Query.Term.{Entity as IdOnly, Read, Mut, Opt, With, Without, Added, Changed}
-use Rattle.model.specs.QueryFaults.{fetched}
-use Rattle.model.specs.Input.{ShownRow, words_of, shown_row, fetch}
-use Rattle.model.specs.Outcome.{words_in_row, words_in_query, words_written}
-use Rattle.model.specs.Overlay.{cell_after}
+use Rattle.model.specs.state.State.{Cell, Slot, Component}
+use Rattle.model.specs.state.Rows.{cell_at}
+use Rattle.model.specs.access.Query.{Term, written, writes}
+use Rattle.model.specs.access.Query.Term.{Entity as IdOnly, Read, Mut, Opt, With, Without, Added, Changed}
+use Rattle.model.specs.access.QueryFaults.{fetched}
+use Rattle.model.specs.shown.Input.{ShownRow, words_of, shown_row, fetch}
+use Rattle.model.specs.shown.Outcome.{words_in_row, words_in_query, words_written}
+use Rattle.model.specs.shown.Overlay.{cell_after}
 use Rattle.body.specs.declared.row.Row.{Row}
 use Rattle.body.specs.Columns.{Column, cells_after, column_after}
 use Rattle.body.specs.Seen.{fetches}

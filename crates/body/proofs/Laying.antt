@@ -2,11 +2,11 @@
 use Rattle.std.proofs.Common.{◌≡◌, ◌≢◌, ℕ, zero, suc, ◌<◌, Bool, true, false, cond, ◌==◌, ℤ, List, [], ◌∷◌, length, get_or, map, drop, Option, Some, None, refl, sym, ap, ap₂, ◌∙◌, subst, arith}
 use Rattle.std.proofs.lemmas.Bool.{eq-eqb, ne_eqb, eqb-true}
 use Rattle.model.specs.Lists.{first_some, is_number, update_at}
-use Rattle.model.specs.State.{Cell, Component, Slot, World}
-use Rattle.model.specs.Query.{written}
-use Rattle.model.specs.Query as query
-use Rattle.model.specs.Outcome.{words_in_row, words_in_query, words_written}
-use Rattle.model.specs.Overlay.{cell_after, row_after, slot_after, slots_after}
+use Rattle.model.specs.state.State.{Cell, Component, Slot, World}
+use Rattle.model.specs.access.Query.{written}
+use Rattle.model.specs.access.Query as query
+use Rattle.model.specs.shown.Outcome.{words_in_row, words_in_query, words_written}
+use Rattle.model.specs.shown.Overlay.{cell_after, row_after, slot_after, slots_after}
 use Rattle.kinds.specs.declared.value.Value.{Value}
 use Rattle.kinds.specs.Value.{value_number, value_words}
 use Rattle.archetype_store.specs.Row.{only}

@@ -3,7 +3,7 @@ use Rattle.std.proofs.Common.{◌≡◌, ℕ, zero, suc, ◌+◌, ◌<◌, List,
 use Rattle.std.specs.List.{AllByRecursion}
 use Rattle.std.proofs.lemmas.List.{map-append}
 use Rattle.std.proofs.Math.Seq.{take-suc}
-use Rattle.model.specs.Outcome.{untouched_rows, untouched_cells}
+use Rattle.model.specs.shown.Outcome.{untouched_rows, untouched_cells}
 use Rattle.query.specs.declared.term.Term.{Term}
 use Rattle.query.specs.Term.{term_of}
 use Rattle.query_plan.specs.Fetched.{words_fetched}

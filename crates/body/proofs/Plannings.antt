@@ -6,12 +6,12 @@ use Rattle.std.proofs.lemmas.Option.{slice_get_within, slice_get-get_or}
 use Rattle.std.specs.List.{AllByRecursion, list_any}
 use Rattle.model.specs.Lists.{is_there, is_number}
 use Rattle.model.specs.declared.entities.Entity.{Entity}
-use Rattle.model.specs.State.{Slot, Cell, Component, fresh_slot, is_living}
-use Rattle.model.specs.Rows.{row_at}
-use Rattle.model.specs.Commands.{is_alive}
-use Rattle.model.specs.Query.{Term, written, writes}
-use Rattle.model.specs.Query.Term.{Entity as IdOnly, Read, Mut, Opt, With, Without, Added, Changed}
-use Rattle.model.specs.QueryFaults.{fetched}
+use Rattle.model.specs.state.State.{Slot, Cell, Component, fresh_slot, is_living}
+use Rattle.model.specs.state.Rows.{row_at}
+use Rattle.model.specs.state.Commands.{is_alive}
+use Rattle.model.specs.access.Query.{Term, written, writes}
+use Rattle.model.specs.access.Query.Term.{Entity as IdOnly, Read, Mut, Opt, With, Without, Added, Changed}
+use Rattle.model.specs.access.QueryFaults.{fetched}
 use Rattle.column_store.specs.Order.{is_before, is_same, AreRising}
 use Rattle.archetype_store.specs.Layout.{Archetype, archetype_at, is_in_archetype, IsArchetype, AreOfOtherKinds, IsLayoutOf}
 use Rattle.body.specs.declared.row.Row.{Row}

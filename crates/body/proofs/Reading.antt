@@ -2,10 +2,10 @@
 use Rattle.std.proofs.Common.{◌≡◌, ℕ, zero, suc, ◌+◌, ◌<◌, Bool, true, false, cond, ℤ, List, [], ◌∷◌, length, get_or, map, drop, Option, Some, None, refl, sym, ap, ◌∙◌, subst, arith}
 use Rattle.std.proofs.lemmas.Bool.{eqb-true}
 use Rattle.model.specs.Lists.{first_some, is_number}
-use Rattle.model.specs.Query.{written}
-use Rattle.model.specs.Query as query
-use Rattle.model.specs.Query.Term.{Entity, Read, Mut, Opt, With, Without, Added, Changed}
-use Rattle.model.specs.Outcome.{words_in_row}
+use Rattle.model.specs.access.Query.{written}
+use Rattle.model.specs.access.Query as query
+use Rattle.model.specs.access.Query.Term.{Entity, Read, Mut, Opt, With, Without, Added, Changed}
+use Rattle.model.specs.shown.Outcome.{words_in_row}
 use Rattle.kinds.specs.declared.value.Value.{Value}
 use Rattle.kinds.specs.Value.{value_number, value_words}
 use Rattle.query.specs.declared.term.Term.{Term}

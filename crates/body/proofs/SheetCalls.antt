@@ -4,9 +4,9 @@ use Rattle.std.proofs.lemmas.Option.{slice_get-map, slice_get_within, slice_get_
 use Rattle.std.proofs.lemmas.List.{length-map}
 use Rattle.std.specs.List.{AllByRecursion}
 use Rattle.model.specs.Lists.{update_at}
-use Rattle.model.specs.State.{Cell}
-use Rattle.model.specs.Query.{Term, writes}
-use Rattle.model.specs.Input.{words_of}
+use Rattle.model.specs.state.State.{Cell}
+use Rattle.model.specs.access.Query.{Term, writes}
+use Rattle.model.specs.shown.Input.{words_of}
 use Rattle.column_store.specs.Cells.{changed_cell}
 use Rattle.body.specs.declared.row.Row.{Row}
 use Rattle.body.specs.declared.held.Held.{Held}

@@ -5,11 +5,11 @@ use Rattle.std.proofs.lemmas.Bool.{eq-eqb, eqb-true}
 use Rattle.std.specs.List.{AllByRecursion}
 use Rattle.model.specs.Lists.{first_some}
 use Rattle.model.specs.declared.entities.Entity.{Entity}
-use Rattle.model.specs.State.{Cell}
-use Rattle.model.specs.Query.{Term, writes}
-use Rattle.model.specs.Input.{ShownRow}
-use Rattle.model.specs.Outcome.{words_in_row, words_in_query}
-use Rattle.model.specs.Overlay.{cell_after}
+use Rattle.model.specs.state.State.{Cell}
+use Rattle.model.specs.access.Query.{Term, writes}
+use Rattle.model.specs.shown.Input.{ShownRow}
+use Rattle.model.specs.shown.Outcome.{words_in_row, words_in_query}
+use Rattle.model.specs.shown.Overlay.{cell_after}
 use Rattle.body.specs.declared.row.Row.{Row}
 use Rattle.body.specs.Columns.{Column, cell_in, cells_after, column_after}
 use Rattle.body.specs.Sheet.{slot_in, slot_cell, seen_at, words_at, row_of, written_of, IsSlot, IsRow, IsSheet, IsOverwritten, head_of, WritesReach, IsReached}

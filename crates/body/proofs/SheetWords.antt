@@ -3,9 +3,9 @@ use Rattle.std.proofs.Common.{◌≡◌, ◌≢◌, ℕ, zero, suc, Bool, true, 
 use mathlib.Core.Path.{fun_ext}
 use Rattle.std.proofs.lemmas.Bool.{eqb-true, eq-eqb, ne_eqb}
 use Rattle.model.specs.Lists.{first_some, is_number}
-use Rattle.model.specs.Query.{Term, written, writes}
-use Rattle.model.specs.QueryFaults.{fetched}
-use Rattle.model.specs.Outcome.{words_in_row}
+use Rattle.model.specs.access.Query.{Term, written, writes}
+use Rattle.model.specs.access.QueryFaults.{fetched}
+use Rattle.model.specs.shown.Outcome.{words_in_row}
 use Rattle.body.specs.Seen.{fetches, words_shown, with_words}
 use Rattle.body.specs.Sheet.{words_for, without_kind, written_in}
 

@@ -5,8 +5,8 @@ use Rattle.std.proofs.lemmas.Bool.{eq-eqb, eqb-true, ne_eqb, cases_lt}
 use Rattle.std.specs.List.{AllByRecursion}
 use Rattle.model.specs.Lists.{update_at}
 use Rattle.model.specs.declared.entities.Entity.{Entity}
-use Rattle.model.specs.State.{Cell}
-use Rattle.model.specs.Query.{Term, writes, written}
+use Rattle.model.specs.state.State.{Cell}
+use Rattle.model.specs.access.Query.{Term, writes, written}
 use Rattle.column_store.specs.Cells.{changed_cell}
 use Rattle.body.specs.declared.row.Row.{Row}
 use Rattle.body.specs.Columns.{Column, cell_in, with_cell}

@@ -7,9 +7,9 @@ use Rattle.std.proofs.lemmas.List.{get_or-map}
 use Rattle.std.specs.List.{AllByRecursion}
 use Rattle.model.specs.Lists.{update_at, first_some}
 use Rattle.model.specs.declared.entities.Entity.{Entity}
-use Rattle.model.specs.State.{Cell}
-use Rattle.model.specs.Query.{Term, writes}
-use Rattle.model.specs.Input.{words_of}
+use Rattle.model.specs.state.State.{Cell}
+use Rattle.model.specs.access.Query.{Term, writes}
+use Rattle.model.specs.shown.Input.{words_of}
 use Rattle.body.specs.declared.row.Row.{Row}
 use Rattle.body.specs.Columns.{Column, cell_in, with_cell}
 use Rattle.body.specs.Seen.{fetches, words_read, no_row}

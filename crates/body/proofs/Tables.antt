@@ -8,7 +8,7 @@ use Rattle.std.specs.List.{AllByRecursion}
 use Rattle.query.proofs.Terms.{list_any-map}
 use Rattle.kinds.specs.Kind.{kind_count}
 use Rattle.model.specs.Lists.{update_at}
-use Rattle.model.specs.Query.{Term}
+use Rattle.model.specs.access.Query.{Term}
 use Rattle.body.specs.declared.held.Held.{Held}
 use Rattle.body.specs.declared.view_query.Slots.{Slots}
 use Rattle.body.specs.Columns.{Column}

@@ -2,7 +2,7 @@
 use Rattle.std.proofs.Common.{ℕ, zero, suc, ◌≤◌, List, [], ◌∷◌, arith}
 use Rattle.std.specs.List.{AllByRecursion}
 use Rattle.model.specs.Lists.{update_at}
-use Rattle.model.specs.State.{Memory}
+use Rattle.model.specs.state.State.{Memory}
 use Rattle.body.specs.Steps.{memory_ran}
 
 -- at a later tick

@@ -2,10 +2,10 @@
 use Rattle.std.proofs.Common.{◌≡◌, ℕ, ◌<◌, ℤ, List, [], length, map, get_or, set, None, refl, sym, ap, ◌∙◌, arith}
 use Rattle.std.proofs.lemmas.List.{get_or-map, length-map}
 use Rattle.model.specs.Lists.{update_at}
-use Rattle.model.specs.State.{Memory, World, State}
-use Rattle.model.specs.Query.{Term}
-use Rattle.model.specs.Access.{Params, no_params}
-use Rattle.model.specs.Input.{rows_of, shown}
+use Rattle.model.specs.state.State.{Memory, World, State}
+use Rattle.model.specs.access.Query.{Term}
+use Rattle.model.specs.access.Access.{Params, no_params}
+use Rattle.model.specs.shown.Input.{rows_of, shown}
 use Rattle.body.specs.Seen.{Seen, with_words, with_written}
 use Rattle.body.specs.ViewRow.{terms_of, shown_rows, query_cells, seen_of}
 use Rattle.body.specs.declared.cells.ViewQuery.{ViewQuery}

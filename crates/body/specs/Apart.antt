@@ -2,10 +2,10 @@
 use Rattle.std.specs.Prelude.{ℕ, ◌≡◌, true, List, slice_get, Some}
 use Rattle.std.specs.List.{AllByRecursion}
 use Rattle.model.specs.Lists.{has}
-use Rattle.model.specs.State.{Slot}
-use Rattle.model.specs.Query.{Term, matches, touches}
-use Rattle.model.specs.Conflict.{QueriesConflictAt}
-use Rattle.model.specs.Input.{rows_of}
+use Rattle.model.specs.state.State.{Slot}
+use Rattle.model.specs.access.Query.{Term, matches, touches}
+use Rattle.model.specs.access.Conflict.{QueriesConflictAt}
+use Rattle.model.specs.shown.Input.{rows_of}
 use Rattle.archetype_store.specs.Layout.{Archetype, archetype_at, IsLayoutOf}
 use Rattle.body.specs.Columns.{Column}
 use Rattle.body.specs.Sheet.{Sheet}

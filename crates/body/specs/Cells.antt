@@ -1,6 +1,6 @@
 -- The components that were written in a row, one place for each term of its query.
 use Rattle.std.specs.Prelude.{◌≡◌, List, [], ◌∷◌, Option, Some, None}
-use Rattle.model.specs.Query.{Term, written}
+use Rattle.model.specs.access.Query.{Term, written}
 use Rattle.kinds.specs.declared.value.Value.{Value}
 use Rattle.kinds.specs.Value.{value_number}
 

@@ -2,8 +2,8 @@
 use Rattle.std.specs.Prelude.{ℕ, zero, suc, ℤ, ◌<◌, ◌≡◌, Bool, List, [], ◌∷◌, Option, Some, None, slice_get}
 use Rattle.model.specs.Lists.{update_at}
 use Rattle.model.specs.declared.entities.Entity.{Entity}
-use Rattle.model.specs.State.{Cell}
-use Rattle.model.specs.Overlay.{cell_after}
+use Rattle.model.specs.state.State.{Cell}
+use Rattle.model.specs.shown.Overlay.{cell_after}
 
 -- a column of a query: the number by which the store knows its archetype, that by which the query does, whose components they are,
 -- whether it is written, its kind, and its cells

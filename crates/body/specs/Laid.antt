@@ -1,6 +1,6 @@
 -- A world with other slots, and the writes of one index.
 use Rattle.std.specs.Prelude.{ℕ, ℤ, ◌==◌, cond, List, Option, None}
-use Rattle.model.specs.State.{Slot, World}
+use Rattle.model.specs.state.State.{Slot, World}
 
 -- the world with these slots, all else as it was
 abbrev pub with_slots : World → List Slot → World

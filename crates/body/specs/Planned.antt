@@ -2,8 +2,8 @@
 use Rattle.std.specs.Prelude.{ℕ, suc, ◌<◌, ◌≡◌, ◌⊎◌, true, false, List, [], ◌∷◌, length, get_or, slice_get, Option, Some}
 use Rattle.std.specs.List.{AllByRecursion}
 use Rattle.model.specs.Lists.{is_there}
-use Rattle.model.specs.State.{Slot, fresh_slot}
-use Rattle.model.specs.Query.{Term, writes}
+use Rattle.model.specs.state.State.{Slot, fresh_slot}
+use Rattle.model.specs.access.Query.{Term, writes}
 use Rattle.column_store.specs.Order.{AreRising}
 use Rattle.archetype_store.specs.Layout.{Archetype, archetype_at, IsLayoutOf}
 use Rattle.body.specs.declared.row.Row.{Row}

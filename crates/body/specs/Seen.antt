@@ -2,11 +2,11 @@
 use Rattle.std.specs.Prelude.{ℕ, ℤ, Bool, cond, List, [], ◌∷◌, get_or, Option, Some, None}
 use Rattle.std.specs.List.{list_any}
 use Rattle.model.specs.Lists.{first_some, is_number, update_at}
-use Rattle.model.specs.Query.{Term, written}
-pub use Rattle.model.specs.QueryFaults.{fetched}
-use Rattle.model.specs.Access.{Params}
-use Rattle.model.specs.Input.{ShownRow, Shown}
-use Rattle.model.specs.Outcome.{Outcome, words_in_row}
+use Rattle.model.specs.access.Query.{Term, written}
+pub use Rattle.model.specs.access.QueryFaults.{fetched}
+use Rattle.model.specs.access.Access.{Params}
+use Rattle.model.specs.shown.Input.{ShownRow, Shown}
+use Rattle.model.specs.shown.Outcome.{Outcome, words_in_row}
 use Rattle.body.specs.Columns.{Column}
 
 -- what a view was opened over: the columns of each query as they were taken, and the tick at which what is written there counts as

@@ -4,10 +4,10 @@ use Rattle.std.specs.Prelude.{ℕ, ℤ, ◌<◌, ◌≡◌, ◌==◌, ◌⊎◌,
 use Rattle.std.specs.List.{AllByRecursion}
 use Rattle.model.specs.Lists.{is_number, update_at}
 use Rattle.model.specs.declared.entities.Entity.{Entity}
-use Rattle.model.specs.State.{Cell}
-use Rattle.model.specs.Query.{Term, written, writes}
-use Rattle.model.specs.QueryFaults.{fetched}
-use Rattle.model.specs.Input.{ShownRow, words_of}
+use Rattle.model.specs.state.State.{Cell}
+use Rattle.model.specs.access.Query.{Term, written, writes}
+use Rattle.model.specs.access.QueryFaults.{fetched}
+use Rattle.model.specs.shown.Input.{ShownRow, words_of}
 use Rattle.body.specs.declared.row.Row.{Row}
 use Rattle.body.specs.Columns.{Column, cell_in, AreFresh}
 use Rattle.body.specs.Seen.{fetches}

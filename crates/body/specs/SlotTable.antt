@@ -3,7 +3,7 @@ use Rattle.std.specs.Prelude.{ℕ, ◌<◌, ◌≡◌, true, cond, List, map, le
 use Rattle.std.specs.List.{AllByRecursion}
 use Rattle.kinds.specs.Kind.{kind_count}
 use Rattle.model.specs.Lists.{update_at}
-use Rattle.model.specs.Query.{Term}
+use Rattle.model.specs.access.Query.{Term}
 use Rattle.body.specs.Columns.{Column}
 use Rattle.body.specs.Seen.{fetches}
 use Rattle.body.specs.Sheet.{slot_in}

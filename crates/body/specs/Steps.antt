@@ -4,9 +4,9 @@ use Rattle.std.specs.List.{AllByRecursion}
 use Rattle.archetype_store.specs.Layout.{AreAllHome}
 use Rattle.archetype_store.specs.Store.{StoreValue}
 use Rattle.model.specs.Lists.{update_at}
-use Rattle.model.specs.State.{Memory, State}
-use Rattle.model.specs.Overlay.{slots_after}
-use Rattle.model.specs.Outcome.{words_written}
+use Rattle.model.specs.state.State.{Memory, State}
+use Rattle.model.specs.shown.Overlay.{slots_after}
+use Rattle.model.specs.shown.Outcome.{words_written}
 use Rattle.body.specs.Seen.{Seen}
 
 -- the state at another tick

@@ -1,12 +1,12 @@
 -- The queries of a view together, and what the columns that they give back are to a store.
 use Rattle.std.specs.Prelude.{ℕ, ℤ, ◌≡◌, true, List, map, slice_get, Option, Some, option_map}
 use Rattle.model.specs.declared.entities.Entity.{Entity}
-use Rattle.model.specs.State.{Cell, Slot}
-use Rattle.model.specs.Rows.{cell_at}
-use Rattle.model.specs.Query.{Term, writes}
-use Rattle.model.specs.Input.{ShownRow, words_of, shown_row}
-use Rattle.model.specs.Outcome.{words_in_query, words_written}
-use Rattle.model.specs.Overlay.{cell_after}
+use Rattle.model.specs.state.State.{Cell, Slot}
+use Rattle.model.specs.state.Rows.{cell_at}
+use Rattle.model.specs.access.Query.{Term, writes}
+use Rattle.model.specs.shown.Input.{ShownRow, words_of, shown_row}
+use Rattle.model.specs.shown.Outcome.{words_in_query, words_written}
+use Rattle.model.specs.shown.Overlay.{cell_after}
 use Rattle.body.specs.declared.row.Row.{Row}
 use Rattle.body.specs.Columns.{Column, cells_after, column_after}
 use Rattle.body.specs.Seen.{fetches}

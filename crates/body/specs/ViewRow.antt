@@ -1,8 +1,8 @@
 -- The rows of a view as the definitions have them.
 use Rattle.std.specs.Prelude.{ℤ, List, [], map, Option, None}
 use Rattle.std.specs.List.{AllByRecursion}
-use Rattle.model.specs.Query.{Term}
-use Rattle.model.specs.Input.{ShownRow}
+use Rattle.model.specs.access.Query.{Term}
+use Rattle.model.specs.shown.Input.{ShownRow}
 use Rattle.query.specs.Term.{term_of}
 use Rattle.query_plan.specs.Fetched.{AreFetched, words_fetched}
 use Rattle.query_plan.specs.QueryRow.{shown_of}

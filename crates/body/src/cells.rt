@@ -3,8 +3,8 @@
 ghost use Rattle.std.specs.Prelude.{◌≡◌, ◌<◌, [], map, length, get_or, IfSome};
 ghost use Rattle.std.specs.List.{AllByRecursion};
 ghost use Rattle.model.specs.Lists.{is_number, update_at};
-ghost use Rattle.model.specs.Query.{written as written_kind};
-ghost use Rattle.model.specs.Outcome.{words_in_row};
+ghost use Rattle.model.specs.access.Query.{written as written_kind};
+ghost use Rattle.model.specs.shown.Outcome.{words_in_row};
 ghost use Rattle.kinds.specs.Value.{value_number, value_words};
 ghost use Rattle.query.specs.Term.{term_of};
 ghost use Rattle.query_plan.specs.Fetched.{AreFetched, words_fetched};

@@ -3,7 +3,7 @@
 ghost use Rattle.std.specs.Prelude.{◌≡◌, ◌<◌, [], map, length, option_map, unwrap_or, IsTrue};
 ghost use Rattle.kinds.specs.Kind.{kind_number};
 ghost use Rattle.kinds.specs.Components.{widths};
-ghost use Rattle.model.specs.Query.{writes};
+ghost use Rattle.model.specs.access.Query.{writes};
 ghost use Rattle.body.specs.Seen.{query_at, rows_at, row_at, read_at, with_written};
 ghost use Rattle.body.specs.SeenOver.{seen_over};
 ghost use Rattle.body.specs.Sheet.{Sheet};

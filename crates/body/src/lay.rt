@@ -2,8 +2,8 @@
 
 ghost use Rattle.std.specs.Prelude.{◌≡◌, ◌≤◌, map, length, OnOk};
 ghost use Rattle.std.specs.List.{AllByRecursion};
-ghost use Rattle.model.specs.Outcome.{words_in_row, words_in_query, words_written};
-ghost use Rattle.model.specs.Overlay.{slots_after};
+ghost use Rattle.model.specs.shown.Outcome.{words_in_row, words_in_query, words_written};
+ghost use Rattle.model.specs.shown.Overlay.{slots_after};
 ghost use Rattle.archetype_store.specs.Layout.{AreAllHome};
 ghost use Rattle.query.specs.Term.{term_of};
 ghost use Rattle.query_plan.specs.Fetched.{words_fetched};

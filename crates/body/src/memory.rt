@@ -1,7 +1,7 @@
 // What a system remembers between its runs.
 
 ghost use Rattle.std.specs.Prelude.{◌≡◌, []};
-ghost use Rattle.model.specs.Loaded.{first_memory};
+ghost use Rattle.model.specs.state.Loaded.{first_memory};
 ghost use Rattle.body.specs.Steps.{memory_ran};
 
 use change_ticks::clock::Tick;
@@ -18,7 +18,7 @@ pub struct Memory {
 
 impl Model for Memory {
     ghost use Rattle.std.specs.Prelude.{◌≡◌, length};
-    ghost use Rattle.model.specs.State.{Memory as ModelMemory, register_count};
+    ghost use Rattle.model.specs.state.State.{Memory as ModelMemory, register_count};
 
     ghost Value = { ModelMemory };
 

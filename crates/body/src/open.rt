@@ -2,8 +2,8 @@
 
 ghost use Rattle.std.specs.Prelude.{◌≡◌, None, map, IfOk};
 ghost use Rattle.std.specs.List.{AllByRecursion};
-ghost use Rattle.model.specs.Input.{rows_of};
-ghost use Rattle.model.specs.Outcome.{untouched_rows, untouched_cells};
+ghost use Rattle.model.specs.shown.Input.{rows_of};
+ghost use Rattle.model.specs.shown.Outcome.{untouched_rows, untouched_cells};
 ghost use Rattle.archetype_store.specs.Layout.{AreAllHome};
 ghost use Rattle.query.specs.Term.{term_of};
 ghost use Rattle.query_plan.specs.Fetched.{AreFetched};

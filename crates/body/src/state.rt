@@ -2,8 +2,8 @@
 
 ghost use Rattle.std.specs.Prelude.{◌≡◌, ◌<◌, ◌≤◌, [], length, replicate, get_or, IfOk};
 ghost use Rattle.std.specs.List.{AllByRecursion};
-ghost use Rattle.model.specs.State.{no_memory, event_count, empty_queue};
-ghost use Rattle.model.specs.Loaded.{first_memory};
+ghost use Rattle.model.specs.state.State.{no_memory, event_count, empty_queue};
+ghost use Rattle.model.specs.state.Loaded.{first_memory};
 ghost use Rattle.archetype_store.specs.Layout.{AreAllHome};
 
 use crate::memory::Memory;
@@ -24,7 +24,7 @@ pub struct State {
 impl Model for State {
     ghost use Rattle.std.specs.Prelude.{[], replicate, ◌≤◌};
     ghost use Rattle.std.specs.List.{AllByRecursion};
-    ghost use Rattle.model.specs.State.{State as ModelState, event_count, empty_queue};
+    ghost use Rattle.model.specs.state.State.{State as ModelState, event_count, empty_queue};
     ghost use Rattle.body.specs.Steps.{IsState};
 
     ghost Value = { ModelState };

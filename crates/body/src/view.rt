@@ -4,11 +4,11 @@ ghost use Rattle.std.specs.Prelude.{◌≡◌, ◌<◌, ◌≤◌, [], length, o
 ghost use Rattle.kinds.specs.Kind.{kind_number};
 ghost use Rattle.kinds.specs.Components.{widths};
 ghost use Rattle.kinds.specs.Value.{value_number, value_words};
-ghost use Rattle.model.specs.State.{State};
-ghost use Rattle.model.specs.Query.{writes};
-ghost use Rattle.model.specs.Input.{shown};
-ghost use Rattle.model.specs.Outcome.{untouched, words_written};
-ghost use Rattle.model.specs.Overlay.{slots_after};
+ghost use Rattle.model.specs.state.State.{State};
+ghost use Rattle.model.specs.access.Query.{writes};
+ghost use Rattle.model.specs.shown.Input.{shown};
+ghost use Rattle.model.specs.shown.Outcome.{untouched, words_written};
+ghost use Rattle.model.specs.shown.Overlay.{slots_after};
 ghost use Rattle.archetype_store.specs.Layout.{AreAllHome};
 ghost use Rattle.query_plan.specs.Fetched.{words_fetched};
 ghost use Rattle.body.specs.Laid.{with_slots};

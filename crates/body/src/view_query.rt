@@ -4,9 +4,9 @@ ghost use Rattle.std.specs.Prelude.{◌≡◌, ◌<◌, [], map, length, get_or,
 ghost use Rattle.column_store.specs.Cells.{changed_cell};
 ghost use Rattle.kinds.specs.Kind.{kind_number};
 ghost use Rattle.model.specs.Lists.{update_at};
-ghost use Rattle.model.specs.Query.{writes};
-ghost use Rattle.model.specs.Input.{words_of};
-ghost use Rattle.model.specs.Outcome.{untouched_rows, words_in_query};
+ghost use Rattle.model.specs.access.Query.{writes};
+ghost use Rattle.model.specs.shown.Input.{words_of};
+ghost use Rattle.model.specs.shown.Outcome.{untouched_rows, words_in_query};
 ghost use Rattle.query.specs.Term.{term_of};
 ghost use Rattle.body.specs.Columns.{with_cell, column_after};
 ghost use Rattle.body.specs.HeldColumns.{held_seen, slots_seen};

@@ -1,7 +1,7 @@
 // The clock of a world.
 
 ghost use Rattle.std.specs.Prelude.{◌≡◌, ◌+◌, ◌≤◌, ◌↔◌, OnOk, IfOk, OnErr, IsErr};
-ghost use Rattle.model.specs.State.{last_tick};
+ghost use Rattle.model.specs.state.State.{last_tick};
 
 use std::marker::Model;
 use thiserror::Error;
@@ -25,7 +25,7 @@ pub struct Clock {
 
 impl Model for Clock {
     ghost use Rattle.std.specs.Prelude.{ℕ, ◌≤◌};
-    ghost use Rattle.model.specs.State.{last_tick};
+    ghost use Rattle.model.specs.state.State.{last_tick};
 
     ghost Value = { ℕ };
 

@@ -4,7 +4,7 @@ use Rattle.std.specs.List.{insert, remove}
 use Rattle.std.specs.Prelude.{slice_get, Some}
 use Rattle.std.proofs.lemmas.List.Edits.{length-remove}
 use Rattle.change_ticks.specs.declared.stamp.Stamp.{Stamp}
-use Rattle.model.specs.State.{Cell}
+use Rattle.model.specs.state.State.{Cell}
 use Rattle.model.specs.Lists.{update_at}
 use Rattle.column_store.specs.Column.{cell_of, cells_of}
 use Rattle.column_store.specs.Cells.{stamp_of, changed_cell}

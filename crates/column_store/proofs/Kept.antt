@@ -5,9 +5,9 @@ use Rattle.std.proofs.lemmas.List.Edits.{length-insert, length-remove}
 use Rattle.std.specs.List.{insert, remove, AllByRecursion}
 use Rattle.std.specs.Prelude.{slice_get}
 use Rattle.model.specs.Lists.{update_at}
-use Rattle.model.proofs.Lists.{length-update_at}
-use Rattle.model.proofs.Each.{each-weaker, each-map}
-use Rattle.model.specs.State.{Cell}
+use Rattle.model.proofs.lists.Lists.{length-update_at}
+use Rattle.model.proofs.lists.Each.{each-weaker, each-map}
+use Rattle.model.specs.state.State.{Cell}
 use Rattle.model.specs.declared.entities.Entity.{Entity}
 use Rattle.column_store.specs.declared.stamped.StampedValue.{StampedValue}
 use Rattle.column_store.specs.Cells.{changed_cell, stamped_number, stamped_cell}

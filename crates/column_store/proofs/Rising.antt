@@ -4,7 +4,7 @@ use Rattle.std.proofs.lemmas.Bool.Decides.{nat_tests}
 use Rattle.std.specs.List.{AllByRecursion}
 use Rattle.std.specs.List.Sorted.{IsPartitionedBy, IsPartitionPoint}
 use Rattle.model.specs.declared.entities.Entity.{Entity}
-use Rattle.model.proofs.Each.{each-at, each-weaker}
+use Rattle.model.proofs.lists.Each.{each-at, each-weaker}
 use Rattle.column_store.specs.Order.{is_before, is_same, AreRising}
 use Rattle.column_store.specs.Places.{IsPlace, IsNowhere, IsGap}
 

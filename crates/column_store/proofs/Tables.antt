@@ -4,7 +4,7 @@ use Rattle.std.specs.List.{insert, remove, AllByRecursion}
 use Rattle.std.specs.Prelude.{slice_get}
 use Rattle.std.proofs.lemmas.List.{length-map}
 use Rattle.model.specs.Lists.{update_at}
-use Rattle.model.specs.State.{Cell}
+use Rattle.model.specs.state.State.{Cell}
 use Rattle.model.specs.declared.entities.Entity.{Entity}
 use Rattle.column_store.specs.Cells.{changed_cell}
 use Rattle.column_store.specs.Column.{ColumnCells}

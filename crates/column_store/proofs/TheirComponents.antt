@@ -4,9 +4,9 @@ use Rattle.std.proofs.lemmas.Bool.Decides.{nat_tests}
 use Rattle.std.proofs.lemmas.Bool.{eqb-true}
 use Rattle.std.specs.List.{AllByRecursion}
 use Rattle.model.specs.Lists.{with_at}
-use Rattle.model.specs.State.{Cell, Component}
-use Rattle.model.specs.Rows.{cell_at, IsRising}
-use Rattle.model.specs.Overlay.{row_after, cell_after}
+use Rattle.model.specs.state.State.{Cell, Component}
+use Rattle.model.specs.state.Rows.{cell_at, IsRising}
+use Rattle.model.specs.shown.Overlay.{row_after, cell_after}
 use Rattle.column_store.specs.Cells.{changed_cell}
 use Rattle.column_store.specs.Kinds.{AreBelow, at_kind, update_kind}
 use Rattle.column_store.specs.Components.{components_in, ComponentsRise, CellsAreTheirs, WritesAreTheirs}

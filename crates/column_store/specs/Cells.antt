@@ -2,7 +2,7 @@
 use Rattle.std.specs.Prelude.{ℕ, ℤ, List}
 use Rattle.kinds.specs.Value.{value_number, value_words}
 use Rattle.change_ticks.specs.declared.stamp.Stamp.{Stamp}
-use Rattle.model.specs.State.{Cell}
+use Rattle.model.specs.state.State.{Cell}
 use Rattle.column_store.specs.declared.stamped.StampedValue.{StampedValue}
 use Rattle.column_store.specs.Column.{cell_of}
 

@@ -1,7 +1,7 @@
 -- A column as its cells.
 use Rattle.std.specs.Prelude.{ℕ, ℤ, List, [], ◌∷◌}
 use Rattle.change_ticks.specs.declared.stamp.Stamp.{Stamp}
-use Rattle.model.specs.State.{Cell}
+use Rattle.model.specs.state.State.{Cell}
 
 -- a column: the number of its kind, and its cells
 pub record ColumnCells : Type 0 where

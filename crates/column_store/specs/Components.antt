@@ -1,9 +1,9 @@
 -- A row of a table as the components of its entity.
 use Rattle.std.specs.Prelude.{◌≡◌, ℕ, ℤ, List, [], ◌∷◌, Option, Some, None, option_map}
 use Rattle.model.specs.Lists.{with_at}
-use Rattle.model.specs.State.{Cell, Component}
-use Rattle.model.specs.Rows.{cell_at, IsRising}
-use Rattle.model.specs.Overlay.{row_after}
+use Rattle.model.specs.state.State.{Cell, Component}
+use Rattle.model.specs.state.Rows.{cell_at, IsRising}
+use Rattle.model.specs.shown.Overlay.{row_after}
 use Rattle.column_store.specs.Cells.{changed_cell}
 use Rattle.column_store.specs.Kinds.{AreBelow}
 use Rattle.column_store.specs.Table.{TableRow, cell_of_kind, with_cell_at}

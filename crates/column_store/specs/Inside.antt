@@ -3,7 +3,7 @@ use Rattle.std.specs.Prelude.{◌≡◌, ℕ, ◌<◌, ◌≤◌, ℤ, true, Lis
 use Rattle.std.specs.List.{AllByRecursion, insert, remove}
 use Rattle.kinds.specs.declared.kind.Kind.{Kind}
 use Rattle.kinds.specs.Kind.{kind_number}
-use Rattle.model.specs.State.{Cell}
+use Rattle.model.specs.state.State.{Cell}
 use Rattle.model.specs.declared.entities.Entity.{Entity}
 use Rattle.model.specs.Lists.{tail_of, update_at}
 use Rattle.column_store.specs.declared.stamped.StampedValue.{StampedValue}

@@ -1,6 +1,6 @@
 -- What a table is: the rows of the entities of one archetype, and which of its columns are at home.
 use Rattle.std.specs.Prelude.{◌≡◌, ℕ, ℤ, Bool, true, false, cond, List, [], ◌∷◌, map, Option, Some, None, option_map, option_and_then}
-use Rattle.model.specs.State.{Cell}
+use Rattle.model.specs.state.State.{Cell}
 use Rattle.model.specs.declared.entities.Entity.{Entity}
 use Rattle.column_store.specs.Order.{is_before, is_same}
 use Rattle.column_store.specs.Kinds.{at_kind, update_kind}

@@ -1,9 +1,9 @@
 -- What a command leaves, from what its parts leave.
 use Rattle.std.proofs.Common.{◌≡◌, inl, inr, ℕ, ℤ, Bool, true, false, List, [], length, Option, None, Some, Result, Ok, Err, IfOk, refl, ap, sym, ◌∙◌, subst}
 use Rattle.std.specs.Io.KnownBytes.{Keeps}
-use Rattle.model.specs.Loaded.{Given, loaded}
-use Rattle.model.specs.Schedule.{Schedule}
-use Rattle.model.specs.State.{State, World}
+use Rattle.model.specs.state.Loaded.{Given, loaded}
+use Rattle.model.specs.steps.Schedule.{Schedule}
+use Rattle.model.specs.state.State.{State, World}
 use Rattle.script.specs.declared.script_body.ScriptBody.{ScriptBody}
 use Rattle.engine.specs.EngineValue.{meanings}
 use Rattle.engine.specs.Fits.{Miscounts, IsFirstMisfit}

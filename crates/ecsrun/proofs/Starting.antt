@@ -1,9 +1,9 @@
 -- The state in which a schedule starts is the state as loaded.
 use Rattle.std.proofs.Common.{◌≡◌, ℕ, suc, ◌<◌, ℤ, List, [], ◌∷◌, length, get_or, map, replicate, refl, arith}
-use Rattle.model.specs.Condition.{access_of_condition}
-use Rattle.model.specs.Loaded.{Given, first_memory, loaded}
-use Rattle.model.specs.Schedule.{Schedule, ScheduledSystem, ScheduledCondition}
-use Rattle.model.specs.State.{State, Memory, World, event_count, empty_queue}
+use Rattle.model.specs.access.Condition.{access_of_condition}
+use Rattle.model.specs.state.Loaded.{Given, first_memory, loaded}
+use Rattle.model.specs.steps.Schedule.{Schedule, ScheduledSystem, ScheduledCondition}
+use Rattle.model.specs.state.State.{State, Memory, World, event_count, empty_queue}
 use Rattle.program_file.specs.Load.{loaded_world}
 use Rattle.program_file.specs.Setup.{HasNoReaders, start_of}
 

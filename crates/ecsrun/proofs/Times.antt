@@ -1,10 +1,10 @@
 -- Runs one after the other: one more run, and none.
 use Rattle.std.proofs.Common.{◌≡◌, ℕ, ◌+◌, List, [], ◌∷◌, ◌++◌, length, map, refl, sym, subst, ◌∙◌, arith, length-append}
 use Rattle.model.specs.declared.steps.Step.{Step}
-use Rattle.model.specs.Outcome.{BodyMeaning}
-use Rattle.model.specs.Runs.{AreSingleRuns, AreSoundRuns}
-use Rattle.model.specs.Schedule.{Schedule}
-use Rattle.model.specs.State.{State}
+use Rattle.model.specs.shown.Outcome.{BodyMeaning}
+use Rattle.model.specs.runs.Runs.{AreSingleRuns, AreSoundRuns}
+use Rattle.model.specs.steps.Schedule.{Schedule}
+use Rattle.model.specs.state.State.{State}
 use Rattle.script.specs.declared.script_body.ScriptBody.{ScriptBody}
 use Rattle.engine.specs.EngineValue.{meanings}
 use Rattle.ecsrun.specs.Served.{HaveRun}

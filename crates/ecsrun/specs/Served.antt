@@ -3,12 +3,12 @@ use Rattle.std.specs.Prelude.{ℕ, ◌≡◌, ◌≢◌, ◌⊎◌, ℤ, List, [
 use Rattle.std.specs.List.{All}
 use Rattle.std.specs.Io.KnownBytes.{Keeps, Appends}
 use Rattle.model.specs.declared.steps.Step.{Step}
-use Rattle.model.specs.Declarations.{Declared}
-use Rattle.model.specs.Loaded.{Given, loaded}
-use Rattle.model.specs.Outcome.{BodyMeaning}
-use Rattle.model.specs.Runs.{AreSingleRuns, AreSoundRuns}
-use Rattle.model.specs.Schedule.{Schedule}
-use Rattle.model.specs.State.{State}
+use Rattle.model.specs.declarations.Declarations.{Declared}
+use Rattle.model.specs.state.Loaded.{Given, loaded}
+use Rattle.model.specs.shown.Outcome.{BodyMeaning}
+use Rattle.model.specs.runs.Runs.{AreSingleRuns, AreSoundRuns}
+use Rattle.model.specs.steps.Schedule.{Schedule}
+use Rattle.model.specs.state.State.{State}
 use Rattle.script.specs.declared.script_body.ScriptBody.{ScriptBody}
 use Rattle.engine.specs.EngineValue.{meanings}
 use Rattle.program_file.specs.Setup.{IsScheduleOf, AreScriptsOf}

@@ -3,18 +3,18 @@ use Rattle.std.proofs.Common.{ℕ, ℤ, zero, suc, ◌<◌, ◌≤◌, Bool, tru
 use Rattle.std.specs.Option.{unwrap_or}
 use Rattle.std.proofs.lemmas.Bool.{true_from_ne_false, false≢true}
 use Rattle.model.specs.Lists.{all_index, update_at, provided}
-use Rattle.model.specs.State.{Slot, Resource, EventQueue, Memory, State, no_resource, empty_queue, no_memory, most_indices}
-use Rattle.model.specs.Query.{Term}
-use Rattle.model.specs.Access.{Params, no_params}
-use Rattle.model.specs.Events.{send_all}
-use Rattle.model.specs.Input.{Shown, shown, rows_of}
-use Rattle.model.specs.Outcome.{Outcome, BodyMeaning, words_written, value_written, events_sent}
-use Rattle.model.specs.Overlay.{slots_after, resource_after, resources_after, queues_after, has_event_numbers}
-use Rattle.model.specs.Schedule.{ScheduledSystem, Schedule, params_of}
-use Rattle.model.specs.RunState.{between, has_tick, next_tick, memory_of_system, memory_after_run, with_registers, body_of, after_sync}
-use Rattle.model.specs.Meaning.{serial_start}
-use Rattle.model.proofs.Lists.{map_index-id}
-use Rattle.model.proofs.Engine.{after_sync-between, serial_start-no_ids, whole_start, whole_start-between, whole_state, memories_started}
+use Rattle.model.specs.state.State.{Slot, Resource, EventQueue, Memory, State, no_resource, empty_queue, no_memory, most_indices}
+use Rattle.model.specs.access.Query.{Term}
+use Rattle.model.specs.access.Access.{Params, no_params}
+use Rattle.model.specs.state.Events.{send_all}
+use Rattle.model.specs.shown.Input.{Shown, shown, rows_of}
+use Rattle.model.specs.shown.Outcome.{Outcome, BodyMeaning, words_written, value_written, events_sent}
+use Rattle.model.specs.shown.Overlay.{slots_after, resource_after, resources_after, queues_after, has_event_numbers}
+use Rattle.model.specs.steps.Schedule.{ScheduledSystem, Schedule, params_of}
+use Rattle.model.specs.runs.RunState.{between, has_tick, next_tick, memory_of_system, memory_after_run, with_registers, body_of, after_sync}
+use Rattle.model.specs.runs.Meaning.{serial_start}
+use Rattle.model.proofs.lists.Lists.{map_index-id}
+use Rattle.model.proofs.serial.Engine.{after_sync-between, serial_start-no_ids, whole_start, whole_start-between, whole_state, memories_started}
 use Rattle.std.proofs.lemmas.Option.{slice_get-get_or}
 use Rattle.body.specs.Seen.{Seen}
 use Rattle.body.specs.Steps.{at_clock, laid, memory_ran}

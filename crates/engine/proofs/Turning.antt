@@ -8,21 +8,21 @@ use Rattle.model.specs.declared.steps.Step.TheVariants.{Start, Finish, Sync}
 use Rattle.model.specs.declared.steps.Ready.{Ready}
 use Rattle.model.specs.declared.steps.Ready.TheVariants as ready
 use Rattle.model.specs.Lists.{first_some}
-use Rattle.model.specs.State.{State}
-use Rattle.model.specs.Outcome.{BodyMeaning}
-use Rattle.model.specs.Schedule.{Schedule}
-use Rattle.model.specs.Lawful.{IsLawful, IsComplete, May, MayStart, MaySkip, MayAsk, NoneRuns, runs}
-use Rattle.model.specs.Ready.{IsReady, step_of}
-use Rattle.model.specs.Widths.{IsNextSingle, just_started}
-use Rattle.model.specs.RunState.{between, begin_run, has_tick, has_ids_to_start, started_system, after_start}
-use Rattle.model.specs.Meaning.{interleaved, serial, serial_step, IsTrueAnswer}
-use Rattle.model.specs.Causes.{Cause, unless, serial_cause, serial_cause_of, serial_cause_at, cause_of_finish}
-use Rattle.model.specs.Causes.Cause.{NoTick, NoIds}
-use Rattle.model.specs.Runs.{IsSingleRun, AreSingleRuns, IsStopped}
-use Rattle.model.proofs.Histories.{start_runs, runs-start, runs-finish}
-use Rattle.model.proofs.GoOn.{covered_known}
-use Rattle.model.proofs.Causes.{lacks-serial}
-use Rattle.model.proofs.Ends.{lists_end}
+use Rattle.model.specs.state.State.{State}
+use Rattle.model.specs.shown.Outcome.{BodyMeaning}
+use Rattle.model.specs.steps.Schedule.{Schedule}
+use Rattle.model.specs.steps.Lawful.{IsLawful, IsComplete, May, MayStart, MaySkip, MayAsk, NoneRuns, runs}
+use Rattle.model.specs.steps.Ready.{IsReady, step_of}
+use Rattle.model.specs.steps.Widths.{IsNextSingle, just_started}
+use Rattle.model.specs.runs.RunState.{between, begin_run, has_tick, has_ids_to_start, started_system, after_start}
+use Rattle.model.specs.runs.Meaning.{interleaved, serial, serial_step, IsTrueAnswer}
+use Rattle.model.specs.runs.Causes.{Cause, unless, serial_cause, serial_cause_of, serial_cause_at, cause_of_finish}
+use Rattle.model.specs.runs.Causes.Cause.{NoTick, NoIds}
+use Rattle.model.specs.runs.Runs.{IsSingleRun, AreSingleRuns, IsStopped}
+use Rattle.model.proofs.order.Histories.{start_runs, runs-start, runs-finish}
+use Rattle.model.proofs.progress.Progress.{covered_known}
+use Rattle.model.proofs.faults.Causes.{lacks-serial}
+use Rattle.model.proofs.progress.Ends.{lists_end}
 use Rattle.executor_core.specs.Stands.{Stand, Stands, room}
 use Rattle.engine.specs.Stage.{Stage, Stops}
 

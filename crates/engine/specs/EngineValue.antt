@@ -1,10 +1,10 @@
 -- What contracts see of an engine.
 use Rattle.std.specs.Prelude.{Bool, List, [], ◌∷◌, refl}
 use Rattle.std.specs.Coded.{Coded, code_by, coded×, coded_list, coded_bool}
-use Rattle.model.specs.State.{State}
-use Rattle.model.specs.Schedule.{ScheduledSystem, Schedule}
-use Rattle.model.specs.Codes.{schedule_code}
-use Rattle.model.specs.Outcome.{BodyMeaning}
+use Rattle.model.specs.state.State.{State}
+use Rattle.model.specs.steps.Schedule.{ScheduledSystem, Schedule}
+use Rattle.model.specs.steps.Codes.{schedule_code}
+use Rattle.model.specs.shown.Outcome.{BodyMeaning}
 use Rattle.body.specs.contracts.state.State as state
 use Rattle.script.specs.contracts.script_body.ScriptBody as body
 use Rattle.script.specs.declared.script_body.ScriptBody.{ScriptBody}

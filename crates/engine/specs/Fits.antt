@@ -1,8 +1,8 @@
 -- Which bodies fit the systems of a schedule.
 use Rattle.std.specs.Prelude.{ℕ, ◌<◌, ◌≡◌, ◌≢◌, ◌⊎◌, Bool, true, false, List, length, Option, Some, None, slice_get}
-use Rattle.model.specs.Access.{Params}
-use Rattle.model.specs.Schedule.{Schedule, params_of}
-use Rattle.model.specs.State.{State}
+use Rattle.model.specs.access.Access.{Params}
+use Rattle.model.specs.steps.Schedule.{Schedule, params_of}
+use Rattle.model.specs.state.State.{State}
 use Rattle.script.specs.declared.script_body.ScriptBody.{ScriptBody}
 use Rattle.script.specs.Faults.{fits}
 

@@ -1,14 +1,14 @@
 -- Where a run on one thread stands between two turns, and where it stops.
 use Rattle.std.specs.Prelude.{◌≡◌, List, Some, None}
 use Rattle.model.specs.declared.steps.Step.{Step}
-use Rattle.model.specs.State.{State}
-use Rattle.model.specs.Outcome.{BodyMeaning}
-use Rattle.model.specs.Schedule.{Schedule}
-use Rattle.model.specs.Lawful.{NoneRuns}
-use Rattle.model.specs.Widths.{IsSingle, just_started}
-use Rattle.model.specs.RunState.{between}
-use Rattle.model.specs.Meaning.{serial, HasTrueAnswers}
-use Rattle.model.specs.Causes.{Cause, serial_cause}
+use Rattle.model.specs.state.State.{State}
+use Rattle.model.specs.shown.Outcome.{BodyMeaning}
+use Rattle.model.specs.steps.Schedule.{Schedule}
+use Rattle.model.specs.steps.Lawful.{NoneRuns}
+use Rattle.model.specs.steps.Widths.{IsSingle, just_started}
+use Rattle.model.specs.runs.RunState.{between}
+use Rattle.model.specs.runs.Meaning.{serial, HasTrueAnswers}
+use Rattle.model.specs.runs.Causes.{Cause, serial_cause}
 
 -- after this history nothing runs, and the serial meaning is this state with nothing beside it
 pub record Stage (s : Schedule) (bodies : List BodyMeaning) (start : State) (h : List Step) (state : State) : Type 0 where

@@ -2,10 +2,10 @@
 
 ghost use Rattle.std.specs.Prelude.{◌≡◌, ◌<◌, ◌↔◌, ℕ, List, false, length, Some, Err, OnOk, OnErr, IsErr, IsErrOf};
 ghost use Rattle.model.specs.declared.steps.Step.TheVariants.{Start, Sync};
-ghost use Rattle.model.specs.Outcome.{BodyMeaning};
-ghost use Rattle.model.specs.Schedule.{Schedule};
-ghost use Rattle.model.specs.RunState.{between, begin_run, has_tick};
-ghost use Rattle.model.specs.Meaning.{serial_step};
+ghost use Rattle.model.specs.shown.Outcome.{BodyMeaning};
+ghost use Rattle.model.specs.steps.Schedule.{Schedule};
+ghost use Rattle.model.specs.runs.RunState.{between, begin_run, has_tick};
+ghost use Rattle.model.specs.runs.Meaning.{serial_step};
 ghost use Rattle.engine.specs.EngineValue.{meanings};
 ghost use Rattle.engine.specs.Fits.{Suits};
 

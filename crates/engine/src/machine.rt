@@ -1,8 +1,8 @@
 // The engine: a built schedule with a body for each system, over a state.
 
 ghost use Rattle.std.specs.Prelude.{◌≡◌, ◌↔◌, ◌⊎◌, ℕ, length, map, false, true, Err, IfOk, IsOk, IsErr, IsErrOf, IsTrue};
-ghost use Rattle.model.specs.Runs.{AreSingleRuns, AreSoundRuns, HasRuns, IsStopped};
-ghost use Rattle.model.specs.Causes.{Cause};
+ghost use Rattle.model.specs.runs.Runs.{AreSingleRuns, AreSoundRuns, HasRuns, IsStopped};
+ghost use Rattle.model.specs.runs.Causes.{Cause};
 ghost use Rattle.engine.specs.EngineValue.{meanings};
 ghost use Rattle.engine.specs.Fits.{Miscounts, IsFirstMisfit};
 ghost use Rattle.engine.specs.History.{history_of};

@@ -3,10 +3,10 @@
 ghost use Rattle.std.specs.Prelude.{◌≡◌, ◌<◌, ◌↔◌, ◌∷◌, [], ℕ, List, false, length, reverse, map, Some, Err, OnOk, IfOk};
 ghost use Rattle.model.specs.declared.steps.Step.{Step};
 ghost use Rattle.model.specs.declared.steps.Step.TheVariants.{Start, Finish};
-ghost use Rattle.model.specs.Schedule.{Schedule};
-ghost use Rattle.model.specs.Lawful.{May, MayStart, NoneRuns};
-ghost use Rattle.model.specs.Runs.{IsSingleRun, AreSingleRuns, IsStopped};
-ghost use Rattle.model.specs.Causes.{Cause};
+ghost use Rattle.model.specs.steps.Schedule.{Schedule};
+ghost use Rattle.model.specs.steps.Lawful.{May, MayStart, NoneRuns};
+ghost use Rattle.model.specs.runs.Runs.{IsSingleRun, AreSingleRuns, IsStopped};
+ghost use Rattle.model.specs.runs.Causes.{Cause};
 ghost use Rattle.executor_core.specs.Stands.{Stands};
 ghost use Rattle.engine.specs.EngineValue.{meanings};
 ghost use Rattle.engine.specs.Fits.{Suits};

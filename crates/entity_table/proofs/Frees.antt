@@ -3,8 +3,8 @@ use Rattle.std.proofs.Common.{◌≡◌, ℕ, zero, suc, ◌+◌, ◌<◌, ◌�
 use Rattle.std.specs.List.{AllByRecursion}
 use Rattle.std.proofs.lemmas.Bool.{cond-true, cond-false, cond_both, lt-leb}
 use Rattle.model.specs.Lists.{update_at}
-use Rattle.model.specs.State.{Slot, fresh_slot, is_vacant}
-use Rattle.model.specs.Ids.{vacant_from}
+use Rattle.model.specs.state.State.{Slot, fresh_slot, is_vacant}
+use Rattle.model.specs.state.Ids.{vacant_from}
 use Rattle.entity_table.specs.Rising.{insert_rising}
 use Rattle.entity_table.proofs.Ascending.{insert_least}
 

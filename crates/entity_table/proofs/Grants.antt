@@ -8,11 +8,11 @@ use Rattle.std.proofs.lemmas.List.{length-append, length-replicate, append-nil, 
 use Rattle.std.proofs.lemmas.List.Elements.{All-nil, All-cons}
 use Rattle.model.specs.declared.entities.Entity.{Entity}
 use Rattle.model.specs.Lists.{has, map_index, update_at, tail_of}
-use Rattle.model.specs.State.{Slot, fresh_slot, is_vacant, most_indices, Status, is_living}
-use Rattle.model.specs.State.Status.{Vacant, Granted, Living, Retired}
-use Rattle.model.specs.Ids.{vacant_from, vacant_indices, with_room, has_ids, id_at, least_vacant, granted_ids, granted_slot, grant}
-use Rattle.model.proofs.Lists.{map_index-id, length-map_index, get_or-append_replicate}
-use Rattle.model.proofs.Each.{each-at}
+use Rattle.model.specs.state.State.{Slot, fresh_slot, is_vacant, most_indices, Status, is_living}
+use Rattle.model.specs.state.State.Status.{Vacant, Granted, Living, Retired}
+use Rattle.model.specs.state.Ids.{vacant_from, vacant_indices, with_room, has_ids, id_at, least_vacant, granted_ids, granted_slot, grant}
+use Rattle.model.proofs.lists.Lists.{map_index-id, length-map_index, get_or-append_replicate}
+use Rattle.model.proofs.lists.Each.{each-at}
 use Rattle.entity_table.specs.Ids.{lives_at, IsGranted, AreApart}
 
 -- ---- words

@@ -2,14 +2,14 @@
 use Rattle.std.proofs.Common.{◌≡◌, ℕ, zero, suc, ◌+◌, ◌<◌, ◌≤◌, Bool, true, false, cond, ◌==◌, ◌&&◌, List, [], ◌∷◌, length, get_or, refl, ap, sym, ◌∙◌, arith}
 use Rattle.std.proofs.lemmas.Bool.{eq-eqb, false≢true}
 use Rattle.model.specs.Lists.{update_at}
-use Rattle.model.specs.State.{Slot, fresh_slot, is_vacant, is_granted, is_living}
-use Rattle.model.specs.State.Status.{Vacant, Granted, Living, Retired}
-use Rattle.model.specs.Ids.{vacant_indices, has_ids, grant}
-use Rattle.model.specs.Commands.{freed, spawned}
-use Rattle.model.specs.Shape.{IsSlot}
-use Rattle.model.proofs.Lists.{length-update_at}
-use Rattle.model.proofs.Each.{each-update_at}
-use Rattle.model.proofs.SlotShapes.{slot-freed, slot-spawned, slots-grant, length-grant}
+use Rattle.model.specs.state.State.{Slot, fresh_slot, is_vacant, is_granted, is_living}
+use Rattle.model.specs.state.State.Status.{Vacant, Granted, Living, Retired}
+use Rattle.model.specs.state.Ids.{vacant_indices, has_ids, grant}
+use Rattle.model.specs.state.Commands.{freed, spawned}
+use Rattle.model.specs.state.Shape.{IsSlot}
+use Rattle.model.proofs.lists.Lists.{length-update_at}
+use Rattle.model.proofs.lists.Each.{each-update_at}
+use Rattle.model.proofs.shape.Slots.{slot-freed, slot-spawned, slots-grant, length-grant}
 use Rattle.entity_table.specs.Rising.{Numbers, insert_rising}
 use Rattle.entity_table.specs.Ids.{slot_at, IsBook, IsKept}
 use Rattle.entity_table.proofs.Frees.{vacant_from-more, vacant_from-same, length-vacant_lt}

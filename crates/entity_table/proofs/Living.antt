@@ -3,11 +3,11 @@ use Rattle.std.proofs.Common.{◌≡◌, ◌≢◌, ℕ, zero, suc, ◌-◌, Boo
 use Rattle.std.proofs.lemmas.Bool.{and_parts, false≢true}
 use Rattle.model.specs.declared.entities.Entity.{Entity}
 use Rattle.model.specs.Lists.{update_at}
-use Rattle.model.specs.State.{Slot, Status, fresh_slot, is_living, is_granted, is_vacant}
-use Rattle.model.specs.State.Status.{Vacant, Granted, Living, Retired}
-use Rattle.model.specs.Ids.{vacant_indices, with_room, grant, granted_slot}
-use Rattle.model.specs.Commands.{is_alive, freed, spawned, release}
-use Rattle.model.proofs.Lists.{get_or-append_replicate, get_or-update_at_other}
+use Rattle.model.specs.state.State.{Slot, Status, fresh_slot, is_living, is_granted, is_vacant}
+use Rattle.model.specs.state.State.Status.{Vacant, Granted, Living, Retired}
+use Rattle.model.specs.state.Ids.{vacant_indices, with_room, grant, granted_slot}
+use Rattle.model.specs.state.Commands.{is_alive, freed, spawned, release}
+use Rattle.model.proofs.lists.Lists.{get_or-append_replicate, get_or-update_at_other}
 use Rattle.entity_table.specs.Ids.{slot_at, lives_at, spawned_all, settled}
 use Rattle.entity_table.proofs.Grants.{first_granted, grant-is}
 use Rattle.entity_table.proofs.Releases.{living-release}

@@ -3,13 +3,13 @@ use Rattle.std.proofs.Common.{◌≡◌, ◌≢◌, ℕ, zero, suc, ◌+◌, ◌
 use Rattle.std.proofs.lemmas.Bool.{ne_eqb, eq-eqb}
 use Rattle.model.specs.declared.entities.Entity.{Entity}
 use Rattle.model.specs.Lists.{update_at, with_at}
-use Rattle.model.specs.State.{Component, Slot, fresh_slot, is_vacant, is_granted, is_living, last_generation, most_indices}
-use Rattle.model.specs.State.Status.{Vacant, Living, Retired}
-use Rattle.model.specs.Rows.{row_at}
-use Rattle.model.specs.Ids.{vacant_indices, with_room, has_ids, granted_ids, granted_slot, grant}
-use Rattle.model.specs.Commands.{is_alive, spawned, freed, with_row, names_index, release}
-use Rattle.model.proofs.Lists.{map_index-same, map_index-map_index, map_index-replicate, length-map_index, get_or-map_index-view}
-use Rattle.model.proofs.Grants.{vacant_from-map_index}
+use Rattle.model.specs.state.State.{Component, Slot, fresh_slot, is_vacant, is_granted, is_living, last_generation, most_indices}
+use Rattle.model.specs.state.State.Status.{Vacant, Living, Retired}
+use Rattle.model.specs.state.Rows.{row_at}
+use Rattle.model.specs.state.Ids.{vacant_indices, with_room, has_ids, granted_ids, granted_slot, grant}
+use Rattle.model.specs.state.Commands.{is_alive, spawned, freed, with_row, names_index, release}
+use Rattle.model.proofs.lists.Lists.{map_index-same, map_index-map_index, map_index-replicate, length-map_index, get_or-map_index-view}
+use Rattle.model.proofs.serial.Grants.{vacant_from-map_index}
 use Rattle.entity_table.specs.Ids.{slot_at, lives_at, IsGranted, spawned_all, settled}
 use Rattle.entity_table.specs.Rows.{with_rows}
 use Rattle.entity_table.proofs.Grants.{first_granted, first_ids, grant-is, granted_ids-is, has_ids-is}

@@ -3,11 +3,11 @@ use Rattle.std.specs.Prelude.{ℕ, ◌≡◌, ◌≢◌, ◌≤◌, Bool, List, 
 use Rattle.std.specs.List.{AllByRecursion}
 use Rattle.model.specs.Lists.{update_at}
 use Rattle.model.specs.declared.entities.Entity.{Entity}
-use Rattle.model.specs.State.{Slot, fresh_slot, is_living, most_indices}
-use Rattle.model.specs.State.Status.{Granted}
-use Rattle.model.specs.Ids.{vacant_indices}
-use Rattle.model.specs.Commands.{spawned, release}
-use Rattle.model.specs.Shape.{IsSlot}
+use Rattle.model.specs.state.State.{Slot, fresh_slot, is_living, most_indices}
+use Rattle.model.specs.state.State.Status.{Granted}
+use Rattle.model.specs.state.Ids.{vacant_indices}
+use Rattle.model.specs.state.Commands.{spawned, release}
+use Rattle.model.specs.state.Shape.{IsSlot}
 use Rattle.entity_table.specs.Rising.{Numbers}
 
 -- the slot of an index: vacant at generation 1 past the end

@@ -1,5 +1,5 @@
 -- The status of an index as the definitions have it.
-use Rattle.model.specs.State.{Status as ModelStatus}
+use Rattle.model.specs.state.State.{Status as ModelStatus}
 use Rattle.entity_table.specs.declared.status.Status.{Status}
 use Rattle.entity_table.specs.declared.status.Status.TheVariants.{Vacant, Granted, Living, Retired}
 

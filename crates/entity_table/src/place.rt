@@ -1,10 +1,10 @@
 // One index: its generation and its status.
 
 ghost use Rattle.std.specs.Prelude.{◌≡◌, []};
-ghost use Rattle.model.specs.State.{fresh_slot, is_living, is_vacant, is_granted};
-ghost use Rattle.model.specs.State.{Status as ModelStatus};
-ghost use Rattle.model.specs.Ids.{granted_slot};
-ghost use Rattle.model.specs.Commands.{freed};
+ghost use Rattle.model.specs.state.State.{fresh_slot, is_living, is_vacant, is_granted};
+ghost use Rattle.model.specs.state.State.{Status as ModelStatus};
+ghost use Rattle.model.specs.state.Ids.{granted_slot};
+ghost use Rattle.model.specs.state.Commands.{freed};
 ghost use Rattle.entity_table.specs.Status.{status_of};
 
 use crate::status::Status;
@@ -19,7 +19,7 @@ pub(crate) struct Place {
 
 impl Model for Place {
     ghost use Rattle.std.specs.Prelude.{[]};
-    ghost use Rattle.model.specs.State.{Slot};
+    ghost use Rattle.model.specs.state.State.{Slot};
     ghost use Rattle.entity_table.specs.Status.{status_of};
 
     ghost Value = { Slot };

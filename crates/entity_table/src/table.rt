@@ -2,11 +2,11 @@
 
 ghost use Rattle.std.specs.Prelude.{◌≡◌, ◌++◌, ◌+◌, ◌-◌, ◌≤◌, ◌<◌, ◌↔◌, ℕ, true, false, [], ◌∷◌, length, vec_len, vec_capacity, All, IsTrue, IfSome, IfNone, IfOk, OnOk, OnErr, IsErrOf};
 ghost use Rattle.model.specs.Lists.{update_at};
-ghost use Rattle.model.specs.State.{most_indices, is_vacant, is_granted};
-ghost use Rattle.model.specs.Ids as ids;
-ghost use Rattle.model.specs.Ids.{vacant_indices, granted_ids};
-ghost use Rattle.model.specs.Commands.{is_alive, spawned, freed};
-ghost use Rattle.model.specs.Commands as commands;
+ghost use Rattle.model.specs.state.State.{most_indices, is_vacant, is_granted};
+ghost use Rattle.model.specs.state.Ids as ids;
+ghost use Rattle.model.specs.state.Ids.{vacant_indices, granted_ids};
+ghost use Rattle.model.specs.state.Commands.{is_alive, spawned, freed};
+ghost use Rattle.model.specs.state.Commands as commands;
 ghost use Rattle.entity_table.specs.Status.{status_of};
 ghost use Rattle.entity_table.specs.Ids.{slot_at, lives_at, IsGranted, AreApart, IsBook, settled};
 
@@ -34,7 +34,7 @@ pub struct EntityTable {
 
 impl Model for EntityTable {
     ghost use Rattle.std.specs.Prelude.{List};
-    ghost use Rattle.model.specs.State.{Slot};
+    ghost use Rattle.model.specs.state.State.{Slot};
     ghost use Rattle.entity_table.specs.Ids.{IsKept};
 
     ghost Value = { List Slot };

@@ -3,8 +3,8 @@ use Rattle.std.proofs.Common.{◌≡◌, ℕ, zero, suc, ℤ, ◌+◌, ◌-◌, 
 use Rattle.std.proofs.lemmas.Bool.{cond-true, cond-false, lt-leb}
 use Rattle.std.proofs.lemmas.List.{map-append}
 use Rattle.std.proofs.lemmas.List.Elements.{filter-append}
-use Rattle.model.specs.State.{Event}
-use Rattle.model.specs.Events.{unread, updated_queue, send}
+use Rattle.model.specs.state.State.{Event}
+use Rattle.model.specs.state.Events.{unread, updated_queue, send}
 use Rattle.event_buffers.specs.Queue.{numbered, values_from, queue_of_parts}
 
 -- values after others are numbered after them

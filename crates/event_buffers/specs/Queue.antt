@@ -1,6 +1,6 @@
 -- The kept events of one kind, from the values of two buffers.
 use Rattle.std.specs.Prelude.{ℕ, suc, ℤ, ◌+◌, List, [], ◌∷◌, ◌++◌, length, map, filter, nat_le}
-use Rattle.model.specs.State.{Event, EventQueue}
+use Rattle.model.specs.state.State.{Event, EventQueue}
 
 -- events with these values, numbered from a number on
 abbrev pub numbered : ℕ → List ℤ → List Event

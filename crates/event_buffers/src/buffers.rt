@@ -3,8 +3,8 @@
 ghost use Rattle.std.specs.Prelude.{◌≡◌, ◌↔◌, ◌++◌, ◌≤◌, IfOk, IsErrOf, OnOk, OnErr, map, replicate};
 ghost use Rattle.kinds.specs.Res.{event_number};
 ghost use Rattle.model.specs.Lists.{update_at};
-ghost use Rattle.model.specs.State.{event_count, empty_queue, last_tick};
-ghost use Rattle.model.specs.Events.{queue_of, send, unread, updated_queue};
+ghost use Rattle.model.specs.state.State.{event_count, empty_queue, last_tick};
+ghost use Rattle.model.specs.state.Events.{queue_of, send, unread, updated_queue};
 
 use crate::queue::{Queue, SendFault, Unread};
 use kinds::res::Event;
@@ -19,7 +19,7 @@ pub struct Events {
 
 impl Model for Events {
     ghost use Rattle.std.specs.Prelude.{List, ◌≡◌, length};
-    ghost use Rattle.model.specs.State.{EventQueue, event_count};
+    ghost use Rattle.model.specs.state.State.{EventQueue, event_count};
 
     ghost Value = { List EventQueue };
 

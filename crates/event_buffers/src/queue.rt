@@ -1,8 +1,8 @@
 // The kept events of one kind.
 
 ghost use Rattle.std.specs.Prelude.{◌≡◌, ◌↔◌, ◌++◌, ◌≤◌, ◌+◌, length, IsErrOf, OnOk, OnErr};
-ghost use Rattle.model.specs.State.{empty_queue, last_tick};
-ghost use Rattle.model.specs.Events.{send, unread, updated_queue};
+ghost use Rattle.model.specs.state.State.{empty_queue, last_tick};
+ghost use Rattle.model.specs.state.Events.{send, unread, updated_queue};
 ghost use Rattle.event_buffers.specs.Queue.{values_from};
 
 use std::alloc::Global;
@@ -44,7 +44,7 @@ pub struct Queue {
 
 impl Model for Queue {
     ghost use Rattle.std.specs.Prelude.{◌≤◌, ◌+◌, length};
-    ghost use Rattle.model.specs.State.{EventQueue, last_tick};
+    ghost use Rattle.model.specs.state.State.{EventQueue, last_tick};
 
     ghost Value = { EventQueue };
 

@@ -6,11 +6,11 @@ use Rattle.model.specs.declared.steps.Step.{Step}
 use Rattle.model.specs.declared.steps.Step.TheVariants.{Cond, Start, Skip, Finish, Sync}
 use Rattle.model.specs.declared.steps.StepFault.TheVariants.{Repeated, NotReady, ConditionTrue, NotRunning, LevelOpen}
 use Rattle.model.specs.declared.steps.StepFault.TheVariants as fault
-use Rattle.model.specs.Schedule.{Schedule, params_of, level_of, covers}
-use Rattle.model.specs.Lawful.{begun, ended, runs, synced, IsFree, HasOpen, HasFalse, MeetsRunning, MayStart, MayFinish, MaySync, IsComplete}
-use Rattle.model.specs.Faults.{IsFirstFault}
-use Rattle.model.proofs.Histories.{begun_from_runs, begun_runs_or_ended, runs_not-ended, runs_known}
-use Rattle.model.proofs.Decided.{decide_meets}
+use Rattle.model.specs.steps.Schedule.{Schedule, params_of, level_of, covers}
+use Rattle.model.specs.steps.Lawful.{begun, ended, runs, synced, IsFree, HasOpen, HasFalse, MeetsRunning, MayStart, MayFinish, MaySync, IsComplete}
+use Rattle.model.specs.steps.Faults.{IsFirstFault}
+use Rattle.model.proofs.order.Histories.{begun_from_runs, begun_runs_or_ended, runs_not-ended, runs_known}
+use Rattle.model.proofs.faults.Decisions.{decide_meets}
 use Rattle.executor_core.specs.Stands.{Stand, Stands}
 use Rattle.executor_core.specs.Judges.{NoneMeets, IsReleased, IsOpen}
 

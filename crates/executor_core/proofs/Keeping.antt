@@ -5,8 +5,8 @@ use Rattle.std.proofs.lemmas.Bool.Decides.{eqb_tells}
 use Rattle.number_set.specs.Members.{contains}
 use Rattle.model.specs.declared.steps.Step.{Step}
 use Rattle.model.specs.declared.steps.Step.TheVariants.{Cond, Start, Skip, Finish, Sync}
-use Rattle.model.specs.Schedule.{Schedule}
-use Rattle.model.specs.Lawful.{started, skipped, finished, begun, ended, synced, May, IsLawful}
+use Rattle.model.specs.steps.Schedule.{Schedule}
+use Rattle.model.specs.steps.Lawful.{started, skipped, finished, begun, ended, synced, May, IsLawful}
 use Rattle.executor_core.specs.Stands.{Stand, Stands, IsPassed}
 use Rattle.executor_core.proofs.Judging.{done_below, next_fresh}
 

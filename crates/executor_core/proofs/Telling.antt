@@ -9,15 +9,15 @@ use Rattle.model.specs.declared.steps.Step.TheVariants.{Start}
 use Rattle.model.specs.declared.steps.StepFault.{StepFault}
 use Rattle.model.specs.declared.steps.Ready.{Ready}
 use Rattle.model.specs.declared.steps.Ready.TheVariants as ready
-use Rattle.model.specs.Schedule.{Schedule, level_of}
-use Rattle.model.specs.Built.{IsBuilt}
-use Rattle.model.specs.Lawful.{ended, synced, IsFree, IsLawful, IsComplete, NoneRuns, May, MayStart}
-use Rattle.model.specs.Faults.{IsFirstFault}
-use Rattle.model.specs.Ready.{IsReady, IsReadyAmong, Offers, OffersNothing, OnlyFinish, step_of}
-use Rattle.model.proofs.Histories.{level_ended}
-use Rattle.model.proofs.Offers.{ready_is_accepted, lists_complete}
-use Rattle.model.proofs.GoOn.{lists_go_on}
-use Rattle.model.proofs.Exact.{faults_are_exact}
+use Rattle.model.specs.steps.Schedule.{Schedule, level_of}
+use Rattle.model.specs.steps.Built.{IsBuilt}
+use Rattle.model.specs.steps.Lawful.{ended, synced, IsFree, IsLawful, IsComplete, NoneRuns, May, MayStart}
+use Rattle.model.specs.steps.Faults.{IsFirstFault}
+use Rattle.model.specs.steps.Ready.{IsReady, IsReadyAmong, Offers, OffersNothing, OnlyFinish, step_of}
+use Rattle.model.proofs.order.Histories.{level_ended}
+use Rattle.model.proofs.progress.Offers.{ready_is_accepted, lists_complete}
+use Rattle.model.proofs.progress.Progress.{lists_go_on}
+use Rattle.model.proofs.faults.ExactFaults.{faults_are_exact}
 use Rattle.executor_core.specs.Stands.{Stand, Stands}
 use Rattle.executor_core.specs.Judges.{Judges, TellsOffer}
 use Rattle.executor_core.proofs.Judging.{done_below, next_fresh, no_open, no_false}

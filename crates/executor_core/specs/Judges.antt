@@ -5,10 +5,10 @@ use Rattle.model.specs.declared.steps.Step.{Step}
 use Rattle.model.specs.declared.steps.Step.TheVariants.{Cond, Start, Skip, Finish, Sync}
 use Rattle.model.specs.declared.steps.StepFault.{StepFault}
 use Rattle.model.specs.declared.steps.Ready.{Ready}
-use Rattle.model.specs.Schedule.{Schedule, has_edge, level_of}
-use Rattle.model.specs.Lawful.{May}
-use Rattle.model.specs.Faults.{IsFirstFault}
-use Rattle.model.specs.Ready.{Offers, OffersNothing}
+use Rattle.model.specs.steps.Schedule.{Schedule, has_edge, level_of}
+use Rattle.model.specs.steps.Lawful.{May}
+use Rattle.model.specs.steps.Faults.{IsFirstFault}
+use Rattle.model.specs.steps.Ready.{Offers, OffersNothing}
 use Rattle.schedule_builder.specs.Rows.{IsRival}
 use Rattle.executor_core.specs.Stands.{Stand}
 

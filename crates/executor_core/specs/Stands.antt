@@ -3,9 +3,9 @@ use Rattle.std.specs.Prelude.{ℕ, ◌+◌, ◌*◌, ◌<◌, ◌≡◌, Bool, t
 use Rattle.std.specs.Coded.{Coded, code_by, coded×, coded_list, coded_ℕ}
 use Rattle.number_set.specs.Members.{contains}
 use Rattle.model.specs.declared.steps.Step.{Step}
-use Rattle.model.specs.Schedule.{Schedule}
-use Rattle.model.specs.Codes.{schedule_code}
-use Rattle.model.specs.Lawful.{IsLawful, begun, ended, synced}
+use Rattle.model.specs.steps.Schedule.{Schedule}
+use Rattle.model.specs.steps.Codes.{schedule_code}
+use Rattle.model.specs.steps.Lawful.{IsLawful, begun, ended, synced}
 
 -- a schedule; the systems that have begun and that are over, as sets of numbers; how many sync points are done; and how many
 -- systems at the front of the schedule order need no more be looked at

@@ -4,11 +4,11 @@ ghost use Rattle.std.specs.Prelude.{ℕ, ◌≡◌, ◌+◌, ◌<◌, ◌≤◌,
 ghost use Rattle.std.specs.Bool.{OnFalse};
 ghost use Rattle.number_set.specs.Members.{contains};
 ghost use Rattle.model.specs.declared.steps.Step.{Step};
-ghost use Rattle.model.specs.Schedule.{level_of};
-ghost use Rattle.model.specs.Built.{IsBuilt};
-ghost use Rattle.model.specs.Lawful.{IsLawful, IsComplete, NoneRuns, May};
-ghost use Rattle.model.specs.Faults.{IsFirstFault};
-ghost use Rattle.model.specs.Ready.{IsReady, OnlyFinish, step_of};
+ghost use Rattle.model.specs.steps.Schedule.{level_of};
+ghost use Rattle.model.specs.steps.Built.{IsBuilt};
+ghost use Rattle.model.specs.steps.Lawful.{IsLawful, IsComplete, NoneRuns, May};
+ghost use Rattle.model.specs.steps.Faults.{IsFirstFault};
+ghost use Rattle.model.specs.steps.Ready.{IsReady, OnlyFinish, step_of};
 ghost use Rattle.executor_core.specs.Stands.{Stands, IsPassed, room};
 ghost use Rattle.executor_core.specs.Judges.{AllOver, NoneMeets, IsReleased, IsOpen, IsKnown};
 

@@ -2,7 +2,7 @@
 
 ghost use Rattle.std.specs.Prelude.{List};
 ghost use Rattle.model.specs.declared.steps.Step.{Step};
-ghost use Rattle.model.specs.Ready.{IsReady, IsReadySync};
+ghost use Rattle.model.specs.steps.Ready.{IsReady, IsReadySync};
 ghost use Rattle.executor_core.specs.Stands.{Stands};
 ghost use Rattle.executor_core.specs.Judges.{TellsOffer};
 

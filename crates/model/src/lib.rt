@@ -1,7 +1,7 @@
 // The meaning of a schedule's run, in definitions that every other crate cites, and its laws.
 #![tactic(auto)]
 
-ghost use Rattle.model.specs.Laws.{ListsKeepOrder, ListsGoOn, ListsEnd, ListsComplete, ReadyIsAccepted, FaultsAreExact, FaultsAreComputed, ListsAreComputed, SingleIsWide, WideOfOneIsSingle, AtMostRun, FinishesWait, RunsAreSound, WideRunsAreSound, WideRunsOfOneAreSingle, WideStopsOfOneAreSingle, SameIsShown, InterleavedIsSerial, ConflictsAreTested, AnswersAreAsked, CausesAreExact, InterleavedKeepsShape, SerialKeepsShape, LoadedHasShape, SingleRunsAreSound, SingleRunIsOne, SingleRunsAreOne, DefinedRunsGoThrough, StopsAreOne, RunsAgree};
+ghost use Rattle.model.specs.runs.Laws.{ListsKeepOrder, ListsGoOn, ListsEnd, ListsComplete, ReadyIsAccepted, FaultsAreExact, FaultsAreComputed, ListsAreComputed, SingleIsWide, WideOfOneIsSingle, AtMostRun, FinishesWait, RunsAreSound, WideRunsAreSound, WideRunsOfOneAreSingle, WideStopsOfOneAreSingle, SameIsShown, InterleavedIsSerial, ConflictsAreTested, AnswersAreAsked, CausesAreExact, InterleavedKeepsShape, SerialKeepsShape, LoadedHasShape, SingleRunsAreSound, SingleRunIsOne, SingleRunsAreOne, DefinedRunsGoThrough, StopsAreOne, RunsAgree};
 
 pub mod entities;
 pub mod steps;

@@ -2,10 +2,10 @@
 use Rattle.std.proofs.Common.{◌≡◌, ℕ, zero, suc, ◌<◌, ◌+◌, inl, inr, true, List, [], ◌∷◌, ◌++◌, length, slice_get, get_or, None, refl, ap, sym, ◌∙◌, arith}
 use Rattle.std.proofs.Math.Nat.{eq-or-lt_of_le}
 use Rattle.std.proofs.lemmas.List.{length-map}
-use Rattle.model.specs.Access.{Params, no_params}
-use Rattle.model.specs.Declarations.{Declared}
-use Rattle.model.specs.Schedule.{Schedule, ScheduledSystem, params_of}
-use Rattle.model.specs.ScheduleOrder.{HasDeclaredSystems}
+use Rattle.model.specs.access.Access.{Params, no_params}
+use Rattle.model.specs.declarations.Declarations.{Declared}
+use Rattle.model.specs.steps.Schedule.{Schedule, ScheduledSystem, params_of}
+use Rattle.model.specs.declarations.ScheduleOrder.{HasDeclaredSystems}
 use Rattle.script.specs.declared.script_body.ScriptBody.{ScriptBody}
 use Rattle.script.specs.Script.{ScriptBlock}
 use Rattle.script.specs.Faults.{fits, script_fault}

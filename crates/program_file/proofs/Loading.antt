@@ -6,17 +6,17 @@ use Rattle.std.proofs.lemmas.List.Sums.{fold-append}
 use Rattle.std.proofs.lemmas.List.{take_all, drop_all, append-nil, take_more, length-replicate, map-append}
 use Rattle.model.specs.declared.entities.Entity.{Entity}
 use Rattle.model.specs.Lists.{update_at}
-use Rattle.model.specs.State.{Slot, World, fresh_slot, Component}
-use Rattle.model.specs.Ids.{granted_slot, grant, granted_ids, with_room}
-use Rattle.model.specs.Loaded.{Given, slot_given, row_given}
-use Rattle.model.specs.Rows.{insert_component}
+use Rattle.model.specs.state.State.{Slot, World, fresh_slot, Component}
+use Rattle.model.specs.state.Ids.{granted_slot, grant, granted_ids, with_room}
+use Rattle.model.specs.state.Loaded.{Given, slot_given, row_given}
+use Rattle.model.specs.state.Rows.{insert_component}
 use Rattle.entity_table.specs.Ids.{IsGranted}
 use Rattle.entity_table.proofs.Grants.{first_granted, first_ids, grant-is, granted_ids-is}
-use Rattle.model.specs.Commands.{is_alive, spawned, with_row}
-use Rattle.model.specs.State.Status.{Granted, Living}
-use Rattle.model.specs.State.{Resource, no_resource}
-use Rattle.model.specs.Overlay.{resource_after}
-use Rattle.model.specs.Loaded.{resource_given}
+use Rattle.model.specs.state.Commands.{is_alive, spawned, with_row}
+use Rattle.model.specs.state.State.Status.{Granted, Living}
+use Rattle.model.specs.state.State.{Resource, no_resource}
+use Rattle.model.specs.shown.Overlay.{resource_after}
+use Rattle.model.specs.state.Loaded.{resource_given}
 use Rattle.archetype_store.specs.Store.{with_slot, with_slots, with_resource}
 use Rattle.kinds.specs.declared.value.Value.{Value}
 use Rattle.kinds.specs.Value.{value_number, value_words}

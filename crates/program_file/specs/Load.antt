@@ -1,9 +1,9 @@
 -- A program file's entities and resources, as the state as loaded has them.
 use Rattle.std.specs.Prelude.{ℕ, ℤ, Vec, List, map, drop, take, replicate, length, ◌++◌}
 use Rattle.std.specs.declared.alloc.Global.{Global}
-use Rattle.model.specs.Ids.{granted_slot}
-use Rattle.model.specs.Loaded.{Given, slot_given, resource_given}
-use Rattle.model.specs.State.{Slot, World, fresh_slot}
+use Rattle.model.specs.state.Ids.{granted_slot}
+use Rattle.model.specs.state.Loaded.{Given, slot_given, resource_given}
+use Rattle.model.specs.state.State.{Slot, World, fresh_slot}
 use Rattle.kinds.specs.declared.value.Value.{Value}
 use Rattle.kinds.specs.Value.{value_number, value_words}
 

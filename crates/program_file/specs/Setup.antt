@@ -1,11 +1,11 @@
 -- A schedule that the builder accepted, with a script for each system.
 use Rattle.std.specs.Prelude.{ℕ, ◌<◌, ◌≡◌, true, List, [], length, replicate}
-use Rattle.model.specs.Declarations.{Declared}
-use Rattle.model.specs.Loaded.{first_memory}
-use Rattle.model.specs.Refusals.{IsBuildable}
-use Rattle.model.specs.Schedule.{Schedule, params_of}
-use Rattle.model.specs.ScheduleOrder.{HasDeclaredSystems, HasDeclaredEdges, IsOneLevel, IsScheduleOrder}
-use Rattle.model.specs.State.{State, World, event_count, empty_queue}
+use Rattle.model.specs.declarations.Declarations.{Declared}
+use Rattle.model.specs.state.Loaded.{first_memory}
+use Rattle.model.specs.declarations.Refusals.{IsBuildable}
+use Rattle.model.specs.steps.Schedule.{Schedule, params_of}
+use Rattle.model.specs.declarations.ScheduleOrder.{HasDeclaredSystems, HasDeclaredEdges, IsOneLevel, IsScheduleOrder}
+use Rattle.model.specs.state.State.{State, World, event_count, empty_queue}
 use Rattle.script.specs.declared.script_body.ScriptBody.{ScriptBody}
 use Rattle.engine.specs.Fits.{fits_at}
 

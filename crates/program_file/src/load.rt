@@ -1,10 +1,10 @@
 // The world as a program file gives it: entity i of the file at index i with generation 1, all at tick 1.
 
 ghost use Rattle.std.specs.Prelude.{◌≡◌, ◌≤◌, [], map, length, replicate, true, IfOk, OnOk};
-ghost use Rattle.model.specs.Commands.{is_alive, with_row};
-ghost use Rattle.model.specs.Loaded.{slot_given};
-ghost use Rattle.model.specs.Rows.{insert_component};
-ghost use Rattle.model.specs.State.{resource_count};
+ghost use Rattle.model.specs.state.Commands.{is_alive, with_row};
+ghost use Rattle.model.specs.state.Loaded.{slot_given};
+ghost use Rattle.model.specs.state.Rows.{insert_component};
+ghost use Rattle.model.specs.state.State.{resource_count};
 ghost use Rattle.entity_table.specs.Ids.{IsGranted};
 ghost use Rattle.archetype_store.specs.Layout.{AreAllHome};
 ghost use Rattle.archetype_store.specs.Store.{with_slot};

@@ -3,8 +3,8 @@ use Rattle.std.proofs.Common.{◌≡◌, ℕ, true, false, ◌||◌, List, ◌�
 use Rattle.std.proofs.lemmas.Bool.{or_left}
 use Rattle.std.specs.List.{filter_map, cons_option}
 use Rattle.model.specs.Lists.{has}
-use Rattle.model.specs.Query.{Term}
-use Rattle.model.specs.QueryFaults.{fetched, has_twice, fetches_twice}
+use Rattle.model.specs.access.Query.{Term}
+use Rattle.model.specs.access.QueryFaults.{fetched, has_twice, fetches_twice}
 use Rattle.query.specs.declared.term.Term.{Term as Code}
 use Rattle.query.specs.Term.{term_of}
 use Rattle.query.specs.Named.{any_names}

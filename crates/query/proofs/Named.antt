@@ -5,11 +5,11 @@ use Rattle.std.proofs.lemmas.Bool.{and_parts, and_from, false≢true}
 use Rattle.std.specs.Cmp.{both_ways}
 use Rattle.std.specs.List.{list_any, filter_map, cons_option}
 use Rattle.model.specs.Lists.{has, is_number, IsIn}
-use Rattle.model.specs.Query.{Term as ModelTerm}
-use Rattle.model.specs.Conflict.{required}
-use Rattle.model.specs.QueryFaults.{optional, excluded, excludes_kind}
-use Rattle.model.proofs.Lists.{list_any-IsIn, IsIn_from_any, has-IsIn, IsIn_from_has}
-use Rattle.model.proofs.Histories.{same_or}
+use Rattle.model.specs.access.Query.{Term as ModelTerm}
+use Rattle.model.specs.access.Conflict.{required}
+use Rattle.model.specs.access.QueryFaults.{optional, excluded, excludes_kind}
+use Rattle.model.proofs.lists.Lists.{list_any-IsIn, IsIn_from_any, has-IsIn, IsIn_from_has}
+use Rattle.model.proofs.order.Histories.{same_or}
 use Rattle.kinds.specs.declared.kind.Kind.{Kind}
 use Rattle.kinds.specs.declared.kind.Kind.TheVariants.{Position}
 use Rattle.kinds.specs.Kind.{kind_count, kind_number, numbers_from}

@@ -3,7 +3,7 @@ use Rattle.std.proofs.Common.{◌≡◌, ◌≢◌, ◌<◌, ◌+◌, ℕ, Bor, 
 use Rattle.std.proofs.lemmas.Bool.{both_ways}
 use Rattle.std.proofs.lemmas.List.{take_more, map-append, length-map, get_or-map}
 use Rattle.std.specs.List.{AllZip}
-use Rattle.model.specs.Query.{Term as ModelTerm}
+use Rattle.model.specs.access.Query.{Term as ModelTerm}
 use Rattle.texts.specs.declared.read_error.ReadError.{ReadError}
 use Rattle.texts.specs.declared.read_error.ReadError.TheVariants.{Outside, Memory}
 use Rattle.texts.specs.Reads.{SpellsNone, SpellsOnly, Refuses, ReadsUnlessMemory, SpellsSeen}

@@ -1,7 +1,7 @@
 -- A test of the terms that contracts see is a test of the terms.
 use Rattle.std.proofs.Common.{Bool, ◌||◌, ◌&&◌, ◌≡◌, List, [], ◌∷◌, map, refl, ap}
 use Rattle.std.specs.List.{list_any, list_all}
-use Rattle.model.specs.Query.{Term as ModelTerm}
+use Rattle.model.specs.access.Query.{Term as ModelTerm}
 use Rattle.query.specs.declared.term.Term.{Term}
 use Rattle.query.specs.Term.{term_of}
 

@@ -1,6 +1,6 @@
 -- The text of a query: terms with commas between, a term's words with spaces between.
 use Rattle.std.specs.Prelude.{◌≡◌, ℕ, List, [], ◌∷◌, codes}
-use Rattle.model.specs.Query.{Term as ModelTerm}
+use Rattle.model.specs.access.Query.{Term as ModelTerm}
 use Rattle.kinds.specs.Kind.{IsKind}
 use Rattle.texts.specs.Reads.{SpellsSeen}
 use Rattle.texts.specs.Words.{AreSpaces, ByWords}

@@ -2,8 +2,8 @@
 use Rattle.std.specs.Prelude.{ℕ, Bool, ◌&&◌, List, Option}
 use Rattle.std.specs.List.{list_any}
 use Rattle.model.specs.Lists.{is_number}
-use Rattle.model.specs.Query.{Term as ModelTerm}
-use Rattle.model.specs.QueryFaults.{excluded}
+use Rattle.model.specs.access.Query.{Term as ModelTerm}
+use Rattle.model.specs.access.QueryFaults.{excluded}
 use Rattle.query.specs.declared.term.Term.{Term}
 use Rattle.query.specs.Term.{term_of}
 

@@ -1,6 +1,6 @@
 -- A term of a query as the definitions have it: over the number of its kind; and what a term asks of kinds.
 use Rattle.std.specs.Prelude.{ℕ, Bool, true, not}
-use Rattle.model.specs.Query.{Term as ModelTerm}
+use Rattle.model.specs.access.Query.{Term as ModelTerm}
 use Rattle.kinds.specs.Kind.{kind_number}
 use Rattle.query.specs.declared.term.Term.{Term}
 use Rattle.query.specs.declared.term.Presence.{Presence}

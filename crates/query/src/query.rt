@@ -4,8 +4,8 @@ ghost use Rattle.std.specs.Prelude.{◌≡◌, [], ◌∷◌, ◌++◌, map, OnO
 ghost use Rattle.std.specs.List.{list_any};
 ghost use Rattle.kinds.specs.Kind.{kind_number};
 ghost use Rattle.model.specs.Lists.{is_number};
-ghost use Rattle.model.specs.Query.{touched, written, touches, writes};
-ghost use Rattle.model.specs.Conflict.{required, requires_kind};
+ghost use Rattle.model.specs.access.Query.{touched, written, touches, writes};
+ghost use Rattle.model.specs.access.Conflict.{required, requires_kind};
 ghost use Rattle.query.specs.Term.{term_of};
 
 use crate::term::Term;
@@ -22,7 +22,7 @@ pub struct Query {
 
 impl Model for Query {
     ghost use Rattle.std.specs.Prelude.{List, map};
-    ghost use Rattle.model.specs.Query.{Term};
+    ghost use Rattle.model.specs.access.Query.{Term};
     ghost use Rattle.query.specs.Term.{term_of};
 
     ghost Value = { List Term };

@@ -4,9 +4,9 @@ ghost use Rattle.std.specs.Prelude.{◌≡◌, ℕ, Bool};
 ghost use Rattle.std.specs.Option.{option_map};
 ghost use Rattle.kinds.specs.Kind.{kind_number};
 ghost use Rattle.model.specs.Lists.{is_number};
-ghost use Rattle.model.specs.Query.{admits, touched, written};
-ghost use Rattle.model.specs.Conflict.{required};
-ghost use Rattle.model.specs.QueryFaults.{excluded, optional, fetched};
+ghost use Rattle.model.specs.access.Query.{admits, touched, written};
+ghost use Rattle.model.specs.access.Conflict.{required};
+ghost use Rattle.model.specs.access.QueryFaults.{excluded, optional, fetched};
 ghost use Rattle.query.specs.Term.{term_of, is_present};
 
 use kinds::kind::Kind;

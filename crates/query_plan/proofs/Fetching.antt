@@ -3,9 +3,9 @@ use Rattle.std.proofs.Common.{◌≡◌, ℕ, zero, suc, ◌+◌, ◌<◌, Bool,
 use Rattle.std.proofs.lemmas.List.{map-append}
 use Rattle.std.proofs.lemmas.Bool.{and_parts}
 use Rattle.std.proofs.Math.Seq.{take-suc}
-use Rattle.model.specs.State.{Component}
-use Rattle.model.specs.Query as query
-use Rattle.model.specs.Input.{ShownRow, fetch}
+use Rattle.model.specs.state.State.{Component}
+use Rattle.model.specs.access.Query as query
+use Rattle.model.specs.shown.Input.{ShownRow, fetch}
 use Rattle.kinds.specs.declared.value.Value.{Value}
 use Rattle.query.specs.declared.term.Term.{Term}
 use Rattle.query.specs.Term.{term_of}

@@ -2,7 +2,7 @@
 use Rattle.std.proofs.Common.{◌≡◌, ℕ, zero, suc, ◌+◌, ◌<◌, Bool, true, false, cond, List, [], ◌∷◌, ◌++◌, length, take, map, get_or, refl, sym, ap, ◌∙◌, append_assoc, append-nil, add-zero, arith}
 use Rattle.std.proofs.Math.ListN.{get_or-map}
 use Rattle.std.proofs.lemmas.List.{length-map, get_or_default}
-use Rattle.model.specs.Query.{Term, touches, writes}
+use Rattle.model.specs.access.Query.{Term, touches, writes}
 use Rattle.query_plan.specs.Picks.{Picked, picked_in, picked_of, picked_from}
 
 -- one more archetype

@@ -1,7 +1,7 @@
 -- The components that the terms of a query fetch of a row.
 use Rattle.std.specs.Prelude.{ℕ, ℤ, ◌≡◌, List, [], ◌∷◌, Option, Some, None, option_map}
-use Rattle.model.specs.Query.{Term}
-use Rattle.model.specs.Query.Term.{Read, Mut, Opt}
+use Rattle.model.specs.access.Query.{Term}
+use Rattle.model.specs.access.Query.Term.{Read, Mut, Opt}
 use Rattle.kinds.specs.declared.value.Value.{Value}
 use Rattle.kinds.specs.Value.{value_number, value_words}
 

@@ -1,7 +1,7 @@
 -- The columns that the rows of a query are in.
 use Rattle.std.specs.Prelude.{ℕ, suc, Bool, cond, List, [], ◌∷◌, ◌++◌, map}
 use Rattle.model.specs.Lists.{has}
-use Rattle.model.specs.Query.{Term, matches, touches, writes}
+use Rattle.model.specs.access.Query.{Term, matches, touches, writes}
 use Rattle.kinds.specs.Kind.{kind_number}
 use Rattle.archetype_store.specs.Layout.{Archetype}
 use Rattle.query_plan.specs.declared.picks.Pick.{Pick}

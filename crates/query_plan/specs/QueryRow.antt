@@ -1,6 +1,6 @@
 -- A row of a query as the definitions have it.
 use Rattle.std.specs.Prelude.{map}
-use Rattle.model.specs.Input.{ShownRow}
+use Rattle.model.specs.shown.Input.{ShownRow}
 use Rattle.query_plan.specs.declared.plan.QueryRow.{QueryRow}
 use Rattle.query_plan.specs.Fetched.{words_fetched}
 

@@ -4,7 +4,7 @@ ghost use Rattle.std.specs.Prelude.{◌≡◌, ◌==◌, ◌++◌, map, IfOk, On
 ghost use Rattle.std.specs.List.{list_any, list_all};
 ghost use Rattle.kinds.specs.Kind.{kind_number};
 ghost use Rattle.model.specs.Lists.{has};
-ghost use Rattle.model.specs.Query.{matches, admits as term_admits};
+ghost use Rattle.model.specs.access.Query.{matches, admits as term_admits};
 ghost use Rattle.archetype_store.specs.View.{kinds_seen};
 ghost use Rattle.query.specs.Term.{term_of};
 ghost use Rattle.query_plan.specs.Picks.{picked_in, picked_of, picked_from, picks_of, pick_seen};

@@ -2,9 +2,9 @@
 
 ghost use Rattle.std.specs.Prelude.{◌≡◌, ◌<◌, true, map, length, IfSome, IfOk};
 ghost use Rattle.std.specs.List.{list_all, AllByRecursion};
-ghost use Rattle.model.specs.Input as input;
-ghost use Rattle.model.specs.Query as query;
-ghost use Rattle.model.specs.Rows.{cell_at, kinds_of};
+ghost use Rattle.model.specs.shown.Input as input;
+ghost use Rattle.model.specs.access.Query as query;
+ghost use Rattle.model.specs.state.Rows.{cell_at, kinds_of};
 ghost use Rattle.kinds.specs.Kind.{kind_number};
 ghost use Rattle.kinds.specs.Value.{value_number};
 ghost use Rattle.archetype_store.specs.Layout.{AreAllHome};

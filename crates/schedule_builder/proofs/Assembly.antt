@@ -5,12 +5,12 @@ use Rattle.std.proofs.lemmas.Bool.{false≢true, or_cases, or_left, or_right, eq
 use Rattle.std.proofs.lemmas.Bool.Decides.{eqb_tells}
 use Rattle.std.proofs.lemmas.List.{same_lists, get_or-map, length-map, get_or_push, get_or_append_left, length_push, get_or_past}
 use Rattle.model.specs.Lists.{has}
-use Rattle.model.specs.Access.{Params, no_params}
-use Rattle.model.specs.Declarations.{DeclaredSystem}
-use Rattle.model.specs.Refusals.{HasDistinctNames}
-use Rattle.model.specs.Schedule.{ScheduledSystem, has_edge, level_of}
-use Rattle.model.specs.ScheduleOrder.{IsScheduleOrder, HasDeclaredEdges, HasDeclaredSystems}
-use Rattle.model.specs.Built.{IsBuilt}
+use Rattle.model.specs.access.Access.{Params, no_params}
+use Rattle.model.specs.declarations.Declarations.{DeclaredSystem}
+use Rattle.model.specs.declarations.Refusals.{HasDistinctNames}
+use Rattle.model.specs.steps.Schedule.{ScheduledSystem, has_edge, level_of}
+use Rattle.model.specs.declarations.ScheduleOrder.{IsScheduleOrder, HasDeclaredEdges, HasDeclaredSystems}
+use Rattle.model.specs.steps.Built.{IsBuilt}
 use Rattle.cycle_search.specs.declared.order.Order.{Order}
 use Rattle.schedule_builder.specs.Orders.{items_of, AreDeclared}
 use Rattle.cycle_search.specs.Cycles.{IsStep, IsRankable}

@@ -1,6 +1,6 @@
 -- Lists of which each element is good, or of which one is the first that is bad.
 use Rattle.std.proofs.Common.{ℕ, zero, suc, ◌<◌, inl, inr, List, [], ◌∷◌, ◌++◌, length, map, get_or, refl, arith}
-use Rattle.model.specs.Refusals.{EachIs, IsFirstBad}
+use Rattle.model.specs.declarations.Refusals.{EachIs, IsFirstBad}
 
 pub EachIs-append : {A : Type 0} (Good : A → Type 0) (xs ys : List A) → EachIs Good xs → EachIs Good ys → EachIs Good (xs ++ ys)
 EachIs-append Good [] ys h k = k

@@ -8,9 +8,9 @@ use Rattle.std.proofs.lemmas.Slice.Eq.{bytes_eq-Decides}
 use Rattle.std.proofs.lemmas.Bool.{false≢true}
 use Rattle.std.proofs.lemmas.List.{append-nil, append_assoc, map-append, take_more, get_or_default}
 use Rattle.std.proofs.lemmas.List.Concat.{flat_map-append}
-use Rattle.model.specs.Access.{no_params}
-use Rattle.model.specs.Declarations.{DeclaredSystem, declared_at, name_of, HasItem, names_in, orders_in, looked_up}
-use Rattle.model.specs.Refusals.{EachIs, IsFirstBad, RepeatsName}
+use Rattle.model.specs.access.Access.{no_params}
+use Rattle.model.specs.declarations.Declarations.{DeclaredSystem, declared_at, name_of, HasItem, names_in, orders_in, looked_up}
+use Rattle.model.specs.declarations.Refusals.{EachIs, IsFirstBad, RepeatsName}
 use Rattle.cycle_search.specs.declared.order.Order.{Order}
 use Rattle.schedule_builder.specs.declared.fault.BuildFault.{BuildFault}
 use Rattle.schedule_builder.specs.declared.fault.BuildFault.TheVariants.{UnknownName, DuplicateName, DependencyLoop, DependencyCycle, BadQuery, OverLimit, Memory}

@@ -3,9 +3,9 @@ use Rattle.std.proofs.Common.{◌≡◌, ℕ, zero, suc, ◌<◌, ◌≤◌, ◌
 use Rattle.std.specs.List.{list_all}
 use Rattle.std.proofs.lemmas.Bool.{false≢true, or_cases, or_left, or_right, eqb-true, eq-eqb}
 use Rattle.model.specs.Lists.{has}
-use Rattle.model.specs.Schedule.{ScheduledSystem, system_at, level_of}
-use Rattle.model.specs.Ambiguity.{Reaches, Before}
-use Rattle.model.specs.ScheduleOrder.{IsPlaceable, IsNextPlaced, IsScheduleOrder}
+use Rattle.model.specs.steps.Schedule.{ScheduledSystem, system_at, level_of}
+use Rattle.model.specs.steps.Ambiguity.{Reaches, Before}
+use Rattle.model.specs.declarations.ScheduleOrder.{IsPlaceable, IsNextPlaced, IsScheduleOrder}
 use Rattle.cycle_search.specs.Cycles.{IsRankable}
 use Rattle.schedule_builder.specs.Sequence.{schedule_of, can_place, IsEdge, HasSourcesBelow, IsOpen, IsNextOpen, IsSequence, HasNoLevels}
 

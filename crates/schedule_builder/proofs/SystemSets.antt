@@ -4,9 +4,9 @@ use Rattle.std.proofs.lemmas.List.{take_more, take_all, get_or_default, get_or_p
 use Rattle.std.proofs.lemmas.Bool.{or_cases, or_left, or_right, and_parts, and_from, eqb-true, eq-eqb, cases_lt}
 use Rattle.number_set.specs.Members.{contains}
 use Rattle.model.specs.Lists.{has}
-use Rattle.model.specs.Access.{Params, no_params}
-use Rattle.model.specs.Conflict.{Conflict}
-use Rattle.model.specs.Schedule.{ScheduledSystem}
+use Rattle.model.specs.access.Access.{Params, no_params}
+use Rattle.model.specs.access.Conflict.{Conflict}
+use Rattle.model.specs.steps.Schedule.{ScheduledSystem}
 use Rattle.schedule_builder.specs.Rows.{system_in, IsRow, IsBefore, IsRival, AreRows}
 use Rattle.cycle_search.proofs.Walks.{has-append}
 

@@ -3,8 +3,8 @@ use Rattle.std.proofs.Common.{◌≡◌, ◌≢◌, ℕ, zero, suc, ◌<◌, ◌
 use Rattle.std.proofs.lemmas.List.{get_or_default}
 use Rattle.std.proofs.lemmas.Bool.Decides.{eqb_tells}
 use Rattle.model.specs.Lists.{IsIn}
-use Rattle.model.specs.Declarations.{DeclaredSystem, name_of, IsOrdered}
-use Rattle.model.specs.Refusals.{EachIs, IsFirstBad, HasDistinctNames, HasNoLoop, IsLoop, IsWalk, IsCycle, HasNoCycle}
+use Rattle.model.specs.declarations.Declarations.{DeclaredSystem, name_of, IsOrdered}
+use Rattle.model.specs.declarations.Refusals.{EachIs, IsFirstBad, HasDistinctNames, HasNoLoop, IsLoop, IsWalk, IsCycle, HasNoCycle}
 use Rattle.cycle_search.specs.declared.order.Order.{Order}
 use Rattle.cycle_search.specs.Orders.{IsBetween}
 use Rattle.schedule_builder.specs.Orders.{items_of, names_of_order, AreDeclared, IsLoopAt}

@@ -1,7 +1,7 @@
 -- What a fault tells of declared items.
 use Rattle.std.specs.Prelude.{map, string_bytes}
-use Rattle.model.specs.Declarations.{Declared}
-use Rattle.model.specs.Refusals.{Refusal, IsRefused}
+use Rattle.model.specs.declarations.Declarations.{Declared}
+use Rattle.model.specs.declarations.Refusals.{Refusal, IsRefused}
 use Rattle.schedule_builder.specs.declared.fault.BuildFault.{BuildFault}
 use Rattle.schedule_builder.specs.declared.fault.BuildFault.TheVariants.{UnknownName, DuplicateName, DependencyLoop, DependencyCycle, BadQuery, OverLimit, Memory}
 

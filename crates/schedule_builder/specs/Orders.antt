@@ -3,8 +3,8 @@ use Rattle.std.specs.Prelude.{ℕ, ◌<◌, ◌≡◌, IsSome, List, Option, Som
 use Rattle.std.specs.BTreeMap.{BTreeMap, get_by_text}
 use Rattle.std.specs.declared.alloc.Global.{Global}
 use Rattle.std.specs.declared.string.String.{String}
-use Rattle.model.specs.Declarations.{Declared, DeclaredSystem, name_of, HasItem, names_in, orders_in, declared_orders}
-use Rattle.model.specs.Refusals.{EachIs, IsFirstBad}
+use Rattle.model.specs.declarations.Declarations.{Declared, DeclaredSystem, name_of, HasItem, names_in, orders_in, declared_orders}
+use Rattle.model.specs.declarations.Refusals.{EachIs, IsFirstBad}
 use Rattle.cycle_search.specs.declared.order.Order.{Order}
 use Rattle.cycle_search.specs.Orders.{IsBetween}
 use Rattle.schedule_builder.specs.declared.fault.BuildFault.{BuildFault}

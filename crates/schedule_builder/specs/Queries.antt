@@ -1,9 +1,9 @@
 -- What a search for queries at fault tells.
 use Rattle.std.specs.Prelude.{ℕ, ◌<◌, ◌≡◌, List, [], Option, Some, None, length, get_or}
-use Rattle.model.specs.Query.{Term}
-use Rattle.model.specs.Declarations.{DeclaredSystem}
-use Rattle.model.specs.QueryFaults.{query_fault}
-use Rattle.model.specs.Refusals.{query_of}
+use Rattle.model.specs.access.Query.{Term}
+use Rattle.model.specs.declarations.Declarations.{DeclaredSystem}
+use Rattle.model.specs.access.QueryFaults.{query_fault}
+use Rattle.model.specs.declarations.Refusals.{query_of}
 use Rattle.schedule_builder.specs.Orders.{items_of}
 
 -- no query of a number below one is at fault

@@ -2,9 +2,9 @@
 use Rattle.std.specs.Prelude.{ℕ, ◌+◌, ◌/◌, ◌<◌, ◌≡◌, ◌↔◌, true, List, [], length, get_or}
 use Rattle.number_set.specs.Members.{contains}
 use Rattle.model.specs.Lists.{has}
-use Rattle.model.specs.Access.{Params, no_params}
-use Rattle.model.specs.Conflict.{Conflict}
-use Rattle.model.specs.Schedule.{ScheduledSystem}
+use Rattle.model.specs.access.Access.{Params, no_params}
+use Rattle.model.specs.access.Conflict.{Conflict}
+use Rattle.model.specs.steps.Schedule.{ScheduledSystem}
 
 -- the system of a number
 abbrev pub system_in : List ScheduledSystem → ℕ → ScheduledSystem

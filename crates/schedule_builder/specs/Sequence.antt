@@ -1,9 +1,9 @@
 -- A schedule under construction, and which systems can be placed next.
 use Rattle.std.specs.Prelude.{ℕ, ◌<◌, ◌≡◌, ◌++◌, ◌∷◌, Bool, true, false, not, ◌&&◌, ◌==◌, List, [], length, map, get_or}
 use Rattle.std.specs.List.{list_all, filter}
-use Rattle.model.specs.Access.{Params}
-use Rattle.model.specs.Declarations.{DeclaredSystem, declared_at}
-use Rattle.model.specs.Schedule.{Schedule, ScheduledSystem, system_at, has_edge, level_of}
+use Rattle.model.specs.access.Access.{Params}
+use Rattle.model.specs.declarations.Declarations.{DeclaredSystem, declared_at}
+use Rattle.model.specs.steps.Schedule.{Schedule, ScheduledSystem, system_at, has_edge, level_of}
 use Rattle.model.specs.Lists.{has}
 use Rattle.cycle_search.specs.declared.order.Order.{Order}
 

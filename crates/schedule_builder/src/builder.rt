@@ -2,9 +2,9 @@
 
 ghost use Rattle.std.specs.Prelude.{◌≡◌, ℕ, ◌<◌, ◌≤◌, ◌^◌, length, map, get_or, string_bytes, [], IfOk, IfErr, OnOk};
 ghost use Rattle.std.specs.List.{All};
-ghost use Rattle.model.specs.Declarations.{name_of};
-ghost use Rattle.model.specs.Refusals.{KnowsNames, HasDistinctNames, HasNoLoop, HasNoCycle, HasGoodQueries, IsBuildable};
-ghost use Rattle.model.specs.ScheduleOrder.{HasDeclaredSystems, HasDeclaredEdges, IsOneLevel, IsScheduleOrder};
+ghost use Rattle.model.specs.declarations.Declarations.{name_of};
+ghost use Rattle.model.specs.declarations.Refusals.{KnowsNames, HasDistinctNames, HasNoLoop, HasNoCycle, HasGoodQueries, IsBuildable};
+ghost use Rattle.model.specs.declarations.ScheduleOrder.{HasDeclaredSystems, HasDeclaredEdges, IsOneLevel, IsScheduleOrder};
 ghost use Rattle.schedule_builder.specs.Answers.{IsAnswered};
 ghost use Rattle.cycle_search.specs.Cycles.{IsRankable, IsStep};
 ghost use Rattle.cycle_search.specs.Orders.{IsBetween};

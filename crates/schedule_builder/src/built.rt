@@ -1,8 +1,8 @@
 // A built schedule, and what it tells of its systems.
 
 ghost use Rattle.std.specs.Prelude.{◌≡◌, ◌<◌, [], length, IfOk};
-ghost use Rattle.model.specs.Schedule.{system_at, params_of, level_of};
-ghost use Rattle.model.specs.Built.{IsBuilt};
+ghost use Rattle.model.specs.steps.Schedule.{system_at, params_of, level_of};
+ghost use Rattle.model.specs.steps.Built.{IsBuilt};
 ghost use Rattle.schedule_builder.specs.Rows.{IsRow, IsBefore, IsRival};
 
 use crate::rows::{rows_before, rows_of_rivals};
@@ -25,9 +25,9 @@ pub struct Built {
 
 impl Model for Built {
     ghost use Rattle.std.specs.Prelude.{[]};
-    ghost use Rattle.model.specs.Schedule.{Schedule};
-    ghost use Rattle.model.specs.Built.{IsBuilt};
-    ghost use Rattle.model.specs.Codes.{schedule_code};
+    ghost use Rattle.model.specs.steps.Schedule.{Schedule};
+    ghost use Rattle.model.specs.steps.Built.{IsBuilt};
+    ghost use Rattle.model.specs.steps.Codes.{schedule_code};
     ghost use Rattle.schedule_builder.specs.Rows.{HasRows};
 
     ghost Value = { Schedule };

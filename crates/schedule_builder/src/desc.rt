@@ -18,7 +18,7 @@ pub struct SystemDesc {
 
 impl Model for SystemDesc {
     ghost use Rattle.std.specs.Prelude.{map, string_bytes};
-    ghost use Rattle.model.specs.Declarations.{DeclaredSystem};
+    ghost use Rattle.model.specs.declarations.Declarations.{DeclaredSystem};
 
     ghost Value = { DeclaredSystem };
 
@@ -99,7 +99,7 @@ pub struct ScheduleDesc {
 }
 
 impl Model for ScheduleDesc {
-    ghost use Rattle.model.specs.Declarations.{Declared};
+    ghost use Rattle.model.specs.declarations.Declarations.{Declared};
 
     ghost Value = { Declared };
 

@@ -3,7 +3,7 @@
 ghost use Rattle.std.specs.Prelude.{◌≡◌, ℕ, ◌<◌, Some, unwrap_or, length, IfOk, IfSome, IfNone, OnOk, List, if◌then◌else◌};
 ghost use Rattle.std.specs.Str.{bytes_eq};
 ghost use Rattle.std.specs.BTreeMap.{get_by_text};
-ghost use Rattle.model.specs.Refusals.{RepeatsName, HasDistinctNames};
+ghost use Rattle.model.specs.declarations.Refusals.{RepeatsName, HasDistinctNames};
 ghost use Rattle.schedule_builder.specs.Orders.{items_of, TellsPlaces};
 
 use crate::desc::SystemDesc;

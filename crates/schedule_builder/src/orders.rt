@@ -3,7 +3,7 @@
 ghost use Rattle.std.specs.Prelude.{◌≡◌, ℕ, ◌<◌, ◌++◌, map, IsSome, IsNone, IfOk, IfErr, IfSome, IfNone, OnOk, string_bytes, get_or, length};
 ghost use Rattle.std.specs.List.{All};
 ghost use Rattle.std.specs.BTreeMap.{get_by_text};
-ghost use Rattle.model.specs.Refusals.{EachIs, IsFirstBad, KnowsNames, IsUnknownName};
+ghost use Rattle.model.specs.declarations.Refusals.{EachIs, IsFirstBad, KnowsNames, IsUnknownName};
 ghost use Rattle.schedule_builder.specs.Answers.{IsAnswered};
 ghost use Rattle.schedule_builder.specs.Orders.{items_of, TellsPlaces, TellsLacking, orders_before, orders_after, TellsMissing, IsLoopAt, AreDeclared};
 

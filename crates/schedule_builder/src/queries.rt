@@ -1,7 +1,7 @@
 // Queries at fault.
 
 ghost use Rattle.std.specs.Prelude.{◌≡◌};
-ghost use Rattle.model.specs.QueryFaults.{query_fault};
+ghost use Rattle.model.specs.access.QueryFaults.{query_fault};
 ghost use Rattle.schedule_builder.specs.Queries.{TellsFault, TellsFirstFault};
 
 use crate::desc::SystemDesc;

@@ -2,8 +2,8 @@
 
 ghost use Rattle.std.specs.Prelude.{◌≡◌, ℕ, ◌<◌, ◌≤◌, ◌^◌, true, false, length, map, get_or, IfOk, IfSome, IfNone};
 ghost use Rattle.std.specs.List.{All, list_all};
-ghost use Rattle.model.specs.Schedule.{has_edge};
-ghost use Rattle.model.specs.ScheduleOrder.{IsScheduleOrder};
+ghost use Rattle.model.specs.steps.Schedule.{has_edge};
+ghost use Rattle.model.specs.declarations.ScheduleOrder.{IsScheduleOrder};
 ghost use Rattle.cycle_search.specs.Cycles.{IsRankable};
 ghost use Rattle.cycle_search.specs.Orders.{IsBetween};
 ghost use Rattle.schedule_builder.specs.Sequence.{schedule_of, can_place, items_before, IsEdge, HasSourcesBelow, HasNoLevels};

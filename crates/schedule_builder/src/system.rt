@@ -14,8 +14,8 @@ pub struct System {
 }
 
 impl Model for System {
-    ghost use Rattle.model.specs.Schedule.{ScheduledSystem};
-    ghost use Rattle.model.specs.Codes.{system_code};
+    ghost use Rattle.model.specs.steps.Schedule.{ScheduledSystem};
+    ghost use Rattle.model.specs.steps.Codes.{system_code};
 
     ghost Value = { ScheduledSystem };
 

@@ -4,7 +4,7 @@ ghost use Rattle.std.specs.Prelude.{◌≡◌, map};
 ghost use Rattle.std.specs.List.{list_any};
 ghost use Rattle.std.specs.Result.{result_err};
 ghost use Rattle.model.specs.Lists.{is_number};
-ghost use Rattle.model.specs.Query.{written, writes as query_writes};
+ghost use Rattle.model.specs.access.Query.{written, writes as query_writes};
 ghost use Rattle.body.specs.Seen.{fetched, fetches as query_fetches};
 ghost use Rattle.kinds.specs.Kind.{kind_number};
 ghost use Rattle.query.specs.Term.{term_of};

@@ -1,8 +1,8 @@
 -- Sets that are in themselves, and circles of sets, from what is found of their pairs.
 use Rattle.std.proofs.Common.{ℕ, zero, suc, ◌+◌, ◌<◌, ◌≤◌, ◌≡◌, Bool, true, false, eqb, nat_lt, ◌⊎◌, inl, inr, if◌then◌else◌, List, [], ◌∷◌, ◌++◌, length, take, get_or, Option, Some, None, refl, sym, ap, ◌∙◌, arith, ltb-true, lt-ltb, eqb-true, eq-eqb}
 use Rattle.std.proofs.lemmas.Bool.{both_ways, cases_lt}
-use Rattle.model.specs.Refusals.{IsWalk}
-use Rattle.model.specs.Hierarchy.{IsHeld, HasNoSelf, IsFirstSelf, HasNoSetCycle, IsToldSetCycle}
+use Rattle.model.specs.declarations.Refusals.{IsWalk}
+use Rattle.model.specs.declarations.Hierarchy.{IsHeld, HasNoSelf, IsFirstSelf, HasNoSetCycle, IsToldSetCycle}
 use Rattle.cycle_search.specs.declared.order.Order.{Order}
 use Rattle.cycle_search.specs.Cycles.{IsStep, IsRankable, IsRound, BeginsLeast}
 use Rattle.cycle_search.proofs.Walks.{walk_weaker, no_round}

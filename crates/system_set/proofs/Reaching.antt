@@ -6,8 +6,8 @@ use Rattle.std.proofs.lemmas.List.{get_or-set_other, get_or_past}
 use Rattle.std.proofs.lemmas.Bool.{false≢true, both_ways, and_parts, or_cases, or_left, or_right, and_from, eqb-true, eq-eqb, cases_lt, true_from_ne_false, not_from_false}
 use Rattle.std.proofs.lemmas.Bool.Decides.{eqb_tells}
 use Rattle.model.specs.Lists.{has, IsIn}
-use Rattle.model.specs.Refusals.{IsWalk}
-use Rattle.model.specs.Hierarchy.{Hierarchy, IsHeld, Reaches, AreMembers, IsRising}
+use Rattle.model.specs.declarations.Refusals.{IsWalk}
+use Rattle.model.specs.declarations.Hierarchy.{Hierarchy, IsHeld, Reaches, AreMembers, IsRising}
 use Rattle.cycle_search.specs.declared.order.Order.{Order}
 use Rattle.cycle_search.specs.Orders.{IsBetween}
 use Rattle.cycle_search.specs.Cycles.{IsStep}

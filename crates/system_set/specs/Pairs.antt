@@ -2,7 +2,7 @@
 use Rattle.std.specs.Prelude.{ℕ, ◌<◌, ◌≤◌, ◌≡◌, ◌↔◌, ◌==◌, ◌&&◌, ◌||◌, not, Bool, true, false, nat_lt, if◌then◌else◌, List, length, map, get_or, Option, Some, None}
 use Rattle.std.specs.List.{All}
 use Rattle.model.specs.Lists.{has}
-use Rattle.model.specs.Hierarchy.{Hierarchy, HasNoSelf, IsFirstSelf, IsToldSetCycle, Reaches, IsRising}
+use Rattle.model.specs.declarations.Hierarchy.{Hierarchy, HasNoSelf, IsFirstSelf, IsToldSetCycle, Reaches, IsRising}
 use Rattle.cycle_search.specs.declared.order.Order.{Order}
 use Rattle.cycle_search.specs.Cycles.{IsStep}
 use Rattle.system_set.specs.declared.fault.HierarchyFault.{HierarchyFault}

@@ -1,7 +1,7 @@
 // Which items are in which sets.
 
 ghost use Rattle.std.specs.Prelude.{◌≡◌, ◌+◌, ◌<◌, ◌≤◌, ◌^◌, ◌++◌, ◌∷◌, [], ℕ, length, get_or, IfOk, IfErr, IfSome, IfNone, OnOk, OnErr};
-ghost use Rattle.model.specs.Hierarchy.{HasNoSelf, HasNoSetCycle, AreMembers};
+ghost use Rattle.model.specs.declarations.Hierarchy.{HasNoSelf, HasNoSetCycle, AreMembers};
 ghost use Rattle.cycle_search.specs.Cycles.{IsStep};
 ghost use Rattle.system_set.specs.Pairs.{IsHierarchyFault, TellsSelf, lesser_of, with_self};
 
@@ -20,7 +20,7 @@ pub struct SetHierarchy {
 }
 
 impl Model for SetHierarchy {
-    ghost use Rattle.model.specs.Hierarchy.{Hierarchy};
+    ghost use Rattle.model.specs.declarations.Hierarchy.{Hierarchy};
     ghost use Rattle.system_set.specs.Pairs.{pairs_of, ArePlaced};
 
     ghost Value = { Hierarchy };

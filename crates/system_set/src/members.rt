@@ -2,7 +2,7 @@
 
 ghost use Rattle.std.specs.Prelude.{◌≡◌, ◌<◌, ◌==◌, ◌||◌, ◌++◌, ◌∷◌, [], if◌then◌else◌, length, IfOk, IfSome, IfNone, OnOk};
 ghost use Rattle.std.specs.List.{All};
-ghost use Rattle.model.specs.Hierarchy.{AreMembers};
+ghost use Rattle.model.specs.declarations.Hierarchy.{AreMembers};
 ghost use Rattle.cycle_search.specs.Orders.{IsBetween};
 ghost use Rattle.system_set.specs.Pairs.{hierarchy_of, ArePlaced, AreSound, IsSpread, IsOpenAt, AreMarked, is_marked, is_open_pair};
 

@@ -1,6 +1,6 @@
 -- The lines of a list of slots, one slot after the other.
 use Rattle.std.proofs.Common.{◌≡◌, ℕ, zero, suc, ◌+◌, ◌<◌, List, [], ◌∷◌, ◌++◌, length, take, get_or, append_assoc, append-nil, add-zero, sym, arith}
-use Rattle.model.specs.State.{Slot, fresh_slot}
+use Rattle.model.specs.state.State.{Slot, fresh_slot}
 use Rattle.world_text.specs.WorldText.{slot_line, slot_lines}
 
 -- one slot more is one line more

@@ -4,8 +4,8 @@ use Rattle.std.specs.Fmt.{decimal, signed_decimal}
 use Rattle.kinds.specs.declared.res.Res.{Res}
 use Rattle.kinds.specs.Res.{res_number, res_name, every_res}
 use Rattle.kinds.specs.Kind.{name_of_kind}
-use Rattle.model.specs.State.{Component, Slot, Resource, World, State, is_living}
-use Rattle.model.specs.Input.{value_of}
+use Rattle.model.specs.state.State.{Component, Slot, Resource, World, State, is_living}
+use Rattle.model.specs.shown.Input.{value_of}
 
 -- words with a space before each
 abbrev pub words_text : List ℤ → List ℕ

@@ -1,11 +1,11 @@
 // What the steps of a run do to a state: a tick, a system shown what it may see, an outcome laid over the world.
 
 ghost use Rattle.std.specs.Prelude.{◌≡◌, ◌<◌, ◌≤◌, ◌^◌, ◌↔◌, [], false, map, replicate, length, IfOk, OnOk, OnErr, IsErr};
-ghost use Rattle.model.specs.State.{most_indices, empty_queue, event_count};
+ghost use Rattle.model.specs.state.State.{most_indices, empty_queue, event_count};
 ghost use Rattle.model.specs.Lists.{update_at};
-ghost use Rattle.model.specs.Input as input;
-ghost use Rattle.model.specs.Outcome as outcome;
-ghost use Rattle.model.specs.RunState.{has_tick, next_tick, memory_of_system};
+ghost use Rattle.model.specs.shown.Input as input;
+ghost use Rattle.model.specs.shown.Outcome as outcome;
+ghost use Rattle.model.specs.runs.RunState.{has_tick, next_tick, memory_of_system};
 ghost use Rattle.body.specs.Steps.{at_clock, laid, memory_ran};
 
 use crate::memory::Memory;

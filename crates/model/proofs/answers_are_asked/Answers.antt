@@ -1,4 +1,4 @@
-use Rattle.model.proofs.Answers.{answer_of-means}
+use Rattle.model.proofs.faults.Answers.{answer_of-means}
 use Rattle.model.proofs.answers_are_asked.Goals as goal
 
 pub returns : goal.returns

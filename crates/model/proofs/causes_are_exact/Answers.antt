@@ -1,4 +1,4 @@
-use Rattle.model.proofs.Causes.{causes-exact}
+use Rattle.model.proofs.faults.Causes.{causes-exact}
 use Rattle.model.proofs.causes_are_exact.Goals as goal
 
 pub returns : goal.returns

@@ -1,4 +1,4 @@
-use Rattle.model.proofs.Tests.{conflicts-tested}
+use Rattle.model.proofs.serial.ConflictTests.{conflicts-tested}
 use Rattle.model.proofs.conflicts_are_tested.Goals as goal
 
 pub returns : goal.returns

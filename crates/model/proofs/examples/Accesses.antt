@@ -1,10 +1,10 @@
 -- Which accesses conflict: filters that exclude one another, an optional read, shared writes, and the least datum.
 use Rattle.std.proofs.Common.{◌≡◌, false, List, [], ◌∷◌, Some, refl}
-use Rattle.model.specs.Query.{Term}
-use Rattle.model.specs.Query.Term.{Entity, Mut, Read, Opt, With, Without, Added}
-use Rattle.model.specs.Access.{Params, no_params}
-use Rattle.model.specs.Conflict.{conflicts, least_datum}
-use Rattle.model.specs.Conflict.Datum.{OfKind, OfResource, OfEvent}
+use Rattle.model.specs.access.Query.{Term}
+use Rattle.model.specs.access.Query.Term.{Entity, Mut, Read, Opt, With, Without, Added}
+use Rattle.model.specs.access.Access.{Params, no_params}
+use Rattle.model.specs.access.Conflict.{conflicts, least_datum}
+use Rattle.model.specs.access.Conflict.Datum.{OfKind, OfResource, OfEvent}
 use Rattle.model.proofs.examples.Bodies.{position, health, score, frozen, round, total, hit, asks}
 
 abbrev one : List Term → Params

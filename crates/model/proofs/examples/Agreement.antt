@@ -4,25 +4,25 @@ use Rattle.std.proofs.Common.{option_map, ◌≡◌, ◌≢◌, ℕ, zero, suc, 
 use Rattle.model.specs.declared.steps.Step.{Step}
 use Rattle.model.specs.declared.steps.Step.TheVariants.{Start, Finish, Sync}
 use Rattle.model.specs.Lists.{has}
-use Rattle.model.specs.State.{State, Resource, Memory, no_memory}
-use Rattle.model.specs.RunState.{body_of, memory_of_system, spawns_of}
-use Rattle.model.specs.Ids.{granted_ids}
-use Rattle.model.specs.Access.{Params, no_params}
-use Rattle.model.specs.Conflict.{Conflict}
-use Rattle.model.specs.Input.{Shown, shown}
-use Rattle.model.specs.Outcome.{Outcome, BodyMeaning, IsWithin, untouched}
-use Rattle.model.specs.Schedule.{Schedule, ScheduledSystem, params_of, has_edge, level_of}
-use Rattle.model.specs.Built.{IsBuilt}
-use Rattle.model.specs.Ambiguity.{Settled}
-use Rattle.model.specs.Shape.{IsStateOf, IsRunStateOf, BodiesKeepWithin, AreMemoriesOfSystems}
-use Rattle.model.specs.Meaning.{Interleaved, interleaved}
-use Rattle.model.specs.Agreement.{IsRun, Agrees, after_runs}
-use Rattle.model.specs.Loaded.{loaded}
-use Rattle.model.proofs.Histories.{same_or}
-use Rattle.model.proofs.Judging.{lists_are_computed}
-use Rattle.model.proofs.Followed.{runs_agree}
-use Rattle.model.proofs.Shapes.{interleaved-keeps}
-use Rattle.model.proofs.LoadedShapes.{loaded-shape}
+use Rattle.model.specs.state.State.{State, Resource, Memory, no_memory}
+use Rattle.model.specs.runs.RunState.{body_of, memory_of_system, spawns_of}
+use Rattle.model.specs.state.Ids.{granted_ids}
+use Rattle.model.specs.access.Access.{Params, no_params}
+use Rattle.model.specs.access.Conflict.{Conflict}
+use Rattle.model.specs.shown.Input.{Shown, shown}
+use Rattle.model.specs.shown.Outcome.{Outcome, BodyMeaning, IsWithin, untouched}
+use Rattle.model.specs.steps.Schedule.{Schedule, ScheduledSystem, params_of, has_edge, level_of}
+use Rattle.model.specs.steps.Built.{IsBuilt}
+use Rattle.model.specs.steps.Ambiguity.{Settled}
+use Rattle.model.specs.state.Shape.{IsStateOf, IsRunStateOf, BodiesKeepWithin, AreMemoriesOfSystems}
+use Rattle.model.specs.runs.Meaning.{Interleaved, interleaved}
+use Rattle.model.specs.state.Agreement.{IsRun, Agrees, after_runs}
+use Rattle.model.specs.state.Loaded.{loaded}
+use Rattle.model.proofs.order.Histories.{same_or}
+use Rattle.model.proofs.faults.Judging.{lists_are_computed}
+use Rattle.model.proofs.agreement.SerialRuns.{runs_agree}
+use Rattle.model.proofs.shape.Runs.{interleaved-keeps}
+use Rattle.model.proofs.shape.Loaded.{loaded-shape}
 use Rattle.model.proofs.examples.Bodies.{round, total, system, plain, zeros, sets, history, computed}
 use Rattle.model.proofs.examples.Orders.{no_conflict}
 
@@ -111,7 +111,7 @@ apart_settled = record {
 setter_within : (n : ℤ) (number : ℕ) (seen : Shown) → seen.rows ≡ [] → length seen.registers ≡ 8 →
     IsWithin widths (record no_params { res_mut = number ∷ [] }) seen (record (untouched (record no_params { res_mut = number ∷ [] }) seen) { res_mut = Some n ∷ [] })
 setter_within n number seen no_rows registers = record {
-  cells = subst (λ rows. Rattle.model.specs.Outcome.AreCells widths [] rows []) (sym no_rows) tt;
+  cells = subst (λ rows. Rattle.model.specs.shown.Outcome.AreCells widths [] rows []) (sym no_rows) tt;
   res_mut = refl;
   events = refl;
   commands = λ e. refl;

@@ -1,11 +1,11 @@
 -- Each condition by itself on states made by hand, and the cursors of several readers in one condition.
 use Rattle.std.proofs.Common.{◌≡◌, ℕ, ℤ, pos, Bool, true, false, List, [], ◌∷◌, refl}
-use Rattle.model.specs.State.{State, EventQueue, empty_queue}
-use Rattle.model.specs.Query.Term.{Read, With, Added}
-use Rattle.model.specs.Events.{send_all}
-use Rattle.model.specs.Condition.{Condition, holds, cursors_after}
-use Rattle.model.specs.Condition.Condition.{RunOnce, ResourceEquals, ResourceAtLeast, ResourceChanged, AnyWith, OnEvent, Not, And, Or}
-use Rattle.model.specs.Loaded.{loaded}
+use Rattle.model.specs.state.State.{State, EventQueue, empty_queue}
+use Rattle.model.specs.access.Query.Term.{Read, With, Added}
+use Rattle.model.specs.state.Events.{send_all}
+use Rattle.model.specs.access.Condition.{Condition, holds, cursors_after}
+use Rattle.model.specs.access.Condition.Condition.{RunOnce, ResourceEquals, ResourceAtLeast, ResourceChanged, AnyWith, OnEvent, Not, And, Or}
+use Rattle.model.specs.state.Loaded.{loaded}
 use Rattle.model.proofs.examples.Bodies.{health, frozen, round, total, hit, given, plain, computed}
 
 -- the event kinds beside hit

@@ -2,20 +2,20 @@
 use Rattle.std.proofs.Common.{ℕ, ℤ, pos, ◌+ℤ◌, List, [], ◌∷◌, map, replicate, reverse, Option, Some, None, Ok, option_map, option_and_then}
 use Rattle.model.specs.declared.steps.Step.{Step}
 use Rattle.model.specs.Lists.{head_or}
-use Rattle.model.specs.State.{State, Entity}
-use Rattle.model.specs.Query.{Term}
-use Rattle.model.specs.Access.{Params, no_params}
-use Rattle.model.specs.Input.{Shown, ShownRow}
-use Rattle.model.specs.Outcome.{Command, BodyMeaning, untouched}
-use Rattle.model.specs.Condition.{Condition}
-use Rattle.model.specs.Schedule.{Schedule, ScheduledSystem, ScheduledCondition}
-use Rattle.model.specs.Meaning.{serial, interleaved}
-use Rattle.model.specs.Loaded.{Given}
-use Rattle.model.specs.Input.{shown, rows_from}
-use Rattle.model.specs.Overlay.{slots_after, resources_after, queues_after, has_event_numbers}
-use Rattle.model.specs.Ids.{with_room, has_ids, granted_ids, grant}
-use Rattle.model.specs.Commands.{release}
-use Rattle.model.specs.RunState.{can_start, has_ids_to_start, ids_of_start, started_system, after_start, can_finish, overlaid, asked_of, answer_of, after_condition, after_sync}
+use Rattle.model.specs.state.State.{State, Entity}
+use Rattle.model.specs.access.Query.{Term}
+use Rattle.model.specs.access.Access.{Params, no_params}
+use Rattle.model.specs.shown.Input.{Shown, ShownRow}
+use Rattle.model.specs.shown.Outcome.{Command, BodyMeaning, untouched}
+use Rattle.model.specs.access.Condition.{Condition}
+use Rattle.model.specs.steps.Schedule.{Schedule, ScheduledSystem, ScheduledCondition}
+use Rattle.model.specs.runs.Meaning.{serial, interleaved}
+use Rattle.model.specs.state.Loaded.{Given}
+use Rattle.model.specs.shown.Input.{shown, rows_from}
+use Rattle.model.specs.shown.Overlay.{slots_after, resources_after, queues_after, has_event_numbers}
+use Rattle.model.specs.state.Ids.{with_room, has_ids, granted_ids, grant}
+use Rattle.model.specs.state.Commands.{release}
+use Rattle.model.specs.runs.RunState.{can_start, has_ids_to_start, ids_of_start, started_system, after_start, can_finish, overlaid, asked_of, answer_of, after_condition, after_sync}
 
 -- ---- numbers of kinds, resources, events
 

@@ -2,17 +2,17 @@
 use Rattle.std.proofs.Common.{◌≡◌, ℕ, ℤ, pos, List, [], ◌∷◌, map, Some, option_map, refl, length}
 use Rattle.model.specs.declared.steps.Step.{Step}
 use Rattle.model.specs.declared.steps.Step.TheVariants.{Start, Finish, Sync}
-use Rattle.model.specs.State.{State, Slot, Component}
-use Rattle.model.specs.State.Status.{Vacant, Living}
-use Rattle.model.specs.Query.Term.{Entity, Read, With}
-use Rattle.model.specs.Access.{Params, no_params}
-use Rattle.model.specs.Outcome.{BodyMeaning, Command}
-use Rattle.model.specs.Outcome.Command.{Spawn, Insert, Remove, Despawn}
-use Rattle.model.specs.Rows.{new_component}
-use Rattle.model.specs.Input.{Shown, value_of}
+use Rattle.model.specs.state.State.{State, Slot, Component}
+use Rattle.model.specs.state.State.Status.{Vacant, Living}
+use Rattle.model.specs.access.Query.Term.{Entity, Read, With}
+use Rattle.model.specs.access.Access.{Params, no_params}
+use Rattle.model.specs.shown.Outcome.{BodyMeaning, Command}
+use Rattle.model.specs.shown.Outcome.Command.{Spawn, Insert, Remove, Despawn}
+use Rattle.model.specs.state.Rows.{new_component}
+use Rattle.model.specs.shown.Input.{Shown, value_of}
 use Rattle.model.specs.Lists.{head_or}
-use Rattle.model.specs.Schedule.{Schedule}
-use Rattle.model.specs.Loaded.{loaded}
+use Rattle.model.specs.steps.Schedule.{Schedule}
+use Rattle.model.specs.state.Loaded.{loaded}
 use Rattle.model.proofs.examples.Bodies.{health, score, frozen, total, asks, system, system_after, plain, given, zeros, adds, issues, first_granted, entities_of, serially, woven, runs_from, computed}
 
 -- what an example compares: the slots and the count

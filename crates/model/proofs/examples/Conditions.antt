@@ -3,18 +3,18 @@ use Rattle.std.proofs.Common.{◌≡◌, ℕ, ℤ, pos, ◌+ℤ◌, Bool, true, 
 use Rattle.model.specs.declared.steps.Step.{Step}
 use Rattle.model.specs.declared.steps.Step.TheVariants.{Cond, Start, Skip, Finish, Sync}
 use Rattle.model.specs.Lists.{head_or}
-use Rattle.model.specs.State.{State, Memory, EventQueue, empty_queue}
-use Rattle.model.specs.Query.Term.{Mut, Changed}
-use Rattle.model.specs.Access.{Params, no_params}
-use Rattle.model.specs.Input.{value_of}
-use Rattle.model.specs.Outcome.{BodyMeaning, untouched}
-use Rattle.model.specs.Condition.{Condition}
-use Rattle.model.specs.Condition.Condition.{RunOnce, ResourceEquals, ResourceAtLeast, OnEvent, And, Not}
-use Rattle.model.specs.Events.{send, send_all, unread, updated_queue}
-use Rattle.model.specs.Schedule.{Schedule}
-use Rattle.model.specs.RunState.{answer_of, begin_run}
-use Rattle.model.specs.Meaning.{serial}
-use Rattle.model.specs.Loaded.{loaded}
+use Rattle.model.specs.state.State.{State, Memory, EventQueue, empty_queue}
+use Rattle.model.specs.access.Query.Term.{Mut, Changed}
+use Rattle.model.specs.access.Access.{Params, no_params}
+use Rattle.model.specs.shown.Input.{value_of}
+use Rattle.model.specs.shown.Outcome.{BodyMeaning, untouched}
+use Rattle.model.specs.access.Condition.{Condition}
+use Rattle.model.specs.access.Condition.Condition.{RunOnce, ResourceEquals, ResourceAtLeast, OnEvent, And, Not}
+use Rattle.model.specs.state.Events.{send, send_all, unread, updated_queue}
+use Rattle.model.specs.steps.Schedule.{Schedule}
+use Rattle.model.specs.runs.RunState.{answer_of, begin_run}
+use Rattle.model.specs.runs.Meaning.{serial}
+use Rattle.model.specs.state.Loaded.{loaded}
 use Rattle.model.proofs.examples.Bodies.{health, round, total, hit, asks, system, system_after, condition, given, zeros, idle, adds, changes, adds_to_first, serially, runs_from, history, computed}
 
 -- the values of Total and Round

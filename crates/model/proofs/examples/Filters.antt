@@ -2,13 +2,13 @@
 use Rattle.std.proofs.Common.{◌≡◌, ℕ, ℤ, pos, List, [], ◌∷◌, Some, option_map, refl}
 use Rattle.model.specs.declared.steps.Step.{Step}
 use Rattle.model.specs.declared.steps.Step.TheVariants.{Start, Finish, Sync}
-use Rattle.model.specs.State.{State, Slot, Component}
-use Rattle.model.specs.State.Status.{Living}
-use Rattle.model.specs.Query.Term.{Mut, With, Without}
-use Rattle.model.specs.Access.{Params}
-use Rattle.model.specs.Outcome.{BodyMeaning}
-use Rattle.model.specs.Schedule.{Schedule}
-use Rattle.model.specs.Loaded.{loaded}
+use Rattle.model.specs.state.State.{State, Slot, Component}
+use Rattle.model.specs.state.State.Status.{Living}
+use Rattle.model.specs.access.Query.Term.{Mut, With, Without}
+use Rattle.model.specs.access.Access.{Params}
+use Rattle.model.specs.shown.Outcome.{BodyMeaning}
+use Rattle.model.specs.steps.Schedule.{Schedule}
+use Rattle.model.specs.state.Loaded.{loaded}
 use Rattle.model.proofs.examples.Bodies.{position, frozen, asks, system, plain, given, zeros, changes, adds_to_first, serially, woven, computed}
 
 abbrev pub with_frozen : Params

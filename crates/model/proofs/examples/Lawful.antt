@@ -4,13 +4,13 @@ use Rattle.model.specs.declared.steps.Step.{Step}
 use Rattle.model.specs.declared.steps.Step.TheVariants.{Cond, Start, Skip, Finish, Sync}
 use Rattle.model.specs.declared.steps.StepFault.{StepFault}
 use Rattle.model.specs.declared.steps.StepFault.TheVariants.{Unknown, ConditionOpen, ConditionFalse, ConditionTrue, Conflict, NotRunning, LevelOpen, Repeated, NotReady}
-use Rattle.model.specs.Query.Term.{Mut}
-use Rattle.model.specs.Access.{no_params}
-use Rattle.model.specs.Condition.Condition.{ResourceAtLeast, ResourceEquals}
-use Rattle.model.specs.Schedule.{Schedule}
-use Rattle.model.specs.Lawful.{IsLawful, runs}
-use Rattle.model.specs.Judged.{fault_of, is_lawful, is_complete}
-use Rattle.model.proofs.Judging.{lists_are_computed}
+use Rattle.model.specs.access.Query.Term.{Mut}
+use Rattle.model.specs.access.Access.{no_params}
+use Rattle.model.specs.access.Condition.Condition.{ResourceAtLeast, ResourceEquals}
+use Rattle.model.specs.steps.Schedule.{Schedule}
+use Rattle.model.specs.steps.Lawful.{IsLawful, runs}
+use Rattle.model.specs.steps.Judged.{fault_of, is_lawful, is_complete}
+use Rattle.model.proofs.faults.Judging.{lists_are_computed}
 use Rattle.model.proofs.examples.Bodies.{position, round, asks, system, condition, plain, history}
 use Rattle.model.proofs.examples.Filters.{two_writers}
 use Rattle.model.proofs.examples.Conditions.{guarded}

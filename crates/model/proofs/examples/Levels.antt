@@ -1,12 +1,12 @@
 -- The schedule order of a schedule with two levels: a system of the lower level stands before what only waits for an edge.
 use Rattle.std.proofs.Common.{◌≡◌, ℕ, zero, suc, ◌<◌, true, false, List, [], ◌∷◌, refl, sym, ◌∙◌, arith, true≢false}
 use Rattle.model.specs.Lists.{has}
-use Rattle.model.specs.Access.{no_params}
-use Rattle.model.specs.Schedule.{Schedule, ScheduledSystem, level_of}
-use Rattle.model.specs.Ambiguity.{Reaches, Before}
-use Rattle.model.specs.Ambiguity.Reaches.{Edge, Onward}
-use Rattle.model.specs.Ambiguity.Before.{ByPath, ByLevel}
-use Rattle.model.specs.ScheduleOrder.{IsPlaceable, IsNextPlaced, IsScheduleOrder}
+use Rattle.model.specs.access.Access.{no_params}
+use Rattle.model.specs.steps.Schedule.{Schedule, ScheduledSystem, level_of}
+use Rattle.model.specs.steps.Ambiguity.{Reaches, Before}
+use Rattle.model.specs.steps.Ambiguity.Reaches.{Edge, Onward}
+use Rattle.model.specs.steps.Ambiguity.Before.{ByPath, ByLevel}
+use Rattle.model.specs.declarations.ScheduleOrder.{IsPlaceable, IsNextPlaced, IsScheduleOrder}
 
 abbrev at_level : ℕ → List ℕ → ScheduledSystem
 at_level level predecessors = record { params = no_params; predecessors = predecessors; level = level }

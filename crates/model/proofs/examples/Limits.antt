@@ -1,18 +1,18 @@
 -- Where things end: event numbers, generations, ticks before ids; ids of the past; what agreement doesn't look past.
 use Rattle.std.proofs.Common.{◌≡◌, ℕ, pos, true, false, List, [], ◌∷◌, Some, refl, ap, ◌∙◌, arith}
 use Rattle.model.specs.Lists.{first_some}
-use Rattle.model.specs.State.{State, Entity, Slot, EventQueue}
-use Rattle.model.specs.State.Status.{Vacant, Living, Retired}
-use Rattle.model.specs.Outcome.Command.{Insert, Remove, Despawn}
-use Rattle.model.specs.Events.{can_send}
-use Rattle.model.specs.Ids.{granted_ids}
-use Rattle.model.specs.Commands.{CommandTarget, apply_command, freed, is_alive}
-use Rattle.model.specs.Schedule.{Schedule}
-use Rattle.model.specs.RunState.{RunState, has_tick, has_ids_to_start}
-use Rattle.model.specs.Causes.{unless, cause_of_start}
-use Rattle.model.specs.Causes.Cause.{NoTick, NoIds}
-use Rattle.model.specs.Agreement.{Agrees}
-use Rattle.model.specs.Loaded.{loaded}
+use Rattle.model.specs.state.State.{State, Entity, Slot, EventQueue}
+use Rattle.model.specs.state.State.Status.{Vacant, Living, Retired}
+use Rattle.model.specs.shown.Outcome.Command.{Insert, Remove, Despawn}
+use Rattle.model.specs.state.Events.{can_send}
+use Rattle.model.specs.state.Ids.{granted_ids}
+use Rattle.model.specs.state.Commands.{CommandTarget, apply_command, freed, is_alive}
+use Rattle.model.specs.steps.Schedule.{Schedule}
+use Rattle.model.specs.runs.RunState.{RunState, has_tick, has_ids_to_start}
+use Rattle.model.specs.runs.Causes.{unless, cause_of_start}
+use Rattle.model.specs.runs.Causes.Cause.{NoTick, NoIds}
+use Rattle.model.specs.state.Agreement.{Agrees}
+use Rattle.model.specs.state.Loaded.{loaded}
 use Rattle.model.proofs.examples.Bodies.{score, plain, zeros, computed}
 
 -- ---- the last event has the number below the limit

@@ -2,13 +2,13 @@
 use Rattle.std.proofs.Common.{◌≡◌, ℕ, ℤ, pos, negsuc, ◌+ℤ◌, List, [], ◌∷◌, Option, Some, None, refl}
 use Rattle.model.specs.declared.steps.Step.{Step}
 use Rattle.model.specs.declared.steps.Step.TheVariants.{Start, Finish, Sync}
-use Rattle.model.specs.State.{State}
-use Rattle.model.specs.State.Status.{Living}
-use Rattle.model.specs.Query.Term.{Mut, Read}
-use Rattle.model.specs.Access.{Params}
-use Rattle.model.specs.Outcome.{BodyMeaning}
-use Rattle.model.specs.Schedule.{Schedule}
-use Rattle.model.specs.Loaded.{loaded}
+use Rattle.model.specs.state.State.{State}
+use Rattle.model.specs.state.State.Status.{Living}
+use Rattle.model.specs.access.Query.Term.{Mut, Read}
+use Rattle.model.specs.access.Access.{Params}
+use Rattle.model.specs.shown.Outcome.{BodyMeaning}
+use Rattle.model.specs.steps.Schedule.{Schedule}
+use Rattle.model.specs.state.Loaded.{loaded}
 use Rattle.model.proofs.examples.Bodies.{position, velocity, asks, system, plain, given, zeros, changes, serially, woven, runs_from, computed}
 
 -- the sum of two words at each place

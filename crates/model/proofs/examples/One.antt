@@ -4,21 +4,21 @@ use Rattle.std.proofs.lemmas.Bool.{both_ways}
 use Rattle.model.specs.declared.steps.Step.{Step}
 use Rattle.model.specs.declared.steps.Step.TheVariants.{Cond, Start, Skip, Sync}
 use Rattle.model.specs.declared.steps.Ready.TheVariants as ready
-use Rattle.model.specs.State.{State}
-use Rattle.model.specs.Access.{no_params}
-use Rattle.model.specs.Outcome.{BodyMeaning}
-use Rattle.model.specs.Condition.Condition.{ResourceEquals}
-use Rattle.model.specs.Schedule.{Schedule}
-use Rattle.model.specs.Lawful.{IsFree, MayAsk, MaySkip, MayStart, MaySync, IsLawful, IsComplete}
-use Rattle.model.specs.Widths.{IsChosen, IsSingle}
-use Rattle.model.specs.RunState.{RunState, between, opening, after_condition, after_sync}
-use Rattle.model.specs.Meaning.{serial, HasTrueAnswers}
-use Rattle.model.specs.Causes.{Cause, serial_cause}
-use Rattle.model.specs.Causes.Cause.{Refused}
-use Rattle.model.specs.Loaded.{loaded}
-use Rattle.model.specs.Runs.{IsSingleRun, IsStopped}
-use Rattle.model.proofs.Judging.{lists_are_computed}
-use Rattle.model.proofs.One.{single_run_is_one, defined_runs_go_through}
+use Rattle.model.specs.state.State.{State}
+use Rattle.model.specs.access.Access.{no_params}
+use Rattle.model.specs.shown.Outcome.{BodyMeaning}
+use Rattle.model.specs.access.Condition.Condition.{ResourceEquals}
+use Rattle.model.specs.steps.Schedule.{Schedule}
+use Rattle.model.specs.steps.Lawful.{IsFree, MayAsk, MaySkip, MayStart, MaySync, IsLawful, IsComplete}
+use Rattle.model.specs.steps.Widths.{IsChosen, IsSingle}
+use Rattle.model.specs.runs.RunState.{RunState, between, opening, after_condition, after_sync}
+use Rattle.model.specs.runs.Meaning.{serial, HasTrueAnswers}
+use Rattle.model.specs.runs.Causes.{Cause, serial_cause}
+use Rattle.model.specs.runs.Causes.Cause.{Refused}
+use Rattle.model.specs.state.Loaded.{loaded}
+use Rattle.model.specs.runs.Runs.{IsSingleRun, IsStopped}
+use Rattle.model.proofs.faults.Judging.{lists_are_computed}
+use Rattle.model.proofs.progress.Determinism.{single_run_is_one, defined_runs_go_through}
 use Rattle.model.proofs.examples.Bodies.{round, system, condition, zeros, computed}
 
 -- a system whose body refuses with 7, where Round is 9

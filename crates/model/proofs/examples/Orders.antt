@@ -1,14 +1,14 @@
 -- Which schedules are settled: a writer beside a condition that reads the same, and two systems that share nothing, run in two orders.
 use Rattle.std.proofs.Common.{◌≡◌, ◌≢◌, ℕ, zero, suc, ◌<◌, pos, true, false, List, [], ◌∷◌, None, ◌⊎◌, inl, inr, refl, sym, subst, arith, true≢false}
 use Rattle.std.proofs.lemmas.Bool.{both_ways}
-use Rattle.model.specs.Access.{Params, no_params}
-use Rattle.model.specs.Conflict.{Conflict, conflicts}
-use Rattle.model.specs.Condition.Condition.{ResourceAtLeast}
-use Rattle.model.specs.Schedule.{Schedule, ScheduledSystem, params_of, access_of}
-use Rattle.model.specs.Ambiguity.{Reaches, Before, IsMember, AmbiguousCondition, Settled}
-use Rattle.model.specs.Ambiguity.Reaches.{Edge, Onward}
-use Rattle.model.specs.Ambiguity.Before.{ByPath, ByLevel}
-use Rattle.model.proofs.Tests.{conflict-found, conflict-tested}
+use Rattle.model.specs.access.Access.{Params, no_params}
+use Rattle.model.specs.access.Conflict.{Conflict, conflicts}
+use Rattle.model.specs.access.Condition.Condition.{ResourceAtLeast}
+use Rattle.model.specs.steps.Schedule.{Schedule, ScheduledSystem, params_of, access_of}
+use Rattle.model.specs.steps.Ambiguity.{Reaches, Before, IsMember, AmbiguousCondition, Settled}
+use Rattle.model.specs.steps.Ambiguity.Reaches.{Edge, Onward}
+use Rattle.model.specs.steps.Ambiguity.Before.{ByPath, ByLevel}
+use Rattle.model.proofs.serial.ConflictTests.{conflict-found, conflict-tested}
 use Rattle.model.proofs.examples.Bodies.{round, system, system_after, condition}
 
 -- accesses that the computed test keeps apart don't conflict
@@ -64,7 +64,7 @@ before_one_member = record {
   not_after = λ m member early. elim early [ ByPath path ↦ nothing_before_writer [] m path | ByLevel l ↦ below_level m l ];
 }
   where
-    below_level : (m : ℕ) → Rattle.model.specs.Schedule.level_of (with_set []) m < 0 → ⊥
+    below_level : (m : ℕ) → Rattle.model.specs.steps.Schedule.level_of (with_set []) m < 0 → ⊥
     below_level m l = omega arith
 
 -- ---- the writer before the whole set
@@ -85,7 +85,7 @@ ordered_pairs m n l k = each_below_three (λ i. i ≢ n → Conflict (params_of 
 
 -- the writer stands before each member
 writer_first : (m : ℕ) → IsMember ordered 0 m → Before ordered 0 m
-writer_first m member = each_below_three (λ j. Rattle.model.specs.Schedule.covers ordered 0 j ≡ true → Before ordered 0 j)
+writer_first m member = each_below_three (λ j. Rattle.model.specs.steps.Schedule.covers ordered 0 j ≡ true → Before ordered 0 j)
     (λ e. absurd (true≢false (sym e))) (λ e. ByPath (Edge 0 1 refl)) (λ e. ByPath (Edge 0 2 refl)) m member.known member.covered
 
 -- the only condition is that of the set

@@ -1,7 +1,7 @@
 -- Which fault of a query is told: the least of a kind required and excluded, fetched twice, and excluded in an `opt` term.
 use Rattle.std.proofs.Common.{◌≡◌, [], ◌∷◌, Some, None, refl}
-use Rattle.model.specs.Query.Term.{Entity, Mut, Read, Opt, With, Without, Added}
-use Rattle.model.specs.QueryFaults.{query_fault}
+use Rattle.model.specs.access.Query.Term.{Entity, Mut, Read, Opt, With, Without, Added}
+use Rattle.model.specs.access.QueryFaults.{query_fault}
 use Rattle.model.proofs.examples.Bodies.{health, frozen}
 
 -- filters by presence stand beside what is fetched

@@ -4,15 +4,15 @@ use Rattle.std.proofs.Common.{◌≡◌, ℤ, pos, ◌+ℤ◌, List, [], ◌∷�
 use Rattle.model.specs.declared.steps.Step.{Step}
 use Rattle.model.specs.declared.steps.Step.TheVariants.{Start, Finish, Sync}
 use Rattle.model.specs.Lists.{head_or}
-use Rattle.model.specs.State.{State, empty_queue, no_memory}
-use Rattle.model.specs.Query.{Term}
-use Rattle.model.specs.Query.Term.{Mut, Changed, Added}
-use Rattle.model.specs.Access.{Params, no_params}
-use Rattle.model.specs.Events.{send, send_all}
-use Rattle.model.specs.Input.{shown, value_of}
-use Rattle.model.specs.Outcome.{BodyMeaning, untouched}
-use Rattle.model.specs.Schedule.{Schedule}
-use Rattle.model.specs.Loaded.{loaded}
+use Rattle.model.specs.state.State.{State, empty_queue, no_memory}
+use Rattle.model.specs.access.Query.{Term}
+use Rattle.model.specs.access.Query.Term.{Mut, Changed, Added}
+use Rattle.model.specs.access.Access.{Params, no_params}
+use Rattle.model.specs.state.Events.{send, send_all}
+use Rattle.model.specs.shown.Input.{shown, value_of}
+use Rattle.model.specs.shown.Outcome.{BodyMeaning, untouched}
+use Rattle.model.specs.steps.Schedule.{Schedule}
+use Rattle.model.specs.state.Loaded.{loaded}
 use Rattle.model.proofs.examples.Bodies.{health, total, hit, asks, system, system_after, plain, given, zeros, changes, adds_to_first, add_first, runs_from, serially, computed}
 
 abbrev total_of : State → ℤ

@@ -1,7 +1,7 @@
 -- The members of sets in sets, computed.
 use Rattle.std.proofs.Common.{◌≡◌, false, [], ◌∷◌, refl}
-use Rattle.model.specs.Hierarchy.{Hierarchy, Reaches, reaches_within, members_of}
-use Rattle.model.proofs.Hierarchies.{reaches_from_test}
+use Rattle.model.specs.declarations.Hierarchy.{Hierarchy, Reaches, reaches_within, members_of}
+use Rattle.model.proofs.order.Hierarchies.{reaches_from_test}
 
 -- three sets and four systems: the first two sets are in the third; one system in each of these two, one in both, one in none
 abbrev nested : Hierarchy

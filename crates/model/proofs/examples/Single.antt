@@ -3,12 +3,12 @@ use Rattle.std.proofs.Common.{false, List, [], ◌∷◌, inl, inr, refl, true�
 use Rattle.model.specs.declared.steps.Step.{Step}
 use Rattle.model.specs.declared.steps.Step.TheVariants.{Start, Finish, Sync}
 use Rattle.model.specs.declared.steps.Ready.TheVariants as ready
-use Rattle.model.specs.Access.{no_params}
-use Rattle.model.specs.Schedule.{Schedule}
-use Rattle.model.specs.Lawful.{IsLawful, MayStart, MaySync}
-use Rattle.model.specs.Widths.{IsSingle, IsWide}
-use Rattle.model.proofs.Judging.{lists_are_computed}
-use Rattle.model.proofs.Single.{single_is_wide}
+use Rattle.model.specs.access.Access.{no_params}
+use Rattle.model.specs.steps.Schedule.{Schedule}
+use Rattle.model.specs.steps.Lawful.{IsLawful, MayStart, MaySync}
+use Rattle.model.specs.steps.Widths.{IsSingle, IsWide}
+use Rattle.model.proofs.faults.Judging.{lists_are_computed}
+use Rattle.model.proofs.progress.Single.{single_is_wide}
 use Rattle.model.proofs.examples.Bodies.{system, plain}
 
 abbrev one_system : Schedule

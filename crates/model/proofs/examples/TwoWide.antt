@@ -4,12 +4,12 @@ use Rattle.std.proofs.lemmas.Bool.{both_ways}
 use Rattle.model.specs.declared.steps.Step.{Step}
 use Rattle.model.specs.declared.steps.Step.TheVariants.{Start, Finish, Sync}
 use Rattle.model.specs.declared.steps.Ready.TheVariants as ready
-use Rattle.model.specs.Schedule.{level_of}
-use Rattle.model.specs.Lawful.{ended, IsLawful, IsComplete, MayStart, MaySync}
-use Rattle.model.specs.Ready.{IsReady}
-use Rattle.model.specs.Widths.{IsWide}
-use Rattle.model.proofs.Judging.{lists_are_computed}
-use Rattle.model.proofs.Width.{finishes_wait}
+use Rattle.model.specs.steps.Schedule.{level_of}
+use Rattle.model.specs.steps.Lawful.{ended, IsLawful, IsComplete, MayStart, MaySync}
+use Rattle.model.specs.steps.Ready.{IsReady}
+use Rattle.model.specs.steps.Widths.{IsWide}
+use Rattle.model.proofs.faults.Judging.{lists_are_computed}
+use Rattle.model.proofs.progress.Width.{finishes_wait}
 use Rattle.model.proofs.examples.Filters.{two_writers}
 
 -- the whole list, the latest step first

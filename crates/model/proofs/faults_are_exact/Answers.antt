@@ -1,5 +1,5 @@
-use Rattle.model.proofs.Exact.{faults_are_exact as exact}
-use Rattle.model.proofs.Judging.{faults_are_computed, lists_are_computed}
+use Rattle.model.proofs.faults.ExactFaults.{faults_are_exact as exact}
+use Rattle.model.proofs.faults.Judging.{faults_are_computed, lists_are_computed}
 use Rattle.model.proofs.faults_are_exact.Goals as goal
 
 pub returns-clause-exact : goal.returns-clause-exact

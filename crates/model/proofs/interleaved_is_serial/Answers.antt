@@ -1,4 +1,4 @@
-use Rattle.model.proofs.Interleaving.{interleaved_serial, same_shown}
+use Rattle.model.proofs.serial.Interleaving.{interleaved_serial, same_shown}
 use Rattle.model.proofs.interleaved_is_serial.Goals as goal
 
 pub returns-clause-shown : goal.returns-clause-shown

@@ -1,6 +1,6 @@
-use Rattle.model.proofs.Ends.{lists_end}
-use Rattle.model.proofs.GoOn.{lists_go_on as goes_on}
-use Rattle.model.proofs.Offers.{lists_complete, ready_is_accepted}
+use Rattle.model.proofs.progress.Ends.{lists_end}
+use Rattle.model.proofs.progress.Progress.{lists_go_on as goes_on}
+use Rattle.model.proofs.progress.Offers.{lists_complete, ready_is_accepted}
 use Rattle.model.proofs.lists_go_on.Goals as goal
 
 pub returns-clause-next : goal.returns-clause-next

@@ -1,4 +1,4 @@
-use Rattle.model.proofs.LoadedShapes.{loaded-shape}
+use Rattle.model.proofs.shape.Loaded.{loaded-shape}
 use Rattle.model.proofs.loaded_has_shape.Goals as goal
 
 pub returns : goal.returns

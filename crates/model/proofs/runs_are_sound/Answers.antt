@@ -1,4 +1,4 @@
-use Rattle.model.proofs.Sound.{runs_are_sound as are_sound, wide_runs_are_sound}
+use Rattle.model.proofs.serial.Soundness.{runs_are_sound as are_sound, wide_runs_are_sound}
 use Rattle.model.proofs.runs_are_sound.Goals as goal
 
 pub returns-clause-one : goal.returns-clause-one

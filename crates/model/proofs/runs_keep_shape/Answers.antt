@@ -1,4 +1,4 @@
-use Rattle.model.proofs.Shapes.{interleaved-keeps, serial-keeps}
+use Rattle.model.proofs.shape.Runs.{interleaved-keeps, serial-keeps}
 use Rattle.model.proofs.runs_keep_shape.Goals as goal
 
 pub returns-clause-interleaved : goal.returns-clause-interleaved

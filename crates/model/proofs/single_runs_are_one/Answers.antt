@@ -1,4 +1,4 @@
-use Rattle.model.proofs.One.{single_run_is_one as run_is_one, single_runs_are_one as runs_are_one, defined_runs_go_through as go_through, stops_are_one}
+use Rattle.model.proofs.progress.Determinism.{single_run_is_one as run_is_one, single_runs_are_one as runs_are_one, defined_runs_go_through as go_through, stops_are_one}
 use Rattle.model.proofs.single_runs_are_one.Goals as goal
 
 pub returns-clause-run : goal.returns-clause-run

@@ -1,4 +1,4 @@
-use Rattle.model.proofs.Sound.{single_runs_are_sound as sound}
+use Rattle.model.proofs.serial.Soundness.{single_runs_are_sound as sound}
 use Rattle.model.proofs.single_runs_are_sound.Goals as goal
 
 pub returns : goal.returns

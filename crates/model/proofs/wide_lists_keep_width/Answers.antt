@@ -1,4 +1,4 @@
-use Rattle.model.proofs.Width.{at_most_run, finishes_wait}
+use Rattle.model.proofs.progress.Width.{at_most_run, finishes_wait}
 use Rattle.model.proofs.wide_lists_keep_width.Goals as goal
 
 pub returns-clause-most : goal.returns-clause-most

@@ -1,5 +1,5 @@
-use Rattle.model.proofs.Single.{single_is_wide}
-use Rattle.model.proofs.Wide.{wide_of_one_is_single as of_one_is_single, wide_runs_of_one_are_single, wide_stops_of_one_are_single}
+use Rattle.model.proofs.progress.Single.{single_is_wide}
+use Rattle.model.proofs.progress.WideOfOne.{wide_of_one_is_single as of_one_is_single, wide_runs_of_one_are_single, wide_stops_of_one_are_single}
 use Rattle.model.proofs.wide_of_one_is_single.Goals as goal
 
 pub returns-clause-fronts : goal.returns-clause-fronts

@@ -1,6 +1,6 @@
 use Rattle.std.proofs.Common.{◌≡◌, true, map, is_some, OnOk, sym, ap, subst, ◌∙◌}
 use Rattle.kinds.specs.Value.{value_number, value_words}
-use Rattle.model.specs.Rows.{cell_at, insert_component}
+use Rattle.model.specs.state.Rows.{cell_at, insert_component}
 use Rattle.column_store.specs.Cells.{stamped_number}
 use Rattle.column_store.specs.Kinds.{AreBelow}
 use Rattle.column_store.specs.declared.stamped.StampedValue.{StampedValue}

@@ -1,5 +1,5 @@
 use Rattle.std.proofs.Common.{◌≡◌, false, None, map, is_some, OnOk, rules, sym, ap, subst, ◌∙◌}
-use Rattle.model.specs.Rows.{cell_at, remove_component}
+use Rattle.model.specs.state.Rows.{cell_at, remove_component}
 use Rattle.column_store.specs.Cells.{stamped_number}
 use Rattle.column_store.specs.Kinds.{AreBelow}
 use Rattle.column_store.specs.declared.stamped.StampedValue.{StampedValue}

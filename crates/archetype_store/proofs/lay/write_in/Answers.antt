@@ -1,7 +1,7 @@
 use Rattle.std.proofs.Common.{◌≡◌, None, sym, ap, subst, ◌∙◌}
 use Rattle.kinds.specs.Value.{value_number, value_words}
-use Rattle.model.specs.Rows.{cell_at}
-use Rattle.model.specs.Overlay.{row_after}
+use Rattle.model.specs.state.Rows.{cell_at}
+use Rattle.model.specs.shown.Overlay.{row_after}
 use Rattle.column_store.specs.declared.stamped.StampedValue.{StampedValue}
 use Rattle.archetype_store.specs.Row.{component_of, only}
 use Rattle.archetype_store.specs.Tables.{held_at, row_or_none}

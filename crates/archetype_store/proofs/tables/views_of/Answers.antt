@@ -1,6 +1,6 @@
 use Rattle.std.proofs.Common.{sym, subst, ◌∙◌}
 use Rattle.std.specs.List.{AllByRecursion}
-use Rattle.model.proofs.Each.{each-append}
+use Rattle.model.proofs.lists.Each.{each-append}
 use Rattle.column_store.specs.Order.{AreRising}
 use Rattle.archetype_store.specs.View.{kinds_seen, entities_seen}
 use Rattle.archetype_store.proofs.Layouts.{view_passed, view_added}

@@ -1,7 +1,7 @@
 use Rattle.std.proofs.Common.{◌≡◌, [], is_some, ◌∙◌, sym, ap, subst}
 use Rattle.std.proofs.lemmas.List.{get_or_default}
 use Rattle.kinds.specs.Value.{value_number, value_words}
-use Rattle.model.specs.Rows.{cell_at}
+use Rattle.model.specs.state.Rows.{cell_at}
 use Rattle.column_store.specs.Table.{TableValue, empty_table}
 use Rattle.archetype_store.specs.Layout.{IsShape}
 use Rattle.archetype_store.specs.Tables.{table_at, held_in, row_or_none}

@@ -1,5 +1,5 @@
 use Rattle.std.proofs.Common.{◌≡◌, map, drop}
-use Rattle.model.specs.Outcome.{words_in_row}
+use Rattle.model.specs.shown.Outcome.{words_in_row}
 use Rattle.query.specs.Term.{term_of}
 use Rattle.query_plan.specs.Fetched.{words_fetched}
 use Rattle.body.proofs.cells.written_in.Given as goal

@@ -1,6 +1,6 @@
 use Rattle.std.proofs.Common.{◌≡◌, suc, ◌-◌, ◌<◌, length, drop, sym, ap, ◌∙◌, refl, arith}
 use Rattle.model.specs.Lists.{first_some}
-use Rattle.model.specs.Outcome.{words_in_query}
+use Rattle.model.specs.shown.Outcome.{words_in_query}
 use Rattle.body.specs.declared.cells.ViewQuery.{ViewQuery}
 use Rattle.body.specs.ViewRow.{terms_of, shown_rows, query_cells}
 use Rattle.body.proofs.Laying.{queries_words, laid-again, laid-none, queries_words-end, queries_words-drop}

@@ -1,6 +1,6 @@
 use Rattle.std.proofs.Common.{◌≡◌, suc, ◌-◌, ◌<◌, length, drop, sym, ap, ◌∙◌, subst, arith}
 use Rattle.model.specs.Lists.{first_some}
-use Rattle.model.specs.Outcome.{words_in_row}
+use Rattle.model.specs.shown.Outcome.{words_in_row}
 use Rattle.body.specs.Laid.{at_index}
 use Rattle.body.specs.declared.cells.ViewRow.{ViewRow}
 use Rattle.body.specs.ViewRow.{IsRowOf, terms_of, row_cells}

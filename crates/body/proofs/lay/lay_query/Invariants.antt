@@ -1,5 +1,5 @@
 use Rattle.std.proofs.Common.{◌≡◌, ◌≤◌, length, drop}
-use Rattle.model.specs.Overlay.{slots_after}
+use Rattle.model.specs.shown.Overlay.{slots_after}
 use Rattle.archetype_store.specs.Layout.{AreAllHome}
 use Rattle.body.specs.Laid.{with_slots}
 use Rattle.body.specs.ViewRow.{terms_of}

@@ -1,7 +1,7 @@
 use Rattle.std.proofs.Common.{◌≡◌, suc, ◌-◌, ◌<◌, length, Option, Some, None, sym, ap, ◌∙◌, refl, arith}
 use mathlib.Core.Path.{fun_ext}
 use Rattle.model.specs.Lists.{first_some}
-use Rattle.model.specs.Overlay.{slots_after}
+use Rattle.model.specs.shown.Overlay.{slots_after}
 use Rattle.kinds.specs.Value.{value_number, value_words}
 use Rattle.archetype_store.specs.Row.{only}
 use Rattle.body.specs.Laid.{with_slots, at_index}

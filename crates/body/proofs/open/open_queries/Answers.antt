@@ -1,7 +1,7 @@
 use Rattle.std.proofs.Common.{◌++◌, [], ◌∷◌, List, take, sym, ap, ap₂, ◌∙◌}
 use Rattle.std.proofs.lemmas.List.{map-append}
-use Rattle.model.specs.Query.{Term}
-use Rattle.model.specs.Input.{rows_of}
+use Rattle.model.specs.access.Query.{Term}
+use Rattle.model.specs.shown.Input.{rows_of}
 use Rattle.body.specs.ViewRow.{AreRows, terms_of, shown_rows}
 use Rattle.body.proofs.Opening.{all-more, cells-more, take-more}
 use Rattle.body.proofs.open.open_queries.Goals as goal

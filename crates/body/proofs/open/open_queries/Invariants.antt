@@ -1,7 +1,7 @@
 use Rattle.std.proofs.Common.{◌≡◌, map, take}
 use Rattle.std.specs.List.{AllByRecursion}
-use Rattle.model.specs.Input.{rows_of}
-use Rattle.model.specs.Outcome.{untouched_cells}
+use Rattle.model.specs.shown.Input.{rows_of}
+use Rattle.model.specs.shown.Outcome.{untouched_cells}
 use Rattle.body.specs.ViewRow.{AreRows, terms_of, shown_rows, query_cells}
 use Rattle.body.proofs.open.open_queries.Given as goal
 

@@ -1,5 +1,5 @@
 use Rattle.std.proofs.Common.{◌≡◌, [], replicate}
-use Rattle.model.specs.Loaded.{first_memory}
+use Rattle.model.specs.state.Loaded.{first_memory}
 use Rattle.body.proofs.state.memories.Given as goal
 
 abbrev pub invariant-loop-made : goal.invariant-loop-made

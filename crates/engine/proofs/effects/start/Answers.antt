@@ -1,9 +1,9 @@
 use Rattle.std.proofs.Common.{◌≡◌, ◌<◌, length, ap, sym, ◌∙◌, subst, Some, refl, arith}
-use Rattle.model.specs.Access.{Params, no_params}
-use Rattle.model.specs.State.{State}
-use Rattle.model.specs.Schedule.{params_of}
-use Rattle.model.specs.RunState.{between, next_tick, memory_of_system}
-use Rattle.model.proofs.Lists.{length-update_at}
+use Rattle.model.specs.access.Access.{Params, no_params}
+use Rattle.model.specs.state.State.{State}
+use Rattle.model.specs.steps.Schedule.{params_of}
+use Rattle.model.specs.runs.RunState.{between, next_tick, memory_of_system}
+use Rattle.model.proofs.lists.Lists.{length-update_at}
 use Rattle.body.specs.Steps.{memory_ran}
 use Rattle.engine.specs.EngineValue.{meanings}
 use Rattle.engine.proofs.Starting.{start_laid, ran_there, laid_there, queries_alone, HasQueriesAlone, has_tick_from, fits_there, rows_there}

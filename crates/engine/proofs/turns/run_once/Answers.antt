@@ -2,11 +2,11 @@ use Rattle.std.proofs.Common.{◌≡◌, List, reverse, ap, sym, ◌∙◌, subs
 use Rattle.model.specs.declared.steps.Step.{Step}
 use Rattle.model.specs.declared.steps.Step.TheVariants.{Start, Finish, Sync}
 use Rattle.model.specs.declared.steps.Ready.TheVariants as ready
-use Rattle.model.specs.Schedule.{Schedule}
-use Rattle.model.specs.Lawful.{IsLawful, IsComplete}
-use Rattle.model.specs.Ready.{IsReady}
-use Rattle.model.specs.RunState.{between}
-use Rattle.model.specs.Meaning.{serial_step}
+use Rattle.model.specs.steps.Schedule.{Schedule}
+use Rattle.model.specs.steps.Lawful.{IsLawful, IsComplete}
+use Rattle.model.specs.steps.Ready.{IsReady}
+use Rattle.model.specs.runs.RunState.{between}
+use Rattle.model.specs.runs.Meaning.{serial_step}
 use Rattle.executor_core.specs.Stands.{Stands}
 use Rattle.script.specs.declared.script_body.ScriptBody.{ScriptBody}
 use Rattle.engine.specs.EngineValue.{meanings}

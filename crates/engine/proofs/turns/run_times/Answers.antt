@@ -1,7 +1,7 @@
 use Rattle.std.proofs.Common.{◌∷◌, [], List, length, map, length-append, ap, sym, ◌∙◌, subst, arith}
 use Rattle.std.proofs.lemmas.List.{map-append}
 use Rattle.model.specs.declared.steps.Step.{Step}
-use Rattle.model.specs.Runs.{AreSingleRuns, IsSingleRun}
+use Rattle.model.specs.runs.Runs.{AreSingleRuns, IsSingleRun}
 use Rattle.script.specs.declared.script_body.ScriptBody.{ScriptBody}
 use Rattle.engine.specs.EngineValue.{meanings}
 use Rattle.engine.specs.History.{history_of}

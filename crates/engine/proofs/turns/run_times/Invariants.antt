@@ -1,5 +1,5 @@
 use Rattle.std.proofs.Common.{◌≡◌, length, map}
-use Rattle.model.specs.Runs.{AreSingleRuns}
+use Rattle.model.specs.runs.Runs.{AreSingleRuns}
 use Rattle.engine.specs.EngineValue.{meanings}
 use Rattle.engine.specs.History.{history_of}
 use Rattle.engine.proofs.turns.run_times.Given as goal

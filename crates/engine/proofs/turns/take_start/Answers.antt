@@ -1,8 +1,8 @@
 use Rattle.std.proofs.Common.{List, reverse, sym, subst}
 use Rattle.model.specs.declared.steps.Step.{Step}
 use Rattle.model.specs.declared.steps.Step.TheVariants.{Finish}
-use Rattle.model.specs.Schedule.{Schedule}
-use Rattle.model.specs.Lawful.{May}
+use Rattle.model.specs.steps.Schedule.{Schedule}
+use Rattle.model.specs.steps.Lawful.{May}
 use Rattle.engine.proofs.Turning.{may_finish}
 use Rattle.engine.proofs.turns.take_start.Goals as goal
 

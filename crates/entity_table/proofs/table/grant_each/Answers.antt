@@ -1,8 +1,8 @@
 use Rattle.std.proofs.Common.{◌≡◌, ◌+◌, ◌-◌, ◌<◌, suc, true, [], ◌∷◌, ◌++◌, List, vec_len, vec_capacity, if◌then◌else◌, is_ok, ap, ap₂, sym, ◌∙◌, append_assoc, arith}
 use Rattle.std.proofs.lemmas.List.{append-nil}
 use Rattle.model.specs.declared.entities.Entity.{Entity}
-use Rattle.model.specs.State.{Slot}
-use Rattle.model.specs.Ids.{granted_ids, grant}
+use Rattle.model.specs.state.State.{Slot}
+use Rattle.model.specs.state.Ids.{granted_ids, grant}
 use Rattle.entity_table.proofs.Grants.{grant-zero, grant-suc, granted_ids-zero, granted_ids-suc}
 use Rattle.entity_table.proofs.table.grant_each.Goals as goal
 

@@ -1,6 +1,6 @@
 use Rattle.std.proofs.Common.{◌≡◌, ◌+◌, ◌-◌, ◌≤◌, ◌++◌, length, vec_len, vec_capacity}
-use Rattle.model.specs.State.{most_indices}
-use Rattle.model.specs.Ids.{vacant_indices, granted_ids, grant}
+use Rattle.model.specs.state.State.{most_indices}
+use Rattle.model.specs.state.Ids.{vacant_indices, granted_ids, grant}
 use Rattle.entity_table.proofs.table.grant_each.Given as goal
 
 abbrev pub invariant-loop : goal.invariant-loop

@@ -1,7 +1,7 @@
 use Rattle.std.proofs.Common.{◌≡◌, ◌<◌, true, [], ◌∷◌, ◌++◌, length, get_or, vec_len, vec_capacity, if◌then◌else◌, is_ok, ap, ap₂, sym, ◌∙◌, arith}
 use Rattle.std.proofs.lemmas.List.{get_or_default}
-use Rattle.model.specs.State.{Slot, fresh_slot}
-use Rattle.model.specs.Ids.{vacant_indices, granted_slot}
+use Rattle.model.specs.state.State.{Slot, fresh_slot}
+use Rattle.model.specs.state.Ids.{vacant_indices, granted_slot}
 use Rattle.entity_table.proofs.Edits.{set-written}
 use Rattle.entity_table.proofs.Grants.{GrantsLeast, grants_least, GrantsNext, grants_next}
 use Rattle.entity_table.proofs.table.grant_one.Goals as goal

@@ -1,7 +1,7 @@
 use Rattle.std.proofs.Common.{rules, ◌≡◌, ◌<◌, map, length, ap, sym, ◌∙◌, arith, subst, ℕ}
 use Rattle.std.proofs.lemmas.List.{length-map}
 use Rattle.model.specs.declared.entities.Entity.{Entity}
-use Rattle.model.specs.Loaded.{slot_given}
+use Rattle.model.specs.state.Loaded.{slot_given}
 use Rattle.archetype_store.specs.Layout.{AreAllHome}
 use Rattle.archetype_store.specs.Store.{with_slot}
 use Rattle.program_file.specs.Load.{given_of, entity_given}

@@ -1,6 +1,6 @@
 use Rattle.std.proofs.Common.{◌≡◌, take, map, true}
-use Rattle.model.specs.Commands.{is_alive}
-use Rattle.model.specs.Loaded.{slot_given}
+use Rattle.model.specs.state.Commands.{is_alive}
+use Rattle.model.specs.state.Loaded.{slot_given}
 use Rattle.archetype_store.specs.Layout.{AreAllHome}
 use Rattle.archetype_store.specs.Store.{with_slot}
 use Rattle.program_file.specs.Load.{given_of}

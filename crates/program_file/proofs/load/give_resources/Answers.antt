@@ -1,5 +1,5 @@
 use Rattle.std.proofs.Common.{rules, pos, get_or, ap, sym, ◌∙◌, arith}
-use Rattle.model.specs.State.{World}
+use Rattle.model.specs.state.State.{World}
 use Rattle.kinds.specs.declared.res.Res.TheVariants.{Round}
 use Rattle.kinds.specs.Res.{res_number, every_res}
 use Rattle.program_file.proofs.Loading.{resources-more, resources-all, res_number-at}

@@ -1,5 +1,5 @@
 use Rattle.std.proofs.Common.{◌≡◌, ◌++◌, take, drop, map}
-use Rattle.model.specs.Loaded.{resource_given}
+use Rattle.model.specs.state.Loaded.{resource_given}
 use Rattle.program_file.proofs.load.give_resources.Given as goal
 
 -- the resources so far have their values

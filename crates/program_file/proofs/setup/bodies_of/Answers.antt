@@ -2,7 +2,7 @@ use Rattle.std.proofs.Common.{◌+◌, length, ap, sym, ◌∙◌, arith}
 use Rattle.std.proofs.lemmas.List.{length_push}
 use Rattle.std.proofs.lemmas.Iterator.Adapters.{YieldsList-from_vec}
 use Rattle.std.proofs.lemmas.Iterator.Consumers.{YieldsList-turn}
-use Rattle.model.specs.Access.{Params}
+use Rattle.model.specs.access.Access.{Params}
 use Rattle.script.specs.Faults.{fits}
 use Rattle.program_file.proofs.Fitting.{fits-none, fits-more, params-at, readers-more}
 use Rattle.program_file.proofs.setup.bodies_of.Goals as goal

@@ -1,5 +1,5 @@
 use Rattle.std.proofs.Common.{◌≡◌, ◌<◌, ℕ, [], length, true}
-use Rattle.model.specs.Schedule.{params_of}
+use Rattle.model.specs.steps.Schedule.{params_of}
 use Rattle.engine.specs.Fits.{fits_at}
 use Rattle.program_file.proofs.setup.bodies_of.Given as goal
 

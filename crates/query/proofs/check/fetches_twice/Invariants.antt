@@ -1,6 +1,6 @@
 -- Some kind is fetched twice in the terms just where it is in what is left.
 use Rattle.std.proofs.Common.{◌≡◌, map, length}
-use Rattle.model.specs.QueryFaults.{fetches_twice}
+use Rattle.model.specs.access.QueryFaults.{fetches_twice}
 use Rattle.query.specs.Term.{term_of}
 use Rattle.query.proofs.check.fetches_twice.Given as goal
 

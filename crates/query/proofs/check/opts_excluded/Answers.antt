@@ -1,6 +1,6 @@
 -- Every kind is looked at.
 use Rattle.std.proofs.Common.{◌∙◌}
-use Rattle.model.specs.QueryFaults.{optional}
+use Rattle.model.specs.access.QueryFaults.{optional}
 use Rattle.query.proofs.Named.{optional_listed, any_excluded}
 use Rattle.query.proofs.check.opts_excluded.Goals as goal
 

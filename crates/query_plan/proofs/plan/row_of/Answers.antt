@@ -1,7 +1,7 @@
 use Rattle.std.proofs.Common.{map, ap, ◌∙◌, subst}
 use Rattle.std.proofs.lemmas.List.{take_all}
-use Rattle.model.specs.Rows.{kinds_of}
-use Rattle.model.specs.Input.{fetch}
+use Rattle.model.specs.state.Rows.{kinds_of}
+use Rattle.model.specs.shown.Input.{fetch}
 use Rattle.query.specs.Term.{term_of}
 use Rattle.query_plan.specs.Fetched.{AreFetched}
 use Rattle.query_plan.proofs.Fetching.{words-more, fetched-more, admits-each, row_same}

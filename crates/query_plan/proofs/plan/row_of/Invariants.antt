@@ -1,7 +1,7 @@
 use Rattle.std.proofs.Common.{◌≡◌, true, map, take}
-use Rattle.model.specs.Input.{fetch}
-use Rattle.model.specs.Query as query
-use Rattle.model.specs.Rows.{kinds_of}
+use Rattle.model.specs.shown.Input.{fetch}
+use Rattle.model.specs.access.Query as query
+use Rattle.model.specs.state.Rows.{kinds_of}
 use Rattle.query.specs.Term.{term_of}
 use Rattle.query_plan.specs.Fetched.{AreFetched, words_fetched}
 use Rattle.query_plan.proofs.plan.row_of.Given as goal

@@ -1,8 +1,8 @@
 use Rattle.std.proofs.Common.{◌≡◌, ℕ, List, [], sym, subst}
-use Rattle.model.specs.Declarations.{DeclaredSystem}
-use Rattle.model.specs.Refusals.{IsBuildable}
-use Rattle.model.specs.Schedule.{Schedule, ScheduledSystem}
-use Rattle.model.specs.ScheduleOrder.{IsScheduleOrder, HasDeclaredSystems, HasDeclaredEdges}
+use Rattle.model.specs.declarations.Declarations.{DeclaredSystem}
+use Rattle.model.specs.declarations.Refusals.{IsBuildable}
+use Rattle.model.specs.steps.Schedule.{Schedule, ScheduledSystem}
+use Rattle.model.specs.declarations.ScheduleOrder.{IsScheduleOrder, HasDeclaredSystems, HasDeclaredEdges}
 use Rattle.cycle_search.specs.declared.order.Order.{Order}
 use Rattle.schedule_builder.specs.Orders.{items_of, AreDeclared}
 use Rattle.schedule_builder.specs.Sequence.{schedule_of, AreScheduled}

@@ -1,6 +1,6 @@
 use Rattle.std.proofs.Common.{◌≡◌, ℕ, List, Option, Vec, map, subst, ap, ◌∙◌}
 use Rattle.std.specs.declared.alloc.Global.{Global}
-use Rattle.model.specs.Declarations.{DeclaredSystem, name_of}
+use Rattle.model.specs.declarations.Declarations.{DeclaredSystem, name_of}
 use Rattle.cycle_search.specs.declared.order.Order.{Order}
 use Rattle.schedule_builder.specs.Orders.{items_of}
 use Rattle.cycle_search.specs.Cycles.{TellsRound}

@@ -1,6 +1,6 @@
 use Rattle.std.proofs.Common.{ℕ, List, sym, subst}
-use Rattle.model.specs.Declarations.{DeclaredSystem}
-use Rattle.model.specs.Refusals.{IsLoop}
+use Rattle.model.specs.declarations.Declarations.{DeclaredSystem}
+use Rattle.model.specs.declarations.Refusals.{IsLoop}
 use Rattle.cycle_search.specs.declared.order.Order.{Order}
 use Rattle.schedule_builder.specs.Orders.{items_of}
 use Rattle.schedule_builder.proofs.Transfer.{loop_told}

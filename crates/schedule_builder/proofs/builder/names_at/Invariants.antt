@@ -1,5 +1,5 @@
 use Rattle.std.proofs.Common.{◌≡◌, map, take, string_bytes}
-use Rattle.model.specs.Declarations.{name_of}
+use Rattle.model.specs.declarations.Declarations.{name_of}
 use Rattle.schedule_builder.specs.Orders.{items_of}
 use Rattle.schedule_builder.proofs.builder.names_at.Given as goal
 

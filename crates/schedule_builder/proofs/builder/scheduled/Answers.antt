@@ -1,9 +1,9 @@
 use Rattle.std.proofs.Common.{◌≡◌, ℕ, ◌++◌, ◌∷◌, [], List, length, sym, subst, ap, ◌∙◌}
 use Rattle.std.specs.Vec.Iter.{into_iter_items}
 use Rattle.std.proofs.lemmas.List.{append_assoc}
-use Rattle.model.specs.Access.{Params}
-use Rattle.model.specs.Declarations.{DeclaredSystem}
-use Rattle.model.specs.Schedule.{ScheduledSystem}
+use Rattle.model.specs.access.Access.{Params}
+use Rattle.model.specs.declarations.Declarations.{DeclaredSystem}
+use Rattle.model.specs.steps.Schedule.{ScheduledSystem}
 use Rattle.cycle_search.specs.declared.order.Order.{Order}
 use Rattle.schedule_builder.specs.Sequence.{items_before, scheduled, AreScheduled}
 use Rattle.schedule_builder.proofs.Assembly.{scheduled_more}

@@ -1,8 +1,8 @@
 use Rattle.std.proofs.Common.{◌≡◌, ℕ, ◌≤◌, Some, sym, arith, rules, subst, ap, ◌∙◌, refl}
 use Rattle.std.specs.Option.{option_copied}
 use Rattle.std.specs.BTreeMap.{get_by_text}
-use Rattle.model.specs.Refusals.{RepeatsName}
-use Rattle.model.specs.Declarations.{name_of}
+use Rattle.model.specs.declarations.Refusals.{RepeatsName}
+use Rattle.model.specs.declarations.Declarations.{name_of}
 use Rattle.schedule_builder.specs.Orders.{items_of}
 use Rattle.schedule_builder.proofs.Lookups.{repeats, repeats_not, name_at}
 use Rattle.schedule_builder.proofs.names.first_repeated.Goals.{in-Some+else-first-number, in_default}

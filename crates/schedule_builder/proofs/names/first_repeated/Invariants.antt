@@ -1,5 +1,5 @@
 use Rattle.std.proofs.Common.{ℕ, ◌<◌}
-use Rattle.model.specs.Refusals.{RepeatsName}
+use Rattle.model.specs.declarations.Refusals.{RepeatsName}
 use Rattle.schedule_builder.specs.Orders.{items_of}
 use Rattle.schedule_builder.proofs.names.first_repeated.Given as goal
 

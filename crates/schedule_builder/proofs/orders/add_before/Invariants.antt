@@ -1,6 +1,6 @@
 use Rattle.std.proofs.Common.{◌≡◌, ◌++◌, map, take, IsSome, string_bytes}
 use Rattle.std.specs.BTreeMap.{get_by_text}
-use Rattle.model.specs.Refusals.{EachIs}
+use Rattle.model.specs.declarations.Refusals.{EachIs}
 use Rattle.schedule_builder.specs.Orders.{orders_before}
 use Rattle.schedule_builder.proofs.orders.add_before.Given as goal
 

@@ -1,8 +1,8 @@
 use Rattle.std.proofs.Common.{◌≡◌, ℕ, ◌+◌, List, IsSome, sym, subst, ap, ◌∙◌, arith, ◌++◌}
 use Rattle.std.specs.BTreeMap.{get_by_text}
 use Rattle.std.proofs.lemmas.Result.{err_from_is_err_and}
-use Rattle.model.specs.Declarations.{DeclaredSystem, declared_at}
-use Rattle.model.specs.Refusals.{EachIs}
+use Rattle.model.specs.declarations.Declarations.{DeclaredSystem, declared_at}
+use Rattle.model.specs.declarations.Refusals.{EachIs}
 use Rattle.cycle_search.specs.declared.order.Order.{Order}
 use Rattle.schedule_builder.specs.Orders.{items_of, TellsLacking, AreDeclaredBy, orders_before, orders_after}
 use Rattle.schedule_builder.proofs.Lookups.{before_answered, after_answered, declared_more, declared_read}

@@ -1,9 +1,9 @@
 -- A system of which no query is at fault.
 use Rattle.std.proofs.Common.{◌≡◌, ℕ, zero, suc, ◌<◌, List, [], ◌∷◌, None, length, get_or, refl, ◌∙◌, ap, subst, arith, below_more}
-use Rattle.model.specs.Query.{Term}
-use Rattle.model.specs.Declarations.{DeclaredSystem}
-use Rattle.model.specs.QueryFaults.{query_fault}
-use Rattle.model.specs.Refusals.{query_of}
+use Rattle.model.specs.access.Query.{Term}
+use Rattle.model.specs.declarations.Declarations.{DeclaredSystem}
+use Rattle.model.specs.access.QueryFaults.{query_fault}
+use Rattle.model.specs.declarations.Refusals.{query_of}
 use Rattle.schedule_builder.specs.Orders.{items_of}
 use Rattle.schedule_builder.specs.Queries.{AreGoodBelow}
 use Rattle.schedule_builder.proofs.Lookups.{declared_read}

@@ -1,5 +1,5 @@
 use Rattle.std.proofs.Common.{ap, ◌∙◌, sym}
-use Rattle.model.specs.Schedule.{ScheduledSystem}
+use Rattle.model.specs.steps.Schedule.{ScheduledSystem}
 use Rattle.schedule_builder.proofs.SystemSets.{read_system, tells_rivals, rival_more}
 use Rattle.schedule_builder.proofs.rows.row_of_rivals.Goals as goal
 

@@ -1,6 +1,6 @@
 use Rattle.std.proofs.Common.{ℕ, ◌+◌, ◌/◌, ◌<◌, ◌≡◌, ◌↔◌, true, length}
 use Rattle.number_set.specs.Members.{contains}
-use Rattle.model.specs.Conflict.{Conflict}
+use Rattle.model.specs.access.Conflict.{Conflict}
 use Rattle.schedule_builder.specs.Rows.{system_in}
 use Rattle.schedule_builder.proofs.rows.row_of_rivals.Given as goal
 

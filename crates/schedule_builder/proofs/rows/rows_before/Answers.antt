@@ -1,6 +1,6 @@
 use Rattle.std.proofs.Common.{ℕ, ◌+◌, true, ◌≡◌, List, length, ap, ◌∙◌, sym, subst}
 use Rattle.model.specs.Lists.{has}
-use Rattle.model.specs.Schedule.{ScheduledSystem}
+use Rattle.model.specs.steps.Schedule.{ScheduledSystem}
 use Rattle.schedule_builder.specs.Rows.{system_in, IsBefore, AreRows}
 use Rattle.schedule_builder.proofs.SystemSets.{read_system, listed_row, rows_more}
 use Rattle.schedule_builder.proofs.rows.rows_before.Goals as goal

@@ -1,5 +1,5 @@
 use Rattle.std.proofs.Common.{ℕ, ◌+◌, List, length, sym, subst}
-use Rattle.model.specs.Schedule.{ScheduledSystem}
+use Rattle.model.specs.steps.Schedule.{ScheduledSystem}
 use Rattle.schedule_builder.specs.Rows.{IsRival, AreRows}
 use Rattle.schedule_builder.proofs.SystemSets.{rows_more}
 use Rattle.schedule_builder.proofs.rows.rows_of_rivals.Goals as goal

@@ -1,6 +1,6 @@
 use Rattle.std.proofs.Common.{◌≡◌, ℕ, ◌<◌, ◌++◌, ◌∷◌, [], List, Bool, length, true, false, arith, subst, ◌∙◌}
 use Rattle.std.proofs.lemmas.List.{length-set}
-use Rattle.model.specs.Schedule.{ScheduledSystem}
+use Rattle.model.specs.steps.Schedule.{ScheduledSystem}
 use Rattle.schedule_builder.specs.Sequence.{can_place}
 use Rattle.cycle_search.proofs.Walks.{seen_more}
 use Rattle.schedule_builder.proofs.Sequences.{next_is, sequence_more, schedule_order}

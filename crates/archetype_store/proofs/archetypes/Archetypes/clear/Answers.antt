@@ -1,5 +1,5 @@
 use Rattle.std.proofs.Common.{List, [], OnErr, sym, subst}
-use Rattle.model.specs.State.{Component}
+use Rattle.model.specs.state.State.{Component}
 use Rattle.archetype_store.specs.Layout.{AreAllHome}
 use Rattle.archetype_store.specs.Archetypes.{ArchetypesValue, archetypes_of, row_of, place_of, row_in, AreAlike, HasRow}
 use Rattle.archetype_store.proofs.Laid.{row_seen}

@@ -1,5 +1,5 @@
 use Rattle.std.proofs.Common.{◌≡◌, Some, None, sym, ap, ◌∙◌}
-use Rattle.model.specs.Rows.{cell_at}
+use Rattle.model.specs.state.Rows.{cell_at}
 use Rattle.archetype_store.specs.Archetypes.{ArchetypesValue, row_of, place_of, row_in}
 use Rattle.archetype_store.proofs.Laid.{row_seen}
 use Rattle.std.proofs.Common.{subst}

@@ -1,6 +1,6 @@
 use Rattle.std.proofs.Common.{◌≡◌, Some, None, refl, sym, ap, ◌∙◌}
 use Rattle.model.specs.Lists.{has}
-use Rattle.model.specs.Rows.{kinds_of}
+use Rattle.model.specs.state.Rows.{kinds_of}
 use Rattle.model.specs.declared.entities.Entity.{Entity}
 use Rattle.archetype_store.specs.Archetypes.{ArchetypesValue, row_of, place_of, row_in}
 use Rattle.archetype_store.proofs.Held.{held_within}

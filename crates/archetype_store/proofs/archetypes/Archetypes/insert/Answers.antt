@@ -1,8 +1,8 @@
 use Rattle.std.proofs.Common.{List, OnOk, OnErr, sym, subst}
 use Rattle.std.proofs.lemmas.Result.{on_ok_weaker, on_err_weaker}
 use Rattle.kinds.specs.Value.{value_number, value_words}
-use Rattle.model.specs.State.{Component}
-use Rattle.model.specs.Rows.{insert_component}
+use Rattle.model.specs.state.State.{Component}
+use Rattle.model.specs.state.Rows.{insert_component}
 use Rattle.archetype_store.specs.Layout.{AreAllHome}
 use Rattle.archetype_store.specs.Archetypes.{ArchetypesValue, archetypes_of, row_of, place_of, row_in, AreAlike, HasRow}
 use Rattle.archetype_store.proofs.Laid.{row_seen}

@@ -1,7 +1,7 @@
 use Rattle.std.proofs.Common.{List, OnErr, sym, subst}
 use Rattle.kinds.specs.Value.{value_number, value_words}
-use Rattle.model.specs.State.{Component}
-use Rattle.model.specs.Overlay.{row_after}
+use Rattle.model.specs.state.State.{Component}
+use Rattle.model.specs.shown.Overlay.{row_after}
 use Rattle.archetype_store.specs.Row.{only}
 use Rattle.archetype_store.specs.Layout.{AreAllHome}
 use Rattle.archetype_store.specs.Archetypes.{ArchetypesValue, AreArchetypes, archetypes_of, row_of, place_of, row_in, AreAlike, HasRow}

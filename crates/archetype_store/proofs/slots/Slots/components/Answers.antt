@@ -1,6 +1,6 @@
 use Rattle.std.proofs.Common.{sym, ap, ◌∙◌}
 use Rattle.std.proofs.lemmas.Result.{IfOk-weaker}
-use Rattle.model.specs.Rows.{row_at}
+use Rattle.model.specs.state.Rows.{row_at}
 use Rattle.archetype_store.specs.Slots.{SlotsValue}
 use Rattle.archetype_store.proofs.SlotRows.{row_at_slots}
 use Rattle.archetype_store.proofs.slots.Slots.components.Goals as goal

@@ -1,6 +1,6 @@
 use Rattle.std.proofs.Common.{ap, ◌∙◌, rules}
 use Rattle.model.specs.Lists.{update_at}
-use Rattle.model.specs.Commands.{freed}
+use Rattle.model.specs.state.Commands.{freed}
 use Rattle.entity_table.specs.Rows.{with_rows}
 use Rattle.archetype_store.specs.Archetypes.{row_of}
 use Rattle.archetype_store.specs.Slots.{SlotsValue}

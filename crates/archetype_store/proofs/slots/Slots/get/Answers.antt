@@ -1,5 +1,5 @@
 use Rattle.std.proofs.Common.{◌≡◌, ◌<◌, length, ap, sym, ◌∙◌, arith}
-use Rattle.model.specs.Rows.{row_at}
+use Rattle.model.specs.state.Rows.{row_at}
 use Rattle.entity_table.specs.Ids.{slot_at}
 use Rattle.entity_table.proofs.WithRows.{length-with_rows, status-with_rows, generation-with_rows, row_at-with_rows}
 use Rattle.archetype_store.specs.Archetypes.{row_of}

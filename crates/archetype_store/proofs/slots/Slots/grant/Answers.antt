@@ -1,5 +1,5 @@
 use Rattle.std.proofs.Common.{◌≡◌, ap, sym, ◌∙◌, get_or, rules}
-use Rattle.model.specs.Ids.{has_ids, granted_ids, grant}
+use Rattle.model.specs.state.Ids.{has_ids, granted_ids, grant}
 use Rattle.entity_table.specs.Rows.{with_rows}
 use Rattle.entity_table.proofs.Living.{alive-grant}
 use Rattle.entity_table.proofs.WithRows.{has_ids-with_rows, granted_ids-with_rows, grant-with_rows, IsGranted-with_rows}

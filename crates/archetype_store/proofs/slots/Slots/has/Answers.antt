@@ -1,6 +1,6 @@
 use Rattle.std.proofs.Common.{◌≡◌, true, cond, None, is_some, sym, ap, ◌∙◌, rules}
-use Rattle.model.specs.Rows.{row_at, cell_at}
-use Rattle.model.specs.Commands.{is_alive}
+use Rattle.model.specs.state.Rows.{row_at, cell_at}
+use Rattle.model.specs.state.Commands.{is_alive}
 use Rattle.archetype_store.specs.Slots.{SlotsValue}
 use Rattle.archetype_store.proofs.SlotRows.{row_at_slots}
 use Rattle.archetype_store.proofs.slots.Slots.has.Goals as goal

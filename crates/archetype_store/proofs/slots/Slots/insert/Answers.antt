@@ -1,8 +1,8 @@
 use Rattle.std.proofs.Common.{◌≡◌, true, refl, ap, ◌∙◌, rules}
 use Rattle.kinds.specs.Value.{value_number, value_words}
 use Rattle.model.specs.Lists.{update_at}
-use Rattle.model.specs.Rows.{insert_component}
-use Rattle.model.specs.Commands.{is_alive, with_row}
+use Rattle.model.specs.state.Rows.{insert_component}
+use Rattle.model.specs.state.Commands.{is_alive, with_row}
 use Rattle.archetype_store.specs.Archetypes.{row_of}
 use Rattle.archetype_store.specs.Slots.{SlotsValue}
 use Rattle.archetype_store.proofs.SlotRows.{alive_in_book, holder_lives, rows-written, slots-written}

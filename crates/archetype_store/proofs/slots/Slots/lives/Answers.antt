@@ -1,5 +1,5 @@
 use Rattle.std.proofs.Common.{length, ap, sym, ◌∙◌, arith}
-use Rattle.model.specs.Commands.{is_alive}
+use Rattle.model.specs.state.Commands.{is_alive}
 use Rattle.entity_table.proofs.WithRows.{length-with_rows, is_alive-with_rows}
 use Rattle.archetype_store.specs.Archetypes.{row_of}
 use Rattle.archetype_store.specs.Slots.{SlotsValue}

@@ -1,5 +1,5 @@
 use Rattle.std.proofs.Common.{ap, sym, ◌∙◌}
-use Rattle.model.specs.Commands.{release}
+use Rattle.model.specs.state.Commands.{release}
 use Rattle.entity_table.specs.Rows.{with_rows}
 use Rattle.entity_table.proofs.Living.{alive-release}
 use Rattle.entity_table.proofs.WithRows.{release-with_rows}

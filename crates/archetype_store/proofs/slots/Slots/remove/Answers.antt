@@ -1,7 +1,7 @@
 use Rattle.std.proofs.Common.{◌≡◌, true, refl, ap, ◌∙◌, rules}
 use Rattle.model.specs.Lists.{update_at}
-use Rattle.model.specs.Rows.{remove_component}
-use Rattle.model.specs.Commands.{is_alive, with_row}
+use Rattle.model.specs.state.Rows.{remove_component}
+use Rattle.model.specs.state.Commands.{is_alive, with_row}
 use Rattle.archetype_store.specs.Archetypes.{row_of}
 use Rattle.archetype_store.specs.Slots.{SlotsValue}
 use Rattle.archetype_store.proofs.SlotRows.{alive_in_book, holder_lives, rows-written, slots-written}

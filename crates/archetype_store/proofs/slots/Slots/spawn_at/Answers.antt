@@ -1,6 +1,6 @@
 use Rattle.std.proofs.Common.{ap, sym, ◌∙◌}
 use Rattle.model.specs.Lists.{update_at}
-use Rattle.model.specs.Commands.{spawned}
+use Rattle.model.specs.state.Commands.{spawned}
 use Rattle.entity_table.specs.Rows.{with_rows}
 use Rattle.entity_table.proofs.Living.{alive-spawned}
 use Rattle.entity_table.proofs.WithRows.{IsGranted-without_rows, spawned-with_rows}

@@ -1,7 +1,7 @@
 use Rattle.std.proofs.Common.{refl, sym, ap, ◌∙◌}
 use Rattle.kinds.specs.Value.{value_number, value_words}
 use Rattle.model.specs.Lists.{update_at}
-use Rattle.model.specs.Overlay.{row_after, slot_after}
+use Rattle.model.specs.shown.Overlay.{row_after, slot_after}
 use Rattle.archetype_store.specs.Row.{only}
 use Rattle.archetype_store.specs.Archetypes.{row_of}
 use Rattle.archetype_store.specs.Slots.{SlotsValue}

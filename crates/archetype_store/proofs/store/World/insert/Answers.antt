@@ -1,7 +1,7 @@
 use Rattle.std.proofs.Common.{◌≡◌, ◌≤◌, length, ap, sym, ◌∙◌, arith, inl, inr}
 use Rattle.kinds.specs.Components.{widths}
 use Rattle.kinds.specs.Value.{value_number, value_words}
-use Rattle.model.specs.Commands.{is_alive}
+use Rattle.model.specs.state.Commands.{is_alive}
 use Rattle.archetype_store.specs.declared.fault.StoreFault.TheVariants as fault
 use Rattle.archetype_store.proofs.Worlds.{outcome_of, world-insert}
 use Rattle.archetype_store.proofs.store.World.insert.Goals as goal

@@ -1,7 +1,7 @@
 use Rattle.std.proofs.Common.{ap, ap₂, subst, ◌∙◌, sym}
 use Rattle.std.specs.List.{AllByRecursion}
 use Rattle.kinds.specs.Components.{widths}
-use Rattle.model.specs.State.{World}
+use Rattle.model.specs.state.State.{World}
 use Rattle.archetype_store.specs.Layout.{archetype_at}
 use Rattle.archetype_store.specs.Store.{StoreValue, homed_in, with_slots, IsPast}
 use Rattle.archetype_store.proofs.ColumnSlots.{world_homed}

@@ -1,6 +1,6 @@
 use Rattle.std.proofs.Common.{inl, inr}
 use Rattle.kinds.specs.Components.{widths}
-use Rattle.model.specs.Commands.{is_alive}
+use Rattle.model.specs.state.Commands.{is_alive}
 use Rattle.archetype_store.specs.declared.fault.StoreFault.TheVariants as fault
 use Rattle.archetype_store.proofs.Worlds.{outcome_of, world-remove}
 use Rattle.archetype_store.proofs.store.World.remove.Goals as goal

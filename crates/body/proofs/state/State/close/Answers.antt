@@ -3,8 +3,8 @@ use Rattle.std.proofs.lemmas.List.{with_items_is}
 use Rattle.std.specs.List.{AllByRecursion}
 use Rattle.std.specs.Vec.{with_items}
 use Rattle.model.specs.Lists.{update_at}
-use Rattle.model.specs.State.{Memory, State}
-use Rattle.model.proofs.Lists.{length-update_at}
+use Rattle.model.specs.state.State.{Memory, State}
+use Rattle.model.proofs.lists.Lists.{length-update_at}
 use Rattle.body.specs.Steps.{memory_ran}
 use Rattle.body.proofs.Times.{ran_in_time}
 use Rattle.body.proofs.state.State.close.Goals as goal

@@ -1,5 +1,5 @@
 use Rattle.std.proofs.Common.{◌≡◌, List, map, sym, ap, ◌∙◌, subst}
-use Rattle.model.specs.Outcome.{words_in_query}
+use Rattle.model.specs.shown.Outcome.{words_in_query}
 use Rattle.query.specs.Term.{term_of}
 use Rattle.body.specs.Columns.{Column, column_after}
 use Rattle.body.specs.Sheet.{Sheet, WritesReach}

@@ -3,8 +3,8 @@ use Rattle.std.proofs.lemmas.List.{length-map}
 use Rattle.kinds.specs.Kind.{kind_number}
 use Rattle.kinds.specs.declared.kind.Kind.TheVariants as the_kinds
 use Rattle.model.specs.Lists.{update_at}
-use Rattle.model.specs.State.{Cell}
-use Rattle.model.proofs.Lists.{length-update_at}
+use Rattle.model.specs.state.State.{Cell}
+use Rattle.model.proofs.lists.Lists.{length-update_at}
 use Rattle.column_store.specs.Table.{TableValue, TableRow, cell_of_kind, kind_cells, filled_rows}
 use Rattle.column_store.proofs.table.tests.set_away.Goals as goal
 

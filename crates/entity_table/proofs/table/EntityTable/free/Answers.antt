@@ -1,8 +1,8 @@
 use Rattle.std.proofs.Common.{◌≡◌, ◌<◌, false, length, set, ap, sym, ◌∙◌}
 use Rattle.std.proofs.lemmas.List.{get_or_default}
 use Rattle.model.specs.Lists.{update_at}
-use Rattle.model.specs.State.{Slot, fresh_slot, is_vacant}
-use Rattle.model.specs.Commands.{freed}
+use Rattle.model.specs.state.State.{Slot, fresh_slot, is_vacant}
+use Rattle.model.specs.state.Commands.{freed}
 use Rattle.entity_table.specs.Ids.{slot_at}
 use Rattle.entity_table.proofs.Edits.{set-written}
 use Rattle.entity_table.proofs.Keeping.{room_for_one, kept-freed, kept-retired}

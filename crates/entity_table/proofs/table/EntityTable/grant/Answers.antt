@@ -1,6 +1,6 @@
 use Rattle.std.proofs.Common.{◌≡◌, ◌+◌, ◌-◌, ◌<◌, ◌≤◌, ◌++◌, true, false, length, ap, ap₂, sym, ◌∙◌, arith, rules}
-use Rattle.model.specs.State.{most_indices}
-use Rattle.model.specs.Ids.{vacant_indices, has_ids, granted_ids, grant}
+use Rattle.model.specs.state.State.{most_indices}
+use Rattle.model.specs.state.Ids.{vacant_indices, has_ids, granted_ids, grant}
 use Rattle.entity_table.proofs.Grants.{has_ids-false, has_ids-true, granted-each, granted-apart, length-grant}
 use Rattle.entity_table.proofs.Keeping.{book-grant}
 use Rattle.entity_table.proofs.table.EntityTable.grant.Goals as goal

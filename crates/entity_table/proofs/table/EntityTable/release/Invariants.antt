@@ -1,5 +1,5 @@
 use Rattle.std.proofs.Common.{◌≡◌, take}
-use Rattle.model.specs.Commands.{release}
+use Rattle.model.specs.state.Commands.{release}
 use Rattle.entity_table.proofs.table.EntityTable.release.Given as goal
 
 abbrev pub invariant-loop-id : goal.invariant-loop-id

@@ -3,7 +3,7 @@ use Rattle.std.proofs.lemmas.List.{get_or_default}
 use Rattle.std.proofs.lemmas.List.Sums.{fold_more}
 use Rattle.model.specs.declared.entities.Entity.{Entity}
 use Rattle.model.specs.Lists.{update_at}
-use Rattle.model.specs.Commands.{spawned}
+use Rattle.model.specs.state.Commands.{spawned}
 use Rattle.entity_table.proofs.Releases.{indices_apart, apart_left, granted-other}
 use Rattle.entity_table.proofs.table.EntityTable.settle.Goals as goal
 

@@ -1,8 +1,8 @@
 use Rattle.std.proofs.Common.{◌≡◌, ◌<◌, length, set, ap, sym, ◌∙◌}
 use Rattle.std.proofs.lemmas.List.{get_or_default}
 use Rattle.model.specs.Lists.{update_at}
-use Rattle.model.specs.State.{Slot, fresh_slot}
-use Rattle.model.specs.Commands.{spawned}
+use Rattle.model.specs.state.State.{Slot, fresh_slot}
+use Rattle.model.specs.state.Commands.{spawned}
 use Rattle.entity_table.specs.Ids.{slot_at}
 use Rattle.entity_table.proofs.Edits.{set-written}
 use Rattle.entity_table.proofs.Keeping.{kept-spawned, spawned-granted, granted-within}

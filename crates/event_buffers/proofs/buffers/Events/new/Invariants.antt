@@ -1,5 +1,5 @@
 use Rattle.std.proofs.Common.{◌≡◌, replicate}
-use Rattle.model.specs.State.{empty_queue}
+use Rattle.model.specs.state.State.{empty_queue}
 use Rattle.event_buffers.proofs.buffers.Events.new.Given as goal
 
 abbrev pub invariant-loop-number : goal.invariant-loop-number

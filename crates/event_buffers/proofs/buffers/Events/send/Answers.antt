@@ -1,6 +1,6 @@
 use Rattle.std.proofs.Common.{w64, set, ap, ap₂, ◌∙◌}
 use Rattle.std.proofs.lemmas.Int.{to_z-of_z}
-use Rattle.model.specs.Events.{send}
+use Rattle.model.specs.state.Events.{send}
 use Rattle.model.specs.Lists.{update_at}
 use Rattle.event_buffers.proofs.Queues.{update_at-set, on-ok}
 use Rattle.event_buffers.proofs.buffers.Events.send.Goals as goal

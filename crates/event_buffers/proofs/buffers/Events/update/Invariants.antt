@@ -1,5 +1,5 @@
 use Rattle.std.proofs.Common.{◌≡◌, ◌++◌, map, take, drop}
-use Rattle.model.specs.Events.{updated_queue}
+use Rattle.model.specs.state.Events.{updated_queue}
 use Rattle.event_buffers.proofs.buffers.Events.update.Given as goal
 
 abbrev pub invariant-loop-queue : goal.invariant-loop-queue

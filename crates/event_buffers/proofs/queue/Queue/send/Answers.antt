@@ -1,7 +1,7 @@
 use mir.Syntax.{w64}
 use Rattle.std.proofs.Common.{ap, ◌∙◌}
 use Rattle.std.proofs.lemmas.Int.{to_z-of_z}
-use Rattle.model.specs.Events.{send}
+use Rattle.model.specs.state.Events.{send}
 use Rattle.event_buffers.specs.Queue.{queue_of_parts}
 use Rattle.event_buffers.proofs.Numbered.{send-parts}
 use Rattle.event_buffers.proofs.queue.Queue.send.Goals as goal

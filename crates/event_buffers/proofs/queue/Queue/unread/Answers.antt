@@ -1,5 +1,5 @@
 use Rattle.std.proofs.Common.{◌+◌, ◌++◌, length, sym, ap, ap₂, ◌∙◌}
-use Rattle.model.specs.Events.{unread}
+use Rattle.model.specs.state.Events.{unread}
 use Rattle.event_buffers.specs.Queue.{values_from}
 use Rattle.event_buffers.proofs.Numbered.{unread-both}
 use Rattle.event_buffers.proofs.queue.Queue.unread.Goals as goal

@@ -1,5 +1,5 @@
 use Rattle.std.proofs.Common.{◌+◌, ap, ap₂, ◌∙◌, rules}
-use Rattle.model.specs.Events.{updated_queue}
+use Rattle.model.specs.state.Events.{updated_queue}
 use Rattle.event_buffers.specs.Queue.{queue_of_parts}
 use Rattle.event_buffers.proofs.Numbered.{updated-parts}
 use Rattle.event_buffers.proofs.queue.Queue.update.Goals as goal

@@ -1,7 +1,7 @@
 use Rattle.std.proofs.Common.{List, Option, drop}
 use Rattle.model.specs.declared.steps.Step.{Step}
 use Rattle.model.specs.declared.steps.Ready.{Ready}
-use Rattle.model.specs.Ready.{IsReadyAmong, IsReady}
+use Rattle.model.specs.steps.Ready.{IsReadyAmong, IsReady}
 use Rattle.executor_core.specs.Stands.{Stands}
 use Rattle.executor_core.proofs.executor.Core.first_offer.Given as goal
 

@@ -1,6 +1,6 @@
 use Rattle.std.proofs.Common.{ℕ, ◌<◌, true, ◌≡◌}
 use Rattle.number_set.specs.Members.{contains}
-use Rattle.model.specs.Schedule.{level_of}
+use Rattle.model.specs.steps.Schedule.{level_of}
 use Rattle.executor_core.proofs.executor.Core.is_open.Given as goal
 
 abbrev pub invariant-loop-system : goal.invariant-loop-system

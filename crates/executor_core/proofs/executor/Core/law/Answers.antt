@@ -1,4 +1,4 @@
-use Rattle.model.proofs.Ends.{lists_end}
+use Rattle.model.proofs.progress.Ends.{lists_end}
 use Rattle.executor_core.proofs.executor.Core.law.Goals as goal
 
 pub returns-clause-bound : goal.returns-clause-bound

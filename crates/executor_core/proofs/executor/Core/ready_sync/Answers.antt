@@ -1,6 +1,6 @@
 use Rattle.std.proofs.Common.{ℕ, subst}
 use Rattle.model.specs.declared.steps.Step.TheVariants.{Sync}
-use Rattle.model.specs.Lawful.{MaySync}
+use Rattle.model.specs.steps.Lawful.{MaySync}
 use Rattle.executor_core.proofs.Judging.{no_sync}
 use Rattle.executor_core.proofs.Telling.{refused}
 use Rattle.executor_core.proofs.executor.Core.ready_sync.Goals as goal

@@ -1,6 +1,6 @@
 use Rattle.std.proofs.Common.{List, ◌∷◌, subst, sym}
 use Rattle.model.specs.declared.steps.Step.{Step}
-use Rattle.model.specs.Lawful.{May}
+use Rattle.model.specs.steps.Lawful.{May}
 use Rattle.executor_core.specs.Stands.{Stands}
 use Rattle.executor_core.proofs.Keeping.{stands_sync}
 use Rattle.executor_core.proofs.executor.Core.take.Goals as goal

@@ -1,6 +1,6 @@
 use Rattle.std.proofs.Common.{ℕ, ◌<◌, ◌≡◌, List, [], length, get_or, sym, ap, ◌∙◌, subst, arith}
 use Rattle.std.proofs.lemmas.List.{get_or_default}
-use Rattle.model.specs.Schedule.{Schedule}
+use Rattle.model.specs.steps.Schedule.{Schedule}
 use Rattle.schedule_builder.specs.Rows.{IsRow, IsRival}
 use Rattle.schedule_builder.proofs.built.Built.rivals.Goals as goal
 

@@ -1,5 +1,5 @@
 use Rattle.std.proofs.Common.{List, length, Some, None, refl, subst}
-use Rattle.model.specs.Hierarchy.{Hierarchy, HasNoSelf, IsFirstSelf}
+use Rattle.model.specs.declarations.Hierarchy.{Hierarchy, HasNoSelf, IsFirstSelf}
 use Rattle.cycle_search.specs.declared.order.Order.{Order}
 use Rattle.system_set.specs.Pairs.{TellsSelf}
 use Rattle.system_set.proofs.Circles.{no_self, first_self}

@@ -1,6 +1,6 @@
 use Rattle.std.proofs.Common.{ℕ, List, Option, Vec, Some, None, sym, subst}
 use Rattle.std.specs.declared.alloc.Global.{Global}
-use Rattle.model.specs.Hierarchy.{Hierarchy, HasNoSelf, HasNoSetCycle, IsToldSetCycle}
+use Rattle.model.specs.declarations.Hierarchy.{Hierarchy, HasNoSelf, HasNoSetCycle, IsToldSetCycle}
 use Rattle.cycle_search.specs.declared.order.Order.{Order}
 use Rattle.cycle_search.specs.Cycles.{TellsRound}
 use Rattle.system_set.specs.Pairs.{hierarchy_of}

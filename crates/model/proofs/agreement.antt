@@ -1,0 +1,12 @@
+pub mod Ends
+pub mod Marks
+pub mod Swaps
+pub mod Visits
+pub mod Stamps
+pub mod Agreement
+pub mod ShownAlike
+pub mod SerialSteps
+pub mod Places
+pub mod Timed
+pub mod WithoutCommands
+pub mod SerialRuns

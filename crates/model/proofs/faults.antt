@@ -1,0 +1,5 @@
+pub mod Answers
+pub mod Causes
+pub mod Decisions
+pub mod ExactFaults
+pub mod Judging

@@ -1,0 +1,13 @@
+pub mod Conflicts
+pub mod ConflictTests
+pub mod Within
+pub mod Writes
+pub mod Uses
+pub mod Grants
+pub mod Overlays
+pub mod Settling
+pub mod Holding
+pub mod Interleaving
+pub mod Engine
+pub mod Laying
+pub mod Soundness

@@ -1,0 +1,9 @@
+pub mod Rows
+pub mod Slots
+pub mod Commands
+pub mod Queues
+pub mod Outcomes
+pub mod Memories
+pub mod RunStates
+pub mod Runs
+pub mod Loaded

@@ -1,0 +1,5 @@
+pub mod Query
+pub mod Access
+pub mod Conflict
+pub mod Condition
+pub mod QueryFaults

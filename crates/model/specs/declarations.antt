@@ -1,0 +1,4 @@
+pub mod Declarations
+pub mod Refusals
+pub mod Hierarchy
+pub mod ScheduleOrder

@@ -1,0 +1,3 @@
+pub mod Input
+pub mod Outcome
+pub mod Overlay

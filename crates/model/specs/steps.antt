@@ -1,0 +1,10 @@
+pub mod Schedule
+pub mod Built
+pub mod Lawful
+pub mod Faults
+pub mod Ready
+pub mod Widths
+pub mod Ambiguity
+pub mod Order
+pub mod Codes
+pub mod Judged
