@@ -9,7 +9,9 @@ use Rattle.model.specs.access.Access.{Params, no_params}
 use Rattle.model.specs.declarations.Declarations.{DeclaredSystem}
 use Rattle.model.specs.declarations.Refusals.{HasDistinctNames}
 use Rattle.model.specs.steps.Schedule.{ScheduledSystem, has_edge, level_of}
+use Rattle.model.specs.steps.Ambiguity.{Reaches, Before}
 use Rattle.model.specs.declarations.ScheduleOrder.{IsScheduleOrder, HasDeclaredEdges, HasDeclaredSystems}
+use Rattle.schedule_builder.proofs.Sequences.{split_at}
 use Rattle.model.specs.steps.Built.{IsBuilt}
 use Rattle.cycle_search.specs.declared.order.Order.{Order}
 use Rattle.schedule_builder.specs.Orders.{items_of, AreDeclared}
@@ -103,13 +105,6 @@ no_levels orders systems built order a n = elim (cases_lt n (length systems)) [
 
 -- ---- a built schedule
 
-split_at : (xs : List ℕ) (n : ℕ) → has n xs ≡ true → (front : List ℕ) × (rest : List ℕ) × (xs ≡ front ++ n ∷ rest)
-split_at [] n h = absurd (false≢true h)
-split_at (x ∷ xs) n h = elim (or_cases (eqb x n) (has n xs) h) [
-  | inl e ↦ ([], xs, ap (λ (y : ℕ). y ∷ xs) (eqb-true x n e))
-  | inr e ↦ let r = split_at xs n e in (x ∷ r.0, r.1, ap (λ ys. x ∷ ys) r.2)
-]
-
 pub is_built : (orders : List Order) (systems : List DeclaredSystem) (built : List ScheduledSystem) (order : List ℕ) → AreDeclared systems orders → AreScheduled orders systems built → length systems ≤ 256 → IsScheduleOrder (schedule_of built order) → IsBuilt (schedule_of built order)
 is_built orders systems built order d a few s = record {
   few_systems = omega (arith, a.long);
@@ -119,9 +114,9 @@ is_built orders systems built order d a few s = record {
   rising = λ m n e. omega (arith, no_levels orders systems built order a m, no_levels orders systems built order a n);
   levels = λ n l. omega (arith, no_levels orders systems built order a n);
   listed = s.whole;
-  known = λ n h. let p = split_at order n h in (s.next p.0 p.1 n p.2).placeable.known;
+  known = λ n h. let p = split_at n order h in (s.next p.0 p.1 n p.2).placeable.known;
   once = λ front rest n e. (s.next front rest n e).placeable.open_yet;
-  after = λ front rest n e m edge. (s.next front rest n e).placeable.after m edge;
+  after = λ front rest n e m edge. (s.next front rest n e).placeable.after m (edges_from orders systems built d a m n edge) (Before.ByPath (Reaches.Edge m n edge));
   covered = λ c n h. absurd (false≢true h);
   reading = λ c query i kind. absurd i;
 }

@@ -123,7 +123,7 @@ has-front m (x ∷ front) rest h = elim (or_cases (eqb x m) (has m front) h) [
   ]
 
 -- a number of a list stands at some place of it
-split_at : (m : ℕ) (xs : List ℕ) → has m xs ≡ true → (front : List ℕ) × (rest : List ℕ) × (xs ≡ front ++ m ∷ rest)
+pub split_at : (m : ℕ) (xs : List ℕ) → has m xs ≡ true → (front : List ℕ) × (rest : List ℕ) × (xs ≡ front ++ m ∷ rest)
 split_at m [] h = absurd (false≢true h)
 split_at m (x ∷ xs) h = elim (or_cases (eqb x m) (has m xs) h) [
     | inl e ↦ ([], xs, ap (λ (y : ℕ). y ∷ xs) (eqb-true x m e))
@@ -142,8 +142,8 @@ closed systems order front rest s e k m h edge =
 -- so is what a path of edges leads from
 reached : (systems : List ScheduledSystem) (order front rest : List ℕ) (n : ℕ) → IsSequence systems order → order ≡ front ++ n ∷ rest
     → (m : ℕ) → Reaches (schedule_of systems order) m n → has m front ≡ true
-reached systems order front rest n s e m (Reaches.Edge m n h) = (s front rest n e).is_open.after m h
-reached systems order front rest n s e m (Reaches.Onward m k n h onward) = closed systems order front (n ∷ rest) s e m k (reached systems order front rest n s e k onward) h
+reached systems order front rest n s e m (Reaches.Edge i j h) = (s front rest n e).is_open.after m h
+reached systems order front rest n s e m (Reaches.Onward i k j h onward) = closed systems order front (n ∷ rest) s e m k (reached systems order front rest n s e k onward) h
 
 -- and, with no levels, all that is before
 before_placed : (systems : List ScheduledSystem) (order front rest : List ℕ) (n : ℕ) → HasNoLevels systems → IsSequence systems order → order ≡ front ++ n ∷ rest
