@@ -19,7 +19,7 @@ use Rattle.column_store.specs.Table.Standing.{Owned, Shared, Away}
 use Rattle.column_store.proofs.Edited.{both}
 use Rattle.column_store.proofs.Rising.{before_apart}
 use Rattle.column_store.proofs.TheirComponents.{cells_are_theirs}
-use Rattle.archetype_store.specs.declared.places.Place.{Place}
+use Rattle.archetype_store.specs.declared.locations.EntityLocation.{EntityLocation}
 use Rattle.archetype_store.specs.Layout.{Archetype, archetype_of, layout_of, archetype_at, column_home, with_column, with_home}
 use Rattle.archetype_store.specs.Tables.{table_at, kinds_at, held_in, held_at, row_or_none, is_unshared, cells_at, number_of, AreUnshared, IsTableOf}
 use Rattle.archetype_store.specs.Archetypes.{ArchetypesValue, archetypes_of, row_of, row_in, holder_of, holder_in, place_of, is_place, row_cells, cell_for, cell_held, row_with, IsOfKinds, IsStored, IsFilled, AreArchetypes}
@@ -214,7 +214,7 @@ unshared_at (u ∷ us) (suc t) l h = unshared_at us t (omega arith) h.1
 
 -- ---- a column leaves
 
-pub stored_lent : (T : List TableValue) (P : List (Option Place)) (s : Bool) (n t k : ℕ) → IsTableOf T n t → IsStored T P s → IsStored (set T t (lent (table_at T t) k)) P s
+pub stored_lent : (T : List TableValue) (P : List (Option EntityLocation)) (s : Bool) (n t k : ℕ) → IsTableOf T n t → IsStored T P s → IsStored (set T t (lent (table_at T t) k)) P s
 stored_lent T P s n t k at h =
     let new = lent (table_at T t) k in
     record {
@@ -224,12 +224,12 @@ stored_lent T P s n t k at h =
           (unshared_update (table_at T t).kinds k Away (table_at T t).standings refl (unshared_at T t at.within (h.unshared e))) (h.unshared e);
     }
 
-pub lent_stored : {A E : Type 0} (r : Result A E) (T T' : List TableValue) (P : List (Option Place)) (s : Bool) (n t k : ℕ) → IsTableOf T n t → IsStored T P s →
+pub lent_stored : {A E : Type 0} (r : Result A E) (T T' : List TableValue) (P : List (Option EntityLocation)) (s : Bool) (n t k : ℕ) → IsTableOf T n t → IsStored T P s →
     OnOk r (T' ≡ set T t (lent (table_at T t) k)) → OnErr r (T' ≡ T) → IsStored T' P s
 lent_stored (Ok a) T T' P s n t k at h ok err = subst (λ ts. IsStored ts P s) (sym ok) (stored_lent T P s n t k at h)
 lent_stored (Err e) T T' P s n t k at h ok err = subst (λ ts. IsStored ts P s) (sym err) h
 
-pub value_lent : (T : List TableValue) (P : List (Option Place)) (n t k : ℕ) → IsTableOf T n t →
+pub value_lent : (T : List TableValue) (P : List (Option EntityLocation)) (n t k : ℕ) → IsTableOf T n t →
     archetypes_of (set T t (lent (table_at T t) k)) P ≡ record (archetypes_of T P) { layout = with_home false n k (layout_of T) }
 value_lent T P n t k at =
     let u = table_at T t in
@@ -256,8 +256,8 @@ row_found (x ∷ xs) rising r (inr later) =
 held_found : (t : TableValue) (e : Entity) (r : TableRow) → row_in_table e t.rows ≡ Some r → held_in t e ≡ Some (components_of t.kinds r)
 held_found t e r h = ap (option_map (components_of t.kinds)) h
 
-module _ (T : List TableValue) (P : List (Option Place)) (h : AreArchetypes T P) (t : ℕ) where
-  place_step : (o : Option Place) (g : ℕ) → is_place o g t ≡ true → (p : Place) × (o ≡ Some p) × (p.generation ≡ g) × (p.table ≡ t)
+module _ (T : List TableValue) (P : List (Option EntityLocation)) (h : AreArchetypes T P) (t : ℕ) where
+  place_step : (o : Option EntityLocation) (g : ℕ) → is_place o g t ≡ true → (p : EntityLocation) × (o ≡ Some p) × (p.generation ≡ g) × (p.table ≡ t)
   place_step None g k = absurd (cc)
   place_step (Some p) g k = let b = and_parts (p.generation == g) (p.table == t) k in (p, refl, eqb-true p.generation g b.0, eqb-true p.table t b.1)
 
@@ -285,7 +285,7 @@ module _ (T : List TableValue) (P : List (Option Place)) (h : AreArchetypes T P)
       entity_map (r ∷ rs) = ap (λ cs. cell_at (row_of (archetypes_of T P).rows r.entity.index) k ∷ cs) (entity_map rs)
 
 -- those of an archetype
-pub column_seen : (T : List TableValue) (P : List (Option Place)) → AreArchetypes T P → (n t : ℕ) → IsTableOf T n t → (k : ℕ) → AreRising (map (λ (row : TableRow). row.entity) (table_at T t).rows) →
+pub column_seen : (T : List TableValue) (P : List (Option EntityLocation)) → AreArchetypes T P → (n t : ℕ) → IsTableOf T n t → (k : ℕ) → AreRising (map (λ (row : TableRow). row.entity) (table_at T t).rows) →
     cells_at T t k ≡ row_cells (archetypes_of T P).rows (archetype_at (layout_of T) n).entities k
 column_seen T P h n t at k rising = column_is T P h t k at.within rising ∙ ap (λ es. row_cells (archetypes_of T P).rows es k) (sym (entities_there T n t at))
 
@@ -403,7 +403,7 @@ some_map_none f (Some x) h = absurd (cc)
 other_than : (m t : ℕ) → (m == t) ≡ false → (t == m) ≡ false
 other_than m t h = grind (arith, nat_tests)
 
-module _ (T : List TableValue) (P : List (Option Place)) (s : Bool) (n t : ℕ) (at : IsTableOf T n t) (c : ColumnCells) (h : IsStored T P s) where
+module _ (T : List TableValue) (P : List (Option EntityLocation)) (s : Bool) (n t : ℕ) (at : IsTableOf T n t) (c : ColumnCells) (h : IsStored T P s) where
   -- what is held after it: in its table the rows have its cells
   held_homed : (m : ℕ) (e : Entity) →
       held_at (set T t (homed (table_at T t) c)) m e
@@ -447,7 +447,7 @@ module _ (T : List TableValue) (P : List (Option Place)) (s : Bool) (n t : ℕ) 
         (unshared_update (kinds_at T t) c.kind Owned (table_at T t).standings refl (unshared_at T t at.within (h.unshared e))) (h.unshared e);
   }
 
-  row_step : (i : ℕ) (o : Option Place) → place_of P i ≡ o →
+  row_step : (i : ℕ) (o : Option EntityLocation) → place_of P i ≡ o →
       row_in (set T t (homed (table_at T t) c)) i o ≡ row_with c.kind (cell_held (map (λ (row : TableRow). row.entity) (table_at T t).rows) c.cells i (holder_in o)) (row_in T i o)
   row_step i None k = refl
   row_step i (Some p) k = ap row_or_none (held_homed p.table e) ∙ or_none-map c.kind (cond (p.table == t) there None) (held_at T p.table e) ∙ go (p.table == t) refl

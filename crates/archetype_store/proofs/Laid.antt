@@ -10,7 +10,7 @@ use Rattle.model.specs.declared.entities.Entity.{Entity}
 use Rattle.column_store.specs.Order.{is_same}
 use Rattle.column_store.specs.Table.{TableValue, empty_table}
 use Rattle.column_store.proofs.Made.{same_entity}
-use Rattle.archetype_store.specs.declared.places.Place.{Place}
+use Rattle.archetype_store.specs.declared.locations.EntityLocation.{EntityLocation}
 use Rattle.archetype_store.specs.Tables.{kinds_at, held_at, row_or_none, shape_of, AreShaped, AreUnlike}
 use Rattle.archetype_store.specs.Archetypes.{archetypes_of, row_of, holder_of, holder_if, place_of, is_place, row_in, holder_in, IsHolder, IsOfKinds, AreArchetypes, HasRow}
 use Rattle.archetype_store.proofs.Held.{shape_at, held_within}
@@ -39,11 +39,11 @@ get_or-map_index f (x ∷ xs) zero d e h = refl
 get_or-map_index f (x ∷ xs) (suc i) d e h = get_or-map_index (λ j. f (suc j)) xs i d e (λ j. h (suc j))
 
 -- the row of an index
-pub row_seen : (tables : List TableValue) (places : List (Option Place)) (i : ℕ) → row_of (archetypes_of tables places).rows i ≡ row_in tables i (place_of places i)
+pub row_seen : (tables : List TableValue) (places : List (Option EntityLocation)) (i : ℕ) → row_of (archetypes_of tables places).rows i ≡ row_in tables i (place_of places i)
 row_seen tables places i = get_or-map_index (row_in tables) places i None [] (λ j. refl)
 
 -- who has it
-pub holder_seen : (tables : List TableValue) (places : List (Option Place)) (i : ℕ) → holder_of (archetypes_of tables places).holders i ≡ holder_in (place_of places i)
+pub holder_seen : (tables : List TableValue) (places : List (Option EntityLocation)) (i : ℕ) → holder_of (archetypes_of tables places).holders i ≡ holder_in (place_of places i)
 holder_seen tables places i = get_or-map holder_in places i None
 
 -- ---- one entity
@@ -64,7 +64,7 @@ held_where None row t = None
 held_where (Some to) row t = cond (t == to) (Some row) None
 
 -- its place
-abbrev pub placed_where : Entity → Option ℕ → Option Place
+abbrev pub placed_where : Entity → Option ℕ → Option EntityLocation
 placed_where e None = None
 placed_where e (Some to) = Some (record { generation = e.generation; table = to })
 
@@ -74,7 +74,7 @@ row_where None row = []
 row_where (Some to) row = row
 
 -- the row of an entity is here and nowhere else, and all other rows are as they were
-pub record IsMoved (tables tables' : List TableValue) (places places' : List (Option Place)) (e : Entity) (to : Option ℕ) (row : List Component) : Type 0 where
+pub record IsMoved (tables tables' : List TableValue) (places places' : List (Option EntityLocation)) (e : Entity) (to : Option ℕ) (row : List Component) : Type 0 where
   pub others : (t : ℕ) (x : Entity) → is_same e x ≡ false → held_at tables' t x ≡ held_at tables t x
   pub here : (t : ℕ) → held_at tables' t e ≡ held_where to row t
   pub place : (i : ℕ) → place_of places' i ≡ with_at e.index (placed_where e to) (place_of places) i
@@ -130,7 +130,7 @@ some_cond false row = refl
 placed_test : (t u g : ℕ) → (t == u) ≡ ((g == g) && (u == t))
 placed_test t u g = grind (arith, nat_tests)
 
-module _ (T T' : List TableValue) (P P' : List (Option Place)) (e : Entity) (to : Option ℕ) (row : List Component) where
+module _ (T T' : List TableValue) (P P' : List (Option EntityLocation)) (e : Entity) (to : Option ℕ) (row : List Component) where
   place_here : IsMoved T T' P P' e to row → place_of P' e.index ≡ placed_where e to
   place_here m = m.place e.index ∙ with_at_same e.index (placed_where e to) (place_of P)
 
@@ -141,7 +141,7 @@ module _ (T T' : List TableValue) (P P' : List (Option Place)) (e : Entity) (to 
   agree_here None t = refl
   agree_here (Some u) t = some_cond (t == u) row ∙ placed_test t u e.generation
 
-  not_placed : (o : Option Place) (x : Entity) (t : ℕ) → IsHolder e.generation (holder_in o) → x.index ≡ e.index → is_same e x ≡ false → is_place o x.generation t ≡ false
+  not_placed : (o : Option EntityLocation) (x : Entity) (t : ℕ) → IsHolder e.generation (holder_in o) → x.index ≡ e.index → is_same e x ≡ false → is_place o x.generation t ≡ false
   not_placed None x t fits same apart = refl
   not_placed (Some p) x t fits same apart = ap (λ b. b && (p.table == t)) (generations_apart x.index p.generation x.generation e same apart fits)
 
@@ -193,7 +193,7 @@ module _ (T T' : List TableValue) (P P' : List (Option Place)) (e : Entity) (to 
   row_here None h = refl
   row_here (Some u) h = ap row_or_none (h u) ∙ ap (λ b. row_or_none (cond b (Some row) None)) (eq-eqb u u refl)
 
-  row_other : IsMoved T T' P P' e to row → (i : ℕ) → (i ≡ e.index → ⊥) → (o : Option Place) → row_in T' i o ≡ row_in T i o
+  row_other : IsMoved T T' P P' e to row → (i : ℕ) → (i ≡ e.index → ⊥) → (o : Option EntityLocation) → row_in T' i o ≡ row_in T i o
   row_other m i apart None = refl
   row_other m i apart (Some p) = ap row_or_none (m.others p.table (record { index = i; generation = p.generation }) (index_apart e i p.generation apart))
 
@@ -221,20 +221,20 @@ absent_where (Some row) h = absurd (cc)
 other_table : (t u : ℕ) (b : Bool) → (t == u) ≡ false → (b && (u == t)) ≡ false
 other_table t u b h = grind (arith, nat_tests)
 
-module _ (T : List TableValue) (P : List (Option Place)) (h : AreArchetypes T P) where
+module _ (T : List TableValue) (P : List (Option EntityLocation)) (h : AreArchetypes T P) where
   -- an entity without a place has no row
   pub nowhere : (e : Entity) → place_of P e.index ≡ None → (t : ℕ) → held_at T t e ≡ None
   nowhere e none t = absent_where (held_at T t e) (h.agree t e ∙ ap (λ o. is_place o e.generation t) none)
 
   -- one with a place has none elsewhere
-  pub not_elsewhere : (e : Entity) (p : Place) → place_of P e.index ≡ Some p → (t : ℕ) → (t == p.table) ≡ false → held_at T t e ≡ None
+  pub not_elsewhere : (e : Entity) (p : EntityLocation) → place_of P e.index ≡ Some p → (t : ℕ) → (t == p.table) ≡ false → held_at T t e ≡ None
   not_elsewhere e p at t apart = absent_where (held_at T t e) (h.agree t e ∙ ap (λ o. is_place o e.generation t) at ∙ other_table t p.table (p.generation == e.generation) apart)
 
   placed : (g u : ℕ) → ((g == g) && (u == u)) ≡ true
   placed g u = grind (arith, nat_tests)
 
   -- one with a place has one there
-  pub somewhere : (e : Entity) (p : Place) → place_of P e.index ≡ Some p → p.generation ≡ e.generation → is_some (held_at T p.table e) ≡ true
+  pub somewhere : (e : Entity) (p : EntityLocation) → place_of P e.index ≡ Some p → p.generation ≡ e.generation → is_some (held_at T p.table e) ≡ true
   somewhere e p at same = h.agree p.table e ∙ ap (λ o. is_place o e.generation p.table) at ∙ ap (λ g. (g == e.generation) && (p.table == p.table)) same ∙ placed e.generation p.table
 
   -- its kinds are those of its table

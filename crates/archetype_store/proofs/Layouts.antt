@@ -10,7 +10,7 @@ use Rattle.column_store.specs.Order.{is_same}
 use Rattle.column_store.specs.Table.{TableRow, TableValue, is_home, row_of as row_in_table}
 use Rattle.entity_table.specs.Rows.{with_rows}
 use Rattle.entity_table.proofs.WithRows.{is_alive-with_rows}
-use Rattle.archetype_store.specs.declared.places.Place.{Place}
+use Rattle.archetype_store.specs.declared.locations.EntityLocation.{EntityLocation}
 use Rattle.archetype_store.specs.Layout.{Archetype, archetype_of, layout_of, archetype_at, is_in_archetype, IsShape, IsArchetype, AreOfOtherKinds, IsLayoutOf}
 use Rattle.archetype_store.specs.Tables.{table_at, kinds_at, held_at, AreShaped, AreUnlike}
 use Rattle.archetype_store.specs.Archetypes.{ArchetypesValue, archetypes_of, row_of, holder_of, place_of, row_in, holder_in, is_place, IsHolder, AreArchetypes, IsLaidOut}
@@ -133,17 +133,17 @@ module _ {A B : Type 0} (f : Archetype → A) (g : B → A) (entities : List Ent
 
 -- ---- all of them
 
-module _ (T : List TableValue) (P : List (Option Place)) (h : AreArchetypes T P) where
-  placed_there : (t : ℕ) (e : Entity) (o : Option Place) → place_of P e.index ≡ o → is_place o e.generation t ≡ true →
+module _ (T : List TableValue) (P : List (Option EntityLocation)) (h : AreArchetypes T P) where
+  placed_there : (t : ℕ) (e : Entity) (o : Option EntityLocation) → place_of P e.index ≡ o → is_place o e.generation t ≡ true →
       (holder_in o ≡ Some e.generation) × (map (λ (c : Component). c.kind) (row_in T e.index o) ≡ kinds_at T t)
   placed_there t e None at there = absurd (cc)
   placed_there t e (Some p) at there =
       let both = and_parts (p.generation == e.generation) (p.table == t) there in (
         ap (λ g. Some g) (eqb-true p.generation e.generation both.0),
-        ap (λ (o : Option Place). map (λ (c : Component). c.kind) (row_in T e.index o)) (sym at) ∙ kinds_at_place T P h e.index p at ∙ ap (kinds_at T) (eqb-true p.table t both.1),
+        ap (λ (o : Option EntityLocation). map (λ (c : Component). c.kind) (row_in T e.index o)) (sym at) ∙ kinds_at_place T P h e.index p at ∙ ap (kinds_at T) (eqb-true p.table t both.1),
       )
 
-  held_placed : (e : Entity) (o : Option Place) → place_of P e.index ≡ o → holder_in o ≡ Some e.generation → (t : ℕ) × (is_some (held_at T t e) ≡ true)
+  held_placed : (e : Entity) (o : Option EntityLocation) → place_of P e.index ≡ o → holder_in o ≡ Some e.generation → (t : ℕ) × (is_some (held_at T t e) ≡ true)
   held_placed e None at holds = absurd (cc)
   held_placed e (Some p) at holds = (p.table, somewhere T P h e p at (let same : Some p.generation ≡ Some e.generation = holds in cc))
 

@@ -6,7 +6,7 @@ use Rattle.model.specs.Lists.{with_at, is_there}
 use Rattle.model.specs.state.State.{Component}
 use Rattle.model.specs.declared.entities.Entity.{Entity}
 use Rattle.column_store.specs.Table.{TableValue}
-use Rattle.archetype_store.specs.declared.places.Place.{Place}
+use Rattle.archetype_store.specs.declared.locations.EntityLocation.{EntityLocation}
 use Rattle.archetype_store.specs.Tables.{kinds_at, held_at, row_or_none, is_in, IsHeldNow, IsLeft, IsGrown}
 use Rattle.archetype_store.specs.Archetypes.{ArchetypesValue, archetypes_of, row_of, holder_of, holder_if, place_of, row_in, holder_in, IsHolder, IsOfKinds, AreAlike, AreArchetypes, HasRow}
 use Rattle.archetype_store.proofs.Held.{held_within}
@@ -15,7 +15,7 @@ use Rattle.archetype_store.proofs.Laid.{with_at_same, with_at_apart, row_seen, h
 -- ---- places
 
 -- a place that is written
-placed_set : (P : List (Option Place)) (i : ℕ) (o : Option Place) → i < length P → (j : ℕ) → place_of (set P i o) j ≡ with_at i o (place_of P) j
+placed_set : (P : List (Option EntityLocation)) (i : ℕ) (o : Option EntityLocation) → i < length P → (j : ℕ) → place_of (set P i o) j ≡ with_at i o (place_of P) j
 placed_set P i o l j = go (cases_eq j i)
   where
     go : (j ≡ i) ⊎ (j ≡ i → ⊥) → place_of (set P i o) j ≡ with_at i o (place_of P) j
@@ -23,7 +23,7 @@ placed_set P i o l j = go (cases_eq j i)
     go (inr apart) = get_or-set_other P i j o None apart ∙ sym (with_at_apart i j o (place_of P) apart)
 
 -- a place that is as it was
-placed_kept : (P : List (Option Place)) (i : ℕ) (o : Option Place) → place_of P i ≡ o → (j : ℕ) → place_of P j ≡ with_at i o (place_of P) j
+placed_kept : (P : List (Option EntityLocation)) (i : ℕ) (o : Option EntityLocation) → place_of P i ≡ o → (j : ℕ) → place_of P j ≡ with_at i o (place_of P) j
 placed_kept P i o e j = go (cases_eq j i)
   where
     go : (j ≡ i) ⊎ (j ≡ i → ⊥) → place_of P j ≡ with_at i o (place_of P) j
@@ -38,23 +38,23 @@ some_same t u h = cc
 
 -- ---- laid in a table
 
-module _ (T T' T'' : List TableValue) (P : List (Option Place)) (e : Entity) (table : ℕ) (row : List Component) (h : AreArchetypes T P) where
+module _ (T T' T'' : List TableValue) (P : List (Option EntityLocation)) (e : Entity) (table : ℕ) (row : List Component) (h : AreArchetypes T P) where
   here_cases : (b d : Bool) (o x : Option (List Component)) → (b ≡ true → d ≡ false) → (b ≡ false → o ≡ None) → cond b None (cond d x o) ≡ cond d x None
   here_cases true true o x f g = absurd (let e : true ≡ false = f refl in cc)
   here_cases true false o x f g = refl
   here_cases false true o x f g = refl
   here_cases false false o x f g = g refl
 
-  table_apart : (p : Place) (t : ℕ) → (p.table ≡ table → ⊥) → (t == p.table) ≡ true → (t == table) ≡ false
+  table_apart : (p : EntityLocation) (t : ℕ) → (p.table ≡ table → ⊥) → (t == p.table) ≡ true → (t == table) ≡ false
   table_apart p t f same = ne_eqb t table (λ at. f (sym (eqb-true t p.table same) ∙ at))
 
-  laid_here : (from : Option Place) → place_of P e.index ≡ from → ((p : Place) → from ≡ Some p → p.table ≡ table → ⊥) →
+  laid_here : (from : Option EntityLocation) → place_of P e.index ≡ from → ((p : EntityLocation) → from ≡ Some p → p.table ≡ table → ⊥) →
       (t : ℕ) → cond (is_in from t) None (cond (t == table) (Some row) (held_at T t e)) ≡ cond (t == table) (Some row) None
   laid_here None at other t = here_cases false (t == table) (held_at T t e) (Some row) (λ f. absurd (cc)) (λ _. nowhere T P h e at t)
   laid_here (Some p) at other t = here_cases (t == p.table) (t == table) (held_at T t e) (Some row) (table_apart p t (other p refl)) (not_elsewhere T P h e p at t)
 
   -- the row is in its table, and was removed from where it was
-  pub moved_laid : e.index < length P → ((p : Place) → place_of P e.index ≡ Some p → kinds_at T p.table ≢ kinds_at T table) → map (λ (c : Component). c.kind) row ≡ kinds_at T table →
+  pub moved_laid : e.index < length P → ((p : EntityLocation) → place_of P e.index ≡ Some p → kinds_at T p.table ≢ kinds_at T table) → map (λ (c : Component). c.kind) row ≡ kinds_at T table →
       is_there row ≡ true → IsHeldNow T T' table e (Some row) → IsLeft T' T'' (place_of P e.index) e →
       IsMoved T T'' P (set P e.index (Some (record { generation = e.generation; table = table }))) e (Some table) row
   moved_laid within other kinds there put left = record {
@@ -69,7 +69,7 @@ module _ (T T' T'' : List TableValue) (P : List (Option Place)) (e : Entity) (ta
 
 -- ---- taken away, or written
 
-module _ (T T' : List TableValue) (P : List (Option Place)) (e : Entity) (p : Place) (h : AreArchetypes T P) (at : place_of P e.index ≡ Some p) where
+module _ (T T' : List TableValue) (P : List (Option EntityLocation)) (e : Entity) (p : EntityLocation) (h : AreArchetypes T P) (at : place_of P e.index ≡ Some p) where
   only_here : (b : Bool) (o x : Option (List Component)) → (b ≡ false → o ≡ None) → cond b x o ≡ cond b x None
   only_here true o x f = refl
   only_here false o x f = f refl
@@ -94,7 +94,7 @@ module _ (T T' : List TableValue) (P : List (Option Place)) (e : Entity) (p : Pl
     others = now.others;
     here = λ t. now.here t ∙ only_here (t == p.table) (held_at T t e) (Some row) (not_elsewhere T P h e p at t);
     place = placed_kept P e.index (Some (record { generation = e.generation; table = p.table }))
-        (at ∙ ap (λ g. let o : Option Place = Some (record { generation = g; table = p.table }) in o) same);
+        (at ∙ ap (λ g. let o : Option EntityLocation = Some (record { generation = g; table = p.table }) in o) same);
     shapes = now.shapes;
     kinds = λ t to. kinds ∙ ap (kinds_at T) (some_same p.table t to);
     there = λ t to. there;
@@ -102,7 +102,7 @@ module _ (T T' : List TableValue) (P : List (Option Place)) (e : Entity) (p : Pl
 
 -- ---- nothing is changed
 
-module _ (T : List TableValue) (P : List (Option Place)) (e : Entity) (h : AreArchetypes T P) (fits : IsHolder e.generation (holder_in (place_of P e.index))) where
+module _ (T : List TableValue) (P : List (Option EntityLocation)) (e : Entity) (h : AreArchetypes T P) (fits : IsHolder e.generation (holder_in (place_of P e.index))) where
   kept_here : {A : Type 0} (i : ℕ) (x : A) (f : ℕ → A) → f i ≡ x → (j : ℕ) → f j ≡ with_at i x f j
   kept_here i x f k j = go (cases_eq j i)
     where
@@ -115,10 +115,10 @@ module _ (T : List TableValue) (P : List (Option Place)) (e : Entity) (h : AreAr
   row_some t (Some row) k s = row_there T P h e t row (ap is_some k) (kinds_there T P h e t row k)
 
   -- the row of an entity that has a place
-  pub row_placed : (p : Place) → place_of P e.index ≡ Some p → p.generation ≡ e.generation → row_in T e.index (Some p) ≡ row_or_none (held_at T p.table e)
+  pub row_placed : (p : EntityLocation) → place_of P e.index ≡ Some p → p.generation ≡ e.generation → row_in T e.index (Some p) ≡ row_or_none (held_at T p.table e)
   row_placed p at same = ap (λ g. row_or_none (held_at T p.table (record { index = e.index; generation = g }))) same
 
-  holder_kept : (o : Option Place) → place_of P e.index ≡ o → IsHolder e.generation (holder_in o) → holder_in o ≡ holder_if (row_in T e.index o) e.generation
+  holder_kept : (o : Option EntityLocation) → place_of P e.index ≡ o → IsHolder e.generation (holder_in o) → holder_in o ≡ holder_if (row_in T e.index o) e.generation
   holder_kept None at fit = refl
   holder_kept (Some p) at fit =
       ap (λ g. Some g) fit
@@ -135,8 +135,8 @@ module _ (T : List TableValue) (P : List (Option Place)) (e : Entity) (h : AreAr
 
 -- ---- one more table
 
-module _ (T T' : List TableValue) (P : List (Option Place)) (g : IsGrown T T') where
-  row_grown : (i : ℕ) (o : Option Place) → row_in T' i o ≡ row_in T i o
+module _ (T T' : List TableValue) (P : List (Option EntityLocation)) (g : IsGrown T T') where
+  row_grown : (i : ℕ) (o : Option EntityLocation) → row_in T' i o ≡ row_in T i o
   row_grown i None = refl
   row_grown i (Some p) = ap row_or_none (g.held p.table (record { index = i; generation = p.generation }))
 
@@ -170,7 +170,7 @@ pub alike_trans : (A B C : ArchetypesValue) → AreAlike A B → AreAlike B C �
 alike_trans A B C h k = record { rows = λ i. k.rows i ∙ h.rows i; holders = λ i. k.holders i ∙ h.holders i; layout = k.layout ∙ h.layout }
 
 -- places that are alike
-pub reached_alike : (T : List TableValue) (P P' : List (Option Place)) → ((i : ℕ) → place_of P' i ≡ place_of P i) → AreAlike (archetypes_of T P) (archetypes_of T P')
+pub reached_alike : (T : List TableValue) (P P' : List (Option EntityLocation)) → ((i : ℕ) → place_of P' i ≡ place_of P i) → AreAlike (archetypes_of T P) (archetypes_of T P')
 reached_alike T P P' same = record {
   rows = λ i. row_seen T P' i ∙ ap (row_in T i) (same i) ∙ sym (row_seen T P i);
   holders = λ i. holder_seen T P' i ∙ ap holder_in (same i) ∙ sym (holder_seen T P i);

@@ -10,7 +10,7 @@ use Rattle.column_store.specs.Kinds.{at_kind, AreBelow}
 use Rattle.column_store.specs.Table.{Standing, TableRow, TableValue, is_home, is_owned, is_not_away, is_own_if, standing_of, IsAlike}
 use Rattle.column_store.specs.Table.Standing.{Owned, Shared, Away}
 use Rattle.column_store.proofs.Edited.{both, owned_home}
-use Rattle.archetype_store.specs.declared.places.Place.{Place}
+use Rattle.archetype_store.specs.declared.locations.EntityLocation.{EntityLocation}
 use Rattle.archetype_store.specs.Layout.{Archetype, archetype_of, layout_of, AreAllHome}
 use Rattle.archetype_store.specs.Tables.{table_at, kinds_at, held_in, held_at, row_or_none, shape_of, is_unshared, AreShaped, AreUnlike, AreHome, AreOwned, AreUnshared, AreBareHome, AreAllAlike}
 use Rattle.archetype_store.specs.Archetypes.{ArchetypesValue, archetypes_of, row_of, row_in, holder_in, place_of, is_place, IsOfKinds, IsStored, HasRow, AreAlike, AreArchetypes}
@@ -229,15 +229,15 @@ module _ (ts us : List TableValue) (same : AreSame ts us) where
   pub same_held : (t : ℕ) (e : Entity) → held_at us t e ≡ held_at ts t e
   same_held t e = ap₂ (λ ks rows. let u : TableValue = record { kinds = ks; standings = []; rows = rows } in held_in u e) (same.kinds t) (same.rows t)
 
-  same_row : (i : ℕ) (o : Option Place) → row_in us i o ≡ row_in ts i o
+  same_row : (i : ℕ) (o : Option EntityLocation) → row_in us i o ≡ row_in ts i o
   same_row i None = refl
   same_row i (Some p) = ap row_or_none (same_held p.table (record { index = i; generation = p.generation }))
 
-  pub same_rows : (P : List (Option Place)) → (archetypes_of us P).rows ≡ (archetypes_of ts P).rows
+  pub same_rows : (P : List (Option EntityLocation)) → (archetypes_of us P).rows ≡ (archetypes_of ts P).rows
   same_rows P = map_index-same (row_in us) (row_in ts) None P (λ i. same_row i (get_or P i None))
 
   -- they are as whole
-  pub same_whole : (P : List (Option Place)) → AreArchetypes ts P → AreArchetypes us P
+  pub same_whole : (P : List (Option EntityLocation)) → AreArchetypes ts P → AreArchetypes us P
   same_whole P h = record {
     agree = λ t e. ap is_some (same_held t e) ∙ h.agree t e;
     of_kinds = λ t e. subst (λ ks. IsOfKinds ks (held_at us t e)) (sym (same.kinds t)) (subst (IsOfKinds (kinds_at ts t)) (sym (same_held t e)) (h.of_kinds t e));
@@ -246,7 +246,7 @@ module _ (ts us : List TableValue) (same : AreSame ts us) where
   }
 
 -- what contracts see of alike tables is one
-pub alike_value : (ts us : List TableValue) (P : List (Option Place)) → AreAllAlike ts us → archetypes_of us P ≡ archetypes_of ts P
+pub alike_value : (ts us : List TableValue) (P : List (Option EntityLocation)) → AreAllAlike ts us → archetypes_of us P ≡ archetypes_of ts P
 alike_value ts us P h =
     ap₂ (λ rows layout. let a : ArchetypesValue = record { rows = rows; holders = map holder_in P; layout = layout } in a) (same_rows ts us (alike_same ts us h) P) (alike_layout ts us h)
 
@@ -254,7 +254,7 @@ pub value_alike : (a b : ArchetypesValue) → b ≡ a → AreAlike a b
 value_alike a b h = subst (AreAlike a) (sym h) (record { rows = λ i. refl; holders = λ i. refl; layout = refl })
 
 -- places that are alike keep what is whole
-pub reached_whole : (T : List TableValue) (P Q : List (Option Place)) → ((i : ℕ) → place_of Q i ≡ place_of P i) → AreArchetypes T P → AreArchetypes T Q
+pub reached_whole : (T : List TableValue) (P Q : List (Option EntityLocation)) → ((i : ℕ) → place_of Q i ≡ place_of P i) → AreArchetypes T P → AreArchetypes T Q
 reached_whole T P Q same h = record {
   agree = λ t e. h.agree t e ∙ ap (λ o. is_place o e.generation t) (sym (same e.index));
   of_kinds = h.of_kinds;
@@ -262,7 +262,7 @@ reached_whole T P Q same h = record {
   unlike = h.unlike;
 }
 
-module _ (T : List TableValue) (P : List (Option Place)) (s : Bool) where
+module _ (T : List TableValue) (P : List (Option EntityLocation)) (s : Bool) where
   -- where all columns are the tables' alone, the note can be any
   pub owned_stored : AreArchetypes T P → AreOwned T → IsStored T P s
   owned_stored whole owned = record { whole = whole; bare = home_bare T (owned_are_home T owned); unshared = λ _. owned_are_unshared T owned }
@@ -270,7 +270,7 @@ module _ (T : List TableValue) (P : List (Option Place)) (s : Bool) where
   pub owned_layout : AreOwned T → AreAllHome (layout_of T)
   owned_layout owned = home_layout T (owned_are_home T owned)
 
-module _ (T T' : List TableValue) (P : List (Option Place)) (s s' : Bool) (alike : AreAllAlike T T') where
+module _ (T T' : List TableValue) (P : List (Option EntityLocation)) (s s' : Bool) (alike : AreAllAlike T T') where
   pub alike_stored : AreArchetypes T P → AreBareHome T → (s' ≡ false → AreUnshared T') → IsStored T' P s'
   alike_stored whole bare unshared = record { whole = same_whole T T' (alike_same T T' alike) P whole; bare = alike_bare T T' alike bare; unshared = unshared }
 

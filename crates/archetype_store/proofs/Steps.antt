@@ -10,7 +10,7 @@ use Rattle.column_store.specs.declared.stamped.StampedValue.{StampedValue}
 use Rattle.column_store.specs.Cells.{stamped_number}
 use Rattle.column_store.specs.Kinds.{AreBelow}
 use Rattle.column_store.specs.Table.{TableValue}
-use Rattle.archetype_store.specs.declared.places.Place.{Place}
+use Rattle.archetype_store.specs.declared.locations.EntityLocation.{EntityLocation}
 use Rattle.archetype_store.specs.Row.{component_of, only}
 use Rattle.archetype_store.specs.Tables.{kinds_at, held_at, row_or_none, IsHeldNow, IsLeft, IsGrown}
 use Rattle.archetype_store.specs.Archetypes.{archetypes_of, place_of, row_in, holder_in, IsHolder, AreArchetypes, HasRow}
@@ -26,11 +26,11 @@ pub none_of : {A : Type 0} (o : Option A) → ((x : A) → o ≡ Some x → ⊥)
 none_of None h = refl
 none_of (Some x) h = absurd (h x refl)
 
-some_of_none : (p : Place) → None ≡ Some p → ⊥
+some_of_none : (p : EntityLocation) → None ≡ Some p → ⊥
 some_of_none p h = cc
 
 -- an index with a place is there
-placed_within : (P : List (Option Place)) (i : ℕ) (p : Place) → place_of P i ≡ Some p → i < length P
+placed_within : (P : List (Option EntityLocation)) (i : ℕ) (p : EntityLocation) → place_of P i ≡ Some p → i < length P
 placed_within [] i p h = absurd (some_of_none p h)
 placed_within (o ∷ P) zero p h = omega arith
 placed_within (o ∷ P) (suc i) p h = let l = placed_within P i p h in omega arith
@@ -41,9 +41,9 @@ some_components : (ss : List StampedValue) → ss ≢ [] → is_there (map compo
 some_components [] h = absurd (h refl)
 some_components (s ∷ ss) h = refl
 
-module _ (T T₁ T₂ T₃ : List TableValue) (P : List (Option Place)) (e : Entity) (table : ℕ) (ss : List StampedValue) where
+module _ (T T₁ T₂ T₃ : List TableValue) (P : List (Option EntityLocation)) (e : Entity) (table : ℕ) (ss : List StampedValue) where
   pub laid : AreArchetypes T P → e.index < length P → IsHolder e.generation (holder_in (place_of P e.index)) → ss ≢ [] →
-      ((p : Place) → place_of P e.index ≡ Some p → kinds_at T p.table ≢ map stamped_number ss) → IsGrown T T₁ → kinds_at T₁ table ≡ map stamped_number ss →
+      ((p : EntityLocation) → place_of P e.index ≡ Some p → kinds_at T p.table ≢ map stamped_number ss) → IsGrown T T₁ → kinds_at T₁ table ≡ map stamped_number ss →
       IsHeldNow T₁ T₂ table e (Some (map component_of ss)) → IsLeft T₂ T₃ (place_of P e.index) e →
       AreArchetypes T₃ (set P e.index (Some (record { generation = e.generation; table = table })))
       × HasRow (archetypes_of T P) e (map component_of ss) (archetypes_of T₃ (set P e.index (Some (record { generation = e.generation; table = table }))))
@@ -55,14 +55,14 @@ module _ (T T₁ T₂ T₃ : List TableValue) (P : List (Option Place)) (e : Ent
             (grown_alike T T₁ P grown) (moved_row T₁ T₃ P (set P e.index (Some (record { generation = e.generation; table = table }))) e (Some table) (map component_of ss) moved),
       )
     where
-      apart : (p : Place) → place_of P e.index ≡ Some p → kinds_at T₁ p.table ≢ kinds_at T₁ table
+      apart : (p : EntityLocation) → place_of P e.index ≡ Some p → kinds_at T₁ p.table ≢ kinds_at T₁ table
       apart p at same =
           let gen : p.generation ≡ e.generation = subst (λ o. IsHolder e.generation (holder_in o)) at fits in
           other p at (sym (grown.kinds p.table (held_within T p.table e (somewhere T P h e p at gen))) ∙ same ∙ kinds)
 
 -- ---- where an entity has a place
 
-module _ (T : List TableValue) (P : List (Option Place)) (e : Entity) (p : Place) (h : AreArchetypes T P) (fits : IsHolder e.generation (holder_in (place_of P e.index)))
+module _ (T : List TableValue) (P : List (Option EntityLocation)) (e : Entity) (p : EntityLocation) (h : AreArchetypes T P) (fits : IsHolder e.generation (holder_in (place_of P e.index)))
     (at : place_of P e.index ≡ Some p) where
   -- it is of the generation there
   gen_there : p.generation ≡ e.generation
@@ -133,7 +133,7 @@ module _ (T : List TableValue) (P : List (Option Place)) (e : Entity) (p : Place
       (below_from_rising (remove_component k (map component_of ss)) (rising-remove k (map component_of ss) (rising_read ss at_is)))
 
 -- the kinds of the row of an index are those of its table
-pub kinds_at_place : (T : List TableValue) (P : List (Option Place)) → AreArchetypes T P → (i : ℕ) (p : Place) → place_of P i ≡ Some p →
+pub kinds_at_place : (T : List TableValue) (P : List (Option EntityLocation)) → AreArchetypes T P → (i : ℕ) (p : EntityLocation) → place_of P i ≡ Some p →
     map (λ (c : Component). c.kind) (row_in T i (place_of P i)) ≡ kinds_at T p.table
 kinds_at_place T P h i p at =
     let e : Entity = record { index = i; generation = p.generation } in

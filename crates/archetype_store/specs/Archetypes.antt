@@ -7,7 +7,7 @@ use Rattle.model.specs.state.Rows.{cell_at}
 use Rattle.model.specs.declared.entities.Entity.{Entity}
 use Rattle.column_store.specs.Order.{is_same}
 use Rattle.column_store.specs.Table.{TableValue}
-use Rattle.archetype_store.specs.declared.places.Place.{Place}
+use Rattle.archetype_store.specs.declared.locations.EntityLocation.{EntityLocation}
 use Rattle.archetype_store.specs.Layout.{Archetype, layout_of, archetype_at, is_in_archetype, with_home, IsArchetype, AreOfOtherKinds}
 use Rattle.archetype_store.specs.Tables.{kinds_at, held_at, row_or_none, AreShaped, AreUnlike, AreBareHome, AreUnshared}
 
@@ -57,25 +57,25 @@ pub record IsLaidOut (a : ArchetypesValue) : Type 0 where
 -- ---- tables and places
 
 -- where the entity of an index is
-abbrev pub place_of : List (Option Place) → ℕ → Option Place
+abbrev pub place_of : List (Option EntityLocation) → ℕ → Option EntityLocation
 place_of places index = get_or places index None
 
 -- whether a place is that of an entity of this generation in this table
-abbrev pub is_place : Option Place → ℕ → ℕ → Bool
+abbrev pub is_place : Option EntityLocation → ℕ → ℕ → Bool
 is_place None generation table = false
 is_place (Some p) generation table = (p.generation == generation) && (p.table == table)
 
 -- the row of the entity of an index that is at a place
-abbrev pub row_in : List TableValue → ℕ → Option Place → List Component
+abbrev pub row_in : List TableValue → ℕ → Option EntityLocation → List Component
 row_in tables index None = []
 row_in tables index (Some p) = row_or_none (held_at tables p.table (record { index = index; generation = p.generation }))
 
 -- the generation at a place
-abbrev pub holder_in : Option Place → Option ℕ
+abbrev pub holder_in : Option EntityLocation → Option ℕ
 holder_in place = option_map (λ p. p.generation) place
 
 -- what tables and places are to contracts
-abbrev pub archetypes_of : List TableValue → List (Option Place) → ArchetypesValue
+abbrev pub archetypes_of : List TableValue → List (Option EntityLocation) → ArchetypesValue
 archetypes_of tables places = record { rows = map_index (row_in tables) places; holders = map holder_in places; layout = layout_of tables }
 
 -- a row that is there has the kinds of its table
@@ -85,7 +85,7 @@ IsOfKinds kinds (Some row) = map (λ c. c.kind) row ≡ kinds
 
 -- what holds of tables and places: an entity has a row in a table just where its index has its place there, its components are of the
 -- table's kinds, and no two tables have the same kinds
-pub record AreArchetypes (tables : List TableValue) (places : List (Option Place)) : Type 0 where
+pub record AreArchetypes (tables : List TableValue) (places : List (Option EntityLocation)) : Type 0 where
   pub agree : (t : ℕ) (e : Entity) → is_some (held_at tables t e) ≡ is_place (place_of places e.index) e.generation t
   pub of_kinds : (t : ℕ) (e : Entity) → IsOfKinds (kinds_at tables t) (held_at tables t e)
   pub shaped : AreShaped tables
@@ -93,7 +93,7 @@ pub record AreArchetypes (tables : List TableValue) (places : List (Option Place
 
 -- what holds of tables and places, and of the note whether columns are read elsewhere too: where it is false none is. A table without
 -- rows has its columns at home
-pub record IsStored (tables : List TableValue) (places : List (Option Place)) (shared : Bool) : Type 0 where
+pub record IsStored (tables : List TableValue) (places : List (Option EntityLocation)) (shared : Bool) : Type 0 where
   pub whole : AreArchetypes tables places
   pub bare : AreBareHome tables
   pub unshared : shared ≡ false → AreUnshared tables

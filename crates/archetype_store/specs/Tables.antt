@@ -4,7 +4,7 @@ use Rattle.std.specs.List.{AllByRecursion, list_all}
 use Rattle.model.specs.Lists.{is_there}
 use Rattle.model.specs.state.State.{Cell, Component}
 use Rattle.model.specs.declared.entities.Entity.{Entity}
-use Rattle.archetype_store.specs.declared.places.Place.{Place}
+use Rattle.archetype_store.specs.declared.locations.EntityLocation.{EntityLocation}
 use Rattle.column_store.specs.Order.{is_same}
 use Rattle.column_store.specs.Components.{components_of}
 use Rattle.archetype_store.specs.Layout.{layout_of, IsShape}
@@ -118,12 +118,12 @@ pub record IsGrown (old new : List TableValue) : Type 0 where
   pub layout : layout_of new ≡ layout_of old
 
 -- whether a place is in a table
-abbrev pub is_in : Option Place → ℕ → Bool
+abbrev pub is_in : Option EntityLocation → ℕ → Bool
 is_in None table = false
 is_in (Some p) table = table == p.table
 
 -- the row of an entity is no longer where it was, and nothing else has changed
-pub record IsLeft (old new : List TableValue) (place : Option Place) (e : Entity) : Type 0 where
+pub record IsLeft (old new : List TableValue) (place : Option EntityLocation) (e : Entity) : Type 0 where
   pub others : (t : ℕ) (x : Entity) → is_same e x ≡ false → held_at new t x ≡ held_at old t x
   pub here : (t : ℕ) → held_at new t e ≡ cond (is_in place t) None (held_at old t e)
   pub shapes : map shape_of new ≡ map shape_of old

@@ -16,8 +16,8 @@ ghost use Rattle.archetype_store.specs.Archetypes.{row_of, holder_of, row_cells,
 
 use crate::lay::{clear_in, insert_in, remove_in, write_in};
 use crate::lending::{column_at, home_at, lend_at, share_at, table_of_archetype};
+use crate::locations::{EntityLocation, place_at, reach};
 use crate::owning::own_all;
-use crate::places::{Place, place_at, reach};
 use crate::tables::{ArchetypeView, components_at, find_at, has_at, views_of};
 use change_ticks::clock::Tick;
 use column_store::stamped::{StampedColumn, StampedValue};
@@ -35,7 +35,7 @@ use std::sync::Arc;
 #[derive(Drop, Debug)]
 pub struct Archetypes {
     tables: Vec<Table>,
-    places: Vec<Option<Place>>,
+    places: Vec<Option<EntityLocation>>,
     // Whether some columns may be read elsewhere too.
     shared: bool,
 }
@@ -231,7 +231,7 @@ impl Archetypes {
 }
 
 // The entity of an index that has a place.
-fn entity_of(index: u32, place: Place) -> Entity
+fn entity_of(index: u32, place: EntityLocation) -> Entity
     ensures { result ≡ record { index = index; generation = place.generation } }
 {
     Entity {

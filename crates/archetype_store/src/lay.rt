@@ -11,7 +11,7 @@ ghost use Rattle.archetype_store.specs.Tables.{kinds_at, held_at, AreShaped, Are
 ghost use Rattle.archetype_store.specs.Archetypes.{archetypes_of, holder_in, place_of, row_in, AreAlike, AreArchetypes, HasRow, IsHolder};
 
 use crate::components::{added, insert_new, take_out};
-use crate::places::{Place, place_at};
+use crate::locations::{EntityLocation, place_at};
 use crate::tables::{components_at, find_at, put_at, remove_at, table_for, write_at};
 use change_ticks::clock::Tick;
 use column_store::stamped::StampedValue;
@@ -21,9 +21,9 @@ use kinds::value::Value;
 use std::alloc::AllocError;
 
 // Removes the row of an entity from where it is.
-fn leave(tables: &mut Vec<Table>, place: Option<Place>, e: Entity)
+fn leave(tables: &mut Vec<Table>, place: Option<EntityLocation>, e: Entity)
     requires shaped { AreShaped tables.old.items }
-    requires there { (p : Place) → place ≡ Some p → IsSome (held_at tables.old.items p.table e) }
+    requires there { (p : EntityLocation) → place ≡ Some p → IsSome (held_at tables.old.items p.table e) }
     requires owned { AreOwned tables.old.items }
     ensures { IsLeft tables.old.items tables.new.items place e }
 {
@@ -36,7 +36,7 @@ fn leave(tables: &mut Vec<Table>, place: Option<Place>, e: Entity)
 // wanting all rows stay as they were.
 fn lay(
     tables: &mut Vec<Table>,
-    places: &mut Vec<Option<Place>>,
+    places: &mut Vec<Option<EntityLocation>>,
     e: Entity,
     components: &[StampedValue],
 ) -> Result<(), AllocError>
@@ -46,7 +46,7 @@ fn lay(
     requires holder { IsHolder e.generation (holder_in (place_of places.old.items e.index)) }
     requires below { AreBelow (map stamped_number components.now) }
     requires some { components.now ≢ [] }
-    requires other { (p : Place) → place_of places.old.items e.index ≡ Some p → kinds_at tables.old.items p.table ≢ map stamped_number components.now }
+    requires other { (p : EntityLocation) → place_of places.old.items e.index ≡ Some p → kinds_at tables.old.items p.table ≢ map stamped_number components.now }
     ensures whole { AreArchetypes tables.new.items places.new.items }
     ensures owned { AreOwned tables.new.items }
     ensures ok { OnOk result (HasRow (archetypes_of tables.old.items places.old.items) e (map component_of components.now) (archetypes_of tables.new.items places.new.items)) }
@@ -56,7 +56,7 @@ fn lay(
     let table = table_for(tables, components)?;
     put_at(tables, table, e, components)?;
     leave(tables, from, e);
-    places[e.index as usize] = Some(Place {
+    places[e.index as usize] = Some(EntityLocation {
         generation: e.generation,
         table,
     });
@@ -64,7 +64,7 @@ fn lay(
 }
 
 // Takes the row of an entity away.
-pub(crate) fn clear_in(tables: &mut Vec<Table>, places: &mut Vec<Option<Place>>, e: Entity)
+pub(crate) fn clear_in(tables: &mut Vec<Table>, places: &mut Vec<Option<EntityLocation>>, e: Entity)
     requires whole { AreArchetypes tables.old.items places.old.items }
     requires owned { AreOwned tables.old.items }
     requires holder { IsHolder e.generation (holder_in (place_of places.old.items e.index)) }
@@ -81,7 +81,7 @@ pub(crate) fn clear_in(tables: &mut Vec<Table>, places: &mut Vec<Option<Place>>,
 // Inserts a component of an entity at a tick. Where memory is wanting all rows stay as they were.
 pub(crate) fn insert_in(
     tables: &mut Vec<Table>,
-    places: &mut Vec<Option<Place>>,
+    places: &mut Vec<Option<EntityLocation>>,
     e: Entity,
     value: Value,
     tick: Tick,
@@ -113,7 +113,7 @@ pub(crate) fn insert_in(
 // Removes the component of the kind with this number of an entity. Where memory is wanting all rows stay as they were.
 pub(crate) fn remove_in(
     tables: &mut Vec<Table>,
-    places: &mut Vec<Option<Place>>,
+    places: &mut Vec<Option<EntityLocation>>,
     e: Entity,
     number: u32,
 ) -> Result<(), AllocError>
@@ -146,7 +146,7 @@ pub(crate) fn remove_in(
 // Writes the component of this value's kind of an entity at a tick, where it has one.
 pub(crate) fn write_in(
     tables: &mut Vec<Table>,
-    places: &[Option<Place>],
+    places: &[Option<EntityLocation>],
     e: Entity,
     value: Value,
     tick: Tick,

@@ -13,8 +13,8 @@ ghost use Rattle.body.specs.Cells.{AreWritten};
 ghost use Rattle.body.specs.ViewRow.{IsRowOf, AreRows, row_cells, query_cells, shown_rows, terms_of};
 
 use kinds::value::Value;
-use query_plan::plan::QueryRow;
 use query::Term;
+use query_plan::plan::QueryRow;
 
 /// A row of a view: what it shows, and for each term the component written there, if any.
 #[derive(Drop, Debug)]

@@ -12,8 +12,8 @@ use crate::view_query::ViewQuery;
 use entity_table::Entity;
 use kinds::component::Component;
 use kinds::each_kind;
+use kinds::fields::Fields;
 use kinds::kind::Kind;
-use kinds::words::Words;
 use std::marker::Model;
 
 /// What a system is shown at its start, and what it writes. Contracts see the parameters, what is shown, the outcome so far, and what it
@@ -96,7 +96,7 @@ impl View {
 
     /// The fields of the component of a kind in a row of a query: what was written there, else what is shown. None where there is no
     /// component.
-    pub fn words(&self, query: usize, row: usize, kind: Kind) -> Words
+    pub fn words(&self, query: usize, row: usize, kind: Kind) -> Fields
         requires query { query < length self.now.shown.rows }
         requires row { row < length (rows_at self.now.shown query) }
         ensures { result ≡ unwrap_or (read_at self.now query row (kind_number kind)) [] }
@@ -105,14 +105,14 @@ impl View {
     }
 
     // The fields of a component of a row of a query.
-    fn words_of<C: Component>(&self, query: usize, row: usize) -> Words
+    fn words_of<C: Component>(&self, query: usize, row: usize) -> Fields
         requires query { query < length self.now.shown.rows }
         requires row { row < length (rows_at self.now.shown query) }
         ensures { result ≡ unwrap_or (read_at self.now query row C.NUMBER) [] }
     {
         match self.get::<C>(query, row) {
             Some(component) => component.to_words(),
-            None => Words::none(),
+            None => Fields::none(),
         }
     }
 

@@ -13,8 +13,8 @@ use crate::cells::{ViewQuery, ViewRow};
 use archetype_store::store::World;
 use change_ticks::clock::Tick;
 use kinds::value::Value;
-use query_plan::plan::{QueryRow, plan};
 use query::{Query, Term};
+use query_plan::plan::{QueryRow, plan};
 use std::alloc::{AllocError, Global};
 
 // No component for each term.

@@ -23,9 +23,9 @@ use archetype_store::store::World;
 use change_ticks::clock::Tick;
 use entity_table::Entity;
 use kinds::component::Component;
+use kinds::fields::Fields;
 use kinds::kind::Kind;
 use kinds::value::Value;
-use kinds::words::Words;
 use std::alloc::{AllocError, Global};
 use std::marker::Model;
 
@@ -138,14 +138,14 @@ impl View {
 
     /// The fields of the component of a kind in a row of a query: what was written there, else what is shown. None where there is no
     /// component.
-    pub fn words(&self, query: usize, row: usize, kind: Kind) -> Words
+    pub fn words(&self, query: usize, row: usize, kind: Kind) -> Fields
         requires query { query < length self.now.shown.rows }
         requires row { row < length (rows_at self.now.shown query) }
         ensures { result ≡ unwrap_or (read_at self.now query row (kind_number kind)) [] }
     {
         match self.read(query, row, kind) {
             Some(value) => value.words(),
-            None => Words::none(),
+            None => Fields::none(),
         }
     }
 

@@ -1,4 +1,4 @@
--- Heights that fall along orders: one more of them, and what they rule out.
+-- Ranks that fall along orders: one more of them, and what they rule out.
 use Rattle.std.proofs.Common.{◌≡◌, ◌≢◌, ℕ, ◌<◌, ◌+◌, inl, inr, Bool, true, false, List, length, get_or, Option, Some, None, is_none, is_some, not, cond, refl, arith, subst, sym, ap, ◌∙◌}
 use Rattle.std.proofs.Math.ListN.{set}
 use Rattle.std.specs.List.{count_by}
@@ -8,7 +8,7 @@ use Rattle.std.proofs.lemmas.Bool.Decides.{eqb_tells}
 use Rattle.cycle_search.specs.declared.order.Order.{Order}
 use Rattle.cycle_search.specs.Cycles.{height_of, IsAbove, IsFalling, HasHeightsBelow, IsRanked, IsStep, PointsOn, PointsOnBy}
 
--- what stands above something is above it where its first is given anew, and so on, by the heights at an order's items
+-- what stands above something is above it where its first is given anew, and so on, by the ranks at an order's items
 above_first : (level : ℕ) (o : Option ℕ) → (o ≡ None → ⊥) → ((h : ℕ) → o ≡ Some h → h < level) → IsAbove (Some level) o
 above_first level None n b = absurd (n refl)
 above_first level (Some h) n b = b h refl
@@ -17,49 +17,49 @@ above_none : (level : ℕ) (o : Option ℕ) → IsAbove o None → IsAbove o (So
 above_none level None h = tt
 above_none level (Some k) h = absurd h
 
-falls_more : (orders : List Order) (heights next : List (Option ℕ)) (level item : ℕ) → IsRanked orders heights level → PointsOn orders heights next → item < length heights → height_of heights item ≡ None → height_of next item ≡ None
-    → (k : ℕ) (d : Order) → k < length orders → IsFalling (set heights item (Some level)) (get_or orders k d)
-falls_more orders heights next level item r p l e n k d q =
+falls_more : (orders : List Order) (ranks next : List (Option ℕ)) (level item : ℕ) → IsRanked orders ranks level → PointsOn orders ranks next → item < length ranks → height_of ranks item ≡ None → height_of next item ≡ None
+    → (k : ℕ) (d : Order) → k < length orders → IsFalling (set ranks item (Some level)) (get_or orders k d)
+falls_more orders ranks next level item r p l e n k d q =
     let o : Order = get_or orders k d in
-    let new : List (Option ℕ) = set heights item (Some level) in
-    let at_item : (x : ℕ) → x ≡ item → height_of new x ≡ Some level = λ x same. ap (height_of new) same ∙ get_or-set_same heights item (Some level) None l in
-    let elsewhere : (x : ℕ) → x ≢ item → height_of new x ≡ height_of heights x = λ x other. get_or-set_other heights item x (Some level) None other in
-    let old_at : (x : ℕ) → x ≡ item → height_of heights x ≡ None = λ x same. ap (height_of heights) same ∙ e in
+    let new : List (Option ℕ) = set ranks item (Some level) in
+    let at_item : (x : ℕ) → x ≡ item → height_of new x ≡ Some level = λ x same. ap (height_of new) same ∙ get_or-set_same ranks item (Some level) None l in
+    let elsewhere : (x : ℕ) → x ≢ item → height_of new x ≡ height_of ranks x = λ x other. get_or-set_other ranks item x (Some level) None other in
+    let old_at : (x : ℕ) → x ≡ item → height_of ranks x ≡ None = λ x same. ap (height_of ranks) same ∙ e in
     elim (eqb_tells o.first item) [
       | inl f ↦
-          let closed : height_of heights o.second ≡ None → ⊥ = p.only k d q (ap (height_of next) f.1 ∙ n) in
+          let closed : height_of ranks o.second ≡ None → ⊥ = p.only k d q (ap (height_of next) f.1 ∙ n) in
           let other : o.second ≢ item = λ same. closed (old_at o.second same) in
-          let above : IsAbove (Some level) (height_of heights o.second) = above_first level (height_of heights o.second) closed (r.below o.second) in
+          let above : IsAbove (Some level) (height_of ranks o.second) = above_first level (height_of ranks o.second) closed (r.below o.second) in
           subst (λ (x : Option ℕ). IsAbove x (height_of new o.second)) (sym (at_item o.first f.1)) (subst (λ (x : Option ℕ). IsAbove (Some level) x) (sym (elsewhere o.second other)) above)
       | inr f ↦
           subst (λ (x : Option ℕ). IsAbove x (height_of new o.second)) (sym (elsewhere o.first f.1)) (elim (eqb_tells o.second item) [
-            | inl s ↦ subst (λ (x : Option ℕ). IsAbove (height_of heights o.first) x) (sym (at_item o.second s.1))
-                (above_none level (height_of heights o.first) (subst (λ (x : Option ℕ). IsAbove (height_of heights o.first) x) (old_at o.second s.1) (r.falling k d q)))
-            | inr s ↦ subst (λ (x : Option ℕ). IsAbove (height_of heights o.first) x) (sym (elsewhere o.second s.1)) (r.falling k d q)
+            | inl s ↦ subst (λ (x : Option ℕ). IsAbove (height_of ranks o.first) x) (sym (at_item o.second s.1))
+                (above_none level (height_of ranks o.first) (subst (λ (x : Option ℕ). IsAbove (height_of ranks o.first) x) (old_at o.second s.1) (r.falling k d q)))
+            | inr s ↦ subst (λ (x : Option ℕ). IsAbove (height_of ranks o.first) x) (sym (elsewhere o.second s.1)) (r.falling k d q)
           ])
     ]
 
-below_more : (heights : List (Option ℕ)) (level item : ℕ) → item < length heights → HasHeightsBelow heights level → HasHeightsBelow (set heights item (Some level)) (level + 1)
-below_more heights level item l b n h e = elim (eqb_tells n item) [
+below_more : (ranks : List (Option ℕ)) (level item : ℕ) → item < length ranks → HasHeightsBelow ranks level → HasHeightsBelow (set ranks item (Some level)) (level + 1)
+below_more ranks level item l b n h e = elim (eqb_tells n item) [
   | inl f ↦
-      let here : Some level ≡ Some h = sym (ap (height_of (set heights item (Some level))) f.1 ∙ get_or-set_same heights item (Some level) None l) ∙ e in
+      let here : Some level ≡ Some h = sym (ap (height_of (set ranks item (Some level))) f.1 ∙ get_or-set_same ranks item (Some level) None l) ∙ e in
       let same : level ≡ h = cc in
       omega arith
   | inr f ↦
-      let old : height_of heights n ≡ Some h = sym (get_or-set_other heights item n (Some level) None f.1) ∙ e in
+      let old : height_of ranks n ≡ Some h = sym (get_or-set_other ranks item n (Some level) None f.1) ∙ e in
       let low : h < level = b n h old in
       omega arith
 ]
 
-pub ranked_more : (orders : List Order) (heights next : List (Option ℕ)) (level item : ℕ) → IsRanked orders heights level → PointsOn orders heights next → item < length heights → height_of heights item ≡ None → height_of next item ≡ None
-    → IsRanked orders (set heights item (Some level)) (level + 1)
-ranked_more orders heights next level item r p l e n = record { falling = falls_more orders heights next level item r p l e n; below = below_more heights level item l r.below }
+pub ranked_more : (orders : List Order) (ranks next : List (Option ℕ)) (level item : ℕ) → IsRanked orders ranks level → PointsOn orders ranks next → item < length ranks → height_of ranks item ≡ None → height_of next item ≡ None
+    → IsRanked orders (set ranks item (Some level)) (level + 1)
+ranked_more orders ranks next level item r p l e n = record { falling = falls_more orders ranks next level item r p l e n; below = below_more ranks level item l r.below }
 
-pub count_less : (heights : List (Option ℕ)) (level item : ℕ) → item < length heights → height_of heights item ≡ None → count_by is_none (set heights item (Some level)) + 1 ≡ count_by is_none heights
-count_less heights level item l e =
+pub count_less : (ranks : List (Option ℕ)) (level item : ℕ) → item < length ranks → height_of ranks item ≡ None → count_by is_none (set ranks item (Some level)) + 1 ≡ count_by is_none ranks
+count_less ranks level item l e =
     let f : Option ℕ → ℕ = λ h. cond (is_none h) 1 0 in
-    let step : count_by is_none (set heights item (Some level)) + f (get_or heights item None) ≡ count_by is_none heights + 0 = sum_by-set f heights item (Some level) None l in
-    let one : f (get_or heights item None) ≡ 1 = ap f e in
+    let step : count_by is_none (set ranks item (Some level)) + f (get_or ranks item None) ≡ count_by is_none ranks + 0 = sum_by-set f ranks item (Some level) None l in
+    let one : f (get_or ranks item None) ≡ 1 = ap f e in
     omega arith
 
 -- ---- which item follows, by one more order
@@ -67,23 +67,23 @@ count_less heights level item l e =
 order_at : (orders : List Order) (i : ℕ) (o d : Order) → i < length orders → o ≡ get_or orders i o → get_or orders i d ≡ o
 order_at orders i o d l e = get_or_default orders i d o l ∙ sym e
 
-only_more : (orders : List Order) (heights : List (Option ℕ)) (i : ℕ) (o : Order) (P : ℕ → Type 0) → i < length orders → o ≡ get_or orders i o
-    → ((k : ℕ) (d : Order) → k < i → P (get_or orders k d).first → height_of heights (get_or orders k d).second ≡ None → ⊥)
-    → (P o.first → height_of heights o.second ≡ None → ⊥)
-    → (k : ℕ) (d : Order) → k < i + 1 → P (get_or orders k d).first → height_of heights (get_or orders k d).second ≡ None → ⊥
-only_more orders heights i o P l e before here k d q p h = elim (eqb_tells k i) [
+only_more : (orders : List Order) (ranks : List (Option ℕ)) (i : ℕ) (o : Order) (P : ℕ → Type 0) → i < length orders → o ≡ get_or orders i o
+    → ((k : ℕ) (d : Order) → k < i → P (get_or orders k d).first → height_of ranks (get_or orders k d).second ≡ None → ⊥)
+    → (P o.first → height_of ranks o.second ≡ None → ⊥)
+    → (k : ℕ) (d : Order) → k < i + 1 → P (get_or orders k d).first → height_of ranks (get_or orders k d).second ≡ None → ⊥
+only_more orders ranks i o P l e before here k d q p h = elim (eqb_tells k i) [
   | inl f ↦
       let same : get_or orders k d ≡ o = ap (λ (j : ℕ). get_or orders j d) f.1 ∙ order_at orders i o d l e in
-      here (subst (λ (x : Order). P x.first) same p) (subst (λ (x : Order). height_of heights x.second ≡ None) same h)
+      here (subst (λ (x : Order). P x.first) same p) (subst (λ (x : Order). height_of ranks x.second ≡ None) same h)
   | inr f ↦
       let low : k < i = omega (arith, f.1) in
       before k d low p h
 ]
 
-pub points_set : (orders : List Order) (heights next : List (Option ℕ)) (i : ℕ) (o : Order) → i < length orders → o ≡ get_or orders i o → o.first < length heights → PointsOnBy orders heights next i → height_of heights o.second ≡ None
-    → PointsOnBy orders heights (set next o.first (Some o.second)) (i + 1)
-points_set orders heights next i o l e first p open_second =
-    let long : length next ≡ length heights = p.long in
+pub points_set : (orders : List Order) (ranks next : List (Option ℕ)) (i : ℕ) (o : Order) → i < length orders → o ≡ get_or orders i o → o.first < length ranks → PointsOnBy orders ranks next i → height_of ranks o.second ≡ None
+    → PointsOnBy orders ranks (set next o.first (Some o.second)) (i + 1)
+points_set orders ranks next i o l e first p open_second =
+    let long : length next ≡ length ranks = p.long in
     let new : List (Option ℕ) = set next o.first (Some o.second) in
     let here : height_of new o.first ≡ Some o.second = get_or-set_same next o.first (Some o.second) None (omega arith) in
     record {
@@ -93,10 +93,10 @@ points_set orders heights next i o l e first p open_second =
             let both : Some o.second ≡ Some n = sym here ∙ (ap (height_of new) (sym f.1) ∙ h) in
             let same : o.second ≡ n = cc in
             let step : IsStep orders o.first o.second = (i, l, sym e) in
-            (subst (λ (x : ℕ). IsStep orders x n) (sym f.1) (subst (λ (x : ℕ). IsStep orders o.first x) same step), subst (λ (x : ℕ). height_of heights x ≡ None) same open_second)
+            (subst (λ (x : ℕ). IsStep orders x n) (sym f.1) (subst (λ (x : ℕ). IsStep orders o.first x) same step), subst (λ (x : ℕ). height_of ranks x ≡ None) same open_second)
         | inr f ↦ p.ordered m n (sym (get_or-set_other next o.first m (Some o.second) None f.1) ∙ h)
       ];
-      only = only_more orders heights i o (λ m. height_of new m ≡ None) l e
+      only = only_more orders ranks i o (λ m. height_of new m ≡ None) l e
           (λ k d q h. elim (eqb_tells (get_or orders k d).first o.first) [
             | inl f ↦
                 let both : Some o.second ≡ None = sym here ∙ (ap (height_of new) (sym f.1) ∙ h) in
@@ -106,11 +106,11 @@ points_set orders heights next i o l e first p open_second =
           (λ h. let both : Some o.second ≡ None = sym here ∙ h in absurd (cc));
     }
 
-pub points_skip : (orders : List Order) (heights next : List (Option ℕ)) (i : ℕ) (o : Order) → i < length orders → o ≡ get_or orders i o → PointsOnBy orders heights next i → (height_of heights o.second ≡ None → ⊥) → PointsOnBy orders heights next (i + 1)
-points_skip orders heights next i o l e p closed = record {
+pub points_skip : (orders : List Order) (ranks next : List (Option ℕ)) (i : ℕ) (o : Order) → i < length orders → o ≡ get_or orders i o → PointsOnBy orders ranks next i → (height_of ranks o.second ≡ None → ⊥) → PointsOnBy orders ranks next (i + 1)
+points_skip orders ranks next i o l e p closed = record {
   long = p.long;
   ordered = p.ordered;
-  only = only_more orders heights i o (λ m. height_of next m ≡ None) l e p.only (λ _. closed);
+  only = only_more orders ranks i o (λ m. height_of next m ≡ None) l e p.only (λ _. closed);
 }
 
 -- ---- what `is_none` tells

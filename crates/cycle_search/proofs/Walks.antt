@@ -206,25 +206,25 @@ rank_low : (o : Option ℕ) (level : ℕ) → ((h : ℕ) → o ≡ Some h → h 
 rank_low None level b = omega arith
 rank_low (Some h) level b = let low : h < level = b h refl in omega arith
 
-pub rankable : (orders : List Order) (heights : List (Option ℕ)) (count level : ℕ) → All (IsBetween count) orders → IsRanked orders heights level → ((n : ℕ) → n < count → IsSome (height_of heights n)) → IsRankable (IsStep orders)
-rankable orders heights count level between r whole = record {
-  rank = λ n. unwrap_or (height_of heights n) 0;
+pub rankable : (orders : List Order) (ranks : List (Option ℕ)) (count level : ℕ) → All (IsBetween count) orders → IsRanked orders ranks level → ((n : ℕ) → n < count → IsSome (height_of ranks n)) → IsRankable (IsStep orders)
+rankable orders ranks count level between r whole = record {
+  rank = λ n. unwrap_or (height_of ranks n) 0;
   bound = level;
-  bounded = λ n. rank_low (height_of heights n) level (r.below n);
+  bounded = λ n. rank_low (height_of ranks n) level (r.below n);
   falls = λ m n s.
       let o : Order = record { first = m; second = n } in
       let inside : IsBetween count o = subst (λ (x : Order). IsBetween count x) s.2 (between s.0 o s.1) in
-      let falling : IsAbove (height_of heights m) (height_of heights n) = subst (λ (x : Order). IsAbove (height_of heights x.first) (height_of heights x.second)) s.2 (r.falling s.0 o s.1) in
-      above_ranks (height_of heights m) (height_of heights n) (whole m inside.first) falling;
+      let falling : IsAbove (height_of ranks m) (height_of ranks n) = subst (λ (x : Order). IsAbove (height_of ranks x.first) (height_of ranks x.second)) s.2 (r.falling s.0 o s.1) in
+      above_ranks (height_of ranks m) (height_of ranks n) (whole m inside.first) falling;
 }
 
-pub goes_on : (orders : List Order) (heights next : List (Option ℕ)) (count : ℕ) → All (IsBetween count) orders → length heights ≡ count → PointsOn orders heights next → IsStuck heights next → GoesOn next
-goes_on orders heights next count between long p stuck = record {
+pub goes_on : (orders : List Order) (ranks next : List (Option ℕ)) (count : ℕ) → All (IsBetween count) orders → length ranks ≡ count → PointsOn orders ranks next → IsStuck ranks next → GoesOn next
+goes_on orders ranks next count between long p stuck = record {
   goes = λ m n e.
       let q = p.ordered m n e in
       let o : Order = record { first = m; second = n } in
       let inside : IsBetween count o = subst (λ (x : Order). IsBetween count x) q.0.2 (between q.0.0 o q.0.1) in
       let within : n < count = inside.second in
-      let same : length next ≡ length heights = p.long in
+      let same : length next ≡ length ranks = p.long in
       (omega arith, stuck n (omega arith) q.1);
 }

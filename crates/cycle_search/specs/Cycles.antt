@@ -1,4 +1,4 @@
--- Cycles of orders by number, and the heights that rule them out.
+-- Cycles of orders by number, and the ranks that rule them out.
 use Rattle.std.specs.Prelude.{Vec}
 use Rattle.std.specs.declared.alloc.Global.{Global}
 use Rattle.std.specs.Prelude.{ℕ, ◌<◌, ◌≤◌, ◌≡◌, true, List, ◌++◌, Option, Some, None, IsSome, length, take, get_or}
@@ -20,7 +20,7 @@ pub record IsRankable (Step : ℕ → ℕ → Type 0) : Type 0 where
 
 -- the height of an item, where it has one
 abbrev pub height_of : List (Option ℕ) → ℕ → Option ℕ
-height_of heights n = get_or heights n None
+height_of ranks n = get_or ranks n None
 
 -- a first height, where it is there, is above a second one that is there
 abbrev pub IsAbove : Option ℕ → Option ℕ → Type 0
@@ -30,30 +30,30 @@ IsAbove (Some height) (Some below) = below < height
 
 -- the order leads to a lower height
 abbrev pub IsFalling : List (Option ℕ) → Order → Type 0
-IsFalling heights o = IsAbove (height_of heights o.first) (height_of heights o.second)
+IsFalling ranks o = IsAbove (height_of ranks o.first) (height_of ranks o.second)
 
 -- every height is below the level
 abbrev pub HasHeightsBelow : List (Option ℕ) → ℕ → Type 0
-HasHeightsBelow heights level = (n height : ℕ) → height_of heights n ≡ Some height → height < level
+HasHeightsBelow ranks level = (n height : ℕ) → height_of ranks n ≡ Some height → height < level
 
--- an item with a height is ordered before items of lower heights alone; every height is below the level
-pub record IsRanked (orders : List Order) (heights : List (Option ℕ)) (level : ℕ) : Type 0 where
-  pub falling : All (IsFalling heights) orders
-  pub below : HasHeightsBelow heights level
+-- an item with a rank is ordered before items of lower ranks alone; every rank is below the level
+pub record IsRanked (orders : List Order) (ranks : List (Option ℕ)) (level : ℕ) : Type 0 where
+  pub falling : All (IsFalling ranks) orders
+  pub below : HasHeightsBelow ranks level
 
 -- for each item that one of the first count orders puts before an item without a height, such an item; it is told which one
-pub record PointsOnBy (orders : List Order) (heights next : List (Option ℕ)) (count : ℕ) : Type 0 where
-  pub long : length next ≡ length heights
-  pub ordered : (m n : ℕ) → height_of next m ≡ Some n → IsStep orders m n × (height_of heights n ≡ None)
-  pub only : (k : ℕ) (d : Order) → k < count → height_of next (get_or orders k d).first ≡ None → height_of heights (get_or orders k d).second ≡ None → ⊥
+pub record PointsOnBy (orders : List Order) (ranks next : List (Option ℕ)) (count : ℕ) : Type 0 where
+  pub long : length next ≡ length ranks
+  pub ordered : (m n : ℕ) → height_of next m ≡ Some n → IsStep orders m n × (height_of ranks n ≡ None)
+  pub only : (k : ℕ) (d : Order) → k < count → height_of next (get_or orders k d).first ≡ None → height_of ranks (get_or orders k d).second ≡ None → ⊥
 
 -- the same by all orders
 abbrev pub PointsOn : List Order → List (Option ℕ) → List (Option ℕ) → Type 0
-PointsOn orders heights next = PointsOnBy orders heights next (length orders)
+PointsOn orders ranks next = PointsOnBy orders ranks next (length orders)
 
 -- each item without a height points on
 abbrev pub IsStuck : List (Option ℕ) → List (Option ℕ) → Type 0
-IsStuck heights next = (n : ℕ) → n < length heights → height_of heights n ≡ None → IsSome (height_of next n)
+IsStuck ranks next = (n : ℕ) → n < length ranks → height_of ranks n ≡ None → IsSome (height_of next n)
 
 -- what is pointed to points on
 pub record GoesOn (next : List (Option ℕ)) : Type 0 where

@@ -6,8 +6,8 @@ ghost use Rattle.model.specs.Lists.{has};
 ghost use Rattle.cycle_search.specs.Orders.{IsBetween};
 ghost use Rattle.cycle_search.specs.Cycles.{height_of, GoesOn, Points, IsStep, IsRankable, IsRound, BeginsLeast, TellsRound};
 
-use crate::heights::settle;
 use crate::order::Order;
+use crate::ranks::settle;
 use std::alloc::{AllocError, Global};
 
 /// The place of an item on a path that it is on.
@@ -72,11 +72,11 @@ fn from_least(alloc: Global, items: &[usize]) -> Result<Vec<usize>, AllocError>
 }
 
 /// The first item without a height.
-fn first_open(heights: &[Option<usize>]) -> Option<usize>
-    ensures found { IfSome result (λ n. (n < length heights.now) × (height_of heights.now n ≡ None)) }
-    ensures none { IfNone result ((n : ℕ) → n < length heights.now → IsSome (height_of heights.now n)) }
+fn first_open(ranks: &[Option<usize>]) -> Option<usize>
+    ensures found { IfSome result (λ n. (n < length ranks.now) × (height_of ranks.now n ≡ None)) }
+    ensures none { IfNone result ((n : ℕ) → n < length ranks.now → IsSome (height_of ranks.now n)) }
 {
-    for (item, height) in heights.iter().enumerate() {
+    for (item, height) in ranks.iter().enumerate() {
         if height.is_none() {
             return Some(item);
         }
@@ -94,7 +94,7 @@ pub fn find_cycle(
     ensures { IfOk result (TellsRound orders.now) }
 {
     let settled = settle(alloc, count, orders)?;
-    match first_open(settled.heights.as_slice()) {
+    match first_open(settled.ranks.as_slice()) {
         None => Ok(None),
         Some(item) => {
             let items = go_round(alloc, item, settled.next.as_slice())?;

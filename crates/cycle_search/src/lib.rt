@@ -2,8 +2,8 @@
 #![tactic(auto)]
 
 pub mod cycle;
-mod heights;
 pub mod order;
+mod ranks;
 
 pub use cycle::find_cycle;
 pub use order::Order;

@@ -15,9 +15,9 @@ use body::state::State;
 use command_line::args::Args;
 use engine::{Engine, NewFault, RunFault, Single};
 use program_file::document::document_of;
-use program_file::load::world_of;
-use program_file::setup::{bodies_of, declare};
-use program_file::tree::Tree;
+use program_file::program_file::ProgramFile;
+use program_file::schedule::{bodies_of, declare};
+use program_file::world::world_of;
 use schedule_builder::builder::build;
 use schedule_builder::built::Built;
 use script::script_body::ScriptBody;
@@ -56,11 +56,11 @@ fn answer<F: Read>(alloc: Global, times: u32, mode: &Single, file: &mut F) -> Re
 {
     let bytes = bytes_of(alloc, file)?;
     let document = document_of(alloc, bytes.as_slice())?;
-    let Tree {
+    let ProgramFile {
         resources,
         entities,
         systems,
-    } = Tree::read(alloc, &document)?;
+    } = ProgramFile::read(alloc, &document)?;
     let (desc, codes) = declare(alloc, systems)?;
     let built = build(alloc, desc)?;
     let bodies = bodies_of(alloc, &built, codes)?;

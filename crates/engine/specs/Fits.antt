@@ -20,7 +20,7 @@ abbrev pub Miscounts : Schedule → List ScriptBody → State → Type 0
 Miscounts s bodies state = (length bodies ≢ length s.systems) ⊎ (length state.systems ≢ length s.systems)
 
 -- a body and a memory for each system, and each body fits
-pub record Suits (s : Schedule) (bodies : List ScriptBody) (state : State) : Type 0 where
+pub record IsEngine (s : Schedule) (bodies : List ScriptBody) (state : State) : Type 0 where
   pub body_count : length bodies ≡ length s.systems
   pub memory_count : length state.systems ≡ length s.systems
   pub fit : (n : ℕ) → n < length s.systems → fits_at s bodies n ≡ true

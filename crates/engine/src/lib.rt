@@ -1,15 +1,15 @@
 // The engine: runs of a built schedule over a state, with a body for each system.
 #![tactic(auto)]
 
-mod effects;
+mod coordinator;
+pub mod engine;
 pub mod faults;
 mod fitting;
-pub mod machine;
 pub mod mode;
-mod turns;
+mod steps;
 
+pub use engine::Engine;
 pub use faults::{NewFault, RunFault};
-pub use machine::Engine;
 pub use mode::Single;
 
 #[cfg(test)]

@@ -1,9 +1,9 @@
 // The id book: which indices are vacant, granted, living or retired, and the ids of entities.
 #![tactic(auto)]
 
+mod entity_meta;
 pub mod fault;
-mod least_first;
-mod place;
+mod min_heap;
 pub mod status;
 pub mod table;
 

@@ -10,9 +10,9 @@ ghost use Rattle.model.specs.state.Commands as commands;
 ghost use Rattle.entity_table.specs.Status.{status_of};
 ghost use Rattle.entity_table.specs.Ids.{slot_at, lives_at, IsGranted, AreApart, IsBook, settled};
 
+use crate::entity_meta::EntityMeta;
 use crate::fault::GrantFault;
-use crate::least_first::LeastFirst;
-use crate::place::Place;
+use crate::min_heap::MinHeap;
 use crate::status::Status;
 use model::entities::Entity;
 use std::alloc::Global;
@@ -28,8 +28,8 @@ pub const MOST_INDICES: usize = 1_048_576;
 /// logarithm of k, however many indices there are. Room for every index to be vacant is made by the grant that brings it.
 #[derive(Drop, Debug)]
 pub struct EntityTable {
-    places: Vec<Place>,
-    vacant: LeastFirst,
+    places: Vec<EntityMeta>,
+    vacant: MinHeap,
 }
 
 impl Model for EntityTable {
@@ -51,7 +51,7 @@ impl EntityTable {
     {
         EntityTable {
             places: Vec::new(alloc),
-            vacant: LeastFirst::new(alloc),
+            vacant: MinHeap::new(alloc),
         }
     }
 
@@ -63,7 +63,7 @@ impl EntityTable {
         let mut table = EntityTable::new(alloc);
         table.places.reserve(1)?;
         table.vacant.make_room(1)?;
-        let _ = table.places.push(Place::living(generation));
+        let _ = table.places.push(EntityMeta::living(generation));
         Ok(table)
     }
 
@@ -211,7 +211,7 @@ impl EntityTable {
 }
 
 // The living entity of the least index from this one on.
-fn next_living_in(places: &[Place], from: u32) -> Option<Entity>
+fn next_living_in(places: &[EntityMeta], from: u32) -> Option<Entity>
     requires { length places.now ≤ most_indices }
     ensures lives { IfSome result (λ e. (from ≤ e.index) × (is_alive places.now e ≡ true)) }
     ensures least { IfSome result (λ e. (k : ℕ) → from ≤ k → k < e.index → lives_at places.now k ≡ false) }
@@ -231,8 +231,8 @@ fn next_living_in(places: &[Place], from: u32) -> Option<Entity>
 
 // Grants so many ids one after the other, for which there is room.
 fn grant_each(
-    places: &mut Vec<Place>,
-    vacant: &mut LeastFirst,
+    places: &mut Vec<EntityMeta>,
+    vacant: &mut MinHeap,
     granted: &mut Vec<Entity>,
     count: u32,
 )
@@ -252,7 +252,7 @@ fn grant_each(
 }
 
 // Grants one id: the least vacant index, or else the next after the last, for which there is room.
-fn grant_one(places: &mut Vec<Place>, vacant: &mut LeastFirst) -> Entity
+fn grant_one(places: &mut Vec<EntityMeta>, vacant: &mut MinHeap) -> Entity
     requires kept { vacant.old.rising ≡ vacant_indices places.old.items }
     requires few { length places.old.items + (1 - length vacant.old.rising) ≤ most_indices }
     requires room { vec_len places.old + (1 - length vacant.old.rising) ≤ vec_capacity places.old }
@@ -275,7 +275,7 @@ fn grant_one(places: &mut Vec<Place>, vacant: &mut LeastFirst) -> Entity
         }
         None => {
             let index = places.len() as u32;
-            let mut place = Place::fresh();
+            let mut place = EntityMeta::fresh();
             place.grant();
             let _ = places.push(place);
             Entity {

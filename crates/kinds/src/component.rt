@@ -15,11 +15,11 @@ mod marks;
 mod pairs;
 
 use crate::column::Column;
+use crate::fields::Fields;
 pub use crate::types::{
     Charge, Damage, Energy, Frozen, Health, Hidden, Position, Score, Target, Team, Timer, Velocity,
 };
 use crate::value::Value;
-use crate::words::Words;
 
 /// A type of components: one for each kind. Above this crate a component is known by the number of its kind and by its words,
 /// which are its fields in order.
@@ -41,7 +41,7 @@ pub trait Component: Copy {
     const WIDTH: usize;
 
     /// The fields, in order.
-    fn to_words(&self) -> Words
+    fn to_words(&self) -> Fields
         ensures { result ≡ words self.now };
 
     /// The component with these fields.

@@ -4,8 +4,8 @@
 pub mod column;
 pub mod component;
 pub mod each_kind;
+pub mod fields;
 pub mod kind;
 pub mod res;
 pub mod types;
 pub mod value;
-pub mod words;

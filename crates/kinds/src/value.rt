@@ -7,11 +7,11 @@ ghost use Rattle.kinds.specs.Value.{value_number, value_words};
 
 use crate::component::Component;
 use crate::each_kind;
+use crate::fields::Fields;
 use crate::kind::Kind;
 use crate::types::{
     Charge, Damage, Energy, Frozen, Health, Hidden, Position, Score, Target, Team, Timer, Velocity,
 };
-use crate::words::Words;
 
 /// A component of any kind. Contracts see the number of its kind and its words.
 #[derive(Clone, Copy, PartialEq, Eq, Debug)]
@@ -68,7 +68,7 @@ impl Value {
     }
 
     /// The fields of the component, in order: as many as its kind has.
-    pub fn words(&self) -> Words
+    pub fn words(&self) -> Fields
         ensures words { result ≡ value_words self.now }
         ensures width { length result ≡ widths (value_number self.now) }
     {
@@ -110,7 +110,7 @@ mod tests {
     }
 
     // The words of a component of these words, which was made a value and back.
-    fn words_back<C: Component>(list: &[i64]) -> Option<Words>
+    fn words_back<C: Component>(list: &[i64]) -> Option<Fields>
         requires { length list.now ≡ C.WIDTH }
         ensures { result ≡ Some list.now }
     {

@@ -1,5 +1,5 @@
 pub mod Fault
-pub mod Misfit
+pub mod PlaceFault
 pub mod Name
 pub mod Readings
 pub mod Load

@@ -4,10 +4,10 @@
 pub mod document;
 pub mod fault;
 pub mod keys;
-pub mod load;
-pub mod misfit;
 pub mod name;
 pub mod place;
+pub mod place_fault;
+pub mod program_file;
 pub mod readings;
-pub mod setup;
-pub mod tree;
+pub mod schedule;
+pub mod world;

@@ -6,16 +6,16 @@ ghost use Rattle.query.specs.Grammar.{IsQuery};
 ghost use Rattle.script.specs.Instruction.{IsInstruction};
 ghost use Rattle.program_file.specs.Readings.{AreSpelled};
 
-use crate::misfit::Misfit;
+use crate::place_fault::PlaceFault;
 use query::Query;
 use script::instruction::Instruction;
 use std::alloc::Global;
 
 /// The queries that texts spell, in order. `Text` tells of one that spells none.
-pub fn queries_of(alloc: Global, texts: &[&str]) -> Result<Vec<Query>, Misfit>
+pub fn queries_of(alloc: Global, texts: &[&str]) -> Result<Vec<Query>, PlaceFault>
     ensures ok { IfOk result (λ queries. AreSpelled IsQuery queries.items (map (λ text. text.now) texts.now)) }
     ensures count { IfOk result (λ queries. vec_len queries ≡ length texts.now) }
-    ensures outside { IsErrOf result Misfit.Text → Any (λ text. SpellsNone IsQuery text.now) texts.now }
+    ensures outside { IsErrOf result PlaceFault.Text → Any (λ text. SpellsNone IsQuery text.now) texts.now }
 {
     let mut queries = Vec::new(alloc);
     for text in texts {
@@ -25,9 +25,9 @@ pub fn queries_of(alloc: Global, texts: &[&str]) -> Result<Vec<Query>, Misfit>
 }
 
 /// The instructions that texts spell, in order. `Text` tells of one that spells none.
-pub fn instructions_of(alloc: Global, texts: &[&str]) -> Result<Vec<Instruction>, Misfit>
+pub fn instructions_of(alloc: Global, texts: &[&str]) -> Result<Vec<Instruction>, PlaceFault>
     ensures ok { IfOk result (λ code. AreSpelled IsInstruction code.items (map (λ text. text.now) texts.now)) }
-    ensures outside { IsErrOf result Misfit.Text → Any (λ text. SpellsNone IsInstruction text.now) texts.now }
+    ensures outside { IsErrOf result PlaceFault.Text → Any (λ text. SpellsNone IsInstruction text.now) texts.now }
 {
     let mut code = Vec::new(alloc);
     for text in texts {

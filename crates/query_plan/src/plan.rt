@@ -15,13 +15,13 @@ ghost use Rattle.query_plan.specs.Picks.{picks_of, pick_seen};
 
 use crate::picks::picks;
 use crate::planned::Plan;
-use query::{Presence, Query, Term};
 use archetype_store::slot::{RowView, Slot};
 use archetype_store::store::World;
 use change_ticks::stamp::newer;
 use entity_table::Entity;
 use kinds::kind::Kind;
 use kinds::value::Value;
+use query::{Presence, Query, Term};
 use std::alloc::{AllocError, Global};
 
 /// A row of a query: an entity, and for each term the component that it fetches.

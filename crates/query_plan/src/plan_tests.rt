@@ -3,12 +3,12 @@
 ghost use Rattle.archetype_store.specs.Layout.{AreAllHome};
 
 use crate::plan::plan;
-use query::Query;
 use archetype_store::store::World;
 use change_ticks::clock::Clock;
 use entity_table::Entity;
 use kinds::component::{Frozen, Health};
 use kinds::kind::Kind;
+use query::Query;
 use std::alloc::Global;
 use std::test::Fail;
 

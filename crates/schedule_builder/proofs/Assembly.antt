@@ -11,12 +11,12 @@ use Rattle.model.specs.declarations.Refusals.{HasDistinctNames}
 use Rattle.model.specs.steps.Schedule.{ScheduledSystem, has_edge, level_of}
 use Rattle.model.specs.steps.Ambiguity.{Reaches, Before}
 use Rattle.model.specs.declarations.ScheduleOrder.{IsScheduleOrder, HasDeclaredEdges, HasDeclaredSystems}
-use Rattle.schedule_builder.proofs.Sequences.{split_at}
+use Rattle.schedule_builder.proofs.ScheduleOrders.{split_at}
 use Rattle.model.specs.steps.Built.{IsBuilt}
 use Rattle.cycle_search.specs.declared.order.Order.{Order}
 use Rattle.schedule_builder.specs.Orders.{items_of, AreDeclared}
 use Rattle.cycle_search.specs.Cycles.{IsStep, IsRankable}
-use Rattle.schedule_builder.specs.Sequence.{schedule_of, items_before, scheduled, IsEdge, HasSourcesBelow, AreScheduled}
+use Rattle.schedule_builder.specs.ScheduleOrder.{schedule_of, items_before, scheduled, IsEdge, HasSourcesBelow, AreScheduled}
 use Rattle.schedule_builder.proofs.Transfer.{ordered_of_step, step_of_ordered}
 
 -- ---- predecessors

@@ -1,6 +1,6 @@
 pub mod Each
 pub mod Lookups
-pub mod Sequences
+pub mod ScheduleOrders
 pub mod Transfer
 pub mod Assembly
 pub mod SystemSets

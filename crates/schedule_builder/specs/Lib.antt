@@ -1,5 +1,5 @@
 pub mod Answers
 pub mod Orders
-pub mod Sequence
+pub mod ScheduleOrder
 pub mod Queries
 pub mod Rows

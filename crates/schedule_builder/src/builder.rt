@@ -9,15 +9,15 @@ ghost use Rattle.schedule_builder.specs.Answers.{IsAnswered};
 ghost use Rattle.cycle_search.specs.Cycles.{IsRankable, IsStep};
 ghost use Rattle.cycle_search.specs.Orders.{IsBetween};
 ghost use Rattle.schedule_builder.specs.Orders.{items_of, AreDeclared, IsLoopAt};
-ghost use Rattle.schedule_builder.specs.Sequence.{AreScheduled};
+ghost use Rattle.schedule_builder.specs.ScheduleOrder.{AreScheduled};
 
 use crate::built::{Built, System};
 use crate::desc::{ScheduleDesc, SystemDesc};
 use crate::fault::BuildFault;
 use crate::names::{first_repeated, places_of};
 use crate::orders::{first_loop, resolve};
-use crate::queries::first_bad;
-use crate::sequence::{order_of, predecessors_of};
+use crate::query_faults::first_bad;
+use crate::schedule_order::{order_of, predecessors_of};
 use cycle_search::{Order, find_cycle};
 use std::alloc::{AllocError, Global};
 

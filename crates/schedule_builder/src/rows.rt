@@ -4,7 +4,7 @@ ghost use Rattle.std.specs.Prelude.{◌≡◌, ◌<◌, ◌≤◌, ◌+◌, ◌/
 ghost use Rattle.model.specs.Lists.{has};
 ghost use Rattle.number_set.specs.Members.{contains};
 ghost use Rattle.schedule_builder.specs.Rows.{IsRow, IsRival, IsBefore, AreRows};
-ghost use Rattle.schedule_builder.specs.Sequence.{HasSourcesBelow};
+ghost use Rattle.schedule_builder.specs.ScheduleOrder.{HasSourcesBelow};
 
 use crate::system::System;
 use access_set::conflict::conflicts;

@@ -7,9 +7,9 @@ ghost use Rattle.kinds.specs.Column.{column_number, column_words};
 
 use crate::column::Column;
 use crate::component::Component;
+use crate::fields::Fields;
 use crate::types::{Charge, Damage, Energy, Health, Score, Target, Team, Timer};
 use crate::value::Value;
-use crate::words::Words;
 
 impl Component for Health {
     ghost NUMBER = { 2 };
@@ -38,8 +38,8 @@ impl Component for Health {
 
     const WIDTH: usize = 1;
 
-    fn to_words(&self) -> Words {
-        Words::one(self.v)
+    fn to_words(&self) -> Fields {
+        Fields::one(self.v)
     }
 
     fn from_words(list: &[i64]) -> Self {
@@ -113,8 +113,8 @@ impl Component for Damage {
 
     const WIDTH: usize = 1;
 
-    fn to_words(&self) -> Words {
-        Words::one(self.v)
+    fn to_words(&self) -> Fields {
+        Fields::one(self.v)
     }
 
     fn from_words(list: &[i64]) -> Self {
@@ -188,8 +188,8 @@ impl Component for Team {
 
     const WIDTH: usize = 1;
 
-    fn to_words(&self) -> Words {
-        Words::one(self.v)
+    fn to_words(&self) -> Fields {
+        Fields::one(self.v)
     }
 
     fn from_words(list: &[i64]) -> Self {
@@ -263,8 +263,8 @@ impl Component for Timer {
 
     const WIDTH: usize = 1;
 
-    fn to_words(&self) -> Words {
-        Words::one(self.v)
+    fn to_words(&self) -> Fields {
+        Fields::one(self.v)
     }
 
     fn from_words(list: &[i64]) -> Self {
@@ -338,8 +338,8 @@ impl Component for Score {
 
     const WIDTH: usize = 1;
 
-    fn to_words(&self) -> Words {
-        Words::one(self.v)
+    fn to_words(&self) -> Fields {
+        Fields::one(self.v)
     }
 
     fn from_words(list: &[i64]) -> Self {
@@ -413,8 +413,8 @@ impl Component for Energy {
 
     const WIDTH: usize = 1;
 
-    fn to_words(&self) -> Words {
-        Words::one(self.v)
+    fn to_words(&self) -> Fields {
+        Fields::one(self.v)
     }
 
     fn from_words(list: &[i64]) -> Self {
@@ -488,8 +488,8 @@ impl Component for Charge {
 
     const WIDTH: usize = 1;
 
-    fn to_words(&self) -> Words {
-        Words::one(self.v)
+    fn to_words(&self) -> Fields {
+        Fields::one(self.v)
     }
 
     fn from_words(list: &[i64]) -> Self {
@@ -563,8 +563,8 @@ impl Component for Target {
 
     const WIDTH: usize = 1;
 
-    fn to_words(&self) -> Words {
-        Words::one(self.v)
+    fn to_words(&self) -> Fields {
+        Fields::one(self.v)
     }
 
     fn from_words(list: &[i64]) -> Self {

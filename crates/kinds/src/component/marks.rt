@@ -7,9 +7,9 @@ ghost use Rattle.kinds.specs.Column.{column_number, column_words};
 
 use crate::column::Column;
 use crate::component::Component;
+use crate::fields::Fields;
 use crate::types::{Frozen, Hidden};
 use crate::value::Value;
-use crate::words::Words;
 
 impl Component for Frozen {
     ghost NUMBER = { 10 };
@@ -38,8 +38,8 @@ impl Component for Frozen {
 
     const WIDTH: usize = 0;
 
-    fn to_words(&self) -> Words {
-        Words::none()
+    fn to_words(&self) -> Fields {
+        Fields::none()
     }
 
     fn from_words(_list: &[i64]) -> Self {
@@ -113,8 +113,8 @@ impl Component for Hidden {
 
     const WIDTH: usize = 0;
 
-    fn to_words(&self) -> Words {
-        Words::none()
+    fn to_words(&self) -> Fields {
+        Fields::none()
     }
 
     fn from_words(_list: &[i64]) -> Self {

@@ -7,9 +7,9 @@ ghost use Rattle.kinds.specs.Column.{column_number, column_words};
 
 use crate::column::Column;
 use crate::component::Component;
+use crate::fields::Fields;
 use crate::types::{Position, Velocity};
 use crate::value::Value;
-use crate::words::Words;
 
 impl Component for Position {
     ghost NUMBER = { 0 };
@@ -38,9 +38,9 @@ impl Component for Position {
 
     const WIDTH: usize = 2;
 
-    fn to_words(&self) -> Words {
+    fn to_words(&self) -> Fields {
         let Position { x, y } = *self;
-        Words::two(x, y)
+        Fields::two(x, y)
     }
 
     fn from_words(list: &[i64]) -> Self {
@@ -117,9 +117,9 @@ impl Component for Velocity {
 
     const WIDTH: usize = 2;
 
-    fn to_words(&self) -> Words {
+    fn to_words(&self) -> Fields {
         let Velocity { x, y } = *self;
-        Words::two(x, y)
+        Fields::two(x, y)
     }
 
     fn from_words(list: &[i64]) -> Self {

@@ -9,16 +9,16 @@ pub go_round-requires-clause-goes : goal.go_round-requires-clause-goes
 go_round-requires-clause-goes c =
     let s = c.in_ok-settled.settled in
     let e = c.in_ok-settled.ensures in
-    rw c.as_slice-in-Some.ensures.value (goes_on c.args.orders.now s.heights.items s.next.items c.args.count c.requires e.long e.points e.stuck)
+    rw c.as_slice-in-Some.ensures.value (goes_on c.args.orders.now s.ranks.items s.next.items c.args.count c.requires e.long e.points e.stuck)
 
 pub returns-in-None : goal.returns-in-None
 returns-in-None c =
-    let heights : List (Option ℕ) = c.in_ok-settled.settled.heights.items in
+    let ranks : List (Option ℕ) = c.in_ok-settled.settled.ranks.items in
     let e = c.in_ok-settled.ensures in
-    let same : c.as_slice.result.now ≡ heights = c.as_slice.ensures.value in
-    let whole : (n : ℕ) → n < c.args.count → IsSome (height_of heights n) = λ n l.
+    let same : c.as_slice.result.now ≡ ranks = c.as_slice.ensures.value in
+    let whole : (n : ℕ) → n < c.args.count → IsSome (height_of ranks n) = λ n l.
     subst (λ (xs : List (Option ℕ)). IsSome (height_of xs n)) same (c.in-None.ensures.none n (omega (arith, ap length same, e.long))) in
-    rankable c.args.orders.now heights c.args.count (2 * c.args.count) c.requires e.ranked whole
+    rankable c.args.orders.now ranks c.args.count (2 * c.args.count) c.requires e.ranked whole
 
 pub returns : goal.returns
 returns c =

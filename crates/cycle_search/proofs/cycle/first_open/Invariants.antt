@@ -3,4 +3,4 @@ use Rattle.cycle_search.specs.Cycles.{height_of}
 use Rattle.cycle_search.proofs.cycle.first_open.Given as goal
 
 abbrev pub invariant-loop-item : goal.invariant-loop-item
-invariant-loop-item l = (n : ℕ) → n < l.item → IsSome (height_of l.heights n)
+invariant-loop-item l = (n : ℕ) → n < l.item → IsSome (height_of l.ranks n)

@@ -5,7 +5,7 @@ use Rattle.model.specs.steps.Schedule.{Schedule, ScheduledSystem}
 use Rattle.model.specs.declarations.ScheduleOrder.{IsScheduleOrder, HasDeclaredSystems, HasDeclaredEdges}
 use Rattle.cycle_search.specs.declared.order.Order.{Order}
 use Rattle.schedule_builder.specs.Orders.{items_of, AreDeclared}
-use Rattle.schedule_builder.specs.Sequence.{schedule_of, AreScheduled}
+use Rattle.schedule_builder.specs.ScheduleOrder.{schedule_of, AreScheduled}
 use Rattle.schedule_builder.proofs.Assembly.{edges_rankable, edges_from, no_levels, is_built, declared_systems, declared_edges}
 use Rattle.schedule_builder.proofs.builder.build.Goals as goal
 

@@ -5,7 +5,7 @@ use Rattle.model.specs.access.Access.{Params}
 use Rattle.model.specs.declarations.Declarations.{DeclaredSystem}
 use Rattle.model.specs.steps.Schedule.{ScheduledSystem}
 use Rattle.cycle_search.specs.declared.order.Order.{Order}
-use Rattle.schedule_builder.specs.Sequence.{items_before, scheduled, AreScheduled}
+use Rattle.schedule_builder.specs.ScheduleOrder.{items_before, scheduled, AreScheduled}
 use Rattle.schedule_builder.proofs.Assembly.{scheduled_more}
 use Rattle.schedule_builder.proofs.builder.scheduled.Goals as goal
 

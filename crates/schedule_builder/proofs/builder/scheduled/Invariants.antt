@@ -1,6 +1,6 @@
 use Rattle.std.proofs.Common.{◌≡◌, ◌++◌}
 use Rattle.std.specs.Vec.Iter.{into_iter_items}
-use Rattle.schedule_builder.specs.Sequence.{AreScheduled}
+use Rattle.schedule_builder.specs.ScheduleOrder.{AreScheduled}
 use Rattle.schedule_builder.proofs.builder.scheduled.Given as goal
 
 abbrev pub invariant-loop-system : goal.invariant-loop-system

@@ -1,0 +1,9 @@
+use Rattle.std.proofs.Common.{◌≡◌, ◌-◌, ℕ, suc, vec_len}
+use Rattle.archetype_store.specs.Archetypes.{place_of}
+use Rattle.archetype_store.proofs.locations.reach.Given as goal
+
+abbrev pub invariant-loop-places : goal.invariant-loop-places
+invariant-loop-places l = (k : ℕ) → place_of l.places.items k ≡ place_of l.initial.places.items k
+
+abbrev pub decreases-loop-places : goal.decreases-loop-places
+decreases-loop-places l = suc l.index - vec_len l.places

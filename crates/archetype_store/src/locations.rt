@@ -1,0 +1,35 @@
+// Where the entities of indices are: in which table, and at which generation.
+
+ghost use Rattle.std.specs.Prelude.{◌≡◌, ◌<◌, ℕ, length, OnOk};
+ghost use Rattle.archetype_store.specs.Archetypes.{place_of};
+
+use std::alloc::AllocError;
+
+// The generation of an entity that has components, and the table that has its row.
+#[derive(Clone, Copy, Debug)]
+pub(crate) struct EntityLocation {
+    pub(crate) generation: u32,
+    pub(crate) table: usize,
+}
+
+// The place of an index.
+pub(crate) fn place_at(places: &[Option<EntityLocation>], index: u32) -> Option<EntityLocation>
+    ensures { result ≡ place_of places.now index }
+{
+    if (index as usize) < places.len() {
+        places[index as usize]
+    } else {
+        None
+    }
+}
+
+// Makes room for the place of an index, which is none. After an error there may be room for some, which no index can tell.
+pub(crate) fn reach(places: &mut Vec<Option<EntityLocation>>, index: u32) -> Result<(), AllocError>
+    ensures same { (k : ℕ) → place_of places.new.items k ≡ place_of places.old.items k }
+    ensures ok { OnOk result (index < length places.new.items) }
+{
+    while places.len() <= index as usize {
+        places.push(None)?;
+    }
+    Ok(())
+}

@@ -1,0 +1,351 @@
+// What a program file says.
+
+ghost use Rattle.std.specs.Prelude.{◌≤◌, IfOk, IfErr, All, vec_len};
+ghost use Rattle.program_file.specs.PlaceFault.{IsOfPlace};
+ghost use Rattle.program_file.specs.Name.{IsName};
+
+use crate::fault::ContentFault;
+use crate::keys::{integers_of, name_at, names_at, number_at, refuse_unknown, tables_at, texts_at};
+use crate::place::Place;
+use crate::place_fault::PlaceFault;
+use crate::readings::{instructions_of, queries_of};
+use kinds::kind::Kind;
+use kinds::res::Res;
+use kinds::value::Value;
+use query::Query;
+use script::script_body::Block;
+use std::alloc::Global;
+use toml::Table;
+
+/// A program file: the values of its resources, its entities and its systems, in the order of the file.
+#[derive(Drop)]
+pub struct ProgramFile<'a> {
+    /// The value of each resource, by its number, 0 where the file gives none.
+    pub resources: [i64; 8],
+    /// The components of each entity.
+    pub entities: Vec<Vec<Value>>,
+    /// The systems.
+    pub systems: Vec<SystemTable<'a>>,
+}
+
+/// A system of a program file.
+#[derive(Drop)]
+pub struct SystemTable<'a> {
+    /// Its name.
+    pub name: &'a str,
+    /// The names of the items that it runs before.
+    pub before: Vec<&'a str>,
+    /// The names of the items that it runs after.
+    pub after: Vec<&'a str>,
+    /// Its queries, one at most.
+    pub queries: Vec<Query>,
+    /// Its blocks.
+    pub blocks: Vec<Block>,
+}
+
+// A block whose instructions are texts.
+#[derive(Drop)]
+struct BlockTexts<'a> {
+    each: u32,
+    code: Vec<&'a str>,
+}
+
+const TOP_KEYS: [&str; 3] = ["resources", "entity", "system"];
+
+const SYSTEM_KEYS: [&str; 5] = ["name", "before", "after", "query", "do"];
+
+const BLOCK_KEYS: [&str; 2] = ["each", "code"];
+
+impl<'a> ProgramFile<'a> {
+    /// Reads a document. The places are looked at in this order: the top, the resources, each entity, each system. A fault is told
+    /// with its place.
+    pub fn read(alloc: Global, document: &'a Table) -> Result<ProgramFile<'a>, ContentFault>
+        ensures { IfErr result IsOfPlace }
+    {
+        let top = Top::read(alloc, document).map_err(|misfit| misfit.at(Place::Top))?;
+        let resources = resources_of(top.resources).map_err(|misfit| misfit.at(Place::Resources))?;
+        let mut entities = Vec::new(alloc);
+        for (number, table) in top.entities.iter().enumerate() {
+            let entity = components_of(alloc, table).map_err(|misfit| misfit.at(Place::Entity(
+                number,
+            )))?;
+            entities.push(entity)?;
+        }
+        let mut systems = Vec::new(alloc);
+        for (number, table) in top.systems.iter().enumerate() {
+            let system = SystemTable::read(alloc, table).map_err(|misfit| misfit.at(Place::System(
+                number,
+            )))?;
+            systems.push(system)?;
+        }
+        Ok(ProgramFile {
+            resources,
+            entities,
+            systems,
+        })
+    }
+}
+
+impl<'a> SystemTable<'a> {
+    /// Reads the table of a system: all its keys, then its texts.
+    pub fn read(alloc: Global, table: &'a Table) -> Result<SystemTable<'a>, PlaceFault>
+        ensures named { IfOk result (λ system. IsName system.name.now) }
+        ensures before { IfOk result (λ system. All (λ name. IsName name.now) system.before.items) }
+        ensures after { IfOk result (λ system. All (λ name. IsName name.now) system.after.items) }
+        ensures queries { IfOk result (λ system. vec_len system.queries ≤ 1) }
+    {
+        refuse_unknown(table, SYSTEM_KEYS.as_slice())?;
+        let name = name_at(table, "name")?;
+        let before = names_at(alloc, table, "before")?;
+        let after = names_at(alloc, table, "after")?;
+        let queries = texts_at(alloc, table, "query")?;
+        if queries.len() > 1 {
+            return Err(PlaceFault::Value);
+        }
+        let blocks = blocks_of(alloc, table)?;
+        Ok(SystemTable {
+            name,
+            before,
+            after,
+            queries: queries_of(alloc, queries.as_slice())?,
+            blocks: read_blocks(alloc, blocks.as_slice())?,
+        })
+    }
+}
+
+// The tables at the top of a document.
+#[derive(Drop)]
+struct Top<'a> {
+    resources: Option<&'a Table>,
+    entities: Vec<&'a Table>,
+    systems: Vec<&'a Table>,
+}
+
+impl<'a> Top<'a> {
+    fn read(alloc: Global, document: &'a Table) -> Result<Top<'a>, PlaceFault> {
+        refuse_unknown(document, TOP_KEYS.as_slice())?;
+        let resources = match document.get("resources") {
+            Some(value) => Some(value.as_table().ok_or(PlaceFault::Value)?),
+            None => None,
+        };
+        Ok(Top {
+            resources,
+            entities: tables_at(alloc, document, "entity")?,
+            systems: tables_at(alloc, document, "system")?,
+        })
+    }
+}
+
+// The values of the resources, by number.
+fn resources_of(table: Option<&Table>) -> Result<[i64; 8], PlaceFault> {
+    let mut values = [0; 8];
+    if let Some(table) = table {
+        for (key, value) in table.iter() {
+            let res = Res::named(key.as_str()).ok_or(PlaceFault::Value)?;
+            values[res.number() as usize] = value.as_integer().ok_or(PlaceFault::Value)?;
+        }
+    }
+    Ok(values)
+}
+
+// The components of an entity.
+fn components_of(alloc: Global, table: &Table) -> Result<Vec<Value>, PlaceFault> {
+    let mut components = Vec::new(alloc);
+    for (key, value) in table.iter() {
+        let kind = Kind::named(key.as_str()).ok_or(PlaceFault::Value)?;
+        let fields = integers_of(alloc, value)?;
+        if fields.len() != kind.width() {
+            return Err(PlaceFault::Value);
+        }
+        components.push(Value::of(kind, fields.as_slice()))?;
+    }
+    Ok(components)
+}
+
+// The blocks of a system, with their texts.
+fn blocks_of<'a>(alloc: Global, table: &'a Table) -> Result<Vec<BlockTexts<'a>>, PlaceFault> {
+    let mut blocks = Vec::new(alloc);
+    for block in tables_at(alloc, table, "do")?.iter() {
+        refuse_unknown(block, BLOCK_KEYS.as_slice())?;
+        if !block.contains_key("code") {
+            return Err(PlaceFault::Value);
+        }
+        let texts = BlockTexts {
+            each: number_at(block, "each")?,
+            code: texts_at(alloc, block, "code")?,
+        };
+        blocks.push(texts)?;
+    }
+    Ok(blocks)
+}
+
+// The blocks, their texts read.
+fn read_blocks(alloc: Global, blocks: &[BlockTexts<'_>]) -> Result<Vec<Block>, PlaceFault> {
+    let mut rows = Vec::new(alloc);
+    for block in blocks {
+        let row = Block {
+            query: block.each,
+            code: instructions_of(alloc, block.code.as_slice())?,
+        };
+        rows.push(row)?;
+    }
+    Ok(rows)
+}
+
+#[cfg(test)]
+mod tests {
+    use super::*;
+    use crate::document::document_of;
+    use query::Term;
+    use script::instruction::Instruction;
+    use std::test::Fail;
+
+    // What is told of a file, nothing where it is read.
+    fn told(alloc: Global, text: &str) -> Result<String, Fail> {
+        let document = match document_of(alloc, text.as_bytes()) {
+            Ok(document) => document,
+            Err(fault) => return Ok(fault.to_string(alloc)?),
+        };
+        match ProgramFile::read(alloc, &document) {
+            Ok(_) => Ok(String::new(alloc)),
+            Err(fault) => Ok(fault.to_string(alloc)?),
+        }
+    }
+
+    #[test]
+    fn files_are_read(rt: HostRuntime) -> Result<(), Fail> {
+        let text =
+            "resources = { Total = -3 }\n[[entity]]\nPosition = [0, 0]\nVelocity = [1, -2]\n[[entity]]\n[[system]]\nname = \"move\"\nbefore = [\"b\", \"c\"]\nquery = [\"mut Position, read Velocity\"]\n[[system.do]]\neach = 0\ncode = [\"add Position.x Velocity.x\"]\n";
+        let document = document_of(rt.alloc(), text.as_bytes())?;
+        let tree = ProgramFile::read(rt.alloc(), &document)?;
+        assert_eq!(rt; tree.resources, [0, 0, -3, 0, 0, 0, 0, 0]);
+        assert_eq!(rt; tree.entities.len(), 2);
+        assert_eq!(rt;
+            tree.entities[0].as_slice(),
+            [
+                Value::of(Kind::Position, &[0, 0]),
+                Value::of(Kind::Velocity, &[1, -2])
+            ]
+            .as_slice()
+        );
+        assert_eq!(rt; tree.entities[1].len(), 0);
+        assert_eq!(rt; tree.systems.len(), 1);
+        let system = &tree.systems[0];
+        assert_eq!(rt; system.name, "move");
+        assert_eq!(rt; system.before.as_slice(), ["b", "c"].as_slice());
+        assert_eq!(rt; system.after.len(), 0);
+        assert_eq!(rt; system.queries.len(), 1);
+        assert_eq!(rt;
+            system.queries[0].terms(),
+            [Term::Mut(Kind::Position), Term::Read(Kind::Velocity)].as_slice()
+        );
+        assert_eq!(rt; system.blocks.len(), 1);
+        let block = &system.blocks[0];
+        assert_eq!(rt; block.query, 0);
+        assert_eq!(rt;
+            block.code.as_slice(),
+            [Instruction::read(rt.alloc(), "add Position.x Velocity.x")?].as_slice()
+        );
+        Ok(())
+    }
+
+    #[test]
+    fn files_are_refused(rt: HostRuntime) -> Result<(), Fail> {
+        for (text, line) in [
+            ("", ""),
+            ("resources", "refused P1"),
+            ("resources = { Total = 9223372036854775808 }", "refused P1"),
+            ("entity = []\nentity = []", "refused P1"),
+            ("world = 3", "refused P2 top"),
+            ("entity = 3", "refused P2 top"),
+            ("system = [1]", "refused P2 top"),
+            ("chain = []", "refused P2 top"),
+            ("resources = { Tot = 1 }", "refused P2 resources"),
+            ("resources = { Total = 1.5 }", "refused P2 resources"),
+            ("entity = [{}, { Position = [1] }]", "refused P2 entity 1"),
+            ("entity = [{ Mana = [1] }]", "refused P2 entity 0"),
+            ("entity = [{ health = [1] }]", "refused P2 entity 0"),
+            ("entity = [{ Health = [1] }]", ""),
+            ("entity = [{ Health = [1, 2] }]", "refused P2 entity 0"),
+            ("entity = [{ Health = [] }]", "refused P2 entity 0"),
+            ("entity = [{}, {}, { Hidden = [0] }]", "refused P2 entity 2"),
+            ("entity = [{ Velocity = [1, 2, 3] }]", "refused P2 entity 0"),
+            ("entity = [{ Frozen = true }]", "refused P2 entity 0"),
+            (
+                "entity = [{ Position = [1, \"2\"] }]",
+                "refused P2 entity 0",
+            ),
+            ("system = [{ name = \"a\" }]", ""),
+            ("system = [{ name = \"A\" }]", "refused P2 system 0"),
+            ("system = [{}]", "refused P2 system 0"),
+            (
+                "system = [{ name = \"a\", before = [\"b \"] }]",
+                "refused P2 system 0",
+            ),
+            (
+                "system = [{ name = \"a\", query = [\"\", \"\"] }]",
+                "refused P2 system 0",
+            ),
+            (
+                "system = [{ name = \"a\", if = [] }]",
+                "refused P2 system 0",
+            ),
+            (
+                "system = [{ name = \"a\", do = [{ code = [] }] }]",
+                "refused P2 system 0",
+            ),
+            (
+                "system = [{ name = \"a\", do = [{ each = 0 }] }]",
+                "refused P2 system 0",
+            ),
+            (
+                "system = [{ name = \"a\", do = [{ each = -1, code = [] }] }]",
+                "refused P2 system 0",
+            ),
+            (
+                "system = [{ name = \"a\" }, { name = \"b\", do = [{ each = 4294967296, code = [] }] }]",
+                "refused P2 system 1",
+            ),
+            (
+                "system = [{ name = \"a\", query = [\"read\\tPosition\"] }]",
+                "refused P3 system 0",
+            ),
+            (
+                "system = [{ name = \"a\", query = [\" read Position  , mut  Velocity \"] }]",
+                "",
+            ),
+            (
+                "system = [{ name = \"a\", query = [\"read Position,\"] }]",
+                "refused P3 system 0",
+            ),
+            (
+                "system = [{ name = \"a\", query = [\"x\"], do = 3 }]",
+                "refused P2 system 0",
+            ),
+            (
+                "system = [{ name = \"a\", query = [\"x\"] }, {}]",
+                "refused P3 system 0",
+            ),
+            (
+                "system = [{ name = \"a\", do = [{ each = 0, code = [\"set Position.x 9223372036854775808\"] }] }]",
+                "refused P3 system 0",
+            ),
+            (
+                "system = [{ name = \"a\", do = [{ each = 0, code = [\"  set  Position.x -9223372036854775808 \"] }] }]",
+                "",
+            ),
+            (
+                "system = [{ name = \"a\", do = [{ each = 0, code = [\"set\\tPosition.x 1\"] }] }]",
+                "refused P3 system 0",
+            ),
+            (
+                "system = [{ name = \"a\", do = [{ each = 0, code = [\"set Position.x +1\"] }] }]",
+                "refused P3 system 0",
+            ),
+        ] {
+            let found = told(rt.alloc(), text)?;
+            assert_eq!(rt; found.as_str(), line, "at {text}");
+        }
+        Ok(())
+    }
+}

@@ -1,5 +1,0 @@
-use Rattle.schedule_builder.specs.Queries.{AreGoodBelow}
-use Rattle.schedule_builder.proofs.queries.first_at_fault.Given as goal
-
-abbrev pub invariant-loop-number : goal.invariant-loop-number
-invariant-loop-number l = AreGoodBelow l.queries l.number
