@@ -1,4 +1,4 @@
-// Program files: what a document says, and the schedule, the scripts and the world that it gives.
+// Program files: their documents, and what these say: names, keys, texts.
 #![tactic(auto)]
 
 pub mod document;
@@ -9,5 +9,3 @@ pub mod place;
 pub mod place_fault;
 pub mod program_file;
 pub mod readings;
-pub mod schedule;
-pub mod world;
