@@ -5,7 +5,7 @@ ghost use Rattle.ecsrun.specs.Fault.{status_of, fault_of_read, fault_of_file, Is
 ghost use Rattle.ecsrun.specs.declared.fault.Fault.TheVariants.{Memory, Write};
 
 use archetype_store::fault::GrantFault;
-use program_file::fault::FileFault;
+use program_file::FileFault;
 use schedule_builder::fault::BuildFault;
 use script::fault::{Cause, ScriptFault};
 use std::alloc::{AllocError, AllocFailed, Global};
@@ -142,7 +142,7 @@ impl From<WriteFault> for Fault {
 #[cfg(test)]
 mod tests {
     use super::*;
-    use program_file::place::Place;
+    use program_file::Place;
     use std::test::Fail;
 
     #[test]

@@ -5,7 +5,7 @@ ghost use Rattle.ecsrun.specs.Setup.{AreScriptsOf, HasNoReaders};
 
 use crate::fault::Fault;
 use access_set::params::Params;
-use program_file::program_file::SystemTable;
+use program_file::SystemTable;
 use query::Query;
 use schedule_builder::built::Built;
 use schedule_builder::desc::{ScheduleDesc, SystemDesc};
