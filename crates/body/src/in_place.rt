@@ -139,16 +139,11 @@ impl View {
     }
 }
 
-#[cfg(test)]
-mod tests {
-    use super::*;
+// A value of a type that may be sent to workers, and shared with them.
+fn may_be_sent<T: Send + Sync>(_value: &T) {}
 
-    // A value of a type that may be sent to workers, and shared with them.
-    fn may_be_sent<T: Send + Sync>(_value: &T) {}
-
-    // Views and their queries are such.
-    fn _views_may_be_sent(view: &View, query: &ViewQuery) {
-        may_be_sent(view);
-        may_be_sent(query);
-    }
+// Views and their queries are such.
+fn _views_may_be_sent(view: &View, query: &ViewQuery) {
+    may_be_sent(view);
+    may_be_sent(query);
 }

@@ -7,8 +7,8 @@ use Rattle.model.specs.state.State.{State, World}
 use Rattle.script.specs.declared.script_body.ScriptBody.{ScriptBody}
 use Rattle.engine.specs.EngineValue.{meanings}
 use Rattle.engine.specs.Fits.{Miscounts, IsFirstMisfit}
-use Rattle.program_file.specs.Load.{loaded_world}
-use Rattle.program_file.specs.Setup.{AreScriptsOf, HasNoReaders, start_of}
+use Rattle.ecsrun.specs.Load.{loaded_world}
+use Rattle.ecsrun.specs.Setup.{AreScriptsOf, HasNoReaders, start_of}
 use Rattle.ecsrun.specs.Served.{IsTextOfRuns}
 use Rattle.ecsrun.proofs.Starting.{start-loaded}
 

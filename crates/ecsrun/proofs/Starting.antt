@@ -4,8 +4,8 @@ use Rattle.model.specs.access.Condition.{access_of_condition}
 use Rattle.model.specs.state.Loaded.{Given, first_memory, loaded}
 use Rattle.model.specs.steps.Schedule.{Schedule, ScheduledSystem, ScheduledCondition}
 use Rattle.model.specs.state.State.{State, Memory, World, event_count, empty_queue}
-use Rattle.program_file.specs.Load.{loaded_world}
-use Rattle.program_file.specs.Setup.{HasNoReaders, start_of}
+use Rattle.ecsrun.specs.Load.{loaded_world}
+use Rattle.ecsrun.specs.Setup.{HasNoReaders, start_of}
 
 memories : (systems : List ScheduledSystem) (d : ScheduledSystem) → ((n : ℕ) → n < length systems → (get_or systems n d).params.reads ≡ [])
     → replicate (length systems) (first_memory []) ≡ map (λ system. first_memory system.params.reads) systems

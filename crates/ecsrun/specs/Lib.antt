@@ -1,2 +1,4 @@
 pub mod Fault
 pub mod Served
+pub mod Load
+pub mod Setup

@@ -11,7 +11,7 @@ use Rattle.model.specs.steps.Schedule.{Schedule}
 use Rattle.model.specs.state.State.{State}
 use Rattle.script.specs.declared.script_body.ScriptBody.{ScriptBody}
 use Rattle.engine.specs.EngineValue.{meanings}
-use Rattle.program_file.specs.Setup.{IsScheduleOf, AreScriptsOf}
+use Rattle.ecsrun.specs.Setup.{IsScheduleOf, AreScriptsOf}
 use Rattle.streams.specs.Writing.{AppendsFront}
 use Rattle.world_text.specs.WorldText.{world_text}
 

@@ -1,12 +1,14 @@
 // Why the program ends with another status than 0, each told by one line.
 
-ghost use Rattle.std.specs.Prelude.{◌≡◌};
-ghost use Rattle.ecsrun.specs.Fault.{status_of, fault_of_read, fault_of_content};
+ghost use Rattle.std.specs.Prelude.{◌≡◌, IfOk};
+ghost use Rattle.ecsrun.specs.Fault.{status_of, fault_of_read, fault_of_file, IsScriptFault};
 ghost use Rattle.ecsrun.specs.declared.fault.Fault.TheVariants.{Memory, Write};
 
-use program_file::fault::ContentFault;
+use archetype_store::fault::GrantFault;
+use program_file::FileFault;
 use schedule_builder::fault::BuildFault;
-use std::alloc::{AllocError, AllocFailed};
+use script::fault::{Cause, ScriptFault};
+use std::alloc::{AllocError, AllocFailed, Global};
 use streams::reading::ReadFault;
 use streams::writing::WriteFault;
 use thiserror::Error;
@@ -17,12 +19,26 @@ pub enum Fault {
     /// The program file is longer than its limit.
     #[error("refused P4")]
     TooLong,
-    /// The content of the program file is refused, for another cause than memory.
+    /// The program file is not read, for another cause than memory.
     #[error("{0}")]
-    Content(ContentFault),
+    Content(FileFault),
+    /// The schedule is refused, for another cause than memory.
+    #[error("{0}")]
+    Build(BuildFault),
+    /// The script of a system is refused.
+    #[error("refused {cause} {system} {block} {instruction}")]
+    Script {
+        cause: Cause,
+        system: String,
+        block: usize,
+        instruction: usize,
+    },
     /// The clock has no next tick.
     #[error("refused E2")]
     ClockSpent,
+    /// No ids are left for the entities of the file.
+    #[error("refused E3")]
+    IdsSpent,
     /// The program file can't be read.
     #[error("error file")]
     File,
@@ -40,9 +56,21 @@ impl Fault {
         ensures { result ≡ status_of self.now }
     {
         match self {
-            Fault::TooLong | Fault::Content(_) | Fault::ClockSpent => 1,
             Fault::File | Fault::Write | Fault::Memory => 3,
+            _ => 1,
         }
+    }
+
+    /// The fault of the script of the system of this name.
+    pub fn of_script(alloc: Global, name: &str, fault: ScriptFault) -> Result<Fault, AllocError>
+        ensures { IfOk result (IsScriptFault name.now fault) }
+    {
+        Ok(Fault::Script {
+            cause: fault.cause,
+            system: String::from_str(alloc, name)?,
+            block: fault.block,
+            instruction: fault.instruction,
+        })
     }
 }
 
@@ -74,12 +102,12 @@ impl From<ReadFault> for Fault {
     }
 }
 
-impl From<ContentFault> for Fault {
-    ghost from_gives = { λ error fault. fault ≡ fault_of_content error };
+impl From<FileFault> for Fault {
+    ghost from_gives = { λ error fault. fault ≡ fault_of_file error };
 
-    fn from(error: ContentFault) -> Fault {
+    fn from(error: FileFault) -> Fault {
         match error {
-            ContentFault::Memory => Fault::Memory,
+            FileFault::Memory => Fault::Memory,
             error => Fault::Content(error),
         }
     }
@@ -87,7 +115,19 @@ impl From<ContentFault> for Fault {
 
 impl From<BuildFault> for Fault {
     fn from(error: BuildFault) -> Fault {
-        Fault::from(ContentFault::from(error))
+        match error {
+            BuildFault::Memory => Fault::Memory,
+            error => Fault::Build(error),
+        }
+    }
+}
+
+impl From<GrantFault> for Fault {
+    fn from(error: GrantFault) -> Fault {
+        match error {
+            GrantFault::IdsSpent => Fault::IdsSpent,
+            GrantFault::Memory => Fault::Memory,
+        }
     }
 }
 
@@ -102,7 +142,7 @@ impl From<WriteFault> for Fault {
 #[cfg(test)]
 mod tests {
     use super::*;
-    use program_file::place::Place;
+    use program_file::Place;
     use std::test::Fail;
 
     #[test]
@@ -110,12 +150,13 @@ mod tests {
         for (fault, line, status) in [
             (Fault::TooLong, "refused P4", 1),
             (
-                Fault::from(ContentFault::Text(Place::System(12))),
+                Fault::from(FileFault::Text(Place::System(12))),
                 "refused P3 system 12",
                 1,
             ),
-            (Fault::from(ContentFault::Memory), "error memory", 3),
+            (Fault::from(FileFault::Memory), "error memory", 3),
             (Fault::ClockSpent, "refused E2", 1),
+            (Fault::IdsSpent, "refused E3", 1),
             (Fault::File, "error file", 3),
             (Fault::Write, "error write", 3),
             (Fault::Memory, "error memory", 3),
@@ -124,6 +165,13 @@ mod tests {
             assert_eq!(rt; told.as_str(), line);
             assert_eq!(rt; fault.status(), status, "at {line}");
         }
+        let fault = ScriptFault {
+            cause: Cause::NotFetched,
+            block: 1,
+            instruction: 2,
+        };
+        let told = Fault::of_script(rt.alloc(), "move", fault)?.to_string(rt.alloc())?;
+        assert_eq!(rt; told.as_str(), "refused X1 move 1 2");
         Ok(())
     }
 }

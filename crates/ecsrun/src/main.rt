@@ -6,9 +6,11 @@ mod fakes;
 mod fault;
 mod file;
 mod opened;
+mod schedule;
 mod serve;
 #[cfg(test)]
 mod tests;
+mod world;
 
 use command_line::args::{Args, LineFault};
 use engine::Single;

@@ -11,6 +11,3 @@ mod steps;
 pub use engine::Engine;
 pub use faults::{NewFault, RunFault};
 pub use mode::Single;
-
-#[cfg(test)]
-mod tests;

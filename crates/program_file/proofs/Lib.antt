@@ -1,3 +1,1 @@
 pub mod Spelled
-pub mod Loading
-pub mod Fitting

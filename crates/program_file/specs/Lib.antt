@@ -1,6 +1,3 @@
-pub mod Fault
 pub mod PlaceFault
 pub mod Name
 pub mod Readings
-pub mod Load
-pub mod Setup

@@ -2,24 +2,24 @@
 use Rattle.texts.specs.declared.read_error.ReadError.{ReadError}
 use Rattle.texts.specs.declared.read_error.ReadError.TheVariants as error
 use Rattle.program_file.specs.declared.place.Place.{Place}
-use Rattle.program_file.specs.declared.fault.ContentFault.{ContentFault}
-use Rattle.program_file.specs.declared.fault.ContentFault.TheVariants as fault
+use Rattle.program_file.specs.declared.fault.FileFault.{FileFault}
+use Rattle.program_file.specs.declared.fault.FileFault.TheVariants as fault
 use Rattle.program_file.specs.declared.place_fault.PlaceFault.{PlaceFault}
 use Rattle.program_file.specs.declared.place_fault.PlaceFault.TheVariants.{Value, Text, Memory}
 
 -- the fault with its place; want of memory has none
-abbrev pub fault_at : Place → PlaceFault → ContentFault
+abbrev pub fault_at : Place → PlaceFault → FileFault
 fault_at place Value = fault.Value place
 fault_at place Text = fault.Text place
 fault_at place Memory = fault.Memory
 
 -- what a text that is not read is in its place
-abbrev pub misfit_of : ReadError → PlaceFault
-misfit_of error.Outside = Text
-misfit_of error.Memory = Memory
+abbrev pub place_fault_of : ReadError → PlaceFault
+place_fault_of error.Outside = Text
+place_fault_of error.Memory = Memory
 
 -- a fault that a place can have: not of the file as bytes, not of a run
-abbrev pub IsOfPlace : ContentFault → Type 0
+abbrev pub IsOfPlace : FileFault → Type 0
 IsOfPlace (fault.Value place) = Unit {0}
 IsOfPlace (fault.Text place) = Unit {0}
 IsOfPlace fault.Memory = Unit {0}

@@ -11,7 +11,7 @@ use toml::{Table, Value};
 
 /// Refuses a table that has another key than these. No clause says which keys it found.
 pub fn refuse_unknown(table: &Table, known: &[&str]) -> Result<(), PlaceFault>
-    ensures { IfErr result (λ misfit. misfit ≡ PlaceFault.Value) }
+    ensures { IfErr result (λ fault. fault ≡ PlaceFault.Value) }
 {
     if table.keys().all(|key| is_among(key.as_str(), known)) {
         Ok(())
@@ -29,7 +29,7 @@ fn is_among(text: &str, known: &[&str]) -> bool
 
 /// The array at a key. One that isn't there is empty.
 pub fn items_at<'a>(table: &'a Table, key: &str) -> Result<&'a [Value], PlaceFault>
-    ensures { IfErr result (λ misfit. misfit ≡ PlaceFault.Value) }
+    ensures { IfErr result (λ fault. fault ≡ PlaceFault.Value) }
 {
     match table.get(key) {
         None => Ok(&[]),
@@ -113,7 +113,7 @@ pub fn integers_of(alloc: Global, value: &Value) -> Result<Vec<i64>, PlaceFault>
 
 /// The number of 32 bits at a key that has to be there. Another value, or none, is `Value`.
 pub fn number_at(table: &Table, key: &str) -> Result<u32, PlaceFault>
-    ensures { IfErr result (λ misfit. misfit ≡ PlaceFault.Value) }
+    ensures { IfErr result (λ fault. fault ≡ PlaceFault.Value) }
 {
     match table.get(key) {
         Some(value) => u32::try_from(value.as_integer().ok_or(PlaceFault::Value)?).map_err(

@@ -1,13 +1,16 @@
-// Program files: what a document says, and the schedule, the scripts and the world that it gives.
+// Program files: their documents, and what these say: names, keys, texts.
 #![tactic(auto)]
 
-pub mod document;
-pub mod fault;
-pub mod keys;
-pub mod name;
-pub mod place;
-pub mod place_fault;
-pub mod program_file;
-pub mod readings;
-pub mod schedule;
-pub mod world;
+mod document;
+mod fault;
+mod keys;
+mod name;
+mod place;
+mod place_fault;
+mod program_file;
+mod readings;
+
+pub use document::document_of;
+pub use fault::FileFault;
+pub use place::Place;
+pub use program_file::{ProgramFile, SystemTable};

@@ -1,10 +1,10 @@
 // What is wrong within one place of a program file.
 
 ghost use Rattle.std.specs.Prelude.{◌≡◌};
-ghost use Rattle.program_file.specs.PlaceFault.{fault_at, misfit_of, IsOfPlace};
+ghost use Rattle.program_file.specs.PlaceFault.{fault_at, place_fault_of, IsOfPlace};
 ghost use Rattle.program_file.specs.declared.place_fault.PlaceFault.TheVariants.{Memory};
 
-use crate::fault::ContentFault;
+use crate::fault::FileFault;
 use crate::place::Place;
 use std::alloc::{AllocError, AllocFailed};
 use texts::read_error::ReadError;
@@ -22,20 +22,20 @@ pub enum PlaceFault {
 
 impl PlaceFault {
     /// The fault that is told of a place.
-    pub fn at(self, place: Place) -> ContentFault
+    pub fn at(self, place: Place) -> FileFault
         ensures fault { result ≡ fault_at place self }
         ensures of_place { IsOfPlace result }
     {
         match self {
-            PlaceFault::Value => ContentFault::Value(place),
-            PlaceFault::Text => ContentFault::Text(place),
-            PlaceFault::Memory => ContentFault::Memory,
+            PlaceFault::Value => FileFault::Value(place),
+            PlaceFault::Text => FileFault::Text(place),
+            PlaceFault::Memory => FileFault::Memory,
         }
     }
 }
 
 impl From<AllocError> for PlaceFault {
-    ghost from_gives = { λ _ misfit. misfit ≡ Memory };
+    ghost from_gives = { λ _ fault. fault ≡ Memory };
 
     fn from(_error: AllocError) -> PlaceFault {
         PlaceFault::Memory
@@ -43,7 +43,7 @@ impl From<AllocError> for PlaceFault {
 }
 
 impl<T: Drop> From<AllocFailed<T>> for PlaceFault {
-    ghost from_gives = { λ _ misfit. misfit ≡ Memory };
+    ghost from_gives = { λ _ fault. fault ≡ Memory };
 
     fn from(_error: AllocFailed<T>) -> PlaceFault {
         PlaceFault::Memory
@@ -51,7 +51,7 @@ impl<T: Drop> From<AllocFailed<T>> for PlaceFault {
 }
 
 impl From<ReadError> for PlaceFault {
-    ghost from_gives = { λ error misfit. misfit ≡ misfit_of error };
+    ghost from_gives = { λ error fault. fault ≡ place_fault_of error };
 
     fn from(error: ReadError) -> PlaceFault {
         match error {

@@ -4,7 +4,7 @@ ghost use Rattle.std.specs.Prelude.{◌≤◌, IfOk, IfErr, All, vec_len};
 ghost use Rattle.program_file.specs.PlaceFault.{IsOfPlace};
 ghost use Rattle.program_file.specs.Name.{IsName};
 
-use crate::fault::ContentFault;
+use crate::fault::FileFault;
 use crate::keys::{integers_of, name_at, names_at, number_at, refuse_unknown, tables_at, texts_at};
 use crate::place::Place;
 use crate::place_fault::PlaceFault;
@@ -59,21 +59,21 @@ const BLOCK_KEYS: [&str; 2] = ["each", "code"];
 impl<'a> ProgramFile<'a> {
     /// Reads a document. The places are looked at in this order: the top, the resources, each entity, each system. A fault is told
     /// with its place.
-    pub fn read(alloc: Global, document: &'a Table) -> Result<ProgramFile<'a>, ContentFault>
+    pub fn read(alloc: Global, document: &'a Table) -> Result<ProgramFile<'a>, FileFault>
         ensures { IfErr result IsOfPlace }
     {
-        let top = Top::read(alloc, document).map_err(|misfit| misfit.at(Place::Top))?;
-        let resources = resources_of(top.resources).map_err(|misfit| misfit.at(Place::Resources))?;
+        let top = Top::read(alloc, document).map_err(|fault| fault.at(Place::Top))?;
+        let resources = resources_of(top.resources).map_err(|fault| fault.at(Place::Resources))?;
         let mut entities = Vec::new(alloc);
         for (number, table) in top.entities.iter().enumerate() {
-            let entity = components_of(alloc, table).map_err(|misfit| misfit.at(Place::Entity(
+            let entity = components_of(alloc, table).map_err(|fault| fault.at(Place::Entity(
                 number,
             )))?;
             entities.push(entity)?;
         }
         let mut systems = Vec::new(alloc);
         for (number, table) in top.systems.iter().enumerate() {
-            let system = SystemTable::read(alloc, table).map_err(|misfit| misfit.at(Place::System(
+            let system = SystemTable::read(alloc, table).map_err(|fault| fault.at(Place::System(
                 number,
             )))?;
             systems.push(system)?;

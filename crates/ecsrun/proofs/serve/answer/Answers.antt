@@ -1,7 +1,7 @@
 use Rattle.std.proofs.Common.{map, string_bytes}
 use Rattle.engine.specs.EngineValue.{meanings}
-use Rattle.program_file.specs.Load.{entity_given}
-use Rattle.program_file.specs.Setup.{start_of}
+use Rattle.ecsrun.specs.Load.{entity_given}
+use Rattle.ecsrun.specs.Setup.{start_of}
 use Rattle.ecsrun.specs.Served.{IsTextOfRuns, IsRunText}
 use Rattle.ecsrun.proofs.Serving.{of-ok, runs-loaded}
 use Rattle.ecsrun.proofs.serve.answer.Goals as goal

@@ -1,11 +1,11 @@
 // The schedule that a program file declares, and the scripts of its systems.
 
 ghost use Rattle.std.specs.Prelude.{◌≡◌, length, IfOk, OnOk};
-ghost use Rattle.program_file.specs.Setup.{AreScriptsOf, HasNoReaders};
+ghost use Rattle.ecsrun.specs.Setup.{AreScriptsOf, HasNoReaders};
 
-use crate::fault::ContentFault;
-use crate::program_file::SystemTable;
+use crate::fault::Fault;
 use access_set::params::Params;
+use program_file::SystemTable;
 use query::Query;
 use schedule_builder::built::Built;
 use schedule_builder::desc::{ScheduleDesc, SystemDesc};
@@ -78,7 +78,7 @@ pub fn bodies_of(
     alloc: Global,
     built: &Built,
     codes: Vec<Code<'_>>,
-) -> Result<Vec<ScriptBody>, ContentFault>
+) -> Result<Vec<ScriptBody>, Fault>
     requires { length codes.items ≡ length built.now.systems }
     ensures scripts { IfOk result (λ bodies. AreScriptsOf built.now bodies.items) }
     ensures readers { OnOk result (HasNoReaders built.now) }
@@ -90,9 +90,9 @@ pub fn bodies_of(
         match ScriptBody::check(alloc, params, code.blocks) {
             Ok(body) => bodies.push(body)?,
             Err(CheckFault::Script(fault)) => {
-                return Err(ContentFault::of_script(alloc, code.name, fault)?);
+                return Err(Fault::of_script(alloc, code.name, fault)?);
             }
-            Err(CheckFault::Memory) => return Err(ContentFault::Memory),
+            Err(CheckFault::Memory) => return Err(Fault::Memory),
         }
     }
     Ok(bodies)

@@ -1,10 +1,10 @@
 // Runs of one system that moves what has a velocity, and what an engine refuses.
 
-use crate::{Engine, NewFault, RunFault, Single};
 use access_set::params::Params;
 use archetype_store::store::World;
 use body::state::State;
 use change_ticks::clock::{Clock, LAST_TICK};
+use engine::{Engine, NewFault, RunFault, Single};
 use entity_table::Entity;
 use executor_core::Step;
 use kinds::component::{Position, Velocity};
@@ -25,12 +25,8 @@ const FIRST: Entity = Entity {
 
 // The parameters of a system with one query.
 fn querying(alloc: Global, terms: &[Term]) -> Result<Params, AllocError> {
-    let mut query = Query::new(alloc);
-    for term in terms {
-        query.push(*term)?;
-    }
     let mut params = Params::new(alloc);
-    params.add_query(query)?;
+    params.add_query(Query::of_terms(alloc, terms)?)?;
     Ok(params)
 }
 

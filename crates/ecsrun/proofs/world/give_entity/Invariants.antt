@@ -3,8 +3,8 @@ use Rattle.model.specs.state.Commands.{is_alive}
 use Rattle.model.specs.state.Loaded.{slot_given}
 use Rattle.archetype_store.specs.Layout.{AreAllHome}
 use Rattle.archetype_store.specs.Store.{with_slot}
-use Rattle.program_file.specs.Load.{given_of}
-use Rattle.program_file.proofs.world.give_entity.Given as goal
+use Rattle.ecsrun.specs.Load.{given_of}
+use Rattle.ecsrun.proofs.world.give_entity.Given as goal
 
 -- the entity lives, and has the components so far
 abbrev pub invariant-loop-value : goal.invariant-loop-value

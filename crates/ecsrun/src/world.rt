@@ -9,9 +9,9 @@ ghost use Rattle.entity_table.specs.Ids.{IsGranted};
 ghost use Rattle.archetype_store.specs.Layout.{AreAllHome};
 ghost use Rattle.archetype_store.specs.Store.{with_slot};
 ghost use Rattle.kinds.specs.Value.{value_number, value_words};
-ghost use Rattle.program_file.specs.Load.{given_of, entity_given, loaded_world, with_resources, with_entities};
+ghost use Rattle.ecsrun.specs.Load.{given_of, entity_given, loaded_world, with_resources, with_entities};
 
-use crate::fault::ContentFault;
+use crate::fault::Fault;
 use archetype_store::fault::StoreFault;
 use archetype_store::store::World;
 use change_ticks::clock::{Clock, Tick};
@@ -30,7 +30,7 @@ pub fn world_of(
     alloc: Global,
     entities: &[Vec<Value>],
     resources: &[i64; 8],
-) -> Result<World, ContentFault>
+) -> Result<World, Fault>
     ensures world { IfOk result (λ world. world.state ≡ loaded_world (map entity_given entities.now) resources.now) }
     ensures home { IfOk result (λ world. AreAllHome world.layout) }
 {
@@ -53,11 +53,7 @@ fn give_resources(world: &mut World, values: &[i64; 8])
 }
 
 // Gives a world without entities these ones.
-fn give_entities(
-    alloc: Global,
-    world: &mut World,
-    entities: &[Vec<Value>],
-) -> Result<(), ContentFault>
+fn give_entities(alloc: Global, world: &mut World, entities: &[Vec<Value>]) -> Result<(), Fault>
     requires clock { 1 ≤ world.old.state.clock }
     requires empty { world.old.state.slots ≡ [] }
     requires home { AreAllHome world.old.layout }
@@ -65,7 +61,7 @@ fn give_entities(
     ensures home { AreAllHome world.new.layout }
 {
     let Ok(count) = u32::try_from(entities.len()) else {
-        return Err(ContentFault::IdsSpent);
+        return Err(Fault::IdsSpent);
     };
     let ids = world.grant(alloc, count)?;
     for (index, components) in entities.iter().enumerate() {

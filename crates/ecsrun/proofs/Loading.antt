@@ -22,7 +22,7 @@ use Rattle.kinds.specs.declared.value.Value.{Value}
 use Rattle.kinds.specs.Value.{value_number, value_words}
 use Rattle.kinds.specs.declared.res.Res.{Res}
 use Rattle.kinds.specs.Res.{res_number, every_res}
-use Rattle.program_file.specs.Load.{given_of, entity_given, slots_so_far, with_entities, with_resources}
+use Rattle.ecsrun.specs.Load.{given_of, entity_given, slots_so_far, with_entities, with_resources}
 
 written-next : {A B : Type 0} (g : A → B) (f : B → B) (i : ℕ) (xs : List A) (ys : List B) (x : A) (y : B) → i < length xs → length ys ≡ length xs
     → f (get_or ys i y) ≡ g (get_or xs i x) → update_at i f (map g (take i xs) ++ drop i ys) ≡ map g (take (suc i) xs) ++ drop (suc i) ys

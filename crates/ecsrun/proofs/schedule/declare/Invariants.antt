@@ -1,5 +1,5 @@
 use Rattle.std.proofs.Common.{◌≡◌, length}
-use Rattle.program_file.proofs.schedule.declare.Given as goal
+use Rattle.ecsrun.proofs.schedule.declare.Given as goal
 
 -- as many codes as systems so far
 abbrev pub invariant-loop-row : goal.invariant-loop-row

@@ -1,6 +1,6 @@
 use Rattle.std.proofs.Common.{◌≡◌, ◌++◌, take, drop, map}
 use Rattle.model.specs.state.Loaded.{resource_given}
-use Rattle.program_file.proofs.world.give_resources.Given as goal
+use Rattle.ecsrun.proofs.world.give_resources.Given as goal
 
 -- the resources so far have their values
 abbrev pub invariant-loop-number : goal.invariant-loop-number

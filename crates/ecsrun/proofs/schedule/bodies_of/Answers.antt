@@ -4,8 +4,8 @@ use Rattle.std.proofs.lemmas.Iterator.Adapters.{YieldsList-from_vec}
 use Rattle.std.proofs.lemmas.Iterator.Consumers.{YieldsList-turn}
 use Rattle.model.specs.access.Access.{Params}
 use Rattle.script.specs.Faults.{fits}
-use Rattle.program_file.proofs.Fitting.{fits-none, fits-more, params-at, readers-more}
-use Rattle.program_file.proofs.schedule.bodies_of.Goals as goal
+use Rattle.ecsrun.proofs.Fitting.{fits-none, fits-more, params-at, readers-more}
+use Rattle.ecsrun.proofs.schedule.bodies_of.Goals as goal
 
 pub loop-code-preserved : goal.loop-code-preserved
 loop-code-preserved c =

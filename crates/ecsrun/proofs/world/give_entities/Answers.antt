@@ -4,9 +4,9 @@ use Rattle.model.specs.declared.entities.Entity.{Entity}
 use Rattle.model.specs.state.Loaded.{slot_given}
 use Rattle.archetype_store.specs.Layout.{AreAllHome}
 use Rattle.archetype_store.specs.Store.{with_slot}
-use Rattle.program_file.specs.Load.{given_of, entity_given}
-use Rattle.program_file.proofs.Loading.{entities-none, length-ids, id-next, granted-next, given-next, entities-more, entities-all}
-use Rattle.program_file.proofs.world.give_entities.Goals as goal
+use Rattle.ecsrun.specs.Load.{given_of, entity_given}
+use Rattle.ecsrun.proofs.Loading.{entities-none, length-ids, id-next, granted-next, given-next, entities-more, entities-all}
+use Rattle.ecsrun.proofs.world.give_entities.Goals as goal
 
 pub loop-index-init : goal.loop-index-init
 loop-index-init c = record {

@@ -1,7 +1,7 @@
 use Rattle.std.proofs.Common.{◌≡◌, map}
 use Rattle.archetype_store.specs.Layout.{AreAllHome}
-use Rattle.program_file.specs.Load.{entity_given, slots_so_far}
-use Rattle.program_file.proofs.world.give_entities.Given as goal
+use Rattle.ecsrun.specs.Load.{entity_given, slots_so_far}
+use Rattle.ecsrun.proofs.world.give_entities.Given as goal
 
 -- the entities so far are there
 abbrev pub invariant-loop-index : goal.invariant-loop-index

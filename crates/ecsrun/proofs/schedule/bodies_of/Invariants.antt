@@ -1,7 +1,7 @@
 use Rattle.std.proofs.Common.{◌≡◌, ◌<◌, ℕ, [], length, true}
 use Rattle.model.specs.steps.Schedule.{params_of}
 use Rattle.engine.specs.Fits.{fits_at}
-use Rattle.program_file.proofs.schedule.bodies_of.Given as goal
+use Rattle.ecsrun.proofs.schedule.bodies_of.Given as goal
 
 -- the scripts so far fit their systems, which read no events
 abbrev pub invariant-loop-code : goal.invariant-loop-code

@@ -1,8 +1,8 @@
 use Rattle.archetype_store.specs.Layout.{AreAllHome}
 use Rattle.std.proofs.Common.{rules, sym, subst, [], map, take, ◌∙◌, ◌+◌}
-use Rattle.program_file.specs.Load.{given_of}
-use Rattle.program_file.proofs.Loading.{spawn-first, given-alive, given-more, given-all}
-use Rattle.program_file.proofs.world.give_entity.Goals as goal
+use Rattle.ecsrun.specs.Load.{given_of}
+use Rattle.ecsrun.proofs.Loading.{spawn-first, given-alive, given-more, given-all}
+use Rattle.ecsrun.proofs.world.give_entity.Goals as goal
 
 pub loop-value-init : goal.loop-value-init
 loop-value-init c = record {

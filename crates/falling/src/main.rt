@@ -1,0 +1,85 @@
+// A program that needs no file: a world, a schedule of one system and its script, and three runs of it.
+#![tactic(auto)]
+
+ghost use Rattle.std.specs.Prelude.{IfSome};
+ghost use Rattle.archetype_store.specs.Layout.{AreAllHome};
+
+use access_set::params::Params;
+use archetype_store::store::World;
+use body::state::State;
+use change_ticks::clock::Clock;
+use engine::{Engine, Single};
+use kinds::component::{Position, Velocity};
+use kinds::kind::Kind;
+use query::{Query, Term};
+use schedule_builder::builder::build;
+use schedule_builder::built::Built;
+use schedule_builder::desc::{ScheduleDesc, SystemDesc};
+use script::instruction::Instruction;
+use script::script_body::{Block, ScriptBody};
+use std::alloc::Global;
+use std::process::ExitCode;
+use streams::writing::write_whole;
+use world_text::text::text_of;
+
+// How often the schedule runs.
+const RUNS: u32 = 3;
+
+// What the system is shown: the position and the velocity of each entity that has both, the position to be written.
+fn params(alloc: Global) -> Option<Params> {
+    let terms = [Term::Mut(Kind::Position), Term::Read(Kind::Velocity)];
+    let mut params = Params::new(alloc);
+    params.add_query(Query::of_terms(alloc, &terms).ok()?).ok()?;
+    Some(params)
+}
+
+// The schedule of one system.
+fn schedule(alloc: Global) -> Option<Built> {
+    let mut desc = ScheduleDesc::new(alloc);
+    let name = String::from_str(alloc, "fall").ok()?;
+    desc.add_system(SystemDesc::new(alloc, name, params(alloc)?))
+        .ok()?;
+    build(alloc, desc).ok()
+}
+
+// What the system does in each row: it adds the velocity to the position.
+fn script(alloc: Global) -> Option<ScriptBody> {
+    let mut code = Vec::new(alloc);
+    for text in ["add Position.x Velocity.x", "add Position.y Velocity.y"] {
+        code.push(Instruction::read(alloc, text).ok()?).ok()?;
+    }
+    let mut blocks = Vec::new(alloc);
+    blocks.push(Block { query: 0, code }).ok()?;
+    ScriptBody::check(alloc, &params(alloc)?, blocks).ok()
+}
+
+// One entity with a position and a velocity, at tick 1.
+fn world(alloc: Global) -> Option<World>
+    ensures { IfSome result (λ world. AreAllHome world.layout) }
+{
+    let mut world = World::new(alloc, Clock::at(1)).ok()?;
+    let granted = world.grant(alloc, 1).ok()?;
+    let entity = *granted.first()?;
+    world.spawn_at(entity);
+    world.insert(entity, Position { x: 0, y: 0 }, 1).ok()?;
+    world.insert(entity, Velocity { x: 1, y: -2 }, 1).ok()?;
+    Some(world)
+}
+
+// The text of the world after the runs.
+fn text(alloc: Global) -> Option<String> {
+    let mut bodies = Vec::new(alloc);
+    bodies.push(script(alloc)?).ok()?;
+    let state = State::new(alloc, world(alloc)?, 1).ok()?;
+    let mut engine = Engine::new(alloc, schedule(alloc)?, bodies, state).ok()?;
+    engine.run(alloc, RUNS, &Single).ok()?;
+    let state = engine.state();
+    text_of(alloc, RUNS, state.world(), state.passed_over()).ok()
+}
+
+fn main(rt: HostRuntime) -> ExitCode {
+    match text(rt.alloc()) {
+        Some(text) if write_whole(&mut rt.stdout(), text.as_str()).is_ok() => ExitCode::SUCCESS,
+        _ => ExitCode::FAILURE,
+    }
+}

@@ -1,0 +1,66 @@
+// When two accesses conflict.
+
+use access_set::conflict::conflicts;
+use access_set::params::Params;
+use kinds::kind::Kind;
+use query::{Query, Term};
+use std::alloc::{AllocError, Global};
+use std::test::Fail;
+
+// The access of one query.
+fn access(alloc: Global, terms: &[Term]) -> Result<Params, AllocError> {
+    let mut params = Params::new(alloc);
+    params.add_query(Query::of_terms(alloc, terms)?)?;
+    Ok(params)
+}
+
+#[test]
+fn filters_keep_queries_apart(rt: HostRuntime) -> Result<(), Fail> {
+    let with = access(
+        rt.alloc(),
+        &[Term::Mut(Kind::Position), Term::With(Kind::Velocity)],
+    )?;
+    let without = access(
+        rt.alloc(),
+        &[Term::Mut(Kind::Position), Term::Without(Kind::Velocity)],
+    )?;
+    let optional = access(
+        rt.alloc(),
+        &[Term::Mut(Kind::Position), Term::Opt(Kind::Velocity)],
+    )?;
+    let reading = access(rt.alloc(), &[Term::Read(Kind::Position)])?;
+    assert!(rt; !conflicts(&with, &without));
+    assert!(rt; conflicts(&optional, &without));
+    assert!(rt; conflicts(&reading, &with));
+    assert!(rt; !conflicts(&reading, &reading));
+    Ok(())
+}
+
+#[test]
+fn terms_of_every_sort_meet(rt: HostRuntime) -> Result<(), Fail> {
+    let frozen = access(
+        rt.alloc(),
+        &[Term::Mut(Kind::Health), Term::With(Kind::Frozen)],
+    )?;
+    let hidden = access(
+        rt.alloc(),
+        &[
+            Term::Read(Kind::Health),
+            Term::With(Kind::Hidden),
+            Term::Without(Kind::Frozen),
+        ],
+    )?;
+    let writing = access(
+        rt.alloc(),
+        &[Term::Mut(Kind::Health), Term::Mut(Kind::Score)],
+    )?;
+    let optional = access(
+        rt.alloc(),
+        &[Term::Read(Kind::Score), Term::Opt(Kind::Health)],
+    )?;
+    assert!(rt; !conflicts(&frozen, &hidden));
+    assert!(rt; !conflicts(&hidden, &frozen));
+    assert!(rt; conflicts(&writing, &optional));
+    assert!(rt; conflicts(&optional, &writing));
+    Ok(())
+}

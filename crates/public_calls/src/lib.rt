@@ -1,0 +1,17 @@
+// Tests of public calls of several crates, in one crate: so that one check proves them all.
+#![tactic(auto)]
+
+#[cfg(test)]
+mod conflicts;
+#[cfg(test)]
+mod events;
+#[cfg(test)]
+mod queries;
+#[cfg(test)]
+mod runs;
+#[cfg(test)]
+mod schedules;
+#[cfg(test)]
+mod scripts;
+#[cfg(test)]
+mod steps;

@@ -1,0 +1,113 @@
+// The texts of queries, and what is wrong with a query by itself.
+
+use kinds::kind::Kind;
+use query::{BadQuery, Query, Term};
+use std::test::Fail;
+use texts::read_error::ReadError;
+
+#[test]
+fn queries(rt: HostRuntime) -> Result<(), Fail> {
+    let query = Query::read(rt.alloc(), " read  Position , mut Velocity")?;
+    assert_eq!(rt;
+        query.terms(),
+        [Term::Read(Kind::Position), Term::Mut(Kind::Velocity)].as_slice()
+    );
+    let every = Query::read(
+        rt.alloc(),
+        "entity,opt Health,with Frozen , without  Hidden ",
+    )?;
+    assert_eq!(rt;
+        every.terms(),
+        [
+            Term::Entity,
+            Term::Opt(Kind::Health),
+            Term::With(Kind::Frozen),
+            Term::Without(Kind::Hidden)
+        ]
+        .as_slice()
+    );
+    let empty = Query::read(rt.alloc(), "  ")?;
+    assert_eq!(rt; empty.terms().len(), 0);
+    for text in [
+        "read Position,",
+        ",",
+        "read Position,,mut Velocity",
+        "read\tPosition",
+        "mut",
+        "write Position",
+        "entity Position",
+        "entities",
+        "opt",
+        "opt Round",
+        "with Frozen Hidden",
+        "added Health",
+        "changed Health",
+    ] {
+        assert_eq!(rt;
+            Query::read(rt.alloc(), text).err(),
+            Some(ReadError::Outside),
+            "at {text}"
+        );
+    }
+    Ok(())
+}
+
+#[test]
+fn the_least_fault_is_told(rt: HostRuntime) -> Result<(), Fail> {
+    for (text, answer) in [
+        ("", Ok(())),
+        ("read Position, mut Velocity", Ok(())),
+        ("mut Health, with Frozen", Ok(())),
+        ("entity, opt Health, without Frozen, without Frozen", Ok(())),
+        ("read Health, with Health", Ok(())),
+        (
+            "read Health, without Health",
+            Err(BadQuery::RequiredExcluded),
+        ),
+        (
+            "without Frozen, with Frozen",
+            Err(BadQuery::RequiredExcluded),
+        ),
+        (
+            "read Health, without Health, opt Health",
+            Err(BadQuery::RequiredExcluded),
+        ),
+        (
+            "read Position, mut Velocity, read Position",
+            Err(BadQuery::FetchedTwice),
+        ),
+        (
+            "opt Health, without Health, opt Health",
+            Err(BadQuery::FetchedTwice),
+        ),
+        ("opt Health, without Health", Err(BadQuery::OptExcluded)),
+    ] {
+        let query = Query::read(rt.alloc(), text)?;
+        assert_eq!(rt; query.check(), answer, "at {text}");
+    }
+    for (added, answer) in [
+        (Term::Added(Kind::Health), Err(BadQuery::RequiredExcluded)),
+        (Term::Changed(Kind::Health), Err(BadQuery::RequiredExcluded)),
+        (Term::Changed(Kind::Hidden), Ok(())),
+    ] {
+        let mut query = Query::new(rt.alloc());
+        query.push(added)?;
+        query.push(Term::Without(Kind::Health))?;
+        assert_eq!(rt; query.check(), answer);
+    }
+    Ok(())
+}
+
+#[test]
+fn faults_are_printed(rt: HostRuntime) -> Result<(), Fail> {
+    for (fault, number, text) in [
+        (BadQuery::RequiredExcluded, 1, "1"),
+        (BadQuery::FetchedTwice, 2, "2"),
+        (BadQuery::OptExcluded, 3, "3"),
+    ] {
+        assert_eq!(rt; fault.number(), number);
+        let printed = format!(in rt.alloc(); "{fault}")?;
+        assert_eq!(rt; printed.as_str(), text);
+    }
+    Ok(())
+}

@@ -1,0 +1,161 @@
+// Built schedules, and which refusal is told.
+
+use access_set::params::Params;
+use kinds::kind::Kind;
+use query::{Query, Term};
+use schedule_builder::builder::build;
+use schedule_builder::desc::{ScheduleDesc, SystemDesc};
+use schedule_builder::fault::BuildFault;
+use std::alloc::{AllocError, Global};
+use std::test::Fail;
+
+/// A system of this name before one and after another, where these are named.
+fn system(alloc: Global, name: &str, before: &str, after: &str) -> Result<SystemDesc, AllocError> {
+    let mut system = SystemDesc::new(alloc, String::from_str(alloc, name)?, Params::new(alloc));
+    if !before.is_empty() {
+        system.add_before(String::from_str(alloc, before)?)?;
+    }
+    if !after.is_empty() {
+        system.add_after(String::from_str(alloc, after)?)?;
+    }
+    Ok(system)
+}
+
+/// The schedule order, or what is refused.
+fn answer(alloc: Global, desc: ScheduleDesc) -> Result<String, AllocError> {
+    match build(alloc, desc) {
+        Ok(built) => format!(in alloc; "{:?}", built.order()),
+        Err(fault) => fault.to_string(alloc),
+    }
+}
+
+/// What is told of systems, each by its name and the names that it runs before and after.
+fn told(alloc: Global, systems: &[(&str, &str, &str)]) -> Result<String, AllocError> {
+    let mut desc = ScheduleDesc::new(alloc);
+    for (name, before, after) in systems {
+        desc.add_system(system(alloc, *name, *before, *after)?)?;
+    }
+    answer(alloc, desc)
+}
+
+#[test]
+fn tells_refusals(rt: HostRuntime) -> Result<(), Fail> {
+    let alloc = rt.alloc();
+    let cycle = [("a", "b", ""), ("b", "c", ""), ("c", "a", "")];
+    assert_eq!(rt; told(alloc, &cycle)?.as_str(), "refused B6 a b c a");
+    let tail = [("d", "c", ""), ("c", "b", ""), ("b", "c", "")];
+    assert_eq!(rt; told(alloc, &tail)?.as_str(), "refused B6 c b c");
+    let unknown = [("a", "b", "zz"), ("a", "", "b")];
+    assert_eq!(rt; told(alloc, &unknown)?.as_str(), "refused B1 b");
+    assert_eq!(rt;
+        told(alloc, &[("a", "", ""), ("a", "", "a")])?.as_str(),
+        "refused B2 a"
+    );
+    assert_eq!(rt;
+        told(alloc, &[("a", "", ""), ("b", "", "b")])?.as_str(),
+        "refused B5 b"
+    );
+    Ok(())
+}
+
+#[test]
+fn orders_systems(rt: HostRuntime) -> Result<(), Fail> {
+    let alloc = rt.alloc();
+    assert_eq!(rt; told(alloc, &[])?.as_str(), "[]");
+    let systems = [("a", "", "c"), ("b", "", ""), ("c", "", ""), ("d", "b", "")];
+    assert_eq!(rt; told(alloc, &systems)?.as_str(), "[2, 0, 3, 1]");
+    Ok(())
+}
+
+/// What is told of a system with a query without terms and one with these terms, behind a system without queries.
+fn told_of_query(alloc: Global, terms: &[Term]) -> Result<String, AllocError> {
+    let mut query = Query::new(alloc);
+    for term in terms {
+        query.push(*term)?;
+    }
+    let mut params = Params::new(alloc);
+    params.add_query(Query::new(alloc))?;
+    params.add_query(query)?;
+    let mut desc = ScheduleDesc::new(alloc);
+    desc.add_system(system(alloc, "first", "", "")?)?;
+    desc.add_system(SystemDesc::new(alloc, String::from_str(alloc, "second")?, params))?;
+    answer(alloc, desc)
+}
+
+#[test]
+fn tells_a_bad_query(rt: HostRuntime) -> Result<(), Fail> {
+    let alloc = rt.alloc();
+    let twice = [Term::Mut(Kind::Position), Term::Read(Kind::Position)];
+    assert_eq!(rt;
+        told_of_query(alloc, &twice)?.as_str(),
+        "refused B10 second 1 2"
+    );
+    let opt = [Term::Opt(Kind::Health), Term::Without(Kind::Health)];
+    assert_eq!(rt;
+        told_of_query(alloc, &opt)?.as_str(),
+        "refused B10 second 1 3"
+    );
+    let read = [Term::Read(Kind::Health), Term::Without(Kind::Health)];
+    assert_eq!(rt;
+        told_of_query(alloc, &read)?.as_str(),
+        "refused B10 second 1 1"
+    );
+    let all = [
+        Term::Read(Kind::Health),
+        Term::Without(Kind::Health),
+        Term::Opt(Kind::Health),
+    ];
+    assert_eq!(rt;
+        told_of_query(alloc, &all)?.as_str(),
+        "refused B10 second 1 1"
+    );
+    let good = [Term::Mut(Kind::Health), Term::With(Kind::Frozen)];
+    assert_eq!(rt; told_of_query(alloc, &good)?.as_str(), "[0, 1]");
+    Ok(())
+}
+
+#[test]
+fn tells_the_first_bad_query(rt: HostRuntime) -> Result<(), Fail> {
+    let alloc = rt.alloc();
+    let mut desc = ScheduleDesc::new(alloc);
+    for name in ["a", "b"] {
+        let mut params = Params::new(alloc);
+        for excluding in [Term::Opt(Kind::Health), Term::With(Kind::Health)] {
+            let mut query = Query::new(alloc);
+            query.push(excluding)?;
+            query.push(Term::Without(Kind::Health))?;
+            params.add_query(query)?;
+        }
+        desc.add_system(SystemDesc::new(alloc, String::from_str(alloc, name)?, params))?;
+    }
+    assert_eq!(rt; answer(alloc, desc)?.as_str(), "refused B10 a 0 3");
+    Ok(())
+}
+
+/// A chain of systems, each before the next; where it is closed, the last is before the first.
+fn chain(alloc: Global, count: u32, is_closed: bool) -> Result<ScheduleDesc, AllocError> {
+    let mut desc = ScheduleDesc::new(alloc);
+    for number in 1..=count {
+        let name = format!(in alloc; "s{number}")?;
+        let mut system = SystemDesc::new(alloc, name, Params::new(alloc));
+        if is_closed && number == count {
+            system.add_before(String::from_str(alloc, "s1")?)?;
+        }
+        if number > 1 {
+            system.add_after(format!(in alloc; "s{}", number - 1)?)?;
+        }
+        desc.add_system(system)?;
+    }
+    Ok(desc)
+}
+
+#[test]
+fn refuses_long_chains_quickly(rt: HostRuntime) -> Result<(), Fail> {
+    let alloc = rt.alloc();
+    let long = answer(alloc, chain(alloc, 40_000, false)?)?;
+    assert_eq!(rt; long.as_str(), "refused B12 1");
+    let closed = answer(alloc, chain(alloc, 4_000, true)?)?;
+    assert!(rt; closed.as_str().starts_with("refused B6 s1 s2 s3 "));
+    assert!(rt; closed.as_str().ends_with(" s3999 s4000 s1"));
+    Ok(())
+}

@@ -1,0 +1,209 @@
+// The texts of instructions, and what a script is refused for and does.
+
+ghost use Rattle.std.specs.Prelude.{◌≤◌};
+ghost use Rattle.archetype_store.specs.Layout.{AreAllHome};
+
+use access_set::params::Params;
+use archetype_store::store::World;
+use body::memory::Memory;
+use body::view::View;
+use change_ticks::clock::Clock;
+use kinds::component::{Health, Position, Velocity};
+use kinds::kind::Kind;
+use query::{Query, Term};
+use script::fault::{Cause, CheckFault, ScriptFault};
+use script::instruction::{Axis, Field, Instruction, Operation, Source};
+use script::script_body::{Block, ScriptBody};
+use std::alloc::{AllocError, Global};
+use std::test::Fail;
+use texts::read_error::ReadError;
+
+#[test]
+fn instructions(rt: HostRuntime) -> Result<(), Fail> {
+    let x = Field {
+        kind: Kind::Position,
+        axis: Axis::X,
+    };
+    let add = Instruction::read(rt.alloc(), " add  Position.x Velocity.v")?;
+    let velocity = Field {
+        kind: Kind::Velocity,
+        axis: Axis::V,
+    };
+    assert_eq!(rt;
+        add,
+        Instruction::Change {
+            operation: Operation::Add,
+            target: x,
+            source: Source::Field(velocity)
+        }
+    );
+    let set = Instruction::read(rt.alloc(), "set Position.x -007")?;
+    assert_eq!(rt;
+        set,
+        Instruction::Change {
+            operation: Operation::Set,
+            target: x,
+            source: Source::Integer(-7)
+        }
+    );
+    for text in [
+        "set Position.x +1",
+        "set\tPosition.x 1",
+        "set Position.z 1",
+        "set Position .x 1",
+        "set Position.x",
+        "set Position.x 1 2",
+        "",
+    ] {
+        assert_eq!(rt;
+            Instruction::read(rt.alloc(), text),
+            Err(ReadError::Outside),
+            "at {text}"
+        );
+    }
+    Ok(())
+}
+
+// The parameters of a system that moves.
+fn moving(alloc: Global) -> Result<Params, AllocError> {
+    let mut query = Query::new(alloc);
+    query.push(Term::Mut(Kind::Position))?;
+    query.push(Term::Read(Kind::Velocity))?;
+    let mut params = Params::new(alloc);
+    params.add_query(query)?;
+    Ok(params)
+}
+
+// The instruction that adds a field of the step to one of the place.
+fn add(axis: Axis) -> Instruction {
+    Instruction::Change {
+        operation: Operation::Add,
+        target: Field {
+            kind: Kind::Position,
+            axis,
+        },
+        source: Source::Field(Field {
+            kind: Kind::Velocity,
+            axis,
+        }),
+    }
+}
+
+// The block of two such additions, the first at `x`.
+fn adding(alloc: Global, second: Axis) -> Result<Vec<Block>, AllocError> {
+    let mut code = Vec::new(alloc);
+    code.push(add(Axis::X))?;
+    code.push(add(second))?;
+    let mut blocks = Vec::new(alloc);
+    blocks.push(Block { query: 0, code })?;
+    Ok(blocks)
+}
+
+// Runs blocks once on a world, as a system that starts at tick 2.
+fn run_once(
+    alloc: Global,
+    params: &Params,
+    blocks: Vec<Block>,
+    world: &mut World,
+) -> Result<(), Fail>
+    requires past { 2 ≤ world.old.state.clock }
+    requires home { AreAllHome world.old.layout }
+    ensures { AreAllHome world.new.layout }
+{
+    let mut script = ScriptBody::check(alloc, params, blocks)?;
+    let mut view = View::open(alloc, params, &Memory::new(alloc), world)?;
+    script.run(&mut view);
+    view.close(world, 2)?;
+    Ok(())
+}
+
+// The place of an entity after one run of the two additions.
+fn moved(alloc: Global, place: Position, step: Velocity) -> Result<Option<Position>, Fail> {
+    let mut world = World::new(alloc, Clock::at(2))?;
+    let granted = world.grant(alloc, 1)?;
+    let entity = *granted.first().ok_or("no id")?;
+    world.spawn_at(entity);
+    world.insert(entity, place, 1)?;
+    world.insert(entity, step, 1)?;
+    let params = moving(alloc)?;
+    run_once(alloc, &params, adding(alloc, Axis::Y)?, &mut world)?;
+    Ok(world.get::<Position>(entity))
+}
+
+#[test]
+fn adds_a_step(rt: HostRuntime) -> Result<(), Fail> {
+    let start = Position { x: 0, y: 0 };
+    let place = moved(rt.alloc(), start, Velocity { x: 1, y: -2 })?;
+    assert_eq!(rt; place, Some(Position { x: 1, y: -2 }));
+    Ok(())
+}
+
+#[test]
+fn cuts_a_sum(rt: HostRuntime) -> Result<(), Fail> {
+    let edge = Position {
+        x: i64::MAX,
+        y: i64::MIN,
+    };
+    let place = moved(rt.alloc(), edge, Velocity { x: 1, y: -1 })?;
+    assert_eq!(rt; place, Some(edge));
+    Ok(())
+}
+
+// The health of an entity after one run of an instruction.
+fn healed(alloc: Global, health: Health, text: &str) -> Result<Option<Health>, Fail> {
+    let mut query = Query::new(alloc);
+    query.push(Term::Mut(Kind::Health))?;
+    let mut params = Params::new(alloc);
+    params.add_query(query)?;
+    let mut code = Vec::new(alloc);
+    code.push(Instruction::read(alloc, text)?)?;
+    let mut blocks = Vec::new(alloc);
+    blocks.push(Block { query: 0, code })?;
+    let mut world = World::new(alloc, Clock::at(2))?;
+    let granted = world.grant(alloc, 1)?;
+    let entity = *granted.first().ok_or("no id")?;
+    world.spawn_at(entity);
+    world.insert(entity, health, 1)?;
+    run_once(alloc, &params, blocks, &mut world)?;
+    Ok(world.get::<Health>(entity))
+}
+
+#[test]
+fn changes_a_kind_of_one_field(rt: HostRuntime) -> Result<(), Fail> {
+    for (health, text, left) in [
+        (5, "sub Health.v 3", 2),
+        (i64::MAX, "add Health.v 1", i64::MAX),
+        (i64::MIN, "sub Health.v 1", i64::MIN),
+    ] {
+        let found = healed(rt.alloc(), Health { v: health }, text)?;
+        assert_eq!(rt; found, Some(Health { v: left }), "by {text}");
+    }
+    Ok(())
+}
+
+#[test]
+fn tells_a_field_that_is_not_there(rt: HostRuntime) -> Result<(), Fail> {
+    let alloc = rt.alloc();
+    let fault = ScriptBody::check(alloc, &moving(alloc)?, adding(alloc, Axis::V)?)
+        .err()
+        .ok_or("no fault")?;
+    assert_eq!(rt;
+        fault,
+        CheckFault::Script(ScriptFault {
+            cause: Cause::NoField,
+            block: 0,
+            instruction: 1
+        })
+    );
+    Ok(())
+}
+
+#[test]
+fn fits_its_own_parameters_alone(rt: HostRuntime) -> Result<(), Fail> {
+    let alloc = rt.alloc();
+    let params = moving(alloc)?;
+    let script = ScriptBody::check(alloc, &params, adding(alloc, Axis::Y)?)?;
+    assert!(rt; script.fits(&params));
+    assert!(rt; !script.fits(&Params::new(alloc)));
+    Ok(())
+}
