@@ -9,9 +9,9 @@ ghost use Rattle.archetype_store.specs.View.{kinds_seen};
 ghost use Rattle.query.specs.Term.{term_of};
 ghost use Rattle.query_plan.specs.Picks.{picked_in, picked_of, picked_from, picks_of, pick_seen};
 
-use query::{Presence, Query, Term};
 use archetype_store::store::{ArchetypeView, World};
 use kinds::kind::Kind;
+use query::{Presence, Query, Term};
 use std::alloc::{AllocError, Global};
 
 /// A column that the rows of a query are in.
@@ -88,7 +88,7 @@ fn pick_in(
 
 // Whether a query matches these kinds.
 #[tactic(auto, using(crate::proofs::Rows::over_terms))]
-fn matches_kinds(query: &Query, kinds: &[Kind]) -> bool
+pub(crate) fn matches_kinds(query: &Query, kinds: &[Kind]) -> bool
     ensures { result ≡ matches query.now (λ kind. has kind (map kind_number kinds.now)) }
 {
     admit_all(query.terms(), kinds)
