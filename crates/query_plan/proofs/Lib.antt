@@ -1,3 +1,10 @@
 pub mod Fetching
 pub mod Rows
 pub mod Picking
+pub mod Chosen
+pub mod Merging
+pub mod Gathered
+pub mod Places
+pub mod PickedHome
+pub mod Stamps
+pub mod Walks

@@ -88,7 +88,7 @@ fn pick_in(
 
 // Whether a query matches these kinds.
 #[tactic(auto, using(crate::proofs::Rows::over_terms))]
-fn matches_kinds(query: &Query, kinds: &[Kind]) -> bool
+pub(crate) fn matches_kinds(query: &Query, kinds: &[Kind]) -> bool
     ensures { result ≡ matches query.now (λ kind. has kind (map kind_number kinds.now)) }
 {
     admit_all(query.terms(), kinds)

@@ -1,0 +1,54 @@
+-- Rows stand where they say.
+use Rattle.std.proofs.Common.{◌≡◌, ℕ, suc, ◌+◌, Bool, true, false, cond, not, inl, inr, List, [], ◌∷◌, length, get_or, slice_get, refl, sym, ap, ◌∙◌, arith}
+use Rattle.std.specs.List.{AllByRecursion}
+use Rattle.std.proofs.lemmas.Bool.{and_parts, not-true}
+use Rattle.model.specs.declared.entities.Entity.{Entity}
+use Rattle.model.specs.Lists.{is_there}
+use Rattle.model.specs.State.{Slot, fresh_slot}
+use Rattle.model.specs.Query.{Term}
+use Rattle.model.specs.Input.{is_row}
+use Rattle.archetype_store.specs.Layout.{Archetype, archetype_at}
+use Rattle.query_plan.specs.declared.row.Row.{Row}
+use Rattle.query_plan.specs.Standing.{is_row_at, rows_in, merged, rows_with, is_bare_row, bare_from, IsStanding, AllRowsStand}
+use Rattle.query_plan.proofs.Chosen.{each-merged}
+
+-- a row that may be there, before others
+each_cond : (P : Row → Type 0) (b : Bool) (x : Row) (xs : List Row) → (b ≡ true → P x) → AllByRecursion P xs → AllByRecursion P (cond b (x ∷ xs) xs)
+each_cond P true x xs px pxs = (px refl, pxs)
+each_cond P false x xs px pxs = pxs
+
+module _ (query : List Term) (last : ℕ) (slots : List Slot) (layout : List Archetype) where
+  bare_stand : (i : ℕ) (ss : List Slot) → ((k : ℕ) → get_or ss k fresh_slot ≡ get_or slots (i + k) fresh_slot) → AllByRecursion (IsStanding slots layout) (bare_from query last (length layout) i ss)
+  bare_stand i [] f = tt
+  bare_stand i (s ∷ ss) f =
+      each_cond (IsStanding slots layout) (is_bare_row query last s) (record { entity = record { index = i; generation = s.generation }; archetype = length layout; place = i })
+      (bare_from query last (length layout) (suc i) ss)
+      (λ bare. inr (
+        refl,
+        refl,
+        ap (λ (x : Slot). is_there x.row) (sym (f 0 ∙ ap (λ m. get_or slots m fresh_slot) (let e : i + 0 ≡ i = omega arith in e)))
+            ∙ not-true (is_there s.row) (and_parts (is_row query last s) (not (is_there s.row)) bare).1,
+      ))
+      (bare_stand (suc i) ss (λ k. f (suc k) ∙ ap (λ m. get_or slots m fresh_slot) (let e : i + suc k ≡ suc i + k = omega arith in e)))
+
+  in_stand : (n place : ℕ) (es : List Entity) → ((k : ℕ) → slice_get es k ≡ slice_get (archetype_at layout n).entities (place + k)) → AllByRecursion (IsStanding slots layout) (rows_in query last slots n place es)
+  in_stand n place [] f = tt
+  in_stand n place (e ∷ es) f =
+      each_cond (IsStanding slots layout) (is_row_at query last slots e.index) (record { entity = e; archetype = n; place = place }) (rows_in query last slots n (suc place) es)
+      (λ is. inl (sym (f 0 ∙ ap (slice_get (archetype_at layout n).entities) (let e : place + 0 ≡ place = omega arith in e))))
+      (in_stand n (suc place) es (λ k. f (suc k) ∙ ap (slice_get (archetype_at layout n).entities) (let e : place + suc k ≡ suc place + k = omega arith in e)))
+
+  with_stand : (rows : List Row) (n : ℕ) (ls : List Archetype) → ((k : ℕ) → archetype_at ls k ≡ archetype_at layout (n + k)) → AllByRecursion (IsStanding slots layout) rows →
+      AllByRecursion (IsStanding slots layout) (rows_with query last slots rows n ls)
+  with_stand rows n [] f h = h
+  with_stand rows n (a ∷ others) f h =
+      let here : a ≡ archetype_at layout n = f 0 ∙ ap (archetype_at layout) (let e : n + 0 ≡ n = omega arith in e) in
+      with_stand (merged rows (rows_in query last slots n 0 a.entities)) (suc n) others
+      (λ k. f (suc k) ∙ ap (archetype_at layout) (let e : n + suc k ≡ suc n + k = omega arith in e))
+      (each-merged (IsStanding slots layout) rows (rows_in query last slots n 0 a.entities) h
+      (in_stand n 0 a.entities (λ k. ap (λ (b : Archetype). slice_get b.entities k) here ∙ ap (slice_get (archetype_at layout n).entities) (let e : k ≡ 0 + k = omega arith in e))))
+
+pub all_rows_stand : AllRowsStand
+all_rows_stand slots layout query last =
+    with_stand query last slots layout (bare_from query last (length layout) 0 slots) 0 layout (λ k. ap (archetype_at layout) (let e : k ≡ 0 + k = omega arith in e))
+    (bare_stand query last slots layout 0 slots (λ k. ap (λ m. get_or slots m fresh_slot) (let e : k ≡ 0 + k = omega arith in e)))

@@ -1,0 +1,137 @@
+-- The entities of an archetype gone through by their places, and archetypes by their numbers.
+use Rattle.std.proofs.Common.{◌≡◌, ℕ, suc, ◌+◌, ◌<◌, ◌≤◌, Bool, true, false, cond, ◌&&◌, ◌==◌, List, [], ◌∷◌, ◌++◌, length, get_or, map, drop, slice_get, refl, sym, ap, ap₂, ◌∙◌, append_assoc, append-nil, arith}
+use Rattle.std.specs.List.{AllByRecursion, list_all}
+use Rattle.std.proofs.lemmas.Bool.{and_parts}
+use Rattle.std.proofs.lemmas.List.{drop_more, drop_all, length-map, get_or-map}
+use Rattle.std.proofs.lemmas.Option.{slice_get-get_or}
+use Rattle.model.specs.declared.entities.Entity.{Entity}
+use Rattle.model.specs.Lists.{has}
+use Rattle.model.specs.State.{Component, Slot, fresh_slot, is_living}
+use Rattle.model.specs.Rows.{row_at, kinds_of}
+use Rattle.model.specs.Commands.{is_alive}
+use Rattle.model.specs.Query.{Term, matches}
+use Rattle.model.specs.Input.{passes}
+use Rattle.model.proofs.Each.{each-at}
+use Rattle.archetype_store.specs.Layout.{Archetype, archetype_at, IsLayoutOf}
+use Rattle.archetype_store.proofs.RowEdits.{kinds-among}
+use Rattle.archetype_store.specs.declared.tables.ArchetypeView.{ArchetypeView}
+use Rattle.query.specs.declared.term.Term.{Term as QueryTerm}
+use Rattle.query.specs.Term.{term_of}
+use Rattle.query_plan.specs.declared.row.Row.{Row}
+use Rattle.query_plan.specs.declared.filter.Filter.{Filter}
+use Rattle.query_plan.specs.Standing.{is_row_at, rows_in, merged, rows_with, is_newer}
+use Rattle.query_plan.specs.Filters.{AreFiltersOf}
+use Rattle.query_plan.proofs.Chosen.{merged-nil}
+use Rattle.query_plan.proofs.Gathered.{all_among}
+
+-- a query matches a row just where it matches the row's kinds
+matches_row : (query : List Term) (row : List Component) (kinds : List ℕ) → map (λ c. c.kind) row ≡ kinds → matches query (kinds_of row) ≡ matches query (λ kind. has kind kinds)
+matches_row query row kinds same =
+    let each : (k : ℕ) → kinds_of row k ≡ has k kinds = λ k. sym (kinds-among row k) ∙ ap (has k) same in
+    ap (matches query) (λ i k. each k i)
+
+module _ (query : List Term) (last : ℕ) (slots : List Slot) (layout : List Archetype) (laid : IsLayoutOf slots layout) (n : ℕ) where
+  -- those of an archetype live with its kinds
+  pub all_live : AllByRecursion (λ e. is_alive slots e ≡ true) (archetype_at layout n).entities
+  all_live = all_among (λ e. is_alive slots e ≡ true) (archetype_at layout n).entities (λ e m. (laid.theirs n e m).0)
+
+  pub all_matched : AllByRecursion (λ e. matches query (kinds_of (row_at slots e.index)) ≡ matches query (λ kind. has kind (archetype_at layout n).kinds)) (archetype_at layout n).entities
+  all_matched =
+      all_among (λ e. matches query (kinds_of (row_at slots e.index)) ≡ matches query (λ kind. has kind (archetype_at layout n).kinds)) (archetype_at layout n).entities
+      (λ e m. matches_row query (row_at slots e.index) (archetype_at layout n).kinds (laid.theirs n e m).1)
+
+  -- who lives and is matched is a row just where the filters are passed
+  row_is : (e : Entity) → is_alive slots e ≡ true → matches query (kinds_of (row_at slots e.index)) ≡ true → is_row_at query last slots e.index ≡ list_all (passes last (row_at slots e.index)) query
+  row_is e alive match =
+      let s = get_or slots e.index fresh_slot in
+      ap₂ (λ a b. a && b && list_all (passes last s.row) query) (and_parts (is_living s.status) (s.generation == e.generation) alive).0 match
+
+  -- the test of filters at a place is that of a row
+  pub row_tested : (fs : List Filter) (place : ℕ) (d : Entity) → AreFiltersOf slots (archetype_at layout n).entities query fs → place < length (archetype_at layout n).entities →
+      matches query (λ kind. has kind (archetype_at layout n).kinds) ≡ true →
+      list_all (λ f. is_newer last f.is_added (slice_get f.column.now.cells place)) fs ≡ is_row_at query last slots (get_or (archetype_at layout n).entities place d).index
+  row_tested fs place d are l match =
+      let es = (archetype_at layout n).entities in
+      let e = get_or es place d in
+      let alive = each-at (λ (x : Entity). is_alive slots x ≡ true) es place d l all_live in
+      let same = each-at (λ (x : Entity). matches query (kinds_of (row_at slots x.index)) ≡ matches query (λ kind. has kind (archetype_at layout n).kinds)) es place d l all_matched in
+      are.passed last place e (slice_get-get_or es place d l) alive ∙ sym (row_is e alive (same ∙ match))
+
+  -- an archetype that isn't matched has no rows
+  unmatched : (es : List Entity) (place : ℕ) → AllByRecursion (λ e. matches query (kinds_of (row_at slots e.index)) ≡ false) es → rows_in query last slots n place es ≡ []
+  unmatched [] place h = refl
+  unmatched (e ∷ es) place h =
+      let s = get_or slots e.index fresh_slot in
+      let out : is_row_at query last slots e.index ≡ false = ap (λ b. is_living s.status && b && list_all (passes last s.row) query) h.0 ∙ ap (λ b. b && list_all (passes last s.row) query) (and_no (is_living s.status)) in
+      ap (λ b. cond b ((let r : Row = record { entity = e; archetype = n; place = place } in r) ∷ rows_in query last slots n (suc place) es) (rows_in query last slots n (suc place) es)) out
+      ∙ unmatched es (suc place) h.1
+    where
+      and_no : (b : Bool) → (b && false) ≡ false
+      and_no true = refl
+      and_no false = refl
+
+  pub archetype_passed : (rows : List Row) → matches query (λ kind. has kind (archetype_at layout n).kinds) ≡ false →
+      rows ≡ merged rows (rows_in query last slots n 0 (archetype_at layout n).entities)
+  archetype_passed rows unlike =
+      let none = all_among (λ e. matches query (kinds_of (row_at slots e.index)) ≡ false) (archetype_at layout n).entities
+      (λ e m. matches_row query (row_at slots e.index) (archetype_at layout n).kinds (laid.theirs n e m).1 ∙ unlike) in
+      sym (ap (merged rows) (unmatched (archetype_at layout n).entities 0 none) ∙ merged-nil rows)
+
+-- ---- places, one by one
+
+module _ (query : List Term) (last : ℕ) (slots : List Slot) (n place : ℕ) (es : List Entity) (d : Entity) (rows all : List Row) (l : place < length es)
+    (so_far : rows ++ rows_in query last slots n place (drop place es) ≡ all) where
+  here : (b : Bool) → is_row_at query last slots (get_or es place d).index ≡ b → rows_in query last slots n place (drop place es)
+      ≡ cond b (record { entity = get_or es place d; archetype = n; place = place } ∷ rows_in query last slots n (place + 1) (drop (place + 1) es)) (rows_in query last slots n (place + 1) (drop (place + 1) es))
+  here b is =
+      ap (rows_in query last slots n place) (drop_more es place d l)
+      ∙ ap₂ (λ c p. cond c ((let r : Row = record { entity = get_or es place d; archetype = n; place = place } in r) ∷ rows_in query last slots n p (drop (place + 1) es)) (rows_in query last slots n p (drop (place + 1) es)))
+      is (let e : suc place ≡ place + 1 = omega arith in e)
+
+  pub place_taken : is_row_at query last slots (get_or es place d).index ≡ true →
+      (rows ++ record { entity = get_or es place d; archetype = n; place = place } ∷ []) ++ rows_in query last slots n (place + 1) (drop (place + 1) es) ≡ all
+  place_taken is =
+      append_assoc rows (record { entity = get_or es place d; archetype = n; place = place } ∷ []) (rows_in query last slots n (place + 1) (drop (place + 1) es))
+      ∙ ap (λ rs. rows ++ rs) (sym (here true is)) ∙ so_far
+
+  pub place_passed : is_row_at query last slots (get_or es place d).index ≡ false → rows ++ rows_in query last slots n (place + 1) (drop (place + 1) es) ≡ all
+  place_passed is = ap (λ rs. rows ++ rs) (sym (here false is)) ∙ so_far
+
+pub places_done : (query : List Term) (last : ℕ) (slots : List Slot) (n place : ℕ) (es : List Entity) (rows all : List Row) → length es ≤ place →
+    rows ++ rows_in query last slots n place (drop place es) ≡ all → rows ≡ all
+places_done query last slots n place es rows all l h =
+    sym (append-nil rows) ∙ ap (λ rs. rows ++ rs) (sym (ap (rows_in query last slots n place) (drop_all place es l))) ∙ h
+
+-- ---- archetypes, one by one
+
+pub archetype_done : (query : List Term) (last : ℕ) (slots : List Slot) (layout : List Archetype) (n : ℕ) (rows next all : List Row) → n < length layout →
+    rows_with query last slots rows n (drop n layout) ≡ all → next ≡ merged rows (rows_in query last slots n 0 (archetype_at layout n).entities) →
+    rows_with query last slots next (n + 1) (drop (n + 1) layout) ≡ all
+archetype_done query last slots layout n rows next all l h is =
+    ap₂ (λ rs m. rows_with query last slots rs m (drop (n + 1) layout)) is (let e : n + 1 ≡ suc n = omega arith in e)
+    ∙ sym (ap (rows_with query last slots rows n) (drop_more layout n (record { kinds = []; entities = []; homes = [] }) l)) ∙ h
+
+pub archetypes_done : (query : List Term) (last : ℕ) (slots : List Slot) (layout : List Archetype) (n : ℕ) (rows all : List Row) → length layout ≤ n →
+    rows_with query last slots rows n (drop n layout) ≡ all → rows ≡ all
+archetypes_done query last slots layout n rows all l h = sym (ap (rows_with query last slots rows n) (drop_all n layout l)) ∙ h
+
+-- the test of filters is that of a row, where it is known by another name
+pub place_tested : (query : List Term) (last : ℕ) (slots : List Slot) (layout : List Archetype) (n : ℕ) (fs : List Filter) (es : List Entity) (place : ℕ) (d : Entity) (b : Bool) → IsLayoutOf slots layout →
+    es ≡ (archetype_at layout n).entities → AreFiltersOf slots (archetype_at layout n).entities query fs → place < length es →
+    matches query (λ kind. has kind (archetype_at layout n).kinds) ≡ true →
+    b ≡ list_all (λ f. is_newer last f.is_added (slice_get f.column.now.cells place)) fs → is_row_at query last slots (get_or es place d).index ≡ b
+place_tested query last slots layout n fs es place d b laid same are l match is =
+    let within : place < length (archetype_at layout n).entities = (let e = ap length same in omega arith) in
+    ap (λ xs. is_row_at query last slots (get_or xs place d).index) same ∙ sym (is ∙ row_tested query last slots layout laid n fs place d are within match)
+
+-- what holds of the terms that the definitions speak of
+pub each_terms : (P : Term → Type 0) (ts : List QueryTerm) → AllByRecursion P (map term_of ts) → AllByRecursion (λ t. P (term_of t)) ts
+each_terms P [] h = tt
+each_terms P (t ∷ ts) h = (h.0, each_terms P ts h.1)
+
+-- what a view of an archetype shows is of the archetype of its number
+pub view_at : {X : Type 0} (f : ArchetypeView → X) (g : Archetype → X) (views : List ArchetypeView) (layout : List Archetype) (n : ℕ) (d : ArchetypeView) → map f views ≡ map g layout → n < length views →
+    f (get_or views n d) ≡ g (archetype_at layout n)
+view_at f g views layout n d same l =
+    let lengths : length views ≡ length layout = sym (length-map views f) ∙ ap length same ∙ length-map layout g in
+    sym (get_or-map f views n d (f d) l) ∙ ap (λ xs. get_or xs n (f d)) same ∙ get_or-map g layout n (record { kinds = []; entities = []; homes = [] }) (f d) (omega arith)

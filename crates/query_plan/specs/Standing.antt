@@ -1,0 +1,90 @@
+-- The rows of a query by archetype, and what is asked of columns to find them.
+use Rattle.std.specs.Prelude.{◌≡◌, ℕ, suc, Bool, true, false, cond, not, nat_lt, ◌&&◌, ◌⊎◌, List, [], ◌∷◌, length, map, get_or, slice_get, Option, Some}
+use Rattle.std.specs.List.{AllByRecursion}
+use Rattle.model.specs.declared.entities.Entity.{Entity}
+use Rattle.model.specs.Lists.{has, is_there}
+use Rattle.model.specs.State.{Cell, Slot, fresh_slot}
+use Rattle.model.specs.Query.{Term, matches}
+use Rattle.model.specs.Query.Term.{Added, Changed}
+use Rattle.model.specs.Input.{is_row, rows_of, added_since, changed_since}
+use Rattle.column_store.specs.Order.{AreRising}
+use Rattle.archetype_store.specs.Layout.{Archetype, archetype_at, column_home, IsLayoutOf}
+use Rattle.query_plan.specs.declared.row.Row.{Row}
+use Rattle.query_plan.specs.Picks.{picks_of}
+
+-- whether an index is a row of a query, for an observer with this last run
+abbrev pub is_row_at : List Term → ℕ → List Slot → ℕ → Bool
+is_row_at query last slots index = is_row query last (get_or slots index fresh_slot)
+
+-- those of these entities that are rows, which stand from a place on in the archetype of a number
+abbrev pub rows_in : List Term → ℕ → List Slot → ℕ → ℕ → List Entity → List Row
+rows_in query last slots n place [] = []
+rows_in query last slots n place (e ∷ es) = cond (is_row_at query last slots e.index)
+    (record { entity = e; archetype = n; place = place } ∷ rows_in query last slots n (suc place) es)
+    (rows_in query last slots n (suc place) es)
+
+-- two lists of rows as one, by index. An index that is in both is taken once
+abbrev pub merged : List Row → List Row → List Row
+merged [] ys = ys
+merged (x ∷ xs) [] = x ∷ xs
+merged (x ∷ xs) (y ∷ ys) = cond (nat_lt x.entity.index y.entity.index) (x ∷ merged xs (y ∷ ys))
+    (cond (nat_lt y.entity.index x.entity.index) (y ∷ merged (x ∷ xs) ys) (x ∷ merged xs ys))
+
+-- these rows with those of the archetypes of a layout, of which the first has this number
+abbrev pub rows_with : List Term → ℕ → List Slot → List Row → ℕ → List Archetype → List Row
+rows_with query last slots rows n [] = rows
+rows_with query last slots rows n (a ∷ others) = rows_with query last slots (merged rows (rows_in query last slots n 0 a.entities)) (suc n) others
+
+-- whether a slot is a row without components
+abbrev pub is_bare_row : List Term → ℕ → Slot → Bool
+is_bare_row query last slot = is_row query last slot && not (is_there slot.row)
+
+-- the rows without components among slots whose first has this index. They have the number n for an archetype
+abbrev pub bare_from : List Term → ℕ → ℕ → ℕ → List Slot → List Row
+bare_from query last n index [] = []
+bare_from query last n index (slot ∷ slots) = cond (is_bare_row query last slot)
+    (record { entity = record { index = index; generation = slot.generation }; archetype = n; place = index } ∷ bare_from query last n (suc index) slots)
+    (bare_from query last n (suc index) slots)
+
+-- all rows of a query: those without components, and those of each archetype
+abbrev pub all_rows : List Term → ℕ → List Slot → List Archetype → List Row
+all_rows query last slots layout = rows_with query last slots (bare_from query last (length layout) 0 slots) 0 layout
+
+-- where the layout is that of the slots, and the entities of each archetype rise, they are the entities of the query's rows, in order
+abbrev pub AllRowsAre : Type 0
+AllRowsAre = (slots : List Slot) (layout : List Archetype) (query : List Term) (last : ℕ) → IsLayoutOf slots layout → AllByRecursion (λ a. AreRising a.entities) layout →
+    map (λ row. row.entity) (all_rows query last slots layout) ≡ map (λ row. row.entity) (rows_of query last slots)
+
+-- a row stands where it says: at its place in its archetype, or behind all archetypes, at its index, without components
+abbrev pub IsStanding : List Slot → List Archetype → Row → Type 0
+IsStanding slots layout row = (slice_get (archetype_at layout row.archetype).entities row.place ≡ Some row.entity)
+    ⊎ ((row.archetype ≡ length layout) × (row.place ≡ row.entity.index) × (is_there (get_or slots row.entity.index fresh_slot).row ≡ false))
+
+-- all rows stand where they say
+abbrev pub AllRowsStand : Type 0
+AllRowsStand = (slots : List Slot) (layout : List Archetype) (query : List Term) (last : ℕ) → AllByRecursion (IsStanding slots layout) (all_rows query last slots layout)
+
+-- ---- the columns that filters read
+
+-- the column whose stamps a term asks for is at home
+abbrev pub IsFilterHome : Archetype → Term → Type 0
+IsFilterHome a (Added kind) = column_home a kind ≡ Some true
+IsFilterHome a (Changed kind) = column_home a kind ≡ Some true
+IsFilterHome a _ = Unit {0}
+
+-- in each archetype that the query matches, the columns whose stamps it asks for are at home
+abbrev pub AreFiltersHome : List Term → List Archetype → Type 0
+AreFiltersHome query layout = (n : ℕ) → matches query (λ kind. has kind (archetype_at layout n).kinds) ≡ true → AllByRecursion (IsFilterHome (archetype_at layout n)) query
+
+-- the columns that a query picks are at home
+abbrev pub ArePickedHome : List Term → List Archetype → Type 0
+ArePickedHome query layout = AllByRecursion (λ p. column_home (archetype_at layout p.archetype) p.kind ≡ Some true) (picks_of query layout)
+
+-- that they are is enough to ask
+abbrev pub PicksTellFilters : Type 0
+PicksTellFilters = (query : List Term) (layout : List Archetype) → ArePickedHome query layout → AreFiltersHome query layout
+
+-- whether a cell was added, or changed, after a last run
+abbrev pub is_newer : ℕ → Bool → Option Cell → Bool
+is_newer last true cell = added_since last cell
+is_newer last false cell = changed_since last cell
