@@ -3,8 +3,8 @@ use Rattle.std.proofs.Common.{◌≡◌, ℕ, zero, suc, ◌+◌, Bool, true, fa
 use Rattle.std.specs.List.{AllByRecursion}
 use Rattle.std.proofs.lemmas.Bool.{and_parts, or_cases, or_left, or_right, eqb-true, eq-eqb}
 use Rattle.model.specs.Lists.{has, is_number}
-use Rattle.model.specs.Query.{Term, matches, admits, touches, touched, writes}
-use Rattle.model.specs.Query.Term.{Entity, Read, Mut, Opt, With, Without, Added, Changed}
+use Rattle.model.specs.access.Query.{Term, matches, admits, touches, touched, writes}
+use Rattle.model.specs.access.Query.Term.{Entity, Read, Mut, Opt, With, Without, Added, Changed}
 use Rattle.archetype_store.specs.Layout.{Archetype, archetype_at, column_home}
 use Rattle.query_plan.specs.Picks.{Picked, picked_in, picked_of, picked_from}
 use Rattle.query_plan.specs.Standing.{IsFilterHome, ArePickedHome, PicksTellFilters}

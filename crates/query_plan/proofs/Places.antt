@@ -4,9 +4,9 @@ use Rattle.std.specs.List.{AllByRecursion}
 use Rattle.std.proofs.lemmas.Bool.{and_parts, not-true}
 use Rattle.model.specs.declared.entities.Entity.{Entity}
 use Rattle.model.specs.Lists.{is_there}
-use Rattle.model.specs.State.{Slot, fresh_slot}
-use Rattle.model.specs.Query.{Term}
-use Rattle.model.specs.Input.{is_row}
+use Rattle.model.specs.state.State.{Slot, fresh_slot}
+use Rattle.model.specs.access.Query.{Term}
+use Rattle.model.specs.shown.Input.{is_row}
 use Rattle.archetype_store.specs.Layout.{Archetype, archetype_at}
 use Rattle.query_plan.specs.declared.row.Row.{Row}
 use Rattle.query_plan.specs.Standing.{is_row_at, rows_in, merged, rows_with, is_bare_row, bare_from, IsStanding, AllRowsStand}

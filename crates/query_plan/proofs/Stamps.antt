@@ -4,12 +4,12 @@ use Rattle.std.specs.List.{list_all}
 use Rattle.std.proofs.lemmas.List.{length-map, drop_more}
 use Rattle.std.proofs.lemmas.Option.{slice_get-map}
 use Rattle.model.specs.declared.entities.Entity.{Entity}
-use Rattle.model.specs.State.{Cell, Component, Slot}
-use Rattle.model.specs.Rows.{cell_at, row_at}
-use Rattle.model.specs.Query.{Term}
-use Rattle.model.specs.Input.{passes}
-use Rattle.model.specs.Commands.{is_alive}
-use Rattle.model.proofs.Each.{each-append}
+use Rattle.model.specs.state.State.{Cell, Component, Slot}
+use Rattle.model.specs.state.Rows.{cell_at, row_at}
+use Rattle.model.specs.access.Query.{Term}
+use Rattle.model.specs.shown.Input.{passes}
+use Rattle.model.specs.state.Commands.{is_alive}
+use Rattle.model.proofs.lists.Each.{each-append}
 use Rattle.archetype_store.specs.Slot.{cell_of, column_cells}
 use Rattle.query_plan.specs.declared.filter.Filter.{Filter}
 use Rattle.query_plan.specs.Standing.{is_newer}

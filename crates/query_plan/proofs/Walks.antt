@@ -6,12 +6,12 @@ use Rattle.std.proofs.lemmas.List.{drop_more, drop_all, length-map, get_or-map}
 use Rattle.std.proofs.lemmas.Option.{slice_get-get_or}
 use Rattle.model.specs.declared.entities.Entity.{Entity}
 use Rattle.model.specs.Lists.{has}
-use Rattle.model.specs.State.{Component, Slot, fresh_slot, is_living}
-use Rattle.model.specs.Rows.{row_at, kinds_of}
-use Rattle.model.specs.Commands.{is_alive}
-use Rattle.model.specs.Query.{Term, matches}
-use Rattle.model.specs.Input.{passes}
-use Rattle.model.proofs.Each.{each-at}
+use Rattle.model.specs.state.State.{Component, Slot, fresh_slot, is_living}
+use Rattle.model.specs.state.Rows.{row_at, kinds_of}
+use Rattle.model.specs.state.Commands.{is_alive}
+use Rattle.model.specs.access.Query.{Term, matches}
+use Rattle.model.specs.shown.Input.{passes}
+use Rattle.model.proofs.lists.Each.{each-at}
 use Rattle.archetype_store.specs.Layout.{Archetype, archetype_at, IsLayoutOf}
 use Rattle.archetype_store.proofs.RowEdits.{kinds-among}
 use Rattle.archetype_store.specs.declared.tables.ArchetypeView.{ArchetypeView}

@@ -2,11 +2,11 @@
 use Rattle.std.specs.Prelude.{◌≡◌, ℕ, true, List, length, slice_get, Some}
 use Rattle.std.specs.List.{list_all, AllByRecursion}
 use Rattle.model.specs.declared.entities.Entity.{Entity}
-use Rattle.model.specs.State.{Slot}
-use Rattle.model.specs.Rows.{row_at}
-use Rattle.model.specs.Query.{Term}
-use Rattle.model.specs.Input.{passes}
-use Rattle.model.specs.Commands.{is_alive}
+use Rattle.model.specs.state.State.{Slot}
+use Rattle.model.specs.state.Rows.{row_at}
+use Rattle.model.specs.access.Query.{Term}
+use Rattle.model.specs.shown.Input.{passes}
+use Rattle.model.specs.state.Commands.{is_alive}
 use Rattle.query_plan.specs.declared.filter.Filter.{Filter}
 use Rattle.query_plan.specs.Standing.{is_newer}
 

@@ -3,10 +3,10 @@ use Rattle.std.specs.Prelude.{◌≡◌, ℕ, suc, Bool, true, false, cond, not,
 use Rattle.std.specs.List.{AllByRecursion}
 use Rattle.model.specs.declared.entities.Entity.{Entity}
 use Rattle.model.specs.Lists.{has, is_there}
-use Rattle.model.specs.State.{Cell, Slot, fresh_slot}
-use Rattle.model.specs.Query.{Term, matches}
-use Rattle.model.specs.Query.Term.{Added, Changed}
-use Rattle.model.specs.Input.{is_row, rows_of, added_since, changed_since}
+use Rattle.model.specs.state.State.{Cell, Slot, fresh_slot}
+use Rattle.model.specs.access.Query.{Term, matches}
+use Rattle.model.specs.access.Query.Term.{Added, Changed}
+use Rattle.model.specs.shown.Input.{is_row, rows_of, added_since, changed_since}
 use Rattle.column_store.specs.Order.{AreRising}
 use Rattle.archetype_store.specs.Layout.{Archetype, archetype_at, column_home, IsLayoutOf}
 use Rattle.query_plan.specs.declared.row.Row.{Row}

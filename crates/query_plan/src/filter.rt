@@ -2,8 +2,8 @@
 
 ghost use Rattle.std.specs.Prelude.{◌≡◌, ◌<◌, ℕ, List, true, length, map, slice_get, IfOk, IfSome, IfNone};
 ghost use Rattle.std.specs.List.{list_all, AllByRecursion};
-ghost use Rattle.model.specs.State.{Component};
-ghost use Rattle.model.specs.Input as input;
+ghost use Rattle.model.specs.state.State.{Component};
+ghost use Rattle.model.specs.shown.Input as input;
 ghost use Rattle.archetype_store.specs.Layout.{archetype_at};
 ghost use Rattle.query.specs.Term.{term_of};
 ghost use Rattle.query_plan.specs.Standing.{IsFilterHome, is_newer};

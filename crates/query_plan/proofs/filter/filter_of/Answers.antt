@@ -1,6 +1,6 @@
 use Rattle.std.proofs.Common.{true, false, refl}
 use Rattle.kinds.specs.Kind.{kind_number}
-use Rattle.model.specs.Query.Term.{Added, Changed}
+use Rattle.model.specs.access.Query.Term.{Added, Changed}
 use Rattle.archetype_store.specs.Layout.{archetype_at}
 use Rattle.query_plan.proofs.Stamps.{filter_is}
 use Rattle.query_plan.proofs.filter.filter_of.Goals as goal

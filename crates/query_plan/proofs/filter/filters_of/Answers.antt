@@ -1,6 +1,6 @@
 use Rattle.std.proofs.Common.{[], ◌∷◌, ◌++◌, map, sym, subst}
 use Rattle.std.proofs.lemmas.List.{map_more, take_all}
-use Rattle.model.proofs.Each.{each-at}
+use Rattle.model.proofs.lists.Each.{each-at}
 use Rattle.archetype_store.specs.Layout.{archetype_at}
 use Rattle.query.specs.Term.{term_of}
 use Rattle.query_plan.specs.Standing.{IsFilterHome}

@@ -1,7 +1,7 @@
 use Rattle.std.proofs.Common.{◌<◌, length, slice_get, sym, ap, ◌∙◌}
 use Rattle.std.specs.List.{list_all}
 use Rattle.std.proofs.lemmas.List.{drop_all}
-use Rattle.model.proofs.Each.{each-at}
+use Rattle.model.proofs.lists.Each.{each-at}
 use Rattle.query_plan.specs.declared.filter.Filter.{Filter}
 use Rattle.query_plan.specs.Standing.{is_newer}
 use Rattle.query_plan.proofs.Stamps.{all_drop, all_stops}
