@@ -418,6 +418,3 @@ impl World {
         self.slots.write(index, value, tick)
     }
 }
-
-#[cfg(test)]
-mod tests;

@@ -15,3 +15,5 @@ mod schedules;
 mod scripts;
 #[cfg(test)]
 mod steps;
+#[cfg(test)]
+mod worlds;

@@ -4,8 +4,16 @@ ghost use Rattle.std.specs.Prelude.{◌≡◌, ◌≤◌, All, IfOk};
 ghost use Rattle.entity_table.specs.Ids.{IsGranted, AreApart};
 ghost use Rattle.archetype_store.specs.Layout.{AreAllHome};
 
-use super::*;
+use archetype_store::fault::{GrantFault, StoreFault};
+use archetype_store::store::World;
+use change_ticks::clock::Clock;
+use change_ticks::stamp::Stamp;
+use entity_table::Entity;
 use kinds::component::{Frozen, Health, Position, Velocity};
+use kinds::kind::Kind;
+use kinds::res::Res;
+use kinds::value::Value;
+use std::alloc::Global;
 use std::test::Fail;
 
 const FIRST: Entity = Entity {
