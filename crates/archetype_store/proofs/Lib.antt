@@ -6,6 +6,7 @@ pub mod Laid
 pub mod Moves
 pub mod Steps
 pub mod SlotRows
+pub mod BareSlots
 pub mod Layouts
 pub mod Edits
 mod Worlds

@@ -1,7 +1,8 @@
 -- What is known of an index.
-use Rattle.std.specs.Prelude.{ℕ, cond, List, map, Option, None}
+use Rattle.std.specs.Prelude.{ℕ, cond, not, ◌&&◌, List, map, Option, Some, None}
+use Rattle.model.specs.Lists.{is_there}
 use Rattle.model.specs.declared.entities.Entity.{Entity}
-use Rattle.model.specs.state.State.{Cell, Slot}
+use Rattle.model.specs.state.State.{Cell, Slot, is_living}
 use Rattle.model.specs.state.Rows.{cell_at, row_at}
 use Rattle.model.specs.state.Commands.{is_alive}
 
@@ -12,3 +13,7 @@ cell_of slots e kind = cond (is_alive slots e) (cell_at (row_at slots e.index) k
 -- the cells of a kind of these entities
 abbrev pub column_cells : List Slot → List Entity → ℕ → List (Option Cell)
 column_cells slots entities kind = map (λ e. cell_of slots e kind) entities
+
+-- the entity of an index whose slot lives without components
+abbrev pub bare_of : ℕ → Slot → Option Entity
+bare_of index slot = cond (is_living slot.status && not (is_there slot.row)) (Some (record { index = index; generation = slot.generation })) None

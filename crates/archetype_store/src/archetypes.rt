@@ -1,7 +1,8 @@
 // The components of entities, in tables by archetype: the kinds that an entity has.
 
-ghost use Rattle.std.specs.Prelude.{◌≡◌, true, false, [], length, Some, map, option_map, IfSome, IfOk, OnOk, OnErr};
+ghost use Rattle.std.specs.Prelude.{◌≡◌, true, false, not, [], length, Some, map, option_map, IfSome, IfOk, OnOk, OnErr};
 ghost use Rattle.kinds.specs.Value.{value_number, value_words};
+ghost use Rattle.model.specs.Lists.{is_there};
 ghost use Rattle.model.specs.state.Rows.{cell_at, kinds_of, insert_component, remove_component};
 ghost use Rattle.model.specs.shown.Overlay.{row_after};
 ghost use Rattle.column_store.specs.Cells.{stamped_number};
@@ -81,6 +82,16 @@ impl Archetypes {
         match place_at(&self.places, index) {
             None => false,
             Some(place) => has_at(&self.tables, place.table, number),
+        }
+    }
+
+    /// Whether the entity of an index has no components.
+    pub fn is_bare(&self, index: u32) -> bool
+        ensures { result ≡ not (is_there (row_of self.now.rows index)) }
+    {
+        match place_at(&self.places, index) {
+            None => true,
+            Some(_place) => false,
         }
     }
 

@@ -13,7 +13,7 @@ ghost use Rattle.entity_table.specs.Ids.{slot_at, lives_at, IsGranted, AreApart,
 ghost use Rattle.archetype_store.specs.Row.{component_of, only};
 ghost use Rattle.std.specs.Arc.{arc_value};
 ghost use Rattle.kinds.specs.Kind.{kind_number};
-ghost use Rattle.archetype_store.specs.Slot.{cell_of, column_cells};
+ghost use Rattle.archetype_store.specs.Slot.{cell_of, column_cells, bare_of};
 ghost use Rattle.archetype_store.specs.Store.{slots_with};
 ghost use Rattle.archetype_store.specs.Archetypes.{row_of};
 ghost use Rattle.archetype_store.specs.Layout.{archetype_at, column_home, with_home, IsLayoutOf, AreAllHome};
@@ -105,6 +105,23 @@ impl Slots {
         ensures none { IfNone result ((k : ℕ) → from ≤ k → lives_at self.now.slots k ≡ false) }
     {
         self.book.next_living(from)
+    }
+
+    /// The entity of an index, where it lives without components.
+    pub fn bare_at(&self, index: u32) -> Option<Entity>
+        ensures { result ≡ bare_of index (slot_at self.now.slots index) }
+    {
+        let e = Entity {
+            index,
+            generation: self.book.generation(index),
+        };
+        if !self.book.lives(e) {
+            return None;
+        }
+        if !self.archetypes.is_bare(index) {
+            return None;
+        }
+        Some(e)
     }
 
     /// The component of the kind with this number, where the entity lives and has one.

@@ -18,7 +18,7 @@ ghost use Rattle.archetype_store.specs.Row.{component_of, only};
 ghost use Rattle.entity_table.specs.Ids.{slot_at, lives_at, IsGranted, AreApart, settled};
 ghost use Rattle.std.specs.Arc.{arc_value};
 ghost use Rattle.std.specs.List.{AllByRecursion};
-ghost use Rattle.archetype_store.specs.Slot.{cell_of, column_cells};
+ghost use Rattle.archetype_store.specs.Slot.{cell_of, column_cells, bare_of};
 ghost use Rattle.archetype_store.specs.Layout.{archetype_at, column_home, with_home, IsLayoutOf, AreAllHome};
 ghost use Rattle.archetype_store.specs.Lending.{CanTake, CanShare, CanComeHome, AreTaken, AreShared, all_away, all_home};
 ghost use Rattle.column_store.specs.Order.{AreRising};
@@ -296,6 +296,13 @@ impl World {
         ensures none { IfNone result ((k : ℕ) → index ≤ k → lives_at self.now.state.slots k ≡ false) }
     {
         self.slots.next_living(index)
+    }
+
+    /// The entity of an index, where it lives without components. It touches no column.
+    pub fn bare_at(&self, index: u32) -> Option<Entity>
+        ensures { result ≡ bare_of index (slot_at self.now.state.slots index) }
+    {
+        self.slots.bare_at(index)
     }
 
     /// Inserts a component of an entity at a tick. A component of the kind that is there is replaced and keeps its added stamp. After

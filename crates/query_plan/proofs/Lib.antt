@@ -8,3 +8,4 @@ pub mod Places
 pub mod PickedHome
 pub mod Stamps
 pub mod Walks
+pub mod BareRows

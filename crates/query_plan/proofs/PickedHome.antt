@@ -3,11 +3,13 @@ use Rattle.std.proofs.Common.{◌≡◌, ℕ, zero, suc, ◌+◌, Bool, true, fa
 use Rattle.std.specs.List.{AllByRecursion}
 use Rattle.std.proofs.lemmas.Bool.{and_parts, or_cases, or_left, or_right, eqb-true, eq-eqb}
 use Rattle.model.specs.Lists.{has, is_number}
+use Rattle.model.proofs.lists.Each.{each-append}
+use Rattle.archetype_store.proofs.KindsHome.{kinds_are_home}
 use Rattle.model.specs.access.Query.{Term, matches, admits, touches, touched, writes}
 use Rattle.model.specs.access.Query.Term.{Entity, Read, Mut, Opt, With, Without, Added, Changed}
 use Rattle.archetype_store.specs.Layout.{Archetype, archetype_at, column_home}
 use Rattle.query_plan.specs.Picks.{Picked, picked_in, picked_of, picked_from}
-use Rattle.query_plan.specs.Standing.{IsFilterHome, ArePickedHome, PicksTellFilters}
+use Rattle.query_plan.specs.Standing.{IsFilterHome, ArePickedHome, PicksTellFilters, HomeTellsPicks}
 
 -- what holds of all holds of the second part
 each_right : (P : Picked → Type 0) (xs ys : List Picked) → AllByRecursion P (xs ++ ys) → AllByRecursion P ys
@@ -82,3 +84,35 @@ module _ (query : List Term) (layout : List Archetype) (home : ArePickedHome que
 
 pub picks_tell_filters : PicksTellFilters
 picks_tell_filters query layout home n match = each_filter query layout home n match query (λ k h. h) match
+
+-- ---- where all columns are at home
+
+module _ (query : List Term) (H : ℕ → ℕ → Type 0) where
+  each_in : (n : ℕ) (kinds : List ℕ) → ((k : ℕ) → has k kinds ≡ true → H n k) → AllByRecursion (λ p. H p.archetype p.kind) (picked_in query n kinds)
+  each_in n [] h = tt
+  each_in n (m ∷ ms) h = go (touches query m) (each_in n ms (λ k there. h k (or_right (m == k) (has k ms) there)))
+    where
+      go : (b : Bool) → AllByRecursion (λ (p : Picked). H p.archetype p.kind) (picked_in query n ms) →
+          AllByRecursion (λ (p : Picked). H p.archetype p.kind) (cond b (record { archetype = n; kind = m; is_written = writes query m } ∷ picked_in query n ms) (picked_in query n ms))
+      go true rest = (h m (or_left (m == m) (has m ms) (eq-eqb m m refl)), rest)
+      go false rest = rest
+
+  each_of : (n : ℕ) (kinds : List ℕ) → ((k : ℕ) → has k kinds ≡ true → H n k) → AllByRecursion (λ p. H p.archetype p.kind) (picked_of query n kinds)
+  each_of n kinds h = go (matches query (λ kind. has kind kinds))
+    where
+      go : (b : Bool) → AllByRecursion (λ (p : Picked). H p.archetype p.kind) (cond b (picked_in query n kinds) [])
+      go true = each_in n kinds h
+      go false = tt
+
+  each_from : (m : ℕ) (layout : List Archetype) → ((n k : ℕ) → has k (archetype_at layout n).kinds ≡ true → H (m + n) k) →
+      AllByRecursion (λ p. H p.archetype p.kind) (picked_from query m (map (λ (a : Archetype). a.kinds) layout))
+  each_from m [] h = tt
+  each_from m (a ∷ others) h =
+      each-append (λ p. H p.archetype p.kind) (picked_of query m a.kinds) (picked_from query (suc m) (map (λ (b : Archetype). b.kinds) others))
+      (each_of m a.kinds (λ k there. subst (λ j. H j k) (let e : m + zero ≡ m = omega arith in e) (h zero k there)))
+      (each_from (suc m) others (λ n k there. subst (λ j. H j k) (let e : m + suc n ≡ suc m + n = omega arith in e) (h (suc n) k there)))
+
+pub home_tells_picks : HomeTellsPicks
+home_tells_picks slots layout query laid home =
+    each_from query (λ m j. column_home (archetype_at layout m) j ≡ Some true) 0 layout
+    (λ n k there. subst (λ j. column_home (archetype_at layout j) k ≡ Some true) (let e : n ≡ 0 + n = omega arith in e) (kinds_are_home slots layout n k laid home there))

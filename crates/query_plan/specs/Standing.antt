@@ -8,7 +8,7 @@ use Rattle.model.specs.access.Query.{Term, matches}
 use Rattle.model.specs.access.Query.Term.{Added, Changed}
 use Rattle.model.specs.shown.Input.{is_row, rows_of, added_since, changed_since}
 use Rattle.column_store.specs.Order.{AreRising}
-use Rattle.archetype_store.specs.Layout.{Archetype, archetype_at, column_home, IsLayoutOf}
+use Rattle.archetype_store.specs.Layout.{Archetype, archetype_at, column_home, AreAllHome, IsLayoutOf}
 use Rattle.query_plan.specs.declared.row.Row.{Row}
 use Rattle.query_plan.specs.Picks.{picks_of}
 
@@ -83,6 +83,10 @@ ArePickedHome query layout = AllByRecursion (λ p. column_home (archetype_at lay
 -- that they are is enough to ask
 abbrev pub PicksTellFilters : Type 0
 PicksTellFilters = (query : List Term) (layout : List Archetype) → ArePickedHome query layout → AreFiltersHome query layout
+
+-- where all columns are at home, so are they
+abbrev pub HomeTellsPicks : Type 0
+HomeTellsPicks = (slots : List Slot) (layout : List Archetype) (query : List Term) → IsLayoutOf slots layout → AreAllHome layout → ArePickedHome query layout
 
 -- whether a cell was added, or changed, after a last run
 abbrev pub is_newer : ℕ → Bool → Option Cell → Bool
