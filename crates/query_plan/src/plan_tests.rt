@@ -1,5 +1,6 @@
 // The rows of queries in a small world.
 
+ghost use Rattle.std.specs.Prelude.{◌≡◌};
 ghost use Rattle.archetype_store.specs.Layout.{AreAllHome};
 
 use crate::plan::plan;
@@ -18,6 +19,17 @@ fn entity(index: u32) -> Entity {
         index,
         generation: 1,
     }
+}
+
+// Makes so many entities live, without components.
+fn spawn(alloc: Global, world: &mut World, count: u32) -> Result<(), Fail>
+    ensures { world.new.layout ≡ world.old.layout }
+{
+    for _entity in 0..count {
+        let ids = world.grant(alloc, 1)?;
+        world.spawn_at(*ids.first().ok_or("no id")?);
+    }
+    Ok(())
 }
 
 // The rows of a query: each entity, with what each term fetches behind it.
@@ -42,11 +54,7 @@ fn planned(alloc: Global, world: &World, text: &str) -> Result<String, Fail>
 #[test]
 fn filters_choose_rows(rt: HostRuntime) -> Result<(), Fail> {
     let mut world = World::new(rt.alloc(), Clock::at(1))?;
-    for _entity in 0..3 {
-        let ids = world.grant(rt.alloc(), 1)?;
-        assert_eq!(rt; ids.len(), 1);
-        world.spawn_at(ids[0]);
-    }
+    spawn(rt.alloc(), &mut world, 3)?;
     let now = world.now();
     world.insert(entity(0), Frozen, now)?;
     world.insert(entity(1), Health { v: 3 }, now)?;
@@ -70,11 +78,7 @@ fn filters_choose_rows(rt: HostRuntime) -> Result<(), Fail> {
 #[test]
 fn columns_are_picked(rt: HostRuntime) -> Result<(), Fail> {
     let mut world = World::new(rt.alloc(), Clock::at(1))?;
-    for _entity in 0..2 {
-        let ids = world.grant(rt.alloc(), 1)?;
-        assert_eq!(rt; ids.len(), 1);
-        world.spawn_at(ids[0]);
-    }
+    spawn(rt.alloc(), &mut world, 2)?;
     let now = world.now();
     world.insert(entity(0), Health { v: 3 }, now)?;
     world.insert(entity(1), Health { v: 4 }, now)?;
