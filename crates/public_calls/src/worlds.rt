@@ -116,13 +116,6 @@ fn stamps_an_insert(rt: HostRuntime) -> Result<(), Fail> {
             changed: 4
         })
     );
-    assert_eq!(rt;
-        world.stamp(FIRST, Kind::Position),
-        Some(Stamp {
-            added: 3,
-            changed: 3
-        })
-    );
     world.write(0, Value::Position(Position { x: 8, y: 9 }), 4)?;
     assert_eq!(rt;
         world.stamp(FIRST, Kind::Position),
