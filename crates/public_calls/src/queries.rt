@@ -28,6 +28,11 @@ fn queries(rt: HostRuntime) -> Result<(), Fail> {
     );
     let empty = Query::read(rt.alloc(), "  ")?;
     assert_eq!(rt; empty.terms().len(), 0);
+    Ok(())
+}
+
+#[test]
+fn other_texts_are_no_query(rt: HostRuntime) {
     for text in [
         "read Position,",
         ",",
@@ -49,7 +54,6 @@ fn queries(rt: HostRuntime) -> Result<(), Fail> {
             "at {text}"
         );
     }
-    Ok(())
 }
 
 #[test]
@@ -85,14 +89,17 @@ fn the_least_fault_is_told(rt: HostRuntime) -> Result<(), Fail> {
         let query = Query::read(rt.alloc(), text)?;
         assert_eq!(rt; query.check(), answer, "at {text}");
     }
-    for (added, answer) in [
+    Ok(())
+}
+
+#[test]
+fn filters_require_their_kind(rt: HostRuntime) -> Result<(), Fail> {
+    for (filter, answer) in [
         (Term::Added(Kind::Health), Err(BadQuery::RequiredExcluded)),
         (Term::Changed(Kind::Health), Err(BadQuery::RequiredExcluded)),
         (Term::Changed(Kind::Hidden), Ok(())),
     ] {
-        let mut query = Query::new(rt.alloc());
-        query.push(added)?;
-        query.push(Term::Without(Kind::Health))?;
+        let query = Query::of_terms(rt.alloc(), &[filter, Term::Without(Kind::Health)])?;
         assert_eq!(rt; query.check(), answer);
     }
     Ok(())
