@@ -16,3 +16,4 @@ pub mod ColumnSlots
 pub mod ColumnOverlays
 pub mod TakenColumns
 pub mod KindsHome
+pub mod Returned

@@ -1,6 +1,6 @@
 // The components of entities, in tables by archetype: the kinds that an entity has.
 
-ghost use Rattle.std.specs.Prelude.{◌≡◌, true, false, not, [], length, Some, map, option_map, IfSome, IfOk, OnOk, OnErr};
+ghost use Rattle.std.specs.Prelude.{◌≡◌, true, false, not, [], length, Some, map, option_map, IfSome, IfOk, IsErr, OnOk, OnErr};
 ghost use Rattle.kinds.specs.Value.{value_number, value_words};
 ghost use Rattle.model.specs.Lists.{is_there};
 ghost use Rattle.model.specs.state.Rows.{cell_at, kinds_of, insert_component, remove_component};
@@ -199,15 +199,19 @@ impl Archetypes {
         insert_in(&mut self.tables, &mut self.places, e, value, tick)
     }
 
-    /// Removes the component of the kind with this number of an entity, where it has one. Where memory is wanting all rows stay as they
-    /// were.
+    /// Removes the component of the kind with this number of an entity, where it has one: where it has none no memory is asked for. Where
+    /// memory is wanting all rows stay as they were.
     pub fn remove(&mut self, e: Entity, number: u32) -> Result<(), AllocError>
         requires holder { IsHolder e.generation (holder_of self.old.holders e.index) }
         requires home { AreAllHome self.old.layout }
         ensures ok { OnOk result (HasRow self.old e (remove_component number (row_of self.old.rows e.index)) self.new) }
         ensures err { OnErr result (AreAlike self.old self.new) }
         ensures home { AreAllHome self.new.layout }
+        ensures absent { IsErr result → kinds_of (row_of self.old.rows e.index) number ≡ true }
     {
+        if !self.has(e.index, number) {
+            return Ok(());
+        }
         own_all(&mut self.tables, &mut self.shared)?;
         remove_in(&mut self.tables, &mut self.places, e, number)
     }

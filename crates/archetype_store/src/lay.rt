@@ -2,7 +2,7 @@
 
 ghost use Rattle.std.specs.Prelude.{◌≡◌, ◌≢◌, ◌<◌, [], length, map, None, Some, IsSome, OnOk, OnErr};
 ghost use Rattle.kinds.specs.Value.{value_number, value_words};
-ghost use Rattle.model.specs.state.Rows.{insert_component, remove_component};
+ghost use Rattle.model.specs.state.Rows.{cell_at, insert_component, remove_component};
 ghost use Rattle.model.specs.shown.Overlay.{row_after};
 ghost use Rattle.column_store.specs.Cells.{stamped_number};
 ghost use Rattle.column_store.specs.Kinds.{AreBelow};
@@ -12,7 +12,9 @@ ghost use Rattle.archetype_store.specs.Archetypes.{archetypes_of, holder_in, pla
 
 use crate::components::{added, insert_new, take_out};
 use crate::locations::{EntityLocation, place_at};
-use crate::tables::{components_at, find_at, put_at, remove_at, table_for, write_at};
+use crate::tables::{
+    components_at, find_at, kind_count_at, put_at, remove_at, table_for, write_at,
+};
 use change_ticks::clock::Tick;
 use column_store::stamped::StampedValue;
 use column_store::table::Table;
@@ -110,7 +112,8 @@ pub(crate) fn insert_in(
     lay(tables, places, e, &components)
 }
 
-// Removes the component of the kind with this number of an entity. Where memory is wanting all rows stay as they were.
+// Removes the component of the kind with this number of an entity that has one. The last one is not copied, and takes no memory. Where
+// memory is wanting all rows stay as they were.
 pub(crate) fn remove_in(
     tables: &mut Vec<Table>,
     places: &mut Vec<Option<EntityLocation>>,
@@ -120,6 +123,7 @@ pub(crate) fn remove_in(
     requires whole { AreArchetypes tables.old.items places.old.items }
     requires owned { AreOwned tables.old.items }
     requires holder { IsHolder e.generation (holder_in (place_of places.old.items e.index)) }
+    requires there { IsSome (cell_at (row_in tables.old.items e.index (place_of places.old.items e.index)) number) }
     ensures whole { AreArchetypes tables.new.items places.new.items }
     ensures owned { AreOwned tables.new.items }
     ensures ok { OnOk result (HasRow (archetypes_of tables.old.items places.old.items) e
@@ -128,18 +132,15 @@ pub(crate) fn remove_in(
     ensures err { OnErr result (AreAlike (archetypes_of tables.old.items places.old.items) (archetypes_of tables.new.items places.new.items)) }
 {
     let Some(place) = place_at(places, e.index) else {
-        return Ok(());
+        unreachable!();
     };
-    if find_at(tables, place.table, e, number).is_none() {
+    if kind_count_at(tables, place.table) == 1 {
+        clear_in(tables, places, e);
         return Ok(());
     }
     let alloc = *tables.allocator();
     let mut components = components_at(alloc, tables, place.table, e)?;
     take_out(&mut components, number);
-    if components.is_empty() {
-        clear_in(tables, places, e);
-        return Ok(());
-    }
     lay(tables, places, e, &components)
 }
 

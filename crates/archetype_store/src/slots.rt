@@ -291,13 +291,15 @@ impl Slots {
         Ok(())
     }
 
-    /// Removes the component of a kind from the row of an entity, where it has one. After an error the slots are as they were.
+    /// Removes the component of a kind from the row of an entity, where it has one: where it has none no memory is asked for. After an error
+    /// the slots are as they were.
     pub fn remove(&mut self, e: Entity, number: u32) -> Result<(), StoreFault>
         requires { AreAllHome self.old.layout }
         ensures ok { OnOk result (self.new.slots ≡ update_at e.index (with_row (remove_component number)) self.old.slots) }
         ensures dead { IsErrOf result StoreFault.NotAlive ↔ (is_alive self.old.slots e ≡ false) }
         ensures err { OnErr result (self.new ≡ self.old) }
         ensures home { AreAllHome self.new.layout }
+        ensures absent { IsErrOf result StoreFault.Memory → is_some (cell_of self.old.slots e number) ≡ true }
     {
         if !self.lives(e) {
             return Err(StoreFault::NotAlive);

@@ -323,13 +323,15 @@ impl World {
         self.slots.insert(e, component.into_value(), tick)
     }
 
-    /// Removes the component of a kind of an entity. Where it has none, nothing changes. After an error nothing has changed.
+    /// Removes the component of a kind of an entity. Where it has none, nothing changes, and no memory is asked for. After an error nothing
+    /// has changed.
     pub fn remove(&mut self, e: Entity, kind: Kind) -> Result<(), StoreFault>
         requires { AreAllHome self.old.layout }
         ensures ok { OnOk result (self.new.state ≡ with_slot e.index (with_row (remove_component (kind_number kind))) self.old.state) }
         ensures dead { IsErrOf result StoreFault.NotAlive ↔ (is_alive self.old.state.slots e ≡ false) }
         ensures err { OnErr result (self.new ≡ self.old) }
         ensures home { AreAllHome self.new.layout }
+        ensures absent { IsErrOf result StoreFault.Memory → is_some (cell_of self.old.state.slots e (kind_number kind)) ≡ true }
     {
         self.slots.remove(e, kind.number())
     }

@@ -155,6 +155,14 @@ pub(crate) fn has_at(tables: &[Table], table: usize, number: u32) -> bool
     has_kind(tables[table].kinds(), number)
 }
 
+// How many kinds a table has.
+pub(crate) fn kind_count_at(tables: &[Table], table: usize) -> usize
+    requires { table < length tables.now }
+    ensures { result ≡ length (kinds_at tables.now table) }
+{
+    tables[table].kinds().len()
+}
+
 // The components of an entity that is in a table, in the order of its kinds.
 pub(crate) fn components_at(
     alloc: Global,

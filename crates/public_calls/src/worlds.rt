@@ -1,19 +1,27 @@
 // What the store does in a row of calls.
 
-ghost use Rattle.std.specs.Prelude.{◌≡◌, ◌≤◌, All, IfOk};
+ghost use Rattle.std.specs.Prelude.{◌≡◌, ◌≢◌, ◌≤◌, ◌∷◌, ℕ, [], true, length, map, All, Some, IfOk, OnOk};
+ghost use Rattle.std.specs.List.{AllByRecursion};
+ghost use Rattle.kinds.specs.Kind.{kind_number};
+ghost use Rattle.kinds.specs.declared.kind.Kind.TheVariants as the_kinds;
+ghost use Rattle.model.specs.Lists.{has};
 ghost use Rattle.entity_table.specs.Ids.{IsGranted, AreApart};
-ghost use Rattle.archetype_store.specs.Layout.{AreAllHome};
+ghost use Rattle.archetype_store.specs.Layout.{archetype_at, column_home, AreAllHome};
+ghost use Rattle.archetype_store.specs.Lending.{CanTake};
+ghost use Rattle.archetype_store.specs.Store.{IsPast};
 
 use archetype_store::fault::{GrantFault, StoreFault};
-use archetype_store::store::World;
-use change_ticks::clock::Clock;
+use archetype_store::laws::kinds_are_home;
+use archetype_store::store::{ColumnAt, World};
+use change_ticks::clock::{Clock, Tick};
 use change_ticks::stamp::Stamp;
+use column_store::stamped::StampedColumn;
 use entity_table::Entity;
 use kinds::component::{Frozen, Health, Position, Velocity};
 use kinds::kind::Kind;
 use kinds::res::Res;
 use kinds::value::Value;
-use std::alloc::Global;
+use std::alloc::{AllocError, Global};
 use std::test::Fail;
 
 const FIRST: Entity = Entity {
@@ -381,5 +389,197 @@ fn a_refused_insert_leaves_all(rt: HostRuntime) -> Result<(), Fail> {
     assert!(rt; world.has(THIRD, Kind::Frozen));
     there?;
     new?;
+    Ok(())
+}
+
+// Whether a kind is among these.
+fn is_among(kind: Kind, kinds: &[Kind]) -> bool
+    ensures { result ≡ has (kind_number kind) (map kind_number kinds.now) }
+{
+    let Some((first, others)) = kinds.split_first() else {
+        return false;
+    };
+    first.number() == kind.number() || is_among(kind, others)
+}
+
+// The column of a kind of the archetype of a number, which is to have one.
+fn named(alloc: Global, world: &World, archetype: usize, kind: Kind) -> Result<ColumnAt, Fail>
+    requires { AreAllHome world.now.layout }
+    ensures archetype { IfOk result (λ at. at.archetype ≡ archetype) }
+    ensures kind { IfOk result (λ at. at.kind ≡ kind) }
+    ensures home { OnOk result (column_home (archetype_at world.now.layout archetype) (kind_number kind) ≡ Some true) }
+{
+    // Tell that each kind of an archetype has its column at home.
+    world.laid();
+    kinds_are_home();
+    let views = world.archetypes(alloc)?;
+    let view = views.get(archetype).ok_or("no archetype")?;
+    if is_among(kind, view.kinds) {
+        Ok(ColumnAt { archetype, kind })
+    } else {
+        None.ok_or("no column")?
+    }
+}
+
+// Writes -1 at a tick in every second row of a column of health, from the first on.
+fn write_half(column: &mut StampedColumn, tick: Tick)
+    requires { column.old.kind ≡ kind_number the_kinds.Health }
+    ensures kind { column.new.kind ≡ column.old.kind }
+    ensures many { length column.new.cells ≡ length column.old.cells }
+    ensures past { (clock : ℕ) → tick ≤ clock → AllByRecursion (IsPast clock) column.old.cells → AllByRecursion (IsPast clock) column.new.cells }
+{
+    for row in 0..column.len() {
+        if row % 2 == 0 {
+            column.set(row, Health { v: -1 }, tick);
+        }
+    }
+}
+
+// Takes a column of health, writes every second row and puts it back.
+fn write_half_of(alloc: Global, world: &mut World, at: ColumnAt) -> Result<(), Fail>
+    requires health { at.kind ≡ the_kinds.Health }
+    requires there { column_home (archetype_at world.old.layout at.archetype) (kind_number at.kind) ≡ Some true }
+    ensures { OnOk result (world.new.layout ≡ world.old.layout) }
+{
+    // Tell that what is taken can come home.
+    world.laid();
+    let now = world.now();
+    let mut taken = world.take_written(alloc, &[at])?;
+    let mut one = taken.pop().ok_or("no column")?;
+    write_half(&mut one.column, now);
+    taken.push(one)?;
+    world.put_back(taken);
+    Ok(())
+}
+
+// Takes two columns of health, writes every second row of the second, and puts them back in the other order.
+fn write_half_of_the_second(
+    alloc: Global,
+    world: &mut World,
+    first: ColumnAt,
+    second: ColumnAt,
+) -> Result<(), Fail>
+    requires health { second.kind ≡ the_kinds.Health }
+    requires apart { first.archetype ≢ second.archetype }
+    requires first { column_home (archetype_at world.old.layout first.archetype) (kind_number first.kind) ≡ Some true }
+    requires second { column_home (archetype_at world.old.layout second.archetype) (kind_number second.kind) ≡ Some true }
+    ensures { OnOk result (world.new.layout ≡ world.old.layout) }
+{
+    // Tell that what is taken can come home.
+    world.laid();
+    let now = world.now();
+    let mut taken = world.take_written(alloc, &[first, second])?;
+    let mut last = taken.pop().ok_or("no column")?;
+    write_half(&mut last.column, now);
+    taken.insert(0, last)?;
+    world.put_back(taken);
+    Ok(())
+}
+
+// Takes columns and puts them back as they are. Where memory is wanting nothing has changed either.
+fn take_and_put_back(
+    alloc: Global,
+    world: &mut World,
+    columns: &[ColumnAt],
+) -> Result<(), AllocError>
+    requires { CanTake world.old.layout columns.now }
+    ensures { world.new ≡ world.old }
+{
+    // Tell that what is taken can come home.
+    world.laid();
+    let _now = world.now();
+    let taken = world.take_written(alloc, columns)?;
+    world.put_back(taken);
+    Ok(())
+}
+
+// The health of an entity, and when it was last changed.
+fn health_of(world: &World, e: Entity) -> (Option<Health>, Option<Tick>)
+    requires { AreAllHome world.now.layout }
+{
+    let changed = world.stamp(e, Kind::Health).map(|stamp| stamp.changed);
+    (world.get::<Health>(e), changed)
+}
+
+#[test]
+fn columns_come_home_in_another_order(rt: HostRuntime) -> Result<(), Fail> {
+    let mut world = three(rt.alloc())?;
+    let first = named(rt.alloc(), &world, 1, Kind::Health)?;
+    let second = named(rt.alloc(), &world, 2, Kind::Health)?;
+    write_half_of_the_second(rt.alloc(), &mut world, first, second)?;
+    assert_eq!(rt; health_of(&world, SECOND), (Some(Health { v: 3 }), Some(1)));
+    assert_eq!(rt; health_of(&world, THIRD), (Some(Health { v: -1 }), Some(4)));
+    assert!(rt; world.has(THIRD, Kind::Frozen));
+    Ok(())
+}
+
+#[test]
+fn a_column_that_is_read_is_taken_as_a_copy(rt: HostRuntime) -> Result<(), Fail> {
+    let mut world = three(rt.alloc())?;
+    let at = named(rt.alloc(), &world, 1, Kind::Health)?;
+    let shared = world.share_read(rt.alloc(), &[at])?;
+    write_half_of(rt.alloc(), &mut world, at)?;
+    let read = shared.first().ok_or("no column")?;
+    assert_eq!(rt; read.archetype, 1);
+    assert!(rt; read.column.len() == 1);
+    assert_eq!(rt; read.column.at(0).value, Value::Health(Health { v: 3 }));
+    assert_eq!(rt;
+        health_of(&world, SECOND),
+        (Some(Health { v: -1 }), Some(4))
+    );
+    // A row moves after its column was handed out.
+    let again = world.share_read(rt.alloc(), &[at])?;
+    let now = world.now();
+    world.insert(SECOND, Frozen, now)?;
+    assert_eq!(rt; again.len(), 1);
+    assert_eq!(rt;
+        health_of(&world, SECOND),
+        (Some(Health { v: -1 }), Some(4))
+    );
+    Ok(())
+}
+
+#[test]
+fn many_rows_leave_and_come_home(rt: HostRuntime) -> Result<(), Fail> {
+    let count = 100_000;
+    let mut world = World::new(rt.alloc(), Clock::at(4))?;
+    spawn(rt.alloc(), &mut world, count)?;
+    fill(&mut world, count)?;
+    let at = named(rt.alloc(), &world, 0, Kind::Health)?;
+    let shared = world.share_read(rt.alloc(), &[at])?;
+    write_half_of(rt.alloc(), &mut world, at)?;
+    assert!(rt; shared.iter().all(|column| column.column.len() == 100_000));
+    assert!(rt; is_so(&world, 99_998, Some(-1), false));
+    assert!(rt; is_so(&world, 99_999, Some(99_999), false));
+    Ok(())
+}
+
+// Under `rt try --test --fail-alloc N`, for N in turn, each allocation of these calls is refused. The second call finds columns that are
+// read elsewhere, and copies them.
+#[test]
+fn a_refused_take_leaves_all(rt: HostRuntime) -> Result<(), Fail> {
+    let mut world = three(rt.alloc())?;
+    let at = named(rt.alloc(), &world, 1, Kind::Health)?;
+    let alone = take_and_put_back(rt.alloc(), &mut world, &[at]);
+    assert_eq!(rt; health_of(&world, SECOND), (Some(Health { v: 3 }), Some(1)));
+    let shared = world.share_read(rt.alloc(), &[at]);
+    assert_eq!(rt; health_of(&world, SECOND), (Some(Health { v: 3 }), Some(1)));
+    let copied = take_and_put_back(rt.alloc(), &mut world, &[at]);
+    assert_eq!(rt; health_of(&world, SECOND), (Some(Health { v: 3 }), Some(1)));
+    assert_eq!(rt; health_of(&world, THIRD), (Some(Health { v: 4 }), Some(1)));
+    alone?;
+    assert_eq!(rt; shared?.len(), 1);
+    copied?;
+    Ok(())
+}
+
+// Under `rt try --test --fail-alloc N` no N refuses these calls: what isn't there and what is the last takes no memory.
+#[test]
+fn a_removal_of_nothing_or_of_the_last_takes_no_memory(rt: HostRuntime) -> Result<(), Fail> {
+    let mut world = three(rt.alloc())?;
+    assert_eq!(rt; world.remove(SECOND, Kind::Frozen), Ok(()));
+    assert_eq!(rt; world.remove(SECOND, Kind::Health), Ok(()));
+    assert_eq!(rt; world.remove(SECOND, Kind::Health), Ok(()));
+    assert!(rt; world.lives(SECOND));
     Ok(())
 }

@@ -1,45 +1,48 @@
-use Rattle.std.proofs.Common.{◌≡◌, false, None, map, is_some, OnOk, rules, sym, ap, subst, ◌∙◌}
+use Rattle.std.proofs.Common.{◌≡◌, ℕ, Bool, true, false, cond, ◌==◌, List, [], ◌∷◌, length, None, Some, map, is_some, IsSome, OnOk, refl, sym, ap, subst, ◌∙◌, arith}
+use Rattle.model.specs.state.State.{Component}
 use Rattle.model.specs.state.Rows.{cell_at, remove_component}
 use Rattle.column_store.specs.Cells.{stamped_number}
 use Rattle.column_store.specs.Kinds.{AreBelow}
-use Rattle.column_store.specs.declared.stamped.StampedValue.{StampedValue}
 use Rattle.archetype_store.specs.Row.{component_of}
-use Rattle.archetype_store.specs.Tables.{held_at, row_or_none}
+use Rattle.archetype_store.specs.Tables.{kinds_at}
 use Rattle.archetype_store.specs.Archetypes.{archetypes_of, place_of, row_in, HasRow}
-use Rattle.archetype_store.proofs.Moves.{has_row_kept}
-use Rattle.archetype_store.proofs.RowEdits.{absent-removed}
-use Rattle.archetype_store.proofs.Steps.{row_is, row_read, below_removed, none_seen, none_of}
+use Rattle.archetype_store.proofs.Steps.{row_read, below_removed, kinds_at_place}
 use Rattle.archetype_store.specs.Tables.{AreHome}
 use Rattle.archetype_store.proofs.Standings.{owned_are_home}
 use Rattle.archetype_store.proofs.lay.remove_in.Goals as goal
 
-pub find_at-requires-clause-home : goal.find_at-requires-clause-home
-find_at-requires-clause-home c = subst AreHome (sym c.deref-2.ensures.value) (owned_are_home c.args.tables.now.items c.requires.owned)
-
 pub components_at-requires-clause-home : goal.components_at-requires-clause-home
 components_at-requires-clause-home c = subst AreHome (sym c.deref-3.ensures.value) (owned_are_home c.args.tables.now.items c.requires.owned)
 
-pub returns-in_default-clause-ok : goal.returns-in_default-clause-ok
-returns-in_default-clause-ok c =
-    let tables = c.args.tables.now.items in
-    let places = c.args.places.now.items in
-    let none : place_of places c.args.e.index ≡ None = rw c.deref.ensures.value at (sym c.place_at.ensures ∙ none_of c.place_at.result c.in_default.not-Some) in
-    let row = ap (row_in tables c.args.e.index) none in
-    subst (λ r. HasRow (archetypes_of tables places) c.args.e r (archetypes_of tables places)) (row ∙ sym (ap (remove_component c.args.number) row))
-    (has_row_kept tables places c.args.e c.requires.whole c.requires.holder)
+-- a row of one kind has nothing left without it
+one_removed : (k : ℕ) (row : List Component) → length (map (λ (c : Component). c.kind) row) ≡ 1 → is_some (cell_at row k) ≡ true → remove_component k row ≡ []
+one_removed k [] l h = absurd (omega arith)
+one_removed k (c ∷ []) l h = go (c.kind == k) h
+  where
+    go : (b : Bool) → is_some (cond b (Some c.cell) None) ≡ true → cond b [] (c ∷ []) ≡ []
+    go true e = refl
+    go false e = absurd (cc)
+one_removed k (c ∷ d ∷ cs) l h = absurd (omega arith)
 
-pub returns-then-is_none-clause-ok : goal.returns-then-is_none-clause-ok
-returns-then-is_none-clause-ok c =
+pub returns-then-kind_count_at-eq1-clause-ok : goal.returns-then-kind_count_at-eq1-clause-ok
+returns-then-kind_count_at-eq1-clause-ok c =
     let tables = c.args.tables.now.items in
     let places = c.args.places.now.items in
     let at = rw c.deref.ensures.value at (sym c.place_at.ensures ∙ c.in-Some.is) in
-    let row = row_is tables places c.args.e c.in-Some.place c.requires.whole c.requires.holder at in
-    let absent : is_some c.find_at.result ≡ false = search rules in
-    let none : cell_at (row_or_none (held_at tables c.in-Some.place.table c.args.e)) c.args.number ≡ None =
-    none_seen (λ (s : StampedValue). (component_of s).cell) c.find_at.result _ (rw c.deref-2.ensures.value at c.find_at.ensures.cell) absent in
-    subst (λ r. HasRow (archetypes_of tables places) c.args.e r (archetypes_of tables places))
-    (row ∙ sym (absent-removed c.args.number _ none) ∙ sym (ap (remove_component c.args.number) row))
-    (has_row_kept tables places c.args.e c.requires.whole c.requires.holder)
+    let kinds = kinds_at_place tables places c.requires.whole c.args.e.index c.in-Some.place at in
+    let count : c.kind_count_at.result ≡ length (kinds_at tables c.in-Some.place.table) = rw c.deref-2.ensures.value at c.kind_count_at.ensures in
+    let one = ap length kinds ∙ sym count ∙ c.if-kind_count_at-eq1.true in
+    subst (λ r. HasRow (archetypes_of tables places) c.args.e r (archetypes_of c.clear_in.new.tables.items c.clear_in.new.places.items))
+    (sym (one_removed c.args.number (row_in tables c.args.e.index (place_of places c.args.e.index)) one c.requires.there)) c.clear_in.ensures.cleared
+
+pub take_out-requires : goal.take_out-requires
+take_out-requires c =
+    let tables = c.args.tables.now.items in
+    let places = c.args.places.now.items in
+    let at = rw c.deref.ensures.value at (sym c.place_at.ensures ∙ c.in-Some.is) in
+    let held = rw c.deref-3.ensures.value at c.in_ok-components.ensures.row in
+    let row = row_read tables places c.args.e c.in-Some.place c.requires.whole c.requires.holder at c.in_ok-components.components.items held in
+    subst (λ r. IsSome (cell_at r c.args.number)) row c.requires.there
 
 pub lay-requires-clause-below : goal.lay-requires-clause-below
 lay-requires-clause-below c =

@@ -1,13 +1,43 @@
-use Rattle.std.proofs.Common.{List, OnOk, OnErr, sym, subst}
+use Rattle.std.proofs.Common.{◌≡◌, true, false, List, Option, Some, None, is_some, IsSome, OnOk, OnErr, refl, sym, ap, subst, ◌∙◌, rules}
 use Rattle.std.proofs.lemmas.Result.{on_ok_weaker, on_err_weaker}
 use Rattle.model.specs.state.State.{Component}
-use Rattle.model.specs.state.Rows.{remove_component}
+use Rattle.model.specs.state.Rows.{cell_at, remove_component}
 use Rattle.archetype_store.specs.Layout.{AreAllHome}
-use Rattle.archetype_store.specs.Archetypes.{ArchetypesValue, archetypes_of, row_of, place_of, row_in, AreAlike, HasRow}
-use Rattle.archetype_store.proofs.Laid.{row_seen}
-use Rattle.archetype_store.proofs.Moves.{alike_trans, on_err_from}
+use Rattle.archetype_store.specs.Archetypes.{ArchetypesValue, archetypes_of, row_of, holder_of, place_of, row_in, AreAlike, HasRow, IsHolder}
+use Rattle.archetype_store.proofs.Laid.{row_seen, holder_seen}
+use Rattle.archetype_store.proofs.Moves.{alike_trans, on_err_from, has_row_kept}
+use Rattle.archetype_store.proofs.RowEdits.{absent-removed}
 use Rattle.archetype_store.proofs.Standings.{home_tables, alike_value, value_alike, alike_whole, alike_stored, alike_all_home, owned_stored, owned_layout, moved_from}
 use Rattle.archetype_store.proofs.archetypes.Archetypes.remove.Goals as goal
+
+-- what isn't there is none
+none_is : {A : Type 0} (o : Option A) → is_some o ≡ false → o ≡ None
+none_is None h = refl
+none_is (Some x) h = absurd (cc)
+
+pub returns-then-not-has-clause-ok : goal.returns-then-not-has-clause-ok
+returns-then-not-has-clause-ok c =
+    let T = c.self.inside.tables.items in
+    let P = c.self.inside.places.items in
+    let i = c.args.e.index in
+    let A = archetypes_of T P in
+    let fits = subst (IsHolder c.args.e.generation) (ap (λ (v : ArchetypesValue). holder_of v.holders i) (sym c.self.view_is) ∙ holder_seen T P i) c.requires.holder in
+    let kept = subst (λ r. HasRow A c.args.e r A) (sym (row_seen T P i)) (has_row_kept T P c.args.e c.self.invariant.whole fits) in
+    let lacks : c.has.result ≡ false = search rules in
+    let none = none_is (cell_at (row_of A.rows i) c.args.number) (ap (λ (v : ArchetypesValue). is_some (cell_at (row_of v.rows i) c.args.number)) c.self.view_is ∙ sym c.has.ensures ∙ lacks) in
+    subst (λ (v : ArchetypesValue). HasRow v c.args.e (remove_component c.args.number (row_of v.rows i)) v) c.self.view_is
+    (subst (λ r. HasRow A c.args.e r A) (sym (absent-removed c.args.number (row_of A.rows i) none)) kept)
+
+pub remove_in-requires-clause-there : goal.remove_in-requires-clause-there
+remove_in-requires-clause-there c =
+    let T = c.self.inside.tables.items in
+    let P = c.self.inside.places.items in
+    let T1 = c.own_all.new.tables.items in
+    let i = c.args.e.index in
+    let alike = value_alike (archetypes_of T P) (archetypes_of T1 P) (alike_value T T1 P c.own_all.ensures.alike) in
+    let row = sym (row_seen T1 P i) ∙ alike.rows i ∙ ap (λ (v : ArchetypesValue). row_of v.rows i) c.self.view_is in
+    let has : c.has.result ≡ true = search rules in
+    subst (λ r. IsSome (cell_at r c.args.number)) (sym row) (sym c.has.ensures ∙ has)
 
 pub own_all-requires-clause-home : goal.own_all-requires-clause-home
 own_all-requires-clause-home c =
