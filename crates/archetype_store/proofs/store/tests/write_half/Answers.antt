@@ -1,4 +1,4 @@
-use Rattle.std.proofs.Common.{◌≡◌, ℕ, zero, suc, List, [], ◌∷◌, length, sym, ap, subst, ◌∙◌}
+use Rattle.std.proofs.Common.{ℕ, zero, suc, List, [], ◌∷◌, length, sym, ap, subst, ◌∙◌}
 use Rattle.std.specs.List.{AllByRecursion}
 use Rattle.model.specs.Lists.{update_at}
 use Rattle.model.specs.State.{Cell}
@@ -17,17 +17,17 @@ past_changed clock (suc i) f (x ∷ xs) h k = (k.0, past_changed clock i f xs h 
 pub loop-row-preserved : goal.loop-row-preserved
 loop-row-preserved c =
     elim c.if-row-eq0.branch [
-      then-row-eq0 w ↦
-        (let is = w.column-is ∙ w.set.ensures in record {
-          kind = ap (λ (x : ColumnCells). x.kind) is ∙ c.loop-row.invariant.kind;
-          many = ap (λ (x : ColumnCells). length x.cells) is ∙ length-update_at c.loop-row.row _ c.loop-row.column.cells ∙ c.loop-row.invariant.many;
-          past = λ clock le before. subst (λ (x : ColumnCells). AllByRecursion (IsPast clock) x.cells) (sym is)
-              (past_changed clock c.loop-row.row _ c.loop-row.column.cells (λ x p. record { added = p.added; changed = le }) (c.loop-row.invariant.past clock le before));
-        })
-    | else-row-eq0 w ↦
-        (let is = w.column-is in record {
-          kind = ap (λ (x : ColumnCells). x.kind) is ∙ c.loop-row.invariant.kind;
-          many = ap (λ (x : ColumnCells). length x.cells) is ∙ c.loop-row.invariant.many;
-          past = λ clock le before. subst (λ (x : ColumnCells). AllByRecursion (IsPast clock) x.cells) (sym is) (c.loop-row.invariant.past clock le before);
-        })
+      | then-row-eq0 w ↦
+          (let is = w.column-is ∙ w.set.ensures in record {
+            kind = ap (λ (x : ColumnCells). x.kind) is ∙ c.loop-row.invariant.kind;
+            many = ap (λ (x : ColumnCells). length x.cells) is ∙ length-update_at c.loop-row.row _ c.loop-row.column.cells ∙ c.loop-row.invariant.many;
+            past = λ clock le before. subst (λ (x : ColumnCells). AllByRecursion (IsPast clock) x.cells) (sym is)
+                (past_changed clock c.loop-row.row _ c.loop-row.column.cells (λ x p. record { added = p.added; changed = le }) (c.loop-row.invariant.past clock le before));
+          })
+      | else-row-eq0 w ↦
+          (let is = w.column-is in record {
+            kind = ap (λ (x : ColumnCells). x.kind) is ∙ c.loop-row.invariant.kind;
+            many = ap (λ (x : ColumnCells). length x.cells) is ∙ c.loop-row.invariant.many;
+            past = λ clock le before. subst (λ (x : ColumnCells). AllByRecursion (IsPast clock) x.cells) (sym is) (c.loop-row.invariant.past clock le before);
+          })
     ]
