@@ -1,40 +1,21 @@
 -- The three parts of a conflict, from the tests that look for them.
-use Rattle.std.proofs.Common.{ℕ, Bool, true, ◌||◌, ◌≡◌, ◌↔◌, ◌⊎◌, inl, inr, List, [], ◌∷◌, map, Option, Some, None, refl, ap}
-use Rattle.std.proofs.lemmas.Bool.{or_cases, or_left, or_right, false≢true}
+use Rattle.std.proofs.Common.{true, ◌≡◌, ◌↔◌, ◌⊎◌, inl, inr}
+use Rattle.std.proofs.lemmas.Bool.{or_cases, or_left, or_right}
 use Rattle.std.specs.List.{list_any}
-use Rattle.model.specs.Lists.{has, is_number}
-use Rattle.model.specs.access.Query.{Term, touched}
+use Rattle.model.specs.Lists.{has}
 use Rattle.model.specs.access.Access.{Params, names_resource, names_event}
-use Rattle.model.specs.access.Conflict.{Conflict, QueriesConflictAt, queries_conflict_at}
+use Rattle.model.specs.access.Conflict.{Conflict}
+use Rattle.model.specs.access.SelfConflict.{queries_meet}
 use Rattle.model.specs.access.Conflict.Datum.{OfKind, OfResource, OfEvent}
 use Rattle.model.proofs.lists.Lists.{list_any-IsIn, IsIn_from_any, has-IsIn, IsIn_from_has}
-use Rattle.model.proofs.lists.Members.{number-of}
-use Rattle.model.proofs.serial.ConflictTests.{test-queries, conflict-queries}
+use Rattle.model.proofs.serial.SelfConflicts.{queries_meet_from, conflict_from_queries_meet}
 use Rattle.query.proofs.Terms.{list_any-map}
-use Rattle.access_set.specs.Meets.{MeetAtKind, MeetAtResource, MeetAtEvent, meets_at, queries_meet}
+use Rattle.access_set.specs.Meets.{MeetAtKind, MeetAtResource, MeetAtEvent}
 
 -- a test of numbers is a test of what has them
 pub ruleset any_of_numbers = (list_any-map)
 
 -- ---- kinds
-
--- queries that conflict at a kind that one term touches
-meets_from : (q r : List Term) (kind : ℕ) (o : Option ℕ) → o ≡ Some kind → queries_conflict_at q r kind ≡ true → meets_at q r o ≡ true
-meets_from q r kind o same e = rw same e
-
--- queries that conflict at a kind meet
-queries_meet_from : (q r : List Term) (kind : ℕ) → QueriesConflictAt q r kind → queries_meet q r ≡ true
-queries_meet_from q r kind c = let t = IsIn_from_any (λ t. is_number kind (touched t)) q c.first_touches in
-    list_any-IsIn (λ t. meets_at q r (touched t)) t.0 q t.1 (meets_from q r kind (touched t.0) (number-of kind (touched t.0) t.2) (test-queries q r kind c))
-
--- where they meet at what a term touches they conflict there
-conflict_from : (q r : List Term) (o : Option ℕ) → meets_at q r o ≡ true → (kind : ℕ) × QueriesConflictAt q r kind
-conflict_from q r None e = absurd (false≢true e)
-conflict_from q r (Some kind) e = (kind, conflict-queries q r kind e)
-
--- queries that meet conflict at some kind
-conflict_from_queries_meet : (q r : List Term) → queries_meet q r ≡ true → (kind : ℕ) × QueriesConflictAt q r kind
-conflict_from_queries_meet q r e = let t = IsIn_from_any (λ t. meets_at q r (touched t)) q e in conflict_from q r (touched t.0) t.2
 
 -- accesses conflict at a kind exactly where two of their queries meet
 pub meet_at_kind : (a b : Params) → (list_any (λ q. list_any (λ r. queries_meet q r) b.queries) a.queries ≡ true) ↔ MeetAtKind a b

@@ -8,7 +8,8 @@ ghost use Rattle.query.specs.Term.{term_of};
 ghost use Rattle.model.specs.access.Query.{admits, matches, touched, writes};
 ghost use Rattle.model.specs.access.Access.{names_resource, names_event};
 ghost use Rattle.model.specs.access.Conflict.{Conflict, least_kinds, queries_conflict_at};
-ghost use Rattle.access_set.specs.Meets.{MeetAtKind, MeetAtResource, MeetAtEvent, meets_at, queries_meet};
+ghost use Rattle.model.specs.access.SelfConflict.{meets_at, queries_meet};
+ghost use Rattle.access_set.specs.Meets.{MeetAtKind, MeetAtResource, MeetAtEvent};
 
 use crate::params::Params;
 use kinds::kind::Kind;
@@ -43,8 +44,8 @@ fn any_queries_meet(queries: &[Query], others: &[Query]) -> bool
     queries.iter().any(|query| any_query_meets(query, others))
 }
 
-// Whether the query conflicts with some of the others.
-fn any_query_meets(query: &Query, others: &[Query]) -> bool
+/// Whether the query conflicts with some of the others.
+pub(crate) fn any_query_meets(query: &Query, others: &[Query]) -> bool
     ensures { result ≡ list_any (λ r. queries_meet query.now r) others.now }
 {
     others.iter().any(|other| queries_meet(query, other))

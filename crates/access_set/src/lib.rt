@@ -3,3 +3,4 @@
 
 pub mod conflict;
 pub mod params;
+pub mod self_conflict;

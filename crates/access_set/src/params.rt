@@ -131,9 +131,9 @@ impl Params {
     }
 }
 
-// Whether the resource is among these.
+/// Whether the resource is among these.
 #[tactic(auto, using(crate::proofs::Meets::any_of_numbers))]
-fn has_resource(resources: &[Res], resource: Res) -> bool
+pub(crate) fn has_resource(resources: &[Res], resource: Res) -> bool
     ensures { result ≡ has (res_number resource) (map res_number resources.now) }
 {
     any_resource(resources, resource.number())
@@ -146,9 +146,9 @@ fn any_resource(resources: &[Res], number: u32) -> bool
     resources.iter().any(|x| x.number() == number)
 }
 
-// Whether the event kind is among these.
+/// Whether the event kind is among these.
 #[tactic(auto, using(crate::proofs::Meets::any_of_numbers))]
-fn has_event(events: &[Event], event: Event) -> bool
+pub(crate) fn has_event(events: &[Event], event: Event) -> bool
     ensures { result ≡ has (event_number event) (map event_number events.now) }
 {
     any_event(events, event.number())

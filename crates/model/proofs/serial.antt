@@ -1,5 +1,6 @@
 pub mod Conflicts
 pub mod ConflictTests
+pub mod SelfConflicts
 pub mod Within
 pub mod Writes
 pub mod Uses

@@ -3,3 +3,4 @@ pub mod Access
 pub mod Conflict
 pub mod Condition
 pub mod QueryFaults
+pub mod SelfConflict

@@ -1,9 +1,11 @@
--- Which accesses conflict: filters that exclude one another, an optional read, shared writes, and the least datum.
-use Rattle.std.proofs.Common.{◌≡◌, false, List, [], ◌∷◌, Some, refl}
+-- Which accesses conflict, and which among themselves: filters that exclude one another, an optional read, shared writes, and the
+-- least datum.
+use Rattle.std.proofs.Common.{◌≡◌, true, false, List, [], ◌∷◌, Some, refl}
 use Rattle.model.specs.access.Query.{Term}
 use Rattle.model.specs.access.Query.Term.{Entity, Mut, Read, Opt, With, Without, Added}
 use Rattle.model.specs.access.Access.{Params, no_params}
 use Rattle.model.specs.access.Conflict.{conflicts, least_datum}
+use Rattle.model.specs.access.SelfConflict.{conflict_within}
 use Rattle.model.specs.access.Conflict.Datum.{OfKind, OfResource, OfEvent}
 use Rattle.model.proofs.examples.Bodies.{position, health, score, frozen, round, total, hit, asks}
 
@@ -49,3 +51,37 @@ event_readers = refl
 
 event_writer : least_datum (record no_params { reads = hit ∷ [] }) (record no_params { writes = hit ∷ [] }) ≡ Some (OfEvent hit)
 event_writer = refl
+
+-- ---- the parameters of one system
+
+-- a writer and a reader of one kind
+written_beside : conflict_within (asks ((Mut health ∷ []) ∷ (Read health ∷ []) ∷ [])) ≡ true
+written_beside = refl
+
+-- in whatever order, and with a query between them
+read_before : conflict_within (asks ((Read health ∷ []) ∷ (Entity ∷ []) ∷ (Mut health ∷ []) ∷ [])) ≡ true
+read_before = refl
+
+-- a kind that one requires and the other excludes keeps them apart
+apart_within : conflict_within (asks ((Mut health ∷ With frozen ∷ []) ∷ (Read health ∷ Without frozen ∷ []) ∷ [])) ≡ false
+apart_within = refl
+
+-- two readers; a query alone doesn't conflict, whatever its terms are
+readers_within : conflict_within (asks ((Read health ∷ []) ∷ (Read health ∷ []) ∷ [])) ≡ false
+readers_within = refl
+
+alone_within : conflict_within (asks ((Mut health ∷ Read health ∷ []) ∷ [])) ≡ false
+alone_within = refl
+
+-- resources and event kinds: one written twice, one read and written, one read twice
+resource_twice : conflict_within (record no_params { res_mut = total ∷ round ∷ total ∷ [] }) ≡ true
+resource_twice = refl
+
+resource_beside : conflict_within (record no_params { res = total ∷ []; res_mut = total ∷ [] }) ≡ true
+resource_beside = refl
+
+event_beside : conflict_within (record no_params { reads = hit ∷ []; writes = hit ∷ [] }) ≡ true
+event_beside = refl
+
+read_twice : conflict_within (record no_params { res = total ∷ total ∷ []; res_mut = round ∷ []; reads = hit ∷ hit ∷ [] }) ≡ false
+read_twice = refl
