@@ -6,8 +6,9 @@ use Rattle.std.proofs.lemmas.Bool.Decides.{eqb_tells}
 use Rattle.std.proofs.lemmas.List.{same_lists, get_or-map, length-map, get_or_push, get_or_append_left, length_push, get_or_past}
 use Rattle.model.specs.Lists.{has}
 use Rattle.model.specs.access.Access.{Params, no_params}
+use Rattle.model.specs.access.SelfConflict.{ConflictWithin}
 use Rattle.model.specs.declarations.Declarations.{DeclaredSystem}
-use Rattle.model.specs.declarations.Refusals.{HasDistinctNames}
+use Rattle.model.specs.declarations.Refusals.{HasDistinctNames, HasNoSelfConflict}
 use Rattle.model.specs.steps.Schedule.{ScheduledSystem, has_edge, level_of}
 use Rattle.model.specs.steps.Ambiguity.{Reaches, Before}
 use Rattle.model.specs.declarations.ScheduleOrder.{IsScheduleOrder, HasDeclaredEdges, HasDeclaredSystems}
@@ -16,6 +17,7 @@ use Rattle.model.specs.steps.Built.{IsBuilt}
 use Rattle.cycle_search.specs.declared.order.Order.{Order}
 use Rattle.schedule_builder.specs.Orders.{items_of, AreDeclared}
 use Rattle.cycle_search.specs.Cycles.{IsStep, IsRankable}
+use Rattle.schedule_builder.specs.Rows.{AreApart}
 use Rattle.schedule_builder.specs.ScheduleOrder.{schedule_of, items_before, scheduled, IsEdge, HasSourcesBelow, AreScheduled}
 use Rattle.schedule_builder.proofs.Transfer.{ordered_of_step, step_of_ordered}
 
@@ -119,6 +121,14 @@ is_built orders systems built order d a few s = record {
   after = λ front rest n e m edge. (s.next front rest n e).placeable.after m (edges_from orders systems built d a m n edge) (Before.ByPath (Reaches.Edge m n edge));
   covered = λ c n h. absurd (false≢true h);
   reading = λ c query i kind. absurd i;
+}
+
+-- systems whose parameters don't conflict among themselves as declared don't in the schedule
+pub are_apart : (orders : List Order) (systems : List DeclaredSystem) (built : List ScheduledSystem) → AreScheduled orders systems built → HasNoSelfConflict (items_of systems) → AreApart built
+are_apart orders systems built a none = record {
+  apart = λ n l h.
+      let low : n < length systems = omega (arith, a.long) in
+      none n low (subst (λ (p : Params). ConflictWithin p) (ap (λ (s : ScheduledSystem). s.params) (a.each n low)) h);
 }
 
 -- ---- one more system

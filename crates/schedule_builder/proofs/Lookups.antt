@@ -13,7 +13,7 @@ use Rattle.model.specs.declarations.Declarations.{DeclaredSystem, declared_at, n
 use Rattle.model.specs.declarations.Refusals.{EachIs, IsFirstBad, RepeatsName}
 use Rattle.cycle_search.specs.declared.order.Order.{Order}
 use Rattle.schedule_builder.specs.declared.fault.BuildFault.{BuildFault}
-use Rattle.schedule_builder.specs.declared.fault.BuildFault.TheVariants.{UnknownName, DuplicateName, DependencyLoop, DependencyCycle, BadQuery, OverLimit, Memory}
+use Rattle.schedule_builder.specs.declared.fault.BuildFault.TheVariants.{UnknownName, DuplicateName, DependencyLoop, DependencyCycle, SelfConflict, BadQuery, OverLimit, Memory}
 use Rattle.schedule_builder.specs.Answers.{IsAnswered}
 use Rattle.cycle_search.specs.Orders.{IsBetween}
 use Rattle.schedule_builder.specs.Orders.{Places, items_of, IsPlaceAmong, TellsPlaces, place_in, orders_before, orders_after, TellsMissing, TellsLacking, names_of_order, AreDeclaredBy}
@@ -71,6 +71,7 @@ tells_lacking places front x rest (UnknownName told) e h =
 tells_lacking places front x rest (DuplicateName told) e h = h
 tells_lacking places front x rest (DependencyLoop told) e h = h
 tells_lacking places front x rest (DependencyCycle told) e h = h
+tells_lacking places front x rest (SelfConflict told) e h = h
 tells_lacking places front x rest (BadQuery owner query fault) e h = h
 tells_lacking places front x rest (OverLimit limit) e h = h
 tells_lacking places front x rest Memory e h = tt
@@ -84,6 +85,7 @@ lacking_answered systems places t front names rest (UnknownName told) e k h =
 lacking_answered systems places t front names rest (DuplicateName told) e k h = absurd h
 lacking_answered systems places t front names rest (DependencyLoop told) e k h = absurd h
 lacking_answered systems places t front names rest (DependencyCycle told) e k h = absurd h
+lacking_answered systems places t front names rest (SelfConflict told) e k h = absurd h
 lacking_answered systems places t front names rest (BadQuery owner query fault) e k h = absurd h
 lacking_answered systems places t front names rest (OverLimit limit) e k h = absurd h
 lacking_answered systems places t front names rest Memory e k h = tt

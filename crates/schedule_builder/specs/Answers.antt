@@ -3,7 +3,7 @@ use Rattle.std.specs.Prelude.{map, string_bytes}
 use Rattle.model.specs.declarations.Declarations.{Declared}
 use Rattle.model.specs.declarations.Refusals.{Refusal, IsRefused}
 use Rattle.schedule_builder.specs.declared.fault.BuildFault.{BuildFault}
-use Rattle.schedule_builder.specs.declared.fault.BuildFault.TheVariants.{UnknownName, DuplicateName, DependencyLoop, DependencyCycle, BadQuery, OverLimit, Memory}
+use Rattle.schedule_builder.specs.declared.fault.BuildFault.TheVariants.{UnknownName, DuplicateName, DependencyLoop, DependencyCycle, SelfConflict, BadQuery, OverLimit, Memory}
 
 -- the fault is the refusal that is told of the declared items; want of memory tells nothing of them
 abbrev pub IsAnswered : Declared → BuildFault → Type 0
@@ -11,6 +11,7 @@ IsAnswered d (UnknownName name) = IsRefused d (Refusal.UnknownName (string_bytes
 IsAnswered d (DuplicateName name) = IsRefused d (Refusal.DuplicateName (string_bytes name))
 IsAnswered d (DependencyLoop name) = IsRefused d (Refusal.DependencyLoop (string_bytes name))
 IsAnswered d (DependencyCycle cycle) = IsRefused d (Refusal.DependencyCycle (map string_bytes cycle.items))
+IsAnswered d (SelfConflict name) = IsRefused d (Refusal.SelfConflict (string_bytes name))
 IsAnswered d (BadQuery owner query fault) = IsRefused d (Refusal.BadQuery (string_bytes owner) query fault)
 IsAnswered d (OverLimit limit) = IsRefused d (Refusal.OverLimit limit)
 IsAnswered d Memory = Unit {0}

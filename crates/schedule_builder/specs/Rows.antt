@@ -1,9 +1,11 @@
--- For each system of a schedule the set of those that it waits for, and of those that it conflicts with.
+-- For each system of a schedule the set of those that it waits for, and of those that it conflicts with; and that none conflicts
+-- with itself.
 use Rattle.std.specs.Prelude.{ℕ, ◌+◌, ◌/◌, ◌<◌, ◌≡◌, ◌↔◌, true, List, [], length, get_or}
 use Rattle.number_set.specs.Members.{contains}
 use Rattle.model.specs.Lists.{has}
-use Rattle.model.specs.access.Access.{Params, no_params}
+use Rattle.model.specs.access.Access.{no_params}
 use Rattle.model.specs.access.Conflict.{Conflict}
+use Rattle.model.specs.access.SelfConflict.{ConflictWithin}
 use Rattle.model.specs.steps.Schedule.{ScheduledSystem}
 
 -- the system of a number
@@ -32,3 +34,7 @@ pub record AreRows (count rows_made : ℕ) (P : ℕ → ℕ → Type 0) (rows : 
 pub record HasRows (systems : List ScheduledSystem) (waited met : List (List ℕ)) : Type 0 where
   pub before : AreRows (length systems) (length systems) (IsBefore systems) waited
   pub rivals : AreRows (length systems) (length systems) (IsRival systems) met
+
+-- no system's parameters conflict among themselves
+pub record AreApart (systems : List ScheduledSystem) : Type 0 where
+  pub apart : (n : ℕ) → n < length systems → ConflictWithin (system_in systems n).params → ⊥

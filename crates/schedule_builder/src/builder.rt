@@ -3,7 +3,7 @@
 ghost use Rattle.std.specs.Prelude.{◌≡◌, ℕ, ◌<◌, ◌≤◌, ◌^◌, length, map, get_or, string_bytes, [], IfOk, IfErr, OnOk};
 ghost use Rattle.std.specs.List.{All};
 ghost use Rattle.model.specs.declarations.Declarations.{name_of};
-ghost use Rattle.model.specs.declarations.Refusals.{KnowsNames, HasDistinctNames, HasNoLoop, HasNoCycle, HasGoodQueries, IsBuildable};
+ghost use Rattle.model.specs.declarations.Refusals.{KnowsNames, HasDistinctNames, HasNoLoop, HasNoCycle, HasNoSelfConflict, HasGoodQueries, IsBuildable};
 ghost use Rattle.model.specs.declarations.ScheduleOrder.{HasDeclaredSystems, HasDeclaredEdges, IsOneLevel, IsScheduleOrder};
 ghost use Rattle.schedule_builder.specs.Answers.{IsAnswered};
 ghost use Rattle.cycle_search.specs.Cycles.{IsRankable, IsStep};
@@ -18,6 +18,7 @@ use crate::names::{first_repeated, places_of};
 use crate::orders::{first_loop, resolve};
 use crate::query_faults::first_bad;
 use crate::schedule_order::{order_of, predecessors_of};
+use crate::self_conflicts::first_conflicting;
 use cycle_search::{Order, find_cycle};
 use std::alloc::{AllocError, Global};
 
@@ -103,12 +104,28 @@ fn check_orders(alloc: Global, systems: &[SystemDesc], orders: &[Order]) -> Resu
     }
 }
 
+/// Refuses a system whose parameters conflict among themselves.
+fn check_self_conflicts(alloc: Global, systems: &[SystemDesc]) -> Result<(), BuildFault>
+    requires known { KnowsNames (items_of systems.now) }
+    requires distinct { HasDistinctNames (items_of systems.now) }
+    requires no_loop { HasNoLoop (items_of systems.now) }
+    requires no_cycle { HasNoCycle (items_of systems.now) }
+    ensures apart { OnOk result (HasNoSelfConflict (items_of systems.now)) }
+    ensures refused { IfErr result (IsAnswered (items_of systems.now)) }
+{
+    match first_conflicting(systems) {
+        None => Ok(()),
+        Some(number) => Err(BuildFault::SelfConflict(name_at(alloc, systems, number)?)),
+    }
+}
+
 /// Refuses a query at fault.
 fn check_queries(alloc: Global, systems: &[SystemDesc]) -> Result<(), BuildFault>
     requires known { KnowsNames (items_of systems.now) }
     requires distinct { HasDistinctNames (items_of systems.now) }
     requires no_loop { HasNoLoop (items_of systems.now) }
     requires no_cycle { HasNoCycle (items_of systems.now) }
+    requires apart { HasNoSelfConflict (items_of systems.now) }
     ensures good { OnOk result (HasGoodQueries (items_of systems.now)) }
     ensures refused { IfErr result (IsAnswered (items_of systems.now)) }
 {
@@ -130,6 +147,7 @@ fn checked(alloc: Global, systems: &[SystemDesc]) -> Result<Vec<Order>, BuildFau
 {
     let orders = resolved(alloc, systems)?;
     check_orders(alloc, systems, orders.as_slice())?;
+    check_self_conflicts(alloc, systems)?;
     check_queries(alloc, systems)?;
     if systems.len() > SYSTEMS {
         return Err(BuildFault::OverLimit(1));
@@ -156,7 +174,8 @@ fn scheduled(
 
 /// The schedule of declared systems: an edge for each declared order, one level with one sync point, and the schedule order.
 /// Nothing is built where something is at fault; the first fault is told: a name that no item has, an item with an earlier
-/// item's name, an item ordered with itself, a cycle of orders, a query at fault, more than 256 systems.
+/// item's name, an item ordered with itself, a cycle of orders, a system of which two parameters conflict, a query at fault, more
+/// than 256 systems.
 pub fn build(alloc: Global, desc: ScheduleDesc) -> Result<Built, BuildFault>
     ensures buildable { OnOk result (IsBuildable desc) }
     ensures systems { IfOk result (HasDeclaredSystems desc) }

@@ -1,9 +1,10 @@
 // A built schedule, and what it tells of its systems.
 
-ghost use Rattle.std.specs.Prelude.{◌≡◌, ◌<◌, [], length, IfOk};
+ghost use Rattle.std.specs.Prelude.{◌≡◌, ◌<◌, ℕ, [], length, IfOk};
+ghost use Rattle.model.specs.access.SelfConflict.{ConflictWithin};
 ghost use Rattle.model.specs.steps.Schedule.{system_at, params_of, level_of};
 ghost use Rattle.model.specs.steps.Built.{IsBuilt};
-ghost use Rattle.schedule_builder.specs.Rows.{IsRow, IsBefore, IsRival};
+ghost use Rattle.schedule_builder.specs.Rows.{IsRow, IsBefore, IsRival, AreApart};
 
 use crate::rows::{rows_before, rows_of_rivals};
 pub use crate::system::System;
@@ -13,7 +14,7 @@ use std::alloc::{AllocError, Global};
 use std::marker::Model;
 
 /// A schedule as it was built. Contracts see a `Schedule` of the model, which has no conditions yet; every value meets
-/// `IsBuilt`.
+/// `IsBuilt`, and no system's parameters conflict among themselves.
 #[derive(Drop)]
 pub struct Built {
     systems: Vec<System>,
@@ -28,7 +29,7 @@ impl Model for Built {
     ghost use Rattle.model.specs.steps.Schedule.{Schedule};
     ghost use Rattle.model.specs.steps.Built.{IsBuilt};
     ghost use Rattle.model.specs.steps.Codes.{schedule_code};
-    ghost use Rattle.schedule_builder.specs.Rows.{HasRows};
+    ghost use Rattle.schedule_builder.specs.Rows.{HasRows, AreApart};
 
     ghost Value = { Schedule };
 
@@ -36,19 +37,21 @@ impl Model for Built {
 
     ghost view = { λ b. record { systems = b.systems.items; conditions = []; syncs = b.syncs; order = b.order.items } };
 
-    ghost invariant = { λ b. IsBuilt (record { systems = b.systems.items; conditions = []; syncs = b.syncs; order = b.order.items }) × HasRows b.systems.items b.before.items b.rivals.items };
+    ghost invariant = { λ b. IsBuilt (record { systems = b.systems.items; conditions = []; syncs = b.syncs; order = b.order.items }) × HasRows b.systems.items b.before.items b.rivals.items × AreApart b.systems.items };
 }
 
 impl Built {
     /// A schedule of its parts: the systems in declared order, how many sync points there are, and the schedule order. Asks
-    /// that the parts meet `IsBuilt`. What each system waits for and which ones it conflicts with is found out here, once.
+    /// that the parts meet `IsBuilt` and that no system's parameters conflict among themselves. What each system waits for and
+    /// which ones it conflicts with is found out here, once.
     pub(crate) fn of_parts(
         alloc: Global,
         systems: Vec<System>,
         syncs: u32,
         order: Vec<u32>,
     ) -> Result<Self, AllocError>
-        requires { IsBuilt (record { systems = systems.items; conditions = []; syncs = syncs; order = order.items }) }
+        requires built { IsBuilt (record { systems = systems.items; conditions = []; syncs = syncs; order = order.items }) }
+        requires apart { AreApart systems.items }
         ensures { IfOk result (λ built. built ≡ record { systems = systems.items; conditions = []; syncs = syncs; order = order.items }) }
     {
         let before = rows_before(alloc, systems.as_slice())?;
@@ -78,6 +81,14 @@ impl Built {
     /// What holds of every built schedule.
     pub fn law(&self)
         ensures { IsBuilt self.now }
+    {
+        let _ = &self.syncs;
+    }
+
+    /// No two parameters of one system conflict: neither two of its queries, nor two that name a resource or an event kind that
+    /// one of them writes.
+    pub fn apart(&self)
+        ensures { (n : ℕ) → n < length self.now.systems → ConflictWithin (params_of self.now n) → ⊥ }
     {
         let _ = &self.syncs;
     }

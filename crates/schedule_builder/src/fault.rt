@@ -18,6 +18,8 @@ pub enum BuildFault {
     DependencyLoop(String),
     /// B6: a cycle of orders, from its least declared item, each item once.
     DependencyCycle(Vec<String>),
+    /// B9: the first system of which two parameters conflict.
+    SelfConflict(String),
     /// B10: the first query at fault: its system, its number, and the least fault that holds (1: a kind is required and
     /// excluded; 2: a kind is fetched twice; 3: an `opt` term has an excluded kind).
     BadQuery {
@@ -47,6 +49,7 @@ impl fmt::Display for BuildFault {
                     None => Ok(()),
                 }
             }
+            BuildFault::SelfConflict(name) => write!(f, "refused B9 {name}"),
             BuildFault::BadQuery { owner, query, case } => write!(
                 f,
                 "refused B10 {owner} {query} {case}"

@@ -10,4 +10,5 @@ mod orders;
 mod query_faults;
 mod rows;
 mod schedule_order;
+mod self_conflicts;
 pub mod system;

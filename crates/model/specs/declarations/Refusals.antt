@@ -2,6 +2,7 @@
 use Rattle.std.specs.Prelude.{ℕ, ◌<◌, ◌≤◌, ◌≡◌, ◌⊎◌, ◌++◌, true, false, List, [], ◌∷◌, Some, None, length, map, take, get_or}
 use Rattle.model.specs.Lists.{has, head_or}
 use Rattle.model.specs.access.Query.{Term}
+use Rattle.model.specs.access.SelfConflict.{ConflictWithin}
 pub use Rattle.model.specs.access.QueryFaults.{query_fault}
 use Rattle.model.specs.declarations.Declarations.{Declared, declared_at, name_of, HasItem, looked_up, declared_orders, IsOrdered}
 
@@ -9,6 +10,7 @@ use Rattle.model.specs.declarations.Declarations.{Declared, declared_at, name_of
 pub data Refusal : Type 0 where
   UnknownName DuplicateName DependencyLoop : List ℕ → Refusal
   DependencyCycle : List (List ℕ) → Refusal
+  SelfConflict : List ℕ → Refusal
   BadQuery : List ℕ → ℕ → ℕ → Refusal
   OverLimit : ℕ → Refusal
 
@@ -79,6 +81,16 @@ HasNoCycle d = (items : List ℕ) → IsCycle d items → ⊥
 abbrev pub IsToldCycle : Declared → List (List ℕ) → Type 0
 IsToldCycle d told = (items : List ℕ) × IsCycle d items × ((n : ℕ) → has n items ≡ true → head_or 0 items ≤ n) × (told ≡ map (name_of d) items)
 
+-- ---- parameters
+
+-- no system's parameters conflict among themselves
+abbrev pub HasNoSelfConflict : Declared → Type 0
+HasNoSelfConflict d = (n : ℕ) → n < length d.systems → ConflictWithin (declared_at d n).params → ⊥
+
+-- the name of the first system whose parameters conflict among themselves
+abbrev pub IsSelfConflict : Declared → List ℕ → Type 0
+IsSelfConflict d name = (n : ℕ) × (n < length d.systems) × ConflictWithin (declared_at d n).params × ((m : ℕ) → m < n → ConflictWithin (declared_at d m).params → ⊥) × (name ≡ name_of d n)
+
 -- ---- queries
 
 -- the query of an item by its number; none where the item has no such query
@@ -115,6 +127,7 @@ pub record IsBuildable (d : Declared) : Type 0 where
   pub distinct : HasDistinctNames d
   pub no_loop : HasNoLoop d
   pub no_cycle : HasNoCycle d
+  pub no_self_conflict : HasNoSelfConflict d
   pub good_queries : HasGoodQueries d
   pub within : IsWithinLimits d
 
@@ -124,5 +137,6 @@ IsRefused d (UnknownName name) = IsUnknownName d name
 IsRefused d (DuplicateName name) = KnowsNames d × IsDuplicateName d name
 IsRefused d (DependencyLoop name) = KnowsNames d × HasDistinctNames d × IsLoop d name
 IsRefused d (DependencyCycle told) = KnowsNames d × HasDistinctNames d × HasNoLoop d × IsToldCycle d told
-IsRefused d (BadQuery owner number fault) = KnowsNames d × HasDistinctNames d × HasNoLoop d × HasNoCycle d × IsBadQuery d owner number fault
-IsRefused d (OverLimit limit) = KnowsNames d × HasDistinctNames d × HasNoLoop d × HasNoCycle d × HasGoodQueries d × IsOverLimit d limit
+IsRefused d (SelfConflict name) = KnowsNames d × HasDistinctNames d × HasNoLoop d × HasNoCycle d × IsSelfConflict d name
+IsRefused d (BadQuery owner number fault) = KnowsNames d × HasDistinctNames d × HasNoLoop d × HasNoCycle d × HasNoSelfConflict d × IsBadQuery d owner number fault
+IsRefused d (OverLimit limit) = KnowsNames d × HasDistinctNames d × HasNoLoop d × HasNoCycle d × HasNoSelfConflict d × HasGoodQueries d × IsOverLimit d limit

@@ -6,7 +6,7 @@ use Rattle.model.specs.declarations.ScheduleOrder.{IsScheduleOrder, HasDeclaredS
 use Rattle.cycle_search.specs.declared.order.Order.{Order}
 use Rattle.schedule_builder.specs.Orders.{items_of, AreDeclared}
 use Rattle.schedule_builder.specs.ScheduleOrder.{schedule_of, AreScheduled}
-use Rattle.schedule_builder.proofs.Assembly.{edges_rankable, edges_from, no_levels, is_built, declared_systems, declared_edges}
+use Rattle.schedule_builder.proofs.Assembly.{edges_rankable, edges_from, no_levels, is_built, are_apart, declared_systems, declared_edges}
 use Rattle.schedule_builder.proofs.builder.build.Goals as goal
 
 -- the systems of the schedule are those of the declared ones
@@ -36,8 +36,8 @@ order_of-requires-clause-flat c =
     let a = are_scheduled orders c.as_slice.result.now systems c.into_systems.result.items c.in_ok-systems.systems.items c.as_slice.ensures.value c.into_systems.ensures c.in_ok-systems.ensures in
     rw c.as_slice-2.ensures.value (no_levels orders systems c.in_ok-systems.systems.items [] a)
 
-pub of_parts-requires : goal.of_parts-requires
-of_parts-requires c =
+pub of_parts-requires-clause-built : goal.of_parts-requires-clause-built
+of_parts-requires-clause-built c =
     let orders : List Order = c.in_ok-orders.orders.items in
     let systems : List DeclaredSystem = c.args.desc.systems in
     let built : List ScheduledSystem = c.in_ok-systems.systems.items in
@@ -47,6 +47,15 @@ of_parts-requires c =
     let b : IsBuildable (items_of systems) = subst (λ (xs : List DeclaredSystem). IsBuildable (items_of xs)) c.systems.ensures c.in_ok-orders.ensures.buildable in
     let s : IsScheduleOrder (schedule_of built order) = subst (λ (xs : List ScheduledSystem). IsScheduleOrder (schedule_of xs order)) c.as_slice-2.ensures.value c.in_ok-order.ensures in
     is_built orders systems built order d a b.within s
+
+pub of_parts-requires-clause-apart : goal.of_parts-requires-clause-apart
+of_parts-requires-clause-apart c =
+    let orders : List Order = c.in_ok-orders.orders.items in
+    let systems : List DeclaredSystem = c.args.desc.systems in
+    let built : List ScheduledSystem = c.in_ok-systems.systems.items in
+    let a = are_scheduled orders c.as_slice.result.now systems c.into_systems.result.items built c.as_slice.ensures.value c.into_systems.ensures c.in_ok-systems.ensures in
+    let b : IsBuildable (items_of systems) = subst (λ (xs : List DeclaredSystem). IsBuildable (items_of xs)) c.systems.ensures c.in_ok-orders.ensures.buildable in
+    are_apart orders systems built a b.no_self_conflict
 
 pub returns-clause-systems : goal.returns-clause-systems
 returns-clause-systems c =
