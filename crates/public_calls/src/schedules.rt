@@ -132,6 +132,64 @@ fn tells_the_first_bad_query(rt: HostRuntime) -> Result<(), Fail> {
     Ok(())
 }
 
+/// A system of this name with two queries of these terms.
+fn with_two_queries(
+    alloc: Global,
+    name: &str,
+    first: &[Term],
+    second: &[Term],
+) -> Result<SystemDesc, AllocError> {
+    let mut params = Params::new(alloc);
+    params.add_query(Query::of_terms(alloc, first)?)?;
+    params.add_query(Query::of_terms(alloc, second)?)?;
+    Ok(SystemDesc::new(alloc, String::from_str(alloc, name)?, params))
+}
+
+/// What is told of one system with two queries of these terms.
+fn told_of_two(alloc: Global, first: &[Term], second: &[Term]) -> Result<String, AllocError> {
+    let mut desc = ScheduleDesc::new(alloc);
+    desc.add_system(with_two_queries(alloc, "a", first, second)?)?;
+    answer(alloc, desc)
+}
+
+#[test]
+fn tells_a_self_conflict(rt: HostRuntime) -> Result<(), Fail> {
+    let alloc = rt.alloc();
+    let writing = [Term::Mut(Kind::Health)];
+    let reading = [Term::Read(Kind::Health)];
+    assert_eq!(rt;
+        told_of_two(alloc, &writing, &reading)?.as_str(),
+        "refused B9 a"
+    );
+    assert_eq!(rt;
+        told_of_two(alloc, &reading, &writing)?.as_str(),
+        "refused B9 a"
+    );
+    assert_eq!(rt; told_of_two(alloc, &reading, &reading)?.as_str(), "[0]");
+    let frozen = [Term::Mut(Kind::Health), Term::With(Kind::Frozen)];
+    let thawed = [Term::Read(Kind::Health), Term::Without(Kind::Frozen)];
+    assert_eq!(rt; told_of_two(alloc, &frozen, &thawed)?.as_str(), "[0]");
+    let perhaps = [Term::Mut(Kind::Health), Term::Opt(Kind::Frozen)];
+    assert_eq!(rt;
+        told_of_two(alloc, &perhaps, &thawed)?.as_str(),
+        "refused B9 a"
+    );
+    Ok(())
+}
+
+#[test]
+fn tells_a_self_conflict_before_a_bad_query(rt: HostRuntime) -> Result<(), Fail> {
+    let alloc = rt.alloc();
+    let writing = [Term::Mut(Kind::Health)];
+    let faulty = [Term::Opt(Kind::Score), Term::Without(Kind::Score)];
+    let mut desc = ScheduleDesc::new(alloc);
+    desc.add_system(with_two_queries(alloc, "a", &writing, &faulty)?)?;
+    desc.add_system(with_two_queries(alloc, "b", &writing, &writing)?)?;
+    desc.add_system(with_two_queries(alloc, "c", &writing, &writing)?)?;
+    assert_eq!(rt; answer(alloc, desc)?.as_str(), "refused B9 b");
+    Ok(())
+}
+
 /// A chain of systems, each before the next; where it is closed, the last is before the first.
 fn chain(alloc: Global, count: u32, is_closed: bool) -> Result<ScheduleDesc, AllocError> {
     let mut desc = ScheduleDesc::new(alloc);
