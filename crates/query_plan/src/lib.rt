@@ -2,6 +2,8 @@
 #![tactic(auto)]
 
 pub mod archetype_rows;
+#[cfg(test)]
+mod archetype_rows_tests;
 mod filter;
 pub mod laws;
 mod merge;
