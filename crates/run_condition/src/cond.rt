@@ -1,8 +1,9 @@
 // Run conditions.
 
-ghost use Rattle.std.specs.Prelude.{◌≡◌, IfOk};
+ghost use Rattle.std.specs.Prelude.{◌≡◌, ◌++◌, map, IfOk, OnOk};
+ghost use Rattle.run_condition.specs.Tree.{condition_of};
 ghost use Rattle.kinds.specs.Res.{res_number, event_number};
-ghost use Rattle.model.specs.access.Condition.{Condition};
+ghost use Rattle.model.specs.access.Condition.{Condition, queries_of};
 
 use kinds::res::{Event, Res};
 use query::Query;
@@ -131,5 +132,49 @@ impl Cond {
         Ok(Cond {
             tree: Tree::Or(Box::new(alloc, left.tree)?, Box::new(alloc, right.tree)?),
         })
+    }
+
+    /// The queries of the condition, in order.
+    pub fn queries(&self, alloc: Global) -> Result<Vec<&Query>, AllocError>
+        ensures { IfOk result (λ queries. map (λ query. query.now) queries.items ≡ queries_of self.now) }
+    {
+        queries_in(alloc, &self.tree)
+    }
+}
+
+// The queries of the condition, in order.
+fn queries_in(alloc: Global, tree: &Tree) -> Result<Vec<&Query>, AllocError>
+    ensures { IfOk result (λ queries. map (λ query. query.now) queries.items ≡ queries_of (condition_of tree.now)) }
+{
+    let mut queries = Vec::new(alloc);
+    push_queries(tree, &mut queries)?;
+    Ok(queries)
+}
+
+// Adds the queries of the condition behind the others.
+fn push_queries<'a>(tree: &'a Tree, queries: &mut Vec<&'a Query>) -> Result<(), AllocError>
+    ensures { OnOk result (map (λ query. query.now) queries.new.items
+        ≡ map (λ query. query.now) queries.old.items ++ queries_of (condition_of tree.now)) }
+{
+    match tree {
+        Tree::AnyWith(query) => {
+            queries.push(query)?;
+            Ok(())
+        }
+        Tree::Not(inner) => {
+            push_queries(inner, queries)?;
+            Ok(())
+        }
+        Tree::And(left, right) => {
+            push_queries(left, queries)?;
+            push_queries(right, queries)?;
+            Ok(())
+        }
+        Tree::Or(left, right) => {
+            push_queries(left, queries)?;
+            push_queries(right, queries)?;
+            Ok(())
+        }
+        _ => Ok(()),
     }
 }

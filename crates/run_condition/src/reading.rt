@@ -394,4 +394,12 @@ mod tests {
         assert_eq!(rt; is_read(rt.alloc(), wide.as_str()), Some(true));
         Ok(())
     }
+
+    #[test]
+    fn queries_are_listed(rt: HostRuntime) -> Result<(), Fail> {
+        let cond = Cond::read(rt.alloc(), "and(any_with(mut Health), not(any_with()))")?;
+        let queries = cond.queries(rt.alloc())?;
+        assert_eq!(rt; queries.len(), 2);
+        Ok(())
+    }
 }
