@@ -1,0 +1,4 @@
+pub mod Marks
+pub mod Readers
+pub mod Conditions
+pub mod Leaves

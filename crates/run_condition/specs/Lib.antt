@@ -1,0 +1,4 @@
+pub mod Tree
+pub mod Word
+pub mod Grammar
+pub mod Fronts

@@ -1,0 +1,9 @@
+// Run conditions: what they are, and how they are read.
+#![tactic(auto)]
+
+mod cond;
+mod fronts;
+mod reading;
+mod word;
+
+pub use cond::Cond;
