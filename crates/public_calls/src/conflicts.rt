@@ -2,6 +2,7 @@
 
 use access_set::conflict::conflicts;
 use access_set::params::Params;
+use access_set::self_conflict::conflicts_within;
 use kinds::kind::Kind;
 use query::{Query, Term};
 use std::alloc::{AllocError, Global};
@@ -62,5 +63,18 @@ fn terms_of_every_sort_meet(rt: HostRuntime) -> Result<(), Fail> {
     assert!(rt; !conflicts(&hidden, &frozen));
     assert!(rt; conflicts(&writing, &optional));
     assert!(rt; conflicts(&optional, &writing));
+    Ok(())
+}
+
+#[test]
+fn parameters_conflict_among_themselves(rt: HostRuntime) -> Result<(), Fail> {
+    let alloc = rt.alloc();
+    let mut params = access(alloc, &[Term::Mut(Kind::Health), Term::With(Kind::Frozen)])?;
+    assert!(rt; !conflicts_within(&params));
+    let thawed = [Term::Read(Kind::Health), Term::Without(Kind::Frozen)];
+    params.add_query(Query::of_terms(alloc, &thawed)?)?;
+    assert!(rt; !conflicts_within(&params));
+    params.add_query(Query::of_terms(alloc, &[Term::Read(Kind::Health)])?)?;
+    assert!(rt; conflicts_within(&params));
     Ok(())
 }
