@@ -11,7 +11,7 @@ use Rattle.model.specs.access.QueryFaults.{fetched}
 use Rattle.model.specs.shown.Input.{ShownRow, words_of, shown_row, fetch}
 use Rattle.model.specs.shown.Outcome.{words_in_row, words_in_query, words_written}
 use Rattle.model.specs.shown.Overlay.{cell_after}
-use Rattle.body.specs.declared.row.Row.{Row}
+use Rattle.query_plan.specs.declared.row.Row.{Row}
 use Rattle.body.specs.Columns.{Column, cells_after, column_after}
 use Rattle.body.specs.Seen.{fetches}
 use Rattle.body.specs.Sheet.{Sheet, seen_at, row_of, words_for}
@@ -89,7 +89,7 @@ cells-same tick f g kind [] (c ∷ cs) h = refl
 cells-same tick f g kind (e ∷ es) (c ∷ cs) h = ap₂ (λ o xs. cell_after tick o c ∷ xs) (h zero e refl) (cells-same tick f g kind es cs (λ p x i. h (suc p) x i))
 
 with-cells : Column → List Cell → Column
-with-cells c cells = record { table = c.table; archetype = c.archetype; entities = c.entities; is_written = c.is_written; kind = c.kind; cells = cells }
+with-cells c cells = record { archetype = c.archetype; entities = c.entities; is_written = c.is_written; kind = c.kind; cells = cells }
 
 pub close-together : CloseTogether
 unfolding with-cells

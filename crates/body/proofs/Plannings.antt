@@ -14,12 +14,13 @@ use Rattle.model.specs.access.Query.Term.{Entity as IdOnly, Read, Mut, Opt, With
 use Rattle.model.specs.access.QueryFaults.{fetched}
 use Rattle.column_store.specs.Order.{is_before, is_same, AreRising}
 use Rattle.archetype_store.specs.Layout.{Archetype, archetype_at, is_in_archetype, IsArchetype, AreOfOtherKinds, IsLayoutOf}
-use Rattle.body.specs.declared.row.Row.{Row}
+use Rattle.query_plan.specs.declared.row.Row.{Row}
 use Rattle.body.specs.Columns.{Column, cell_in, AreFresh}
 use Rattle.body.specs.Seen.{fetches}
 use Rattle.body.specs.Sheet.{slot_in, IsSlot, IsRow, IsElsewhere, AreApart, ArePlaced, IsPlan}
 use Rattle.body.specs.SlotTable.{AreSlotsOf}
-use Rattle.body.specs.Planned.{IsColumnOf, IsStanding, AreOfOthers, IsAmong, IsPlanned, PlansOpen}
+use Rattle.query_plan.specs.Standing.{IsStanding}
+use Rattle.body.specs.Planned.{IsColumnOf, AreOfOthers, IsAmong, IsPlanned, PlansOpen}
 use Rattle.body.proofs.Gets.{same-some, all-get}
 use Rattle.body.proofs.Sheets.{cell_in-is}
 

@@ -8,7 +8,7 @@ use Rattle.model.specs.state.State.{Cell}
 use Rattle.model.specs.access.Query.{Term, writes}
 use Rattle.model.specs.shown.Input.{words_of}
 use Rattle.column_store.specs.Cells.{changed_cell}
-use Rattle.body.specs.declared.row.Row.{Row}
+use Rattle.query_plan.specs.declared.row.Row.{Row}
 use Rattle.body.specs.declared.held.Held.{Held}
 use Rattle.body.specs.Columns.{Column, cell_in, with_cell}
 use Rattle.body.specs.HeldColumns.{held_seen}

@@ -10,7 +10,7 @@ use Rattle.model.specs.access.Query.{Term, writes}
 use Rattle.model.specs.shown.Input.{ShownRow}
 use Rattle.model.specs.shown.Outcome.{words_in_row, words_in_query}
 use Rattle.model.specs.shown.Overlay.{cell_after}
-use Rattle.body.specs.declared.row.Row.{Row}
+use Rattle.query_plan.specs.declared.row.Row.{Row}
 use Rattle.body.specs.Columns.{Column, cell_in, cells_after, column_after}
 use Rattle.body.specs.Sheet.{slot_in, slot_cell, seen_at, words_at, row_of, written_of, IsSlot, IsRow, IsSheet, IsOverwritten, head_of, WritesReach, IsReached}
 use Rattle.body.proofs.Gets.{same-some, same-by-get, all-get, mapped}
@@ -96,7 +96,7 @@ same-cell : (c d : Cell) → c.words ≡ d.words → c.added ≡ d.added → c.c
 same-cell c d e f g = λ i. record { words = e i; added = f i; changed = g i }
 
 same-column : (c d : Column) → head_of c ≡ head_of d → c.cells ≡ d.cells → c ≡ d
-same-column c d e f = λ i. record { table = (e i).table; archetype = (e i).archetype; entities = (e i).entities; is_written = (e i).is_written; kind = (e i).kind; cells = f i }
+same-column c d e f = λ i. record { archetype = (e i).archetype; entities = (e i).entities; is_written = (e i).is_written; kind = (e i).kind; cells = f i }
 
 -- ---- a query over columns
 

@@ -4,7 +4,7 @@ use Rattle.std.proofs.lemmas.Bool.{ne_eqb}
 use Rattle.model.specs.state.State.{Cell}
 use Rattle.model.specs.access.Query.{Term, written}
 use Rattle.model.specs.shown.Outcome.{untouched_rows}
-use Rattle.body.specs.declared.row.Row.{Row}
+use Rattle.query_plan.specs.declared.row.Row.{Row}
 use Rattle.body.specs.Columns.{Column, cell_in, AreFresh}
 use Rattle.body.specs.Sheet.{slot_in, slot_cell, seen_at, words_at, words_for, without_kind, written_in, row_of, written_of}
 use Rattle.body.proofs.SheetWords.{choose}

@@ -8,7 +8,7 @@ use Rattle.model.specs.declared.entities.Entity.{Entity}
 use Rattle.model.specs.state.State.{Cell}
 use Rattle.model.specs.access.Query.{Term, writes, written}
 use Rattle.column_store.specs.Cells.{changed_cell}
-use Rattle.body.specs.declared.row.Row.{Row}
+use Rattle.query_plan.specs.declared.row.Row.{Row}
 use Rattle.body.specs.Columns.{Column, cell_in, with_cell}
 use Rattle.body.specs.Seen.{with_words}
 use Rattle.body.specs.Sheet.{slot_in, slot_cell, seen_at, at_slot, words_at, written_of, sheet_of, Sheet, IsSlot, IsRow, IsSheet, IsOverwritten, AreChanged, head_of, IsWritable, IsWritableAt}

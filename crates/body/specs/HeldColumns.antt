@@ -2,6 +2,7 @@
 use Rattle.std.specs.Prelude.{ℕ, Bool, true, false, List, Option}
 use Rattle.std.specs.Arc.{arc_value}
 use Rattle.column_store.specs.Column.{ColumnCells}
+use Rattle.archetype_store.specs.Layout.{archetype_at}
 use Rattle.body.specs.declared.held.Cells.{Cells}
 use Rattle.body.specs.declared.held.Cells.TheVariants.{Written, Read}
 use Rattle.body.specs.declared.held.Held.{Held}
@@ -19,7 +20,7 @@ is_own (Written column) = true
 is_own (Read shared) = false
 
 abbrev pub held_seen : Held → Column
-held_seen h = record { table = h.table; archetype = h.archetype; entities = h.entities.value.items; is_written = is_own h.cells; kind = (column_in h.cells).kind; cells = (column_in h.cells).cells }
+held_seen h = record { archetype = h.archetype; entities = (archetype_at h.world.value.layout h.archetype).entities; is_written = is_own h.cells; kind = (column_in h.cells).kind; cells = (column_in h.cells).cells }
 
 -- the number of the column of each kind
 abbrev pub slots_seen : Slots → List (Option ℕ)

@@ -11,3 +11,5 @@ pub mod Together
 pub mod SlotTable
 pub mod Planned
 pub mod Apart
+pub mod Opened
+pub mod Lent

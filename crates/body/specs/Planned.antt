@@ -6,7 +6,8 @@ use Rattle.model.specs.state.State.{Slot, fresh_slot}
 use Rattle.model.specs.access.Query.{Term, writes}
 use Rattle.column_store.specs.Order.{AreRising}
 use Rattle.archetype_store.specs.Layout.{Archetype, archetype_at, IsLayoutOf}
-use Rattle.body.specs.declared.row.Row.{Row}
+use Rattle.query_plan.specs.declared.row.Row.{Row}
+use Rattle.query_plan.specs.Standing.{IsStanding}
 use Rattle.body.specs.Columns.{Column, AreFresh}
 use Rattle.body.specs.Sheet.{IsPlan}
 use Rattle.body.specs.SlotTable.{AreSlotsOf}
@@ -17,12 +18,6 @@ pub record IsColumnOf (terms : List Term) (layout : List Archetype) (column : Co
   pub entities_are : column.entities ≡ (archetype_at layout column.archetype).entities
   pub as_many : length column.cells ≡ length column.entities
   pub own : writes terms column.kind ≡ true → column.is_written ≡ true
-
--- a row stands where it says: at its place in its archetype; or its entity has no components, and its archetype is the number after the
--- last, its place its index
-abbrev pub IsStanding : List Slot → List Archetype → Row → Type 0
-IsStanding slots layout row = (slice_get (archetype_at layout row.archetype).entities row.place ≡ Some row.entity)
-    ⊎ ((row.archetype ≡ length layout) × (row.place ≡ row.entity.index) × (is_there (get_or slots row.entity.index fresh_slot).row ≡ false))
 
 -- rows of entities of different indices
 abbrev pub AreOfOthers : List Row → Type 0

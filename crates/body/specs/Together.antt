@@ -7,7 +7,7 @@ use Rattle.model.specs.access.Query.{Term, writes}
 use Rattle.model.specs.shown.Input.{ShownRow, words_of, shown_row}
 use Rattle.model.specs.shown.Outcome.{words_in_query, words_written}
 use Rattle.model.specs.shown.Overlay.{cell_after}
-use Rattle.body.specs.declared.row.Row.{Row}
+use Rattle.query_plan.specs.declared.row.Row.{Row}
 use Rattle.body.specs.Columns.{Column, cells_after, column_after}
 use Rattle.body.specs.Seen.{fetches}
 use Rattle.body.specs.Sheet.{Sheet, seen_at, row_of, IsReached, WritesReach}

@@ -6,9 +6,9 @@ ghost use Rattle.kinds.specs.Kind.{kind_number};
 ghost use Rattle.body.specs.Columns.{with_cell};
 ghost use Rattle.body.specs.HeldColumns.{column_in, held_seen};
 
+use archetype_store::store::World;
 use change_ticks::clock::Tick;
 use column_store::stamped::StampedColumn;
-use entity_table::Entity;
 use kinds::component::Component;
 use kinds::kind::Kind;
 use std::alloc::Global;
@@ -25,14 +25,12 @@ pub enum Cells {
 /// A column of the rows of a query.
 #[derive(Drop)]
 pub struct Held {
-    /// The number by which the store knows its archetype. A view never reads it.
-    pub table: u32,
-    /// The number of its archetype among those of the query.
-    pub archetype: u32,
+    /// The number of its archetype in the world.
+    pub archetype: usize,
     /// Its components.
     pub cells: Cells,
-    /// Whose components they are, by place. It has no bytes.
-    pub entities: Snapshot<Vec<Entity>>,
+    /// The world that it is of, which tells whose components they are. It has no bytes.
+    pub world: Snapshot<World>,
 }
 
 impl Held {

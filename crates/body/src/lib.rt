@@ -11,7 +11,6 @@ pub mod in_place;
 mod lay;
 pub mod memory;
 mod open;
-pub mod row;
 pub mod slot_table;
 pub mod state;
 pub mod view;

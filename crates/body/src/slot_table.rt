@@ -65,7 +65,7 @@ fn add_slot(slots: &mut Vec<Slots>, terms: &[Term], held: &Held, column: u32)
     kinds_are_apart();
     let kind = held.kind();
     if fetches(terms, kind) {
-        set_slot(slots, held.archetype as usize, kind, column);
+        set_slot(slots, held.archetype, kind, column);
     }
 }
 

@@ -14,7 +14,7 @@ ghost use Rattle.body.specs.Seen.{words_read, with_words, no_row};
 ghost use Rattle.body.specs.Sheet.{slot_in, seen_at, at_slot, row_of, IsPlan, IsReadable, IsWritable, WritesReach};
 
 use crate::held::Held;
-use crate::row::Row;
+use query_plan::row::Row;
 use change_ticks::clock::Tick;
 use entity_table::Entity;
 use kinds::component::Component;
