@@ -177,7 +177,7 @@ entities_kept h k n m layout = get_or-update_at-view (λ (a : Archetype). a.enti
 pub entities_home : (h : Bool) (n k m : ℕ) (layout : List Archetype) → (archetype_at (with_home h n k layout) m).entities ≡ (archetype_at layout m).entities
 entities_home h n k m layout = entities_kept h k n m layout
 
-entities_all_home : (w : StoreValue) (cs : List TakenColumn) (m : ℕ) → (archetype_at (all_home cs w).layout m).entities ≡ (archetype_at w.layout m).entities
+pub entities_all_home : (w : StoreValue) (cs : List TakenColumn) (m : ℕ) → (archetype_at (all_home cs w).layout m).entities ≡ (archetype_at w.layout m).entities
 entities_all_home w [] m = refl
 entities_all_home w (c ∷ cs) m = entities_home true c.archetype c.column.kind m (all_home cs w).layout ∙ entities_all_home w cs m
 

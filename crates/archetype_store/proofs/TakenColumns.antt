@@ -58,17 +58,17 @@ now_is (n ∷ ks) k a b (x ∷ xs) h = go (n == k) refl h (now_is ks k a b xs)
 
 -- ---- one flag of a layout
 
-home_again : (n k : ℕ) (layout : List Archetype) → column_home (archetype_at layout n) k ≡ Some true → with_home true n k (with_home false n k layout) ≡ layout
+pub home_again : (n k : ℕ) (layout : List Archetype) → column_home (archetype_at layout n) k ≡ Some true → with_home true n k (with_home false n k layout) ≡ layout
 home_again n k [] h = refl
 home_again zero k (a ∷ rest) h = ap (λ homes. (let x : Archetype = record { kinds = a.kinds; entities = a.entities; homes = homes } in x) ∷ rest) (twice a.kinds k false true a.homes ∙ as_was a.kinds k true a.homes h)
 home_again (suc n) k (a ∷ rest) h = ap (λ xs. a ∷ xs) (home_again n k rest h)
 
-away_now : (n k : ℕ) (layout : List Archetype) → column_home (archetype_at layout n) k ≡ Some true → column_home (archetype_at (with_home false n k layout) n) k ≡ Some false
+pub away_now : (n k : ℕ) (layout : List Archetype) → column_home (archetype_at layout n) k ≡ Some true → column_home (archetype_at (with_home false n k layout) n) k ≡ Some false
 away_now n k [] h = absurd (cc)
 away_now zero k (a ∷ rest) h = now_is a.kinds k true false a.homes h
 away_now (suc n) k (a ∷ rest) h = away_now n k rest h
 
-kinds_home : (b : Bool) (n k m : ℕ) (layout : List Archetype) → (archetype_at (with_home b n k layout) m).kinds ≡ (archetype_at layout m).kinds
+pub kinds_home : (b : Bool) (n k m : ℕ) (layout : List Archetype) → (archetype_at (with_home b n k layout) m).kinds ≡ (archetype_at layout m).kinds
 kinds_home b n k m layout = get_or-update_at-view (λ (a : Archetype). a.kinds) n m (with_column b k) layout (record { kinds = []; entities = []; homes = [] }) (λ a. refl)
 
 each_home : (b : Bool) (n k : ℕ) (layout : List Archetype) → AllByRecursion IsArchetype layout → AllByRecursion IsArchetype (with_home b n k layout)
@@ -128,7 +128,7 @@ slot_past clock slots e k c h at = go (is_alive slots e) at
     go false f = absurd (cc)
 
 -- no stamp of them is above the clock
-cells_past : (clock : ℕ) (slots : List Slot) (k : ℕ) (es : List Entity) (cells : List Cell) → AllByRecursion (IsSlot widths clock) slots → map (λ cell. Some cell) cells ≡ column_cells slots es k → AllByRecursion (IsPast clock) cells
+pub cells_past : (clock : ℕ) (slots : List Slot) (k : ℕ) (es : List Entity) (cells : List Cell) → AllByRecursion (IsSlot widths clock) slots → map (λ cell. Some cell) cells ≡ column_cells slots es k → AllByRecursion (IsPast clock) cells
 cells_past clock slots k es [] h e = tt
 cells_past clock slots k [] (c ∷ cells) h e = absurd (cc)
 cells_past clock slots k (x ∷ es) (c ∷ cells) h e = (slot_past clock slots x k c h (let first : Some c ≡ cell_of slots x k = cc in sym first), cells_past clock slots k es cells h (cc))

@@ -4,9 +4,8 @@ ghost use Rattle.std.specs.Prelude.{◌≡◌, true, false, not, [], length, Som
 ghost use Rattle.kinds.specs.Value.{value_number, value_words};
 ghost use Rattle.model.specs.Lists.{is_there};
 ghost use Rattle.model.specs.state.Rows.{cell_at, kinds_of, insert_component, remove_component};
-ghost use Rattle.model.specs.shown.Overlay.{row_after};
 ghost use Rattle.column_store.specs.Cells.{stamped_number};
-ghost use Rattle.archetype_store.specs.Row.{component_of, only};
+ghost use Rattle.archetype_store.specs.Row.{component_of};
 ghost use Rattle.std.specs.Arc.{arc_value};
 ghost use Rattle.kinds.specs.Kind.{kind_number};
 ghost use Rattle.archetype_store.specs.Layout.{archetype_at, column_home, with_home, AreAllHome};
@@ -15,7 +14,7 @@ ghost use Rattle.column_store.specs.Order.{AreRising};
 ghost use Rattle.archetype_store.specs.View.{kinds_seen, entities_seen};
 ghost use Rattle.archetype_store.specs.Archetypes.{row_of, holder_of, row_cells, IsHolder, AreAlike, HasRow, IsFilled, IsLaidOut};
 
-use crate::lay::{clear_in, insert_in, remove_in, write_in};
+use crate::lay::{clear_in, insert_in, remove_in};
 use crate::lending::{column_at, home_at, lend_at, share_at, table_of_archetype};
 use crate::locations::{EntityLocation, place_at, reach};
 use crate::owning::own_all;
@@ -227,20 +226,6 @@ impl Archetypes {
     {
         own_all(&mut self.tables, &mut self.shared)?;
         clear_in(&mut self.tables, &mut self.places, e);
-        Ok(())
-    }
-
-    /// Writes the component of this value's kind of an entity at a tick, where it has one: its value and its changed stamp. Memory can be
-    /// wanting only where columns were read elsewhere too; then all rows stay as they were.
-    pub fn write(&mut self, e: Entity, value: Value, tick: Tick) -> Result<(), AllocError>
-        requires holder { IsHolder e.generation (holder_of self.old.holders e.index) }
-        requires home { AreAllHome self.old.layout }
-        ensures ok { OnOk result (HasRow self.old e (row_after tick (only (value_number value) (value_words value)) (row_of self.old.rows e.index)) self.new) }
-        ensures err { OnErr result (AreAlike self.old self.new) }
-        ensures home { AreAllHome self.new.layout }
-    {
-        own_all(&mut self.tables, &mut self.shared)?;
-        write_in(&mut self.tables, &self.places, e, value, tick);
         Ok(())
     }
 }

@@ -3,10 +3,9 @@
 ghost use Rattle.std.specs.Prelude.{◌≡◌, ◌≢◌, ◌<◌, [], length, map, None, Some, IsSome, OnOk, OnErr};
 ghost use Rattle.kinds.specs.Value.{value_number, value_words};
 ghost use Rattle.model.specs.state.Rows.{cell_at, insert_component, remove_component};
-ghost use Rattle.model.specs.shown.Overlay.{row_after};
 ghost use Rattle.column_store.specs.Cells.{stamped_number};
 ghost use Rattle.column_store.specs.Kinds.{AreBelow};
-ghost use Rattle.archetype_store.specs.Row.{component_of, only};
+ghost use Rattle.archetype_store.specs.Row.{component_of};
 ghost use Rattle.archetype_store.specs.Tables.{kinds_at, held_at, AreShaped, AreOwned, IsLeft};
 ghost use Rattle.archetype_store.specs.Archetypes.{archetypes_of, holder_in, place_of, row_in, AreAlike, AreArchetypes, HasRow, IsHolder};
 
@@ -142,28 +141,4 @@ pub(crate) fn remove_in(
     let mut components = components_at(alloc, tables, place.table, e)?;
     take_out(&mut components, number);
     lay(tables, places, e, &components)
-}
-
-// Writes the component of this value's kind of an entity at a tick, where it has one.
-pub(crate) fn write_in(
-    tables: &mut Vec<Table>,
-    places: &[Option<EntityLocation>],
-    e: Entity,
-    value: Value,
-    tick: Tick,
-)
-    requires whole { AreArchetypes tables.old.items places.now }
-    requires owned { AreOwned tables.old.items }
-    requires holder { IsHolder e.generation (holder_in (place_of places.now e.index)) }
-    ensures whole { AreArchetypes tables.new.items places.now }
-    ensures owned { AreOwned tables.new.items }
-    ensures written { HasRow (archetypes_of tables.old.items places.now) e
-        (row_after tick (only (value_number value) (value_words value)) (row_in tables.old.items e.index (place_of places.now e.index)))
-        (archetypes_of tables.new.items places.now) }
-{
-    if let Some(place) = place_at(places, e.index) {
-        if find_at(tables, place.table, e, value.number()).is_some() {
-            write_at(tables, place.table, e, value, tick);
-        }
-    }
 }

@@ -7,10 +7,9 @@ ghost use Rattle.model.specs.state.Rows.{row_at, insert_component, remove_compon
 ghost use Rattle.model.specs.state.Ids as ids;
 ghost use Rattle.model.specs.state.Commands as commands;
 ghost use Rattle.model.specs.state.Commands.{is_alive, spawned, freed, with_row};
-ghost use Rattle.model.specs.shown.Overlay.{slot_after};
 ghost use Rattle.column_store.specs.Cells.{stamped_number};
 ghost use Rattle.entity_table.specs.Ids.{slot_at, lives_at, IsGranted, AreApart, settled};
-ghost use Rattle.archetype_store.specs.Row.{component_of, only};
+ghost use Rattle.archetype_store.specs.Row.{component_of};
 ghost use Rattle.std.specs.Arc.{arc_value};
 ghost use Rattle.kinds.specs.Kind.{kind_number};
 ghost use Rattle.archetype_store.specs.Slot.{cell_of, column_cells, bare_of};
@@ -305,21 +304,6 @@ impl Slots {
             return Err(StoreFault::NotAlive);
         }
         self.archetypes.remove(e, number)?;
-        Ok(())
-    }
-
-    /// Writes the component of this value's kind in the row of an index at a tick, where the row has one.
-    pub fn write(&mut self, index: u32, value: Value, tick: Tick) -> Result<(), AllocError>
-        requires { AreAllHome self.old.layout }
-        ensures ok { OnOk result (self.new.slots ≡ update_at index (slot_after tick (only (value_number value) (value_words value))) self.old.slots) }
-        ensures err { OnErr result (self.new ≡ self.old) }
-        ensures home { AreAllHome self.new.layout }
-    {
-        let e = Entity {
-            index,
-            generation: self.book.generation(index),
-        };
-        self.archetypes.write(e, value, tick)?;
         Ok(())
     }
 

@@ -2,7 +2,6 @@
 
 ghost use Rattle.std.specs.Prelude.{◌≡◌, ◌++◌, ◌+◌, ◌≤◌, ◌<◌, ◌↔◌, ℕ, true, false, [], Some, length, map, option_map, is_some, All, IfSome, IfNone, IfOk, IsErr, OnOk, OnErr, IsErrOf};
 ghost use Rattle.kinds.specs.Kind.{kind_number};
-ghost use Rattle.kinds.specs.Value.{value_number, value_words};
 ghost use Rattle.model.specs.Lists.{update_at};
 ghost use Rattle.kinds.specs.Res.{res_number};
 ghost use Rattle.kinds.specs.Components.{widths};
@@ -13,8 +12,7 @@ ghost use Rattle.model.specs.shown.Input.{value_of, words_of};
 ghost use Rattle.model.specs.state.Ids as ids;
 ghost use Rattle.model.specs.state.Commands as commands;
 ghost use Rattle.model.specs.state.Commands.{is_alive, spawned, freed, with_row};
-ghost use Rattle.model.specs.shown.Overlay.{slot_after};
-ghost use Rattle.archetype_store.specs.Row.{component_of, only};
+ghost use Rattle.archetype_store.specs.Row.{component_of};
 ghost use Rattle.entity_table.specs.Ids.{slot_at, lives_at, IsGranted, AreApart, settled};
 ghost use Rattle.std.specs.Arc.{arc_value};
 ghost use Rattle.std.specs.List.{AllByRecursion};
@@ -39,7 +37,6 @@ use entity_table::Entity;
 use kinds::component::Component;
 use kinds::kind::Kind;
 use kinds::res::Res;
-use kinds::value::Value;
 use std::alloc::{AllocError, Global};
 use std::marker::Model;
 use std::sync::Arc;
@@ -70,13 +67,20 @@ impl World {
     pub fn new(alloc: Global, clock: Clock) -> Result<World, AllocError>
         ensures { IfOk result (λ w. w ≡ record { state = empty_world clock; layout = [] }) }
     {
+        Ok(World::empty(alloc, clock))
+    }
+
+    /// The same, which takes no memory.
+    pub fn empty(alloc: Global, clock: Clock) -> World
+        ensures { result ≡ record { state = empty_world clock; layout = [] } }
+    {
         // Tells that the clock stands at one of its ticks.
         let _now = clock.now();
-        Ok(World {
+        World {
             slots: Slots::new(alloc),
             resources: Resources::new(),
             clock,
-        })
+        }
     }
 
     /// The tick at which the clock stands.
@@ -413,17 +417,5 @@ impl World {
         ensures { IfOk result (λ components. map component_of components.items ≡ row_at self.now.state.slots index) }
     {
         self.slots.components(alloc, index)
-    }
-
-    /// Writes one component at a tick: its value and its changed stamp. A kind that the row doesn't have is not written. Memory can be
-    /// wanting only where columns were read elsewhere too; then nothing has changed.
-    pub fn write(&mut self, index: u32, value: Value, tick: Tick) -> Result<(), AllocError>
-        requires past { tick ≤ self.old.state.clock }
-        requires home { AreAllHome self.old.layout }
-        ensures ok { OnOk result (self.new.state ≡ with_slot index (slot_after tick (only (value_number value) (value_words value))) self.old.state) }
-        ensures err { OnErr result (self.new ≡ self.old) }
-        ensures home { AreAllHome self.new.layout }
-    {
-        self.slots.write(index, value, tick)
     }
 }

@@ -22,22 +22,33 @@ use Rattle.body.proofs.Plannings.{or-cases, or-left, or-right, and-parts, is-in}
 pub record IsRowAt (query : List Term) (last first : ℕ) (slots : List Slot) (row : ShownRow) : Type 0 where
   pub at : ℕ
   pub index_is : row.entity.index ≡ first + at
+  pub shown_is : row ≡ shown_row query (first + at) (get_or slots at fresh_slot)
   pub passed : is_row query last (get_or slots at fresh_slot) ≡ true
 
 later-row : (query : List Term) (last first : ℕ) (x : Slot) (slots : List Slot) (row : ShownRow) → IsRowAt query last (suc first) slots row → IsRowAt query last first (x ∷ slots) row
-later-row query last first x slots row h = let i = h.index_is in record { at = suc h.at; index_is = (let e : row.entity.index ≡ first + suc h.at = omega arith in e); passed = h.passed }
+later-row query last first x slots row h = let i = h.index_is in record {
+  at = suc h.at;
+  index_is = (let e : row.entity.index ≡ first + suc h.at = omega arith in e);
+  shown_is = h.shown_is ∙ ap (λ n. shown_row query n (get_or slots h.at fresh_slot)) (let e : suc first + h.at ≡ first + suc h.at = omega arith in e);
+  passed = h.passed;
+}
 
-row-at-slot : (query : List Term) (last first : ℕ) (slots : List Slot) (r : ℕ) (row : ShownRow) → slice_get (rows_from query last first slots) r ≡ Some row → IsRowAt query last first slots row
+pub row-at-slot : (query : List Term) (last first : ℕ) (slots : List Slot) (r : ℕ) (row : ShownRow) → slice_get (rows_from query last first slots) r ≡ Some row → IsRowAt query last first slots row
 unfolding rows_from
 row-at-slot query last first [] r row h = absurd (cc)
 row-at-slot query last first (x ∷ slots) r row h = at (is_row query last x) refl r h (λ k e. row-at-slot query last (suc first) slots k row e)
   where
-    here : (shown : ShownRow) → shown ≡ row → shown.entity.index ≡ first → is_row query last x ≡ true → IsRowAt query last first (x ∷ slots) row
-    here shown e i p = record { at = zero; index_is = (let f = ap (λ (s : ShownRow). s.entity.index) e in (let z : row.entity.index ≡ first + 0 = omega arith in z)); passed = p }
+    here : shown_row query first x ≡ row → is_row query last x ≡ true → IsRowAt query last first (x ∷ slots) row
+    here e p = record {
+      at = zero;
+      index_is = (let f = ap (λ (s : ShownRow). s.entity.index) e in (let z : row.entity.index ≡ first + 0 = omega arith in z));
+      shown_is = sym e ∙ ap (λ n. shown_row query n x) (let z : first ≡ first + 0 = omega arith in z);
+      passed = p;
+    }
 
     at : (b : Bool) → is_row query last x ≡ b → (k : ℕ) → slice_get (cond b (shown_row query first x ∷ rows_from query last (suc first) slots) (rows_from query last (suc first) slots)) k ≡ Some row →
         ((k : ℕ) → slice_get (rows_from query last (suc first) slots) k ≡ Some row → IsRowAt query last (suc first) slots row) → IsRowAt query last first (x ∷ slots) row
-    at true e zero g more = here (shown_row query first x) (same-some (shown_row query first x) row g) refl e
+    at true e zero g more = here (same-some (shown_row query first x) row g) e
     at true e (suc k) g more = later-row query last first x slots row (more k g)
     at false e k g more = later-row query last first x slots row (more k g)
 
@@ -60,7 +71,7 @@ written-touched (Without m) k h = absurd (cc)
 written-touched (Added m) k h = absurd (cc)
 written-touched (Changed m) k h = absurd (cc)
 
-writes-touches : (terms : List Term) (k : ℕ) → writes terms k ≡ true → touches terms k ≡ true
+pub writes-touches : (terms : List Term) (k : ℕ) → writes terms k ≡ true → touches terms k ≡ true
 writes-touches [] k h = absurd (cc)
 writes-touches (t ∷ ts) k h = elim (or-cases (is_number k (written t)) (writes ts k) h) [
   | inl here ↦ or-left (is_number k (touched t)) (touches ts k) (written-touched t k here)

@@ -1,9 +1,5 @@
 mod Edits
-mod Reading
-mod Writing
 mod Views
-mod Opening
-mod Laying
 mod States
 mod Times
 pub mod Gets
@@ -17,3 +13,8 @@ pub mod Alongside
 pub mod Tables
 pub mod Plannings
 pub mod Aloneness
+pub mod Lendings
+pub mod LendingCloses
+pub mod Pickings
+pub mod Openings
+pub mod QueryOpens

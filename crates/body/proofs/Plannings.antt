@@ -140,7 +140,7 @@ module _ (tick : ℕ) (terms : List Term) (slots : List Slot) (layout : List Arc
   row-within row (inr h) = let e = h.0 in let c = are.count in omega arith
 
   -- the place of a row in a column of its archetype
-  row-place : (row : Row) (j : ℕ) (column : Column) → IsStanding slots layout row → slice_get columns j ≡ Some column → column.archetype ≡ row.archetype → slice_get column.entities row.place ≡ Some row.entity
+  pub row-place : (row : Row) (j : ℕ) (column : Column) → IsStanding slots layout row → slice_get columns j ≡ Some column → column.archetype ≡ row.archetype → slice_get column.entities row.place ≡ Some row.entity
   row-place row j column s there a =
       let of = column-fact j column there in
       let within = of.archetype_within in
@@ -187,7 +187,7 @@ module _ (tick : ℕ) (terms : List Term) (slots : List Slot) (layout : List Arc
   all-apart (row ∷ some) all h = (all-elsewhere row some all.0 all.1 h.0, all-apart some all.1 h.1)
 
   -- the entity of a place of a column lives with just the kinds of its archetype
-  column-entity : (j : ℕ) (column : Column) (place : ℕ) (e : Entity) → slice_get columns j ≡ Some column → slice_get column.entities place ≡ Some e →
+  pub column-entity : (j : ℕ) (column : Column) (place : ℕ) (e : Entity) → slice_get columns j ≡ Some column → slice_get column.entities place ≡ Some e →
       (slice_get (archetype_at layout column.archetype).entities place ≡ Some e) × (is_alive slots e ≡ true) × (map (λ c. c.kind) (row_at slots e.index) ≡ (archetype_at layout column.archetype).kinds)
   column-entity j column place e there h =
       let of = column-fact j column there in

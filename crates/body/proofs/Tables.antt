@@ -81,7 +81,7 @@ no-slot n kind zero = refl
 no-slot zero kind (suc archetypes) = none-at 0 kind kind_count None
 no-slot (suc n) kind (suc archetypes) = no-slot n kind archetypes
 
-length-replicated : {A : Type 0} (n : ℕ) (x : A) → length (replicate n x) ≡ n
+pub length-replicated : {A : Type 0} (n : ℕ) (x : A) → length (replicate n x) ≡ n
 length-replicated zero x = refl
 length-replicated (suc n) x = ap suc (length-replicated n x)
 

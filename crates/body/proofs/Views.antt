@@ -1,55 +1,30 @@
 -- A view whose queries change.
-use Rattle.std.proofs.Common.{◌≡◌, ℕ, ◌<◌, ℤ, List, [], length, map, get_or, set, None, refl, sym, ap, ◌∙◌, arith}
+use Rattle.std.proofs.Common.{◌≡◌, ℕ, zero, suc, ◌<◌, ◌⊎◌, inl, inr, ℤ, List, [], ◌∷◌, length, map, get_or, set, slice_get, Some, None, refl, sym, ap, ◌∙◌, subst, arith}
+use Rattle.std.specs.List.{AllByRecursion}
+use Rattle.std.proofs.lemmas.Option.{slice_get-get_or}
 use Rattle.std.proofs.lemmas.List.{get_or-map, length-map}
 use Rattle.model.specs.Lists.{update_at}
 use Rattle.model.specs.state.State.{Memory, World, State}
-use Rattle.model.specs.access.Query.{Term}
+use Rattle.model.specs.access.Query.{Term, writes as model_writes}
 use Rattle.model.specs.access.Access.{Params, no_params}
 use Rattle.model.specs.shown.Input.{rows_of, shown}
 use Rattle.body.specs.Seen.{Seen, with_words, with_written}
-use Rattle.body.specs.ViewRow.{terms_of, shown_rows, query_cells, seen_of}
-use Rattle.body.specs.declared.cells.ViewQuery.{ViewQuery}
 use Rattle.body.specs.Sheet.{Sheet}
-use Rattle.body.specs.SeenOver.{seen_over}
+use Rattle.body.specs.SeenOver.{seen_over, AreTogether}
 use Rattle.body.proofs.Edits.{map-set_same, map-set_update}
-
--- a view with words written
-pub seen_of-written : (qs us : List ViewQuery) (registers : List ℤ) (q r k : ℕ) (w : List ℤ) → map terms_of us ≡ map terms_of qs → map shown_rows us ≡ map shown_rows qs →
-    map query_cells us ≡ update_at q (update_at r (with_words (get_or (map terms_of qs) q []) k w)) (map query_cells qs) → seen_of us registers ≡ with_written (seen_of qs registers) q r k w
-seen_of-written qs us registers q r k w t s c = λ i. record {
-  params = record { queries = t i; res = []; res_mut = []; reads = []; writes = []; spawns = None };
-  shown = record { rows = s i; res = []; res_mut = []; unread = []; registers = registers; granted = [] };
-  outcome = record { cells = c i; res_mut = []; events = []; commands = []; registers = registers };
-  opening = record { taken = []; ticks = [] };
-}
-
--- what a view that is opened shows
-pub seen_of-shown : (params : Params) (memory : Memory) (world : World) (queries : List (List Term)) (qs : List ViewQuery) (registers : List ℤ) → params ≡ record no_params { queries = queries } →
-    map shown_rows qs ≡ map (λ query. rows_of query memory.last_run world.slots) queries → registers ≡ memory.registers →
-    (state : State) → state.world ≡ world → (seen_of qs registers).shown ≡ shown params memory state []
-unfolding shown
-seen_of-shown params memory world queries qs registers e h r state w =
-    (λ i. record {
-      rows = (h ∙ ap (λ (v : World). map (λ query. rows_of query memory.last_run v.slots) queries) (sym w)) i;
-      res = [];
-      res_mut = [];
-      unread = [];
-      registers = r i;
-      granted = [];
-    })
-    ∙ ap (λ p. shown p memory state []) (sym e)
+use Rattle.body.proofs.Gets.{same-some}
 
 -- a query that is shown is one of the queries
-pub query-within : (qs : List Sheet) (registers : List ℤ) (seen : Seen) (q : ℕ) → seen_over qs registers ≡ seen → q < length seen.shown.rows → q < length qs
-query-within qs registers seen q e l = let a = ap (λ (s : Seen). length s.shown.rows) e in let b = length-map qs (λ (s : Sheet). s.rows) in omega arith
+pub query-within : (tick : ℕ) (qs : List Sheet) (registers : List ℤ) (seen : Seen) (q : ℕ) → seen_over tick qs registers ≡ seen → q < length seen.shown.rows → q < length qs
+query-within tick qs registers seen q e l = let a = ap (λ (s : Seen). length s.shown.rows) e in let b = length-map qs (λ (s : Sheet). s.rows) in omega arith
 
 -- a view over columns with words written
-pub seen_over-written : (qs us : List Sheet) (registers : List ℤ) (q r k : ℕ) (w : List ℤ) (d new : Sheet) → q < length qs → us ≡ set qs q new →
+pub seen_over-written : (tick : ℕ) (qs us : List Sheet) (registers : List ℤ) (q r k : ℕ) (w : List ℤ) (d new : Sheet) → q < length qs → us ≡ set qs q new →
     new ≡ (let s = get_or qs q d in record { terms = s.terms; rows = s.rows; cells = update_at r (with_words s.terms k w) s.cells; taken = s.taken; tick = s.tick }) →
-    seen_over us registers ≡ with_written (seen_over qs registers) q r k w
-seen_over-written qs us registers q r k w d new l e n =
+    seen_over tick us registers ≡ with_written (seen_over tick qs registers) q r k w
+seen_over-written tick qs us registers q r k w d new l e n =
     let terms = get_or-map (λ (s : Sheet). s.terms) qs q d [] l in
-    ap (λ (xs : List Sheet). seen_over xs registers) e
+    ap (λ (xs : List Sheet). seen_over tick xs registers) e
     ∙ (λ i. record {
       params = record { queries = map-set_same (λ (s : Sheet). s.terms) qs q new d (ap (λ (s : Sheet). s.terms) n) i; res = []; res_mut = []; reads = []; writes = []; spawns = None };
       shown = record { rows = map-set_same (λ (s : Sheet). s.rows) qs q new d (ap (λ (s : Sheet). s.rows) n) i; res = []; res_mut = []; unread = []; registers = registers; granted = [] };
@@ -63,6 +38,67 @@ seen_over-written qs us registers q r k w d new l e n =
       };
       opening = record {
         taken = map-set_same (λ (s : Sheet). s.taken) qs q new d (ap (λ (s : Sheet). s.taken) n) i;
-        ticks = map-set_same (λ (s : Sheet). s.tick) qs q new d (ap (λ (s : Sheet). s.tick) n) i;
+        tick = tick;
       };
     })
+
+-- what a view that is opened shows
+pub seen_over-shown : (params : Params) (memory : Memory) (world : World) (queries : List (List Term)) (tick : ℕ) (qs : List Sheet) (registers : List ℤ) → params ≡ record no_params { queries = queries } →
+    map (λ (s : Sheet). s.rows) qs ≡ map (λ query. rows_of query memory.last_run world.slots) queries → registers ≡ memory.registers →
+    (state : State) → state.world ≡ world → (seen_over tick qs registers).shown ≡ shown params memory state []
+unfolding shown
+seen_over-shown params memory world queries tick qs registers e h r state w =
+    (λ i. record {
+      rows = (h ∙ ap (λ (v : World). map (λ query. rows_of query memory.last_run v.slots) queries) (sym w)) i;
+      res = [];
+      res_mut = [];
+      unread = [];
+      registers = r i;
+      granted = [];
+    })
+    ∙ ap (λ p. shown p memory state []) (sym e)
+
+-- ---- the queries stay together as one of them is written
+
+-- what a query of a view was opened over stays
+pub record IsSameOpening (old new : Sheet) : Type 0 where
+  pub terms : new.terms ≡ old.terms
+  pub rows : new.rows ≡ old.rows
+  pub taken : new.taken ≡ old.taken
+  pub tick : new.tick ≡ old.tick
+
+get-set : {A : Type 0} (xs : List A) (q n : ℕ) (new x : A) → slice_get (set xs q new) n ≡ Some x → ((n ≡ q) × (x ≡ new)) ⊎ (slice_get xs n ≡ Some x)
+get-set [] q n new x h = absurd (cc)
+get-set (y ∷ ys) zero zero new x h = inl (refl, sym (same-some new x h))
+get-set (y ∷ ys) zero (suc n) new x h = inr h
+get-set (y ∷ ys) (suc q) zero new x h = inr h
+get-set (y ∷ ys) (suc q) (suc n) new x h = elim (get-set ys q n new x h) [ | inl p ↦ inl (ap suc p.0, p.1) | inr e ↦ inr e ]
+
+-- a query now was one before, with the same opening
+record WasThere (qs : List Sheet) (n : ℕ) (x : Sheet) : Type 0 where
+  before : Sheet
+  there : slice_get qs n ≡ Some before
+  same : IsSameOpening before x
+
+was-there : (qs : List Sheet) (q : ℕ) (old new : Sheet) → slice_get qs q ≡ Some old → IsSameOpening old new → (n : ℕ) (x : Sheet) → slice_get (set qs q new) n ≡ Some x → WasThere qs n x
+was-there qs q old new at same n x h = elim (get-set qs q n new x h) [
+  | inl p ↦ record { before = old; there = ap (slice_get qs) p.0 ∙ at; same = subst (IsSameOpening old) (sym p.1) same }
+  | inr e ↦ record { before = x; there = e; same = record { terms = refl; rows = refl; taken = refl; tick = refl } }
+]
+
+all-ticks : (tick : ℕ) (qs : List Sheet) (q : ℕ) (new : Sheet) → AllByRecursion (λ (s : Sheet). s.tick ≡ tick) qs → ((old : Sheet) → slice_get qs q ≡ Some old → new.tick ≡ old.tick) → AllByRecursion (λ (s : Sheet). s.tick ≡ tick) (set qs q new)
+all-ticks tick [] q new h same = tt
+all-ticks tick (x ∷ qs) zero new h same = (same x refl ∙ h.0, h.1)
+all-ticks tick (x ∷ qs) (suc q) new h same = (h.0, all-ticks tick qs q new h.1 same)
+
+pub together-still : (tick : ℕ) (qs : List Sheet) (q : ℕ) (d new : Sheet) → q < length qs → IsSameOpening (get_or qs q d) new → AreTogether tick qs → AreTogether tick (set qs q new)
+together-still tick qs q d new l same h =
+    let at = slice_get-get_or qs q d l in
+    record {
+      ticks = all-ticks tick qs q new h.ticks (λ old e. same.tick ∙ ap (λ (s : Sheet). s.tick) (same-some (get_or qs q d) old (sym at ∙ e)));
+      alone = λ n x there j column c place e g m t other differ writes r row rows index.
+          (let me = was-there qs q (get_or qs q d) new at same n x there in
+          let them = was-there qs q (get_or qs q d) new at same m t other in
+          h.alone n me.before me.there j column (ap (λ cs. slice_get cs j) (sym me.same.taken) ∙ c) place e g m them.before them.there differ
+          (ap (λ ts. model_writes ts column.kind) (sym them.same.terms) ∙ writes) r row (ap (λ rs. slice_get rs r) (sym them.same.rows) ∙ rows) index);
+    }

@@ -1,6 +1,4 @@
 pub mod Seen
-pub mod Cells
-pub mod ViewRow
 pub mod Laid
 pub mod Steps
 pub mod Columns
@@ -11,5 +9,6 @@ pub mod Together
 pub mod SlotTable
 pub mod Planned
 pub mod Apart
+pub mod Picked
 pub mod Opened
 pub mod Lent

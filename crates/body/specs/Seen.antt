@@ -13,7 +13,7 @@ use Rattle.body.specs.Columns.{Column}
 -- changed. For who opens and closes a view: a body's meaning doesn't take it
 pub record Opening : Type 0 where
   pub taken : List (List Column)
-  pub ticks : List ℕ
+  pub tick : ℕ
 
 -- a view: the parameters of a system, what it is shown, the outcome so far, and what it was opened over
 pub record Seen : Type 0 where

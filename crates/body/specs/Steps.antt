@@ -1,10 +1,10 @@
 -- What the steps of a run do to the parts of a state.
-use Rattle.std.specs.Prelude.{ℕ, ◌≤◌, List, []}
+use Rattle.std.specs.Prelude.{ℕ, ◌≤◌, List, [], replicate}
 use Rattle.std.specs.List.{AllByRecursion}
-use Rattle.archetype_store.specs.Layout.{AreAllHome}
+use Rattle.archetype_store.specs.Layout.{Archetype, AreAllHome}
 use Rattle.archetype_store.specs.Store.{StoreValue}
 use Rattle.model.specs.Lists.{update_at}
-use Rattle.model.specs.state.State.{Memory, State}
+use Rattle.model.specs.state.State.{Memory, State, World, event_count, empty_queue}
 use Rattle.model.specs.shown.Overlay.{slots_after}
 use Rattle.model.specs.shown.Outcome.{words_written}
 use Rattle.body.specs.Seen.{Seen}
@@ -37,7 +37,24 @@ laid n tick seen state = record {
   passed_over = state.passed_over;
 }
 
--- what holds of every state: no last run is above the clock, and all columns are at home
+-- a state in a run: that of the definitions, and beside it how components are laid out
+pub record StateValue : Type 0 where
+  pub state : State
+  pub layout : List Archetype
+
+-- its world
+abbrev pub store_of : StateValue → StoreValue
+store_of s = record { state = s.state.world; layout = s.layout }
+
+-- the state of a world with these memories, without events and conditions
+abbrev pub state_of : World → List Memory → State
+state_of world memories = record { world = world; events = replicate event_count empty_queue; systems = memories; conditions = []; passed_over = 0 }
+
+-- what holds of every state: no last run is above the clock
+abbrev pub IsInTime : ℕ → List Memory → Type 0
+IsInTime clock memories = AllByRecursion (λ m. m.last_run ≤ clock) memories
+
+-- what holds of a state that isn't in a run: no last run is above the clock, and all columns are at home
 pub record IsState (world : StoreValue) (memories : List Memory) : Type 0 where
-  pub last_runs : AllByRecursion (λ m. m.last_run ≤ world.state.clock) memories
+  pub last_runs : IsInTime world.state.clock memories
   pub home : AreAllHome world.layout

@@ -9,7 +9,6 @@ ghost use Rattle.body.specs.HeldColumns.{held_seen, slots_seen};
 ghost use Rattle.body.specs.Seen.{fetched, fetches as query_fetches};
 ghost use Rattle.body.specs.SlotTable.{AreSlotsOf, is_slot_kind, with_slot};
 
-use crate::cells::fetches as fetches_at;
 use crate::held::Held;
 use crate::view_query::Slots;
 use kinds::kind::{Kind, kinds_are_apart};
@@ -20,7 +19,7 @@ use std::alloc::{AllocError, Global};
 fn any_fetches(terms: &[Term], kind: Kind) -> bool
     ensures { result ≡ list_any (λ term. is_number (kind_number kind) (fetched (term_of term))) terms.now }
 {
-    terms.iter().any(|term| fetches_at(*term, kind.number()))
+    terms.iter().any(|term| term.fetches(kind))
 }
 
 // Whether a query with these terms fetches a kind.
@@ -31,9 +30,9 @@ fn fetches(terms: &[Term], kind: Kind) -> bool
     any_fetches(terms, kind)
 }
 
-// No column for each kind, of so many archetypes.
+// Tables of so many archetypes, without a column.
 #[tactic(auto, using(crate::proofs::States::repeated))]
-fn no_slots(alloc: Global, archetypes: usize) -> Result<Vec<Slots>, AllocError>
+pub(crate) fn no_slots(alloc: Global, archetypes: usize) -> Result<Vec<Slots>, AllocError>
     ensures { IfOk result (λ slots. slots.items ≡ replicate archetypes (record { columns = replicate kind_count None })) }
 {
     let mut slots = Vec::with_capacity(alloc, archetypes)?;
@@ -69,22 +68,14 @@ fn add_slot(slots: &mut Vec<Slots>, terms: &[Term], held: &Held, column: u32)
     }
 }
 
-/// The number of the column of each kind that a query fetches, by archetype, of columns that are of archetypes below a number.
-pub fn slots_of(
-    alloc: Global,
-    terms: &[Term],
-    archetypes: usize,
-    columns: &[Held],
-) -> Result<Vec<Slots>, AllocError>
-    requires { AllByRecursion (λ column. column.archetype < archetypes) (map held_seen columns.now) }
-    ensures { IfOk result (λ slots. AreSlotsOf (map term_of terms.now) archetypes (map held_seen columns.now) (map slots_seen slots.items)) }
+// Notes the number of each of these columns, of which there are so many, if its kind is fetched: in tables without a column.
+pub(crate) fn fill_slots(slots: &mut Vec<Slots>, terms: &[Term], columns: &[Held], count: u32)
+    requires empty { slots.old.items ≡ replicate (length slots.old.items) (record { columns = replicate kind_count None }) }
+    requires within { AllByRecursion (λ column. column.archetype < length slots.old.items) (map held_seen columns.now) }
+    requires count { length columns.now ≡ count }
+    ensures { AreSlotsOf (map term_of terms.now) (length slots.old.items) (map held_seen columns.now) (map slots_seen slots.new.items) }
 {
-    let Ok(count) = u32::try_from(columns.len()) else {
-        return Err(AllocError);
-    };
-    let mut slots = no_slots(alloc, archetypes)?;
     for at in 0..count {
-        add_slot(&mut slots, terms, &columns[at as usize], at);
+        add_slot(slots, terms, &columns[at as usize], at);
     }
-    Ok(slots)
 }

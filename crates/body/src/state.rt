@@ -5,13 +5,14 @@ ghost use Rattle.std.specs.List.{AllByRecursion};
 ghost use Rattle.model.specs.state.State.{no_memory, event_count, empty_queue};
 ghost use Rattle.model.specs.state.Loaded.{first_memory};
 ghost use Rattle.archetype_store.specs.Layout.{AreAllHome};
+ghost use Rattle.archetype_store.specs.Store.{empty_world};
 
 use crate::memory::Memory;
+use crate::open_state::OpenState;
 use archetype_store::store::World;
+use change_ticks::clock::Clock;
 use std::alloc::{AllocError, Global};
 use std::marker::Model;
-
-mod steps;
 
 /// The state of an engine. Contracts see the state that the definitions speak of, with no events, no conditions and nothing passed
 /// over. No last run is above the clock, and all columns are at home.
@@ -35,6 +36,16 @@ impl Model for State {
 }
 
 impl State {
+    /// The state of a world without entities, for no system.
+    pub fn empty(alloc: Global) -> Self
+        ensures { result ≡ record { world = empty_world 1; events = replicate event_count empty_queue; systems = []; conditions = []; passed_over = 0 } }
+    {
+        State {
+            world: World::empty(alloc, Clock::at(1)),
+            systems: Vec::new(alloc),
+        }
+    }
+
     /// The state of a world with this many systems that never ran.
     #[tactic(auto, using(crate::proofs::States::repeated))]
     pub fn new(alloc: Global, world: World, systems: usize) -> Result<Self, AllocError>
@@ -64,6 +75,15 @@ impl State {
     {
         let State { world, systems } = self;
         (world, systems)
+    }
+
+    /// The state to be run: while it is, its columns may leave it.
+    pub fn into_open(self) -> OpenState
+        ensures state { result.state ≡ self }
+        ensures home { AreAllHome result.layout }
+    {
+        let State { world, systems } = self;
+        OpenState::of_parts(world, systems)
     }
 
     /// The world.

@@ -1,72 +1,104 @@
-// A view: what a system is shown at its start, and its outcome so far.
+// A view: what a system is shown at its start, and its outcome so far, where the columns lie.
 
-ghost use Rattle.std.specs.Prelude.{◌≡◌, ◌<◌, ◌≤◌, [], length, option_map, unwrap_or, IfSome, IfOk, IsTrue, OnOk};
+ghost use Rattle.std.specs.Prelude.{◌≡◌, ◌<◌, ◌≤◌, [], map, length, option_map, unwrap_or, IfOk, IsTrue, OnErr};
+ghost use Rattle.std.specs.List.{AllByRecursion};
 ghost use Rattle.kinds.specs.Kind.{kind_number};
 ghost use Rattle.kinds.specs.Components.{widths};
-ghost use Rattle.kinds.specs.Value.{value_number, value_words};
 ghost use Rattle.model.specs.state.State.{State};
 ghost use Rattle.model.specs.access.Query.{writes};
+ghost use Rattle.model.specs.access.SelfConflict.{ConflictWithin};
 ghost use Rattle.model.specs.shown.Input.{shown};
 ghost use Rattle.model.specs.shown.Outcome.{untouched, words_written};
 ghost use Rattle.model.specs.shown.Overlay.{slots_after};
-ghost use Rattle.archetype_store.specs.Layout.{AreAllHome};
-ghost use Rattle.query_plan.specs.Fetched.{words_fetched};
+ghost use Rattle.query_plan.specs.Standing.{ArePickedHome};
 ghost use Rattle.body.specs.Laid.{with_slots};
+ghost use Rattle.body.specs.Lent.{AreLent, lent_in, with_away, with_back};
 ghost use Rattle.body.specs.Seen.{query_at, rows_at, row_at, read_at, with_written};
 
-use crate::cells::{self, ViewQuery};
-use crate::lay::lay_queries;
+use crate::closing::put_home;
 use crate::memory::Memory;
-use crate::open::open_queries;
+use crate::opening::open_queries;
+use crate::view_query::ViewQuery;
 use access_set::params::Params;
 use archetype_store::store::World;
 use change_ticks::clock::Tick;
 use entity_table::Entity;
 use kinds::component::Component;
+use kinds::each_kind;
 use kinds::fields::Fields;
 use kinds::kind::Kind;
-use kinds::value::Value;
 use std::alloc::{AllocError, Global};
 use std::marker::Model;
 
-/// What a system is shown at its start, and what it writes. Contracts see the parameters, what is shown, and the outcome so far.
-#[derive(Drop, Debug)]
+/// What a system is shown at its start, and what it writes. Contracts see the parameters, what is shown, the outcome so far, and what it
+/// was opened over.
+#[derive(Drop)]
 pub struct View {
+    tick: Tick,
     queries: Vec<ViewQuery>,
     registers: [i64; 8],
 }
 
 impl Model for View {
-    ghost use Rattle.std.specs.List.{AllByRecursion};
     ghost use Rattle.body.specs.Seen.{Seen};
 
     ghost Value = { Seen };
 
-    ghost use Rattle.body.specs.ViewRow.{seen_of, AreRows};
+    ghost use Rattle.body.specs.SeenOver.{seen_over, AreTogether};
 
-    ghost view = { λ v. seen_of v.queries.items v.registers };
+    ghost view = { λ v. seen_over v.tick v.queries.items v.registers };
 
-    ghost invariant = { λ v. AllByRecursion AreRows v.queries.items };
+    ghost invariant = { λ v. AreTogether v.tick v.queries.items };
 }
 
 impl View {
-    /// What a system with these parameters and this memory is shown of a world, and nothing written.
+    /// What a system with these parameters and this memory is shown of a world, and nothing written: what it writes will count as changed at
+    /// a tick to come. The columns that it may write leave the world, by move, and those that it reads are shared. After an error the
+    /// world is as it was.
     pub fn open(
         alloc: Global,
         params: &Params,
         memory: &Memory,
-        world: &World,
+        world: &mut World,
+        tick: Tick,
     ) -> Result<Self, AllocError>
-        requires { AreAllHome world.now.layout }
+        requires home { AllByRecursion (λ query. ArePickedHome query world.old.layout) params.now.queries }
+        requires apart { ConflictWithin params.now → ⊥ }
+        requires coming { world.old.state.clock < tick }
         ensures params { IfOk result (λ v. v.params ≡ params.now) }
-        ensures shown { IfOk result (λ v. (state : State) → state.world ≡ world.now.state → v.shown ≡ shown params.now memory.now state []) }
+        ensures shown { IfOk result (λ v. (state : State) → state.world ≡ world.old.state → v.shown ≡ shown params.now memory.now state []) }
         ensures untouched { IfOk result (λ v. v.outcome ≡ untouched v.params v.shown) }
+        ensures tick { IfOk result (λ v. v.opening.tick ≡ tick) }
+        ensures lent { IfOk result (λ v. AreLent world.new v.opening.taken) }
+        ensures away { IfOk result (λ v. world.new ≡ record { state = world.old.state; layout = with_away (lent_in v.opening.taken) world.old.layout }) }
+        ensures back { IfOk result (λ v. with_back (lent_in v.opening.taken) world.new.layout ≡ world.old.layout) }
+        ensures err { OnErr result (world.new ≡ world.old) }
     {
-        let queries = open_queries(alloc, params.queries(), world, memory.last_run())?;
+        let queries = open_queries(alloc, params.queries(), world, memory.last_run(), tick)?;
         Ok(View {
+            tick,
             queries,
             registers: memory.registers(),
         })
+    }
+
+    // The tick at which what is written counts as changed.
+    pub(crate) fn tick(&self) -> Tick
+        ensures { result ≡ self.now.opening.tick }
+    {
+        self.tick
+    }
+
+    /// Brings the columns home, and so lays what was written over the world. All else of the world stays.
+    pub fn close(self, world: &mut World)
+        requires lent { AreLent world.old self.opening.taken }
+        requires past { self.opening.tick ≤ world.old.state.clock }
+        ensures { world.new ≡ record { state = with_slots world.old.state (slots_after self.opening.tick (words_written self.params.queries self.shown.rows self.outcome.cells) world.old.state.slots); layout = with_back (lent_in self.opening.taken) world.old.layout } }
+    {
+        // Tell how the layout is that of the state, and that no stamp is above the clock.
+        world.laid();
+        let _now = world.now();
+        put_home(self.queries, world);
     }
 
     /// How many rows a query has.
@@ -74,7 +106,8 @@ impl View {
         requires { query < length self.now.shown.rows }
         ensures { result ≡ length (rows_at self.now.shown query) }
     {
-        self.queries[query].rows.len()
+        let query = &self.queries[query];
+        query.rows()
     }
 
     /// The entity of a row of a query.
@@ -83,37 +116,19 @@ impl View {
         requires row { row < length (rows_at self.now.shown query) }
         ensures { result ≡ (row_at self.now.shown query row).entity }
     {
-        self.queries[query].rows[row].shown.entity
+        let query = &self.queries[query];
+        query.entity(row)
     }
 
-    /// The component of a kind in a row of a query: what was written there, else what is shown.
-    pub fn read(&self, query: usize, row: usize, kind: Kind) -> Option<Value>
-        requires query { query < length self.now.shown.rows }
-        requires row { row < length (rows_at self.now.shown query) }
-        ensures words { words_fetched result ≡ read_at self.now query row (kind_number kind) }
-        ensures kind { IfSome result (λ value. value_number value ≡ kind_number kind) }
-    {
-        self.read_number(query, row, kind.number())
-    }
-
-    // The component of the kind with this number in a row of a query.
-    fn read_number(&self, query: usize, row: usize, number: u32) -> Option<Value>
-        requires query { query < length self.now.shown.rows }
-        requires row { row < length (rows_at self.now.shown query) }
-        ensures words { words_fetched result ≡ read_at self.now query row number }
-        ensures kind { IfSome result (λ value. value_number value ≡ number) }
-    {
-        cells::read_at(self.queries.as_slice(), query, row, number)
-    }
-
-    /// The component of a row of a query: what was written there, else what is shown. None exactly where an `opt` kind is absent.
+    /// The component of a row of a query: what was written there, else what is shown. None exactly where the entity has none of the kind, or
+    /// no term of the query fetches it.
     pub fn get<C: Component>(&self, query: usize, row: usize) -> Option<C>
         requires query { query < length self.now.shown.rows }
         requires row { row < length (rows_at self.now.shown query) }
         ensures { option_map C.words result ≡ read_at self.now query row C.NUMBER }
     {
-        let value = self.read_number(query, row, C::NUMBER)?;
-        C::from_value(value)
+        let query = &self.queries[query];
+        query.get(row)
     }
 
     /// Writes a component of a row of a query.
@@ -123,17 +138,8 @@ impl View {
         requires mut_term { IsTrue (writes (query_at self.old.params query) C.NUMBER) }
         ensures { self.new ≡ with_written self.old query row C.NUMBER (C.words component) }
     {
-        self.write(query, row, component.into_value());
-    }
-
-    /// Writes a component in a row of a query that has a `mut` term of its kind.
-    pub fn write(&mut self, query: usize, row: usize, value: Value)
-        requires query { query < length self.old.shown.rows }
-        requires row { row < length (rows_at self.old.shown query) }
-        requires mut_term { IsTrue (writes (query_at self.old.params query) (value_number value)) }
-        ensures { self.new ≡ with_written self.old query row (value_number value) (value_words value) }
-    {
-        cells::write_at(&mut self.queries, query, row, value);
+        let query = &mut self.queries[query];
+        query.set(row, component);
     }
 
     /// The fields of the component of a kind in a row of a query: what was written there, else what is shown. None where there is no
@@ -143,8 +149,17 @@ impl View {
         requires row { row < length (rows_at self.now.shown query) }
         ensures { result ≡ unwrap_or (read_at self.now query row (kind_number kind)) [] }
     {
-        match self.read(query, row, kind) {
-            Some(value) => value.words(),
+        each_kind!(kind, K => { self.words_of::<K>(query, row) })
+    }
+
+    // The fields of a component of a row of a query.
+    fn words_of<C: Component>(&self, query: usize, row: usize) -> Fields
+        requires query { query < length self.now.shown.rows }
+        requires row { row < length (rows_at self.now.shown query) }
+        ensures { result ≡ unwrap_or (read_at self.now query row C.NUMBER) [] }
+    {
+        match self.get::<C>(query, row) {
+            Some(component) => component.to_words(),
             None => Fields::none(),
         }
     }
@@ -157,18 +172,26 @@ impl View {
         requires width { length words.now ≡ widths (kind_number kind) }
         ensures { self.new ≡ with_written self.old query row (kind_number kind) words.now }
     {
-        self.write(query, row, Value::of(kind, words));
+        each_kind!(kind, K => { self.set_words_of::<K>(query, row, words) })
     }
 
-    /// Lays what was written over a world at a tick, the tick of the system's start. All else of the world stays. Memory can be wanting
-    /// only where columns of the world are read elsewhere too.
-    pub fn close(self, world: &mut World, tick: Tick) -> Result<(), AllocError>
-        requires past { tick ≤ world.old.state.clock }
-        requires home { AreAllHome world.old.layout }
-        ensures laid { OnOk result (world.new.state ≡ with_slots world.old.state (slots_after tick (words_written self.params.queries self.shown.rows self.outcome.cells) world.old.state.slots)) }
-        ensures clock { world.new.state.clock ≡ world.old.state.clock }
-        ensures home { AreAllHome world.new.layout }
+    // Writes the component with these fields in a row of a query.
+    fn set_words_of<C: Component>(&mut self, query: usize, row: usize, words: &[i64])
+        requires query { query < length self.old.shown.rows }
+        requires row { row < length (rows_at self.old.shown query) }
+        requires mut_term { IsTrue (writes (query_at self.old.params query) C.NUMBER) }
+        requires width { length words.now ≡ C.WIDTH }
+        ensures { self.new ≡ with_written self.old query row C.NUMBER words.now }
     {
-        lay_queries(self.queries.as_slice(), world, tick)
+        self.set(query, row, C::from_words(words));
     }
+}
+
+// A value of a type that may be sent to workers, and shared with them.
+fn may_be_sent<T: Send + Sync>(_value: &T) {}
+
+// Views and their queries are such.
+fn _views_may_be_sent(view: &View, query: &ViewQuery) {
+    may_be_sent(view);
+    may_be_sent(query);
 }

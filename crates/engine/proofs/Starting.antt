@@ -15,7 +15,11 @@ use Rattle.model.specs.runs.RunState.{between, has_tick, next_tick, memory_of_sy
 use Rattle.model.specs.runs.Meaning.{serial_start}
 use Rattle.model.proofs.lists.Lists.{map_index-id}
 use Rattle.model.proofs.serial.Engine.{after_sync-between, serial_start-no_ids, whole_start, whole_start-between, whole_state, memories_started}
+use Rattle.std.specs.List.{AllByRecursion}
 use Rattle.std.proofs.lemmas.Option.{slice_get-get_or}
+use Rattle.archetype_store.specs.Layout.{Archetype, AreAllHome, IsLayoutOf}
+use Rattle.query_plan.specs.Standing.{ArePickedHome}
+use Rattle.query_plan.proofs.PickedHome.{home_tells_picks}
 use Rattle.body.specs.Seen.{Seen}
 use Rattle.body.specs.Steps.{at_clock, laid, memory_ran}
 use Rattle.script.specs.declared.script_body.ScriptBody.{ScriptBody}
@@ -153,11 +157,6 @@ start_laid s bodies n state seen alone few tick ran =
     ∙ ap (λ (b : Bool). provided b (between left)) (numbers-none seen.outcome.events state.events)
     ∙ ap (λ (x : State). Some (between x)) (whole-laid s n state seen alone ran.params kept)
 
--- what is shown doesn't depend on the clock
-shown_later : (params : Params) (n tick : ℕ) (state : State) → shown params (memory_of_system (at_clock tick state) n) (at_clock tick state) [] ≡ shown params (memory_of_system state n) state []
-unfolding shown
-shown_later params n tick state = refl
-
 -- what the body of a system means
 meaning_among : (systems : List ScheduledSystem) (bodies : List ScriptBody) (n : ℕ) (x : ScheduledSystem) (d : ScriptBody) → n < length bodies → length bodies ≡ length systems →
     get_or (meanings_of systems bodies) n (λ shown. Err 0) ≡ script_meaning (get_or systems n x).params (get_or bodies n d)
@@ -183,15 +182,13 @@ script_registers : (params : Params) (body : ScriptBody) (x : Shown) (answered :
 script_registers params body x answered e = ap (λ (o : Outcome). o.registers) (outcome_is (outcome_of params body x) answered e)
 
 -- from what the calls of a start tell
-pub ran_there : (s : Schedule) (bodies : List ScriptBody) (n : ℕ) (state later : State) (params : Params) (view seen : Seen) (d : ScriptBody) (tick : ℕ) →
-    n < length bodies → later ≡ at_clock tick state → params ≡ params_of s n → view.params ≡ params →
-    view.shown ≡ shown params (memory_of_system later n) later [] → script_meaning view.params (get_or bodies n d) view.shown ≡ Ok seen.outcome →
+pub ran_there : (s : Schedule) (bodies : List ScriptBody) (n : ℕ) (state : State) (params : Params) (view seen : Seen) (d : ScriptBody) →
+    n < length bodies → params ≡ params_of s n → view.params ≡ params →
+    view.shown ≡ shown params (memory_of_system state n) state [] → script_meaning view.params (get_or bodies n d) view.shown ≡ Ok seen.outcome →
     seen.shown ≡ view.shown → seen.params ≡ view.params → length bodies ≡ length s.systems → Ran s (meanings s bodies) n state seen
-ran_there s bodies n state later params view seen d tick known moved same_params view_params view_shown answer same_shown seen_params counts = record {
+ran_there s bodies n state params view seen d known same_params view_params view_shown answer same_shown seen_params counts = record {
   params = seen_params ∙ view_params ∙ same_params;
   shown_there = same_shown ∙ view_shown
-      ∙ ap (λ (x : State). shown params (memory_of_system x n) x []) moved
-      ∙ shown_later params n tick state
       ∙ ap (λ (p : Params). shown p (memory_of_system state n) state []) same_params;
   answered = ap (λ (f : BodyMeaning). f seen.shown) (meaning_there s bodies n d known counts)
       ∙ ap (λ (x : Shown). script_meaning (params_of s n) (get_or bodies n d) x) same_shown
@@ -231,3 +228,10 @@ rows_there view params memory state same_params same_shown = ap (λ (x : Shown).
 pub laid_there : (n tick : ℕ) (seen : Seen) (state later end : State) → end ≡ laid n tick seen later → tick ≡ next_tick state →
     later ≡ at_clock (next_tick state) state → end ≡ laid n (next_tick state) seen (at_clock (next_tick state) state)
 laid_there n tick seen state later end ends ticks moved = ends ∙ ap (λ (t : ℕ). laid n t seen later) ticks ∙ ap (λ (x : State). laid n (next_tick state) seen x) moved
+
+-- ---- columns
+
+-- where all columns are at home, so are those that the queries of a system pick
+pub picked_home : (slots : List Slot) (layout : List Archetype) (queries : List (List Term)) → IsLayoutOf slots layout → AreAllHome layout → AllByRecursion (λ query. ArePickedHome query layout) queries
+picked_home slots layout [] laid home = tt
+picked_home slots layout (query ∷ queries) laid home = (home_tells_picks slots layout query laid home, picked_home slots layout queries laid home)

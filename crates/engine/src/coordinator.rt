@@ -7,6 +7,7 @@ ghost use Rattle.model.specs.steps.Schedule.{Schedule};
 ghost use Rattle.model.specs.steps.Lawful.{May, MayStart, NoneRuns};
 ghost use Rattle.model.specs.runs.Runs.{IsSingleRun, AreSingleRuns, IsStopped};
 ghost use Rattle.model.specs.runs.Causes.{Cause};
+ghost use Rattle.archetype_store.specs.Layout.{AreAllHome};
 ghost use Rattle.executor_core.specs.Stands.{Stands};
 ghost use Rattle.engine.specs.EngineValue.{meanings};
 ghost use Rattle.engine.specs.Fits.{IsEngine};
@@ -15,7 +16,7 @@ ghost use Rattle.engine.specs.Stage.{Stops};
 
 use crate::faults::RunFault;
 use crate::steps::{open, start, sync};
-use body::state::State;
+use body::open_state::OpenState;
 use executor_core::{Core, Ready, Step, Trace};
 use schedule_builder::built::Built;
 use script::script_body::ScriptBody;
@@ -26,16 +27,18 @@ pub fn run_times(
     alloc: Global,
     built: &Built,
     bodies: &mut [ScriptBody],
-    state: &mut State,
+    state: &mut OpenState,
     times: u32,
 ) -> Result<Vec<Trace>, RunFault>
-    requires { IsEngine built.now bodies.old state.old }
+    requires suits { IsEngine built.now bodies.old state.old.state }
+    requires home { AreAllHome state.old.layout }
     ensures count { IfOk result (λ traces. length traces.items ≡ times) }
-    ensures ran { IfOk result (λ traces. AreSingleRuns built.now (meanings built.now bodies.old) state.old (map history_of traces.items) state.new) }
-    ensures clock { result ≡ Err RunFault.ClockSpent → IsStopped built.now (meanings built.now bodies.old) times state.old Cause.NoTick }
+    ensures ran { IfOk result (λ traces. AreSingleRuns built.now (meanings built.now bodies.old) state.old.state (map history_of traces.items) state.new.state) }
+    ensures clock { result ≡ Err RunFault.ClockSpent → IsStopped built.now (meanings built.now bodies.old) times state.old.state Cause.NoTick }
     ensures other { result ≡ Err RunFault.Spoiled → ⊥ }
     ensures bodies { bodies.new ≡ bodies.old }
-    ensures memories { length state.new.systems ≡ length state.old.systems }
+    ensures memories { length state.new.state.systems ≡ length state.old.state.systems }
+    ensures layout { state.new.layout ≡ state.old.layout }
 {
     let mut traces = Vec::new(alloc);
     for _run in 0..times {
@@ -50,14 +53,16 @@ fn run_once(
     alloc: Global,
     built: &Built,
     bodies: &mut [ScriptBody],
-    state: &mut State,
+    state: &mut OpenState,
 ) -> Result<Trace, RunFault>
-    requires { IsEngine built.now bodies.old state.old }
-    ensures ran { IfOk result (λ trace. IsSingleRun built.now (meanings built.now bodies.old) state.old (history_of trace) state.new) }
-    ensures clock { result ≡ Err RunFault.ClockSpent → Stops built.now (meanings built.now bodies.old) state.old Cause.NoTick }
+    requires suits { IsEngine built.now bodies.old state.old.state }
+    requires home { AreAllHome state.old.layout }
+    ensures ran { IfOk result (λ trace. IsSingleRun built.now (meanings built.now bodies.old) state.old.state (history_of trace) state.new.state) }
+    ensures clock { result ≡ Err RunFault.ClockSpent → Stops built.now (meanings built.now bodies.old) state.old.state Cause.NoTick }
     ensures other { result ≡ Err RunFault.Spoiled → ⊥ }
     ensures bodies { bodies.new ≡ bodies.old }
-    ensures memories { length state.new.systems ≡ length state.old.systems }
+    ensures memories { length state.new.state.systems ≡ length state.old.state.systems }
+    ensures layout { state.new.layout ≡ state.old.layout }
 {
     built.no_conditions();
     let mut core = Core::new(alloc, built)?;

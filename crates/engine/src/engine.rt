@@ -18,6 +18,7 @@ use schedule_builder::built::Built;
 use script::script_body::ScriptBody;
 use std::alloc::Global;
 use std::marker::Model;
+use std::mem;
 
 /// A built schedule with a body for each system, and the state. Contracts see the schedule, the bodies, the state, and whether
 /// the engine is spoiled, as it is once a run stopped by a fault.
@@ -93,7 +94,10 @@ impl Engine {
         }
         self.spoiled = true;
         single_runs_are_one();
-        let traces = run_times(alloc, &self.built, &mut self.bodies, &mut self.state, times)?;
+        let mut state = mem::replace(&mut self.state, State::empty(alloc)).into_open();
+        let traces = run_times(alloc, &self.built, &mut self.bodies, &mut state, times);
+        self.state = state.into_state();
+        let traces = traces?;
         single_runs_are_sound();
         self.spoiled = false;
         Ok(traces)

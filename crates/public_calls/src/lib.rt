@@ -6,6 +6,8 @@ mod conflicts;
 #[cfg(test)]
 mod events;
 #[cfg(test)]
+mod plans;
+#[cfg(test)]
 mod queries;
 #[cfg(test)]
 mod runs;

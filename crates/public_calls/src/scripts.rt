@@ -1,12 +1,11 @@
 // The texts of instructions, and what a script is refused for and does.
 
-ghost use Rattle.std.specs.Prelude.{◌≤◌};
 ghost use Rattle.archetype_store.specs.Layout.{AreAllHome};
 
 use access_set::params::Params;
+use access_set::self_conflict::conflicts_within;
 use archetype_store::store::World;
-use body::memory::Memory;
-use body::view::View;
+use body::state::State;
 use change_ticks::clock::Clock;
 use kinds::component::{Health, Position, Velocity};
 use kinds::kind::Kind;
@@ -103,22 +102,27 @@ fn adding(alloc: Global, second: Axis) -> Result<Vec<Block>, AllocError> {
     Ok(blocks)
 }
 
-// Runs blocks once on a world, as a system that starts at tick 2.
+// The state of a world after one run of blocks, as a system that starts at the next tick.
 fn run_once(
     alloc: Global,
     params: &Params,
     blocks: Vec<Block>,
-    world: &mut World,
-) -> Result<(), Fail>
-    requires past { 2 ≤ world.old.state.clock }
-    requires home { AreAllHome world.old.layout }
-    ensures { AreAllHome world.new.layout }
+    world: World,
+) -> Result<State, Fail>
+    requires { AreAllHome world.layout }
 {
     let mut script = ScriptBody::check(alloc, params, blocks)?;
-    let mut view = View::open(alloc, params, &Memory::new(alloc), world)?;
+    if conflicts_within(params) {
+        return Err(Fail::from("the queries conflict"));
+    }
+    let mut state = State::new(alloc, world, 1)?.into_open();
+    state.law();
+    let tick = state.coming()?;
+    let mut view = state.open(alloc, params, 0, tick)?;
+    state.next()?;
     script.run(&mut view);
-    view.close(world, 2)?;
-    Ok(())
+    state.close(view, 0);
+    Ok(state.into_state())
 }
 
 // The place of an entity after one run of the two additions.
@@ -130,8 +134,8 @@ fn moved(alloc: Global, place: Position, step: Velocity) -> Result<Option<Positi
     world.insert(entity, place, 1)?;
     world.insert(entity, step, 1)?;
     let params = moving(alloc)?;
-    run_once(alloc, &params, adding(alloc, Axis::Y)?, &mut world)?;
-    Ok(world.get::<Position>(entity))
+    let state = run_once(alloc, &params, adding(alloc, Axis::Y)?, world)?;
+    Ok(state.world().get::<Position>(entity))
 }
 
 #[test]
@@ -168,8 +172,8 @@ fn healed(alloc: Global, health: Health, text: &str) -> Result<Option<Health>, F
     let entity = *granted.first().ok_or("no id")?;
     world.spawn_at(entity);
     world.insert(entity, health, 1)?;
-    run_once(alloc, &params, blocks, &mut world)?;
-    Ok(world.get::<Health>(entity))
+    let state = run_once(alloc, &params, blocks, world)?;
+    Ok(state.world().get::<Health>(entity))
 }
 
 #[test]

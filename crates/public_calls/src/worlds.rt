@@ -124,7 +124,7 @@ fn stamps_an_insert(rt: HostRuntime) -> Result<(), Fail> {
             changed: 4
         })
     );
-    world.write(0, Value::Position(Position { x: 8, y: 9 }), 4)?;
+    world.insert(FIRST, Position { x: 8, y: 9 }, 4)?;
     assert_eq!(rt;
         world.stamp(FIRST, Kind::Position),
         Some(Stamp {

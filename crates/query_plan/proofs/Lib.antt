@@ -1,4 +1,3 @@
-pub mod Fetching
 pub mod Rows
 pub mod Picking
 pub mod Chosen

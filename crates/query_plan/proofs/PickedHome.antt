@@ -46,7 +46,7 @@ module _ (query : List Term) (H : ℕ → ℕ → Type 0) (k : ℕ) (touching : 
       go true e h = h
       go false e h = absurd (cc)
 
-  from_picked : (m n : ℕ) (layout : List Archetype) → AllByRecursion (λ p. H p.archetype p.kind) (picked_from query m (map (λ (a : Archetype). a.kinds) layout)) →
+  pub from_picked : (m n : ℕ) (layout : List Archetype) → AllByRecursion (λ p. H p.archetype p.kind) (picked_from query m (map (λ (a : Archetype). a.kinds) layout)) →
       matches query (λ kind. has kind (archetype_at layout n).kinds) ≡ true → has k (archetype_at layout n).kinds ≡ true → H (m + n) k
   from_picked m n [] home match there = absurd (cc)
   from_picked m zero (a ∷ others) home match there =

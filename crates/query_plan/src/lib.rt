@@ -1,15 +1,17 @@
-// The rows of queries: which entities, what each shows, and the columns that they are in.
+// The rows of queries: which entities, where each stands, and the columns that they are in.
 #![tactic(auto)]
 
-pub mod archetype_rows;
-#[cfg(test)]
-mod archetype_rows_tests;
+mod archetype_rows;
 mod filter;
-pub mod laws;
 mod merge;
 pub mod picks;
 pub mod plan;
-#[cfg(test)]
-mod plan_tests;
 pub mod planned;
 pub mod row;
+
+ghost use Rattle.query_plan.specs.Standing.{HomeTellsPicks};
+
+/// Where all columns are at home, so are those that a query picks.
+pub fn home_tells_picks()
+    ensures { HomeTellsPicks }
+{}

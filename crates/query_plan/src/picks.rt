@@ -7,9 +7,9 @@ ghost use Rattle.model.specs.Lists.{has};
 ghost use Rattle.model.specs.access.Query.{matches, admits as term_admits};
 ghost use Rattle.archetype_store.specs.View.{kinds_seen};
 ghost use Rattle.query.specs.Term.{term_of};
-ghost use Rattle.query_plan.specs.Picks.{picked_in, picked_of, picked_from, picks_of, pick_seen};
+ghost use Rattle.query_plan.specs.Picks.{picked_in, picked_of, picked_from, pick_seen};
 
-use archetype_store::store::{ArchetypeView, World};
+use archetype_store::store::ArchetypeView;
 use kinds::kind::Kind;
 use query::{Presence, Query, Term};
 use std::alloc::{AllocError, Global};
@@ -25,17 +25,9 @@ pub struct Pick {
     pub is_written: bool,
 }
 
-/// The columns that the rows of a query are in: of each archetype that has entities and that the query matches those of the kinds
-/// that it touches, in the order of the archetypes and then of the kinds.
-pub fn picks(alloc: Global, query: &Query, world: &World) -> Result<Vec<Pick>, AllocError>
-    ensures { IfOk result (λ picks. map pick_seen picks.items ≡ picks_of query.now world.now.layout) }
-{
-    let views = world.archetypes(alloc)?;
-    picks_in(alloc, query, &views)
-}
-
-// The columns of these archetypes.
-fn picks_in(
+// The columns that the rows of a query are in: of each of these archetypes that the query matches those of the kinds that it touches, in
+// the order of the archetypes and then of the kinds.
+pub(crate) fn picks_in(
     alloc: Global,
     query: &Query,
     views: &[ArchetypeView<'_>],

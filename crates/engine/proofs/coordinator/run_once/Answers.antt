@@ -31,7 +31,7 @@ returns-in_err-start-in-Start-clause-clock c = λ e.
     let h = reverse c.loop-offer.steps.items in
     let is : IsReady s h (Some (ready.Start c.in-Start.system))
     = ready_there c.loop-offer.core s h c.in-Some.offer (ready.Start c.in-Start.system) c.loop-offer.invariant.schedule c.loop-offer.invariant.stands c.in-Some.ensures.choice c.in-Start.is in
-    stops_start s (meanings s c.args.bodies.now) c.args.state.now h c.loop-offer.state c.in-Start.system c.loop-offer.invariant.stage is
+    stops_start s (meanings s c.args.bodies.now) c.args.state.now.state h c.loop-offer.state.state c.in-Start.system c.loop-offer.invariant.stage is
     (c.in_err-start-in-Start.ensures.spent.0 (let q = c.from_residual-in_err-start-in-Start.ensures in let p = rw e at q.1 in cc))
 
 pub returns-in_err-sync-in-Sync-clause-clock : goal.returns-in_err-sync-in-Sync-clause-clock
@@ -40,7 +40,7 @@ returns-in_err-sync-in-Sync-clause-clock c = λ e.
     let h = reverse c.loop-offer.steps.items in
     let is : IsReady s h (Some (ready.Sync c.in-Sync.point))
     = ready_there c.loop-offer.core s h c.in-Some.offer (ready.Sync c.in-Sync.point) c.loop-offer.invariant.schedule c.loop-offer.invariant.stands c.in-Some.ensures.choice c.in-Sync.is in
-    stops_sync s (meanings s c.args.bodies.now) c.args.state.now h c.loop-offer.state c.in-Sync.point c.loop-offer.invariant.stage is (c.in_err-sync-in-Sync.ensures.spent.0 refl)
+    stops_sync s (meanings s c.args.bodies.now) c.args.state.now.state h c.loop-offer.state.state c.in-Sync.point c.loop-offer.invariant.stage is (c.in_err-sync-in-Sync.ensures.spent.0 refl)
 
 pub loop-offer-smaller-in-Continue-branch-4 : goal.loop-offer-smaller-in-Continue-branch-4
 loop-offer-smaller-in-Continue-branch-4 c =
@@ -59,15 +59,16 @@ loop-offer-preserved-in-Continue-branch-4 c =
     let taken = c.in_ok-take_start-in-Start.ensures.taken in
     let is : IsReady s h (Some (ready.Start n))
     = ready_there c.loop-offer.core s h c.in-Some.offer (ready.Start n) inv.schedule inv.stands c.in-Some.ensures.choice c.in-Start.is in
-    let started : serial_step s (meanings s c.args.bodies.now) (Start n) (between c.loop-offer.state) ≡ Some (between c.start.new.state)
-    = subst (λ (bs : List ScriptBody). serial_step s (meanings s bs) (Start n) (between c.loop-offer.state) ≡ Some (between c.start.new.state)) inv.bodies c.in_ok-start-in-Start.ensures.started in
+    let started : serial_step s (meanings s c.args.bodies.now) (Start n) (between c.loop-offer.state.state) ≡ Some (between c.start.new.state.state)
+    = subst (λ (bs : List ScriptBody). serial_step s (meanings s bs) (Start n) (between c.loop-offer.state.state) ≡ Some (between c.start.new.state.state)) inv.bodies c.in_ok-start-in-Start.ensures.started in
     record {
       schedule = c.in_ok-take_start-in-Start.ensures.schedule ∙ inv.schedule;
       stands = subst (λ (x : List Step). Stands c.take_start.new.core x) (sym taken) c.in_ok-take_start-in-Start.ensures.stands;
-      stage = subst (λ (x : List Step). Stage s (meanings s c.args.bodies.now) c.args.state.now x c.start.new.state) (sym taken)
-          (stage_start s (meanings s c.args.bodies.now) c.args.state.now h c.loop-offer.state c.start.new.state n inv.stage is started);
+      stage = subst (λ (x : List Step). Stage s (meanings s c.args.bodies.now) c.args.state.now.state x c.start.new.state.state) (sym taken)
+          (stage_start s (meanings s c.args.bodies.now) c.args.state.now.state h c.loop-offer.state.state c.start.new.state.state n inv.stage is started);
       bodies = c.in_ok-start-in-Start.ensures.bodies ∙ inv.bodies;
       memories = c.in_ok-start-in-Start.ensures.memories ∙ inv.memories;
+      layout = c.in_ok-start-in-Start.ensures.layout ∙ inv.layout;
     }
 
 pub take-requires-clause-may : goal.take-requires-clause-may
@@ -94,10 +95,11 @@ loop-offer-preserved c =
     record {
       schedule = c.in_ok-take-in-Sync.ensures.schedule ∙ inv.schedule;
       stands = subst (λ (x : List Step). Stands c.take.new.core x) (sym taken) c.in_ok-take-in-Sync.ensures.stands;
-      stage = subst (λ (x : List Step). Stage s (meanings s c.args.bodies.now) c.args.state.now x c.sync.new.state) (sym taken)
-          (stage_sync s (meanings s c.args.bodies.now) c.args.state.now h c.loop-offer.state c.sync.new.state k inv.stage is (c.in_ok-sync-in-Sync.ensures.done s (meanings s c.args.bodies.now) k));
+      stage = subst (λ (x : List Step). Stage s (meanings s c.args.bodies.now) c.args.state.now.state x c.sync.new.state.state) (sym taken)
+          (stage_sync s (meanings s c.args.bodies.now) c.args.state.now.state h c.loop-offer.state.state c.sync.new.state.state k inv.stage is (c.in_ok-sync-in-Sync.ensures.done s (meanings s c.args.bodies.now) k));
       bodies = inv.bodies;
       memories = c.in_ok-sync-in-Sync.ensures.memories ∙ inv.memories;
+      layout = c.in_ok-sync-in-Sync.ensures.layout ∙ inv.layout;
     }
 
 pub unreachable-requires : goal.unreachable-requires
@@ -116,6 +118,6 @@ returns-clause-ran c =
     let s = c.args.built.now in
     let h = reverse c.loop-offer.steps.items in
     let inv = c.loop-offer.invariant in
-    stage_end s (meanings s c.args.bodies.now) c.args.state.now h c.loop-offer.state inv.stage
+    stage_end s (meanings s c.args.bodies.now) c.args.state.now.state h c.loop-offer.state.state inv.stage
     (subst (λ (x : Schedule). IsLawful x h) inv.schedule inv.stands.lawful)
     (subst (λ (x : Schedule). IsComplete x h) inv.schedule (c.in_default.ensures.complete h inv.stands inv.stage.idle))

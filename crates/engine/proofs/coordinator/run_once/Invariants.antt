@@ -8,9 +8,10 @@ abbrev pub invariant-loop-offer : goal.invariant-loop-offer
 invariant-loop-offer l = record {
   schedule : l.core.schedule ≡ l.built;
   stands : Stands l.core (reverse l.steps.items);
-  stage : Stage l.built (meanings l.built l.fn.bodies) l.fn.state (reverse l.steps.items) l.state;
+  stage : Stage l.built (meanings l.built l.fn.bodies) l.fn.state.state (reverse l.steps.items) l.state.state;
   bodies : l.bodies ≡ l.fn.bodies;
-  memories : length l.state.systems ≡ length l.fn.state.systems;
+  memories : length l.state.state.systems ≡ length l.fn.state.state.systems;
+  layout : l.state.layout ≡ l.fn.state.layout;
 }
 
 abbrev pub decreases-loop-offer : goal.decreases-loop-offer

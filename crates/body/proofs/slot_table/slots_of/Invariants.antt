@@ -1,8 +1,0 @@
-use Rattle.std.proofs.Common.{map}
-use Rattle.query.specs.Term.{term_of}
-use Rattle.body.specs.HeldColumns.{held_seen, slots_seen}
-use Rattle.body.specs.SlotTable.{AreSlotsBelow}
-use Rattle.body.proofs.slot_table.slots_of.Given as goal
-
-abbrev pub invariant-loop-at : goal.invariant-loop-at
-invariant-loop-at l = AreSlotsBelow (map term_of l.terms) l.archetypes (map held_seen l.columns) l.at (map slots_seen l.slots.items)

@@ -1,0 +1,36 @@
+use Rattle.std.proofs.Common.{◌≡◌, ◌≤◌, List, map, sym, ap₂, ◌∙◌, subst}
+use Rattle.model.specs.shown.Outcome.{words_written}
+use Rattle.model.specs.shown.Overlay.{slots_after}
+use Rattle.model.specs.state.State.{World}
+use Rattle.archetype_store.specs.Layout.{Archetype}
+use Rattle.archetype_store.specs.Lending.{all_home}
+use Rattle.archetype_store.specs.Store.{StoreValue}
+use Rattle.body.specs.Laid.{with_slots}
+use Rattle.body.specs.Lent.{AreLent, lent_in, lent_after, with_back}
+use Rattle.body.specs.Seen.{Seen}
+use Rattle.body.specs.Sheet.{Sheet, WritesReach}
+use Rattle.body.specs.Together.{words_of_sheet}
+use Rattle.body.proofs.Gets.{all-get}
+use Rattle.body.proofs.Lendings.{can_come, homes_layout, back_after}
+use Rattle.body.proofs.LendingCloses.{lent_close}
+use Rattle.body.proofs.view.View.close.Goals as goal
+
+pub put_home-requires : goal.put_home-requires
+put_home-requires c =
+    let w = c.args.world.now in
+    let inside = c.self.inside in
+    can_come w inside.tick inside.queries.items c.now-now.ensures.world (subst (λ (s : Seen). s.opening.tick ≤ w.state.clock) (sym c.self.view_is) c.requires.past) c.self.invariant.ticks
+    (subst (λ (s : Seen). AreLent w s.opening.taken) (sym c.self.view_is) c.requires.lent)
+
+pub returns : goal.returns
+returns c =
+    let w = c.args.world.now in
+    let inside = c.self.inside in
+    let queries = inside.queries.items in
+    let lent = subst (λ (s : Seen). AreLent w s.opening.taken) (sym c.self.view_is) c.requires.lent in
+    let state = lent_close w inside.tick queries c.laid.ensures c.now-now.ensures.world c.self.invariant.ticks c.self.invariant.alone
+    (λ n s e. all-get (λ (s : Sheet). WritesReach (words_of_sheet s) s.taken) queries n s c.put_home.ensures.reach e) lent in
+    let layout = homes_layout (lent_after queries) w ∙ back_after queries w.layout in
+    c.put_home.ensures.home
+    ∙ subst (λ (s : Seen). all_home (lent_after queries) w ≡ (let x : StoreValue = record { state = with_slots w.state (slots_after s.opening.tick (words_written s.params.queries s.shown.rows s.outcome.cells) w.state.slots); layout = with_back (lent_in s.opening.taken) w.layout } in x)) c.self.view_is
+    (ap₂ (λ (v : World) (l : List Archetype). let x : StoreValue = record { state = v; layout = l } in x) state layout)

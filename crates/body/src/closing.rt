@@ -1,0 +1,52 @@
+// The columns of the queries of a view as they come home.
+
+ghost use Rattle.std.specs.Prelude.{◌≡◌, [], ◌∷◌, map};
+ghost use Rattle.std.specs.List.{AllByRecursion};
+ghost use Rattle.archetype_store.specs.Lending.{CanComeHome, all_home};
+ghost use Rattle.body.specs.HeldColumns.{held_seen};
+ghost use Rattle.body.specs.Lent.{lent_of, lent_after};
+ghost use Rattle.body.specs.Sheet.{Sheet, WritesReach};
+ghost use Rattle.body.specs.Together.{words_of_sheet};
+
+use crate::held::{Cells, Held};
+use crate::view_query::ViewQuery;
+use archetype_store::store::World;
+
+// Brings a column home, where it was lent.
+fn put_held(held: Held, world: &mut World)
+    requires { CanComeHome (lent_of (held_seen held ∷ [])) world.old }
+    ensures { world.new ≡ all_home (lent_of (held_seen held ∷ [])) world.old }
+{
+    let Held {
+        archetype,
+        cells,
+        world: _,
+    } = held;
+    match cells {
+        Cells::Written(column) => world.put_column(archetype, column),
+        Cells::Read(_) => {}
+    }
+}
+
+// Brings the columns of a query home. It takes no memory.
+fn put_columns(columns: Vec<Held>, world: &mut World)
+    requires { CanComeHome (lent_of (map held_seen columns.items)) world.old }
+    ensures { world.new ≡ all_home (lent_of (map held_seen columns.items)) world.old }
+{
+    let mut columns = columns;
+    while let Some(held) = columns.pop() {
+        put_held(held, world);
+    }
+}
+
+// Brings the columns of queries home, with what was written there: all of it is in columns that the world lent.
+pub(crate) fn put_home(queries: Vec<ViewQuery>, world: &mut World)
+    requires { CanComeHome (lent_after queries.items) world.old }
+    ensures home { world.new ≡ all_home (lent_after queries.items) world.old }
+    ensures reach { AllByRecursion (λ (s : Sheet). WritesReach (words_of_sheet s) s.taken) queries.items }
+{
+    let mut queries = queries;
+    while let Some(query) = queries.pop() {
+        put_columns(query.close(), world);
+    }
+}

@@ -1,0 +1,146 @@
+// A state in a run: a tick, a system shown what it may see, an outcome laid over the world.
+
+ghost use Rattle.std.specs.Prelude.{◌≡◌, ◌<◌, ◌≤◌, ◌↔◌, [], false, replicate, length, IfOk, OnOk, OnErr, IsErr};
+ghost use Rattle.std.specs.List.{AllByRecursion};
+ghost use Rattle.model.specs.state.State.{most_indices, empty_queue, event_count};
+ghost use Rattle.model.specs.Lists.{update_at};
+ghost use Rattle.model.specs.access.SelfConflict.{ConflictWithin};
+ghost use Rattle.model.specs.shown.Input as input;
+ghost use Rattle.model.specs.shown.Outcome as outcome;
+ghost use Rattle.model.specs.runs.RunState.{has_tick, next_tick, memory_of_system};
+ghost use Rattle.archetype_store.specs.Layout.{AreAllHome, IsLayoutOf};
+ghost use Rattle.query_plan.specs.Standing.{ArePickedHome};
+ghost use Rattle.body.specs.Lent.{AreLent, lent_in, with_away, with_back};
+ghost use Rattle.body.specs.Steps.{IsInTime, at_clock, laid, memory_ran, state_of, store_of};
+
+use crate::memory::Memory;
+use crate::state::State;
+use crate::view::View;
+use access_set::params::Params;
+use archetype_store::store::World;
+use change_ticks::clock::{ClockSpent, LAST_TICK, Tick};
+use std::alloc::{AllocError, Global};
+use std::marker::Model;
+
+/// A state in a run. While views are open over it, the columns that they write are away. Contracts see the state that the definitions
+/// speak of, in which a column that is away has the components with which it left, and beside it how components are laid out. No last run is
+/// above the clock.
+#[derive(Drop, Debug)]
+pub struct OpenState {
+    world: World,
+    systems: Vec<Memory>,
+}
+
+impl Model for OpenState {
+    ghost use Rattle.body.specs.Steps.{StateValue, IsInTime, state_of};
+
+    ghost Value = { StateValue };
+
+    ghost view = { λ s. record { state = state_of s.world.state s.systems.items; layout = s.world.layout } };
+
+    ghost invariant = { λ s. IsInTime s.world.state.clock s.systems.items };
+}
+
+impl OpenState {
+    // The state of a world with these memories.
+    pub(crate) fn of_parts(world: World, systems: Vec<Memory>) -> Self
+        requires { IsInTime world.state.clock systems.items }
+        ensures { result ≡ record { state = state_of world.state systems.items; layout = world.layout } }
+    {
+        OpenState { world, systems }
+    }
+
+    /// The state when all columns have come home.
+    pub fn into_state(self) -> State
+        requires { AreAllHome self.layout }
+        ensures { result ≡ self.state }
+    {
+        let OpenState { world, systems } = self;
+        State::of_parts(world, systems)
+    }
+
+    /// What holds of every state: there aren't too many indices, no events, conditions and commands passed over yet, and the layout is that
+    /// of the world.
+    pub fn law(&self)
+        ensures few { length self.now.state.world.slots ≤ most_indices }
+        ensures events { self.now.state.events ≡ replicate event_count empty_queue }
+        ensures laid { IsLayoutOf self.now.state.world.slots self.now.layout }
+    {
+        self.world.laid();
+        let _ = self.world.now();
+    }
+
+    /// The tick to come, to which `next` would move the clock. At the last tick there is none.
+    pub fn coming(&self) -> Result<Tick, ClockSpent>
+        ensures ok { IfOk result (λ tick. tick ≡ next_tick self.now.state) }
+        ensures spent { IsErr result ↔ (has_tick self.now.state ≡ false) }
+    {
+        let now = self.world.now();
+        if now < LAST_TICK {
+            Ok(now + 1)
+        } else {
+            Err(ClockSpent)
+        }
+    }
+
+    /// Moves the clock to the next tick, and gives that tick. At the last tick the clock is spent and nothing changes.
+    #[tactic(auto, using(crate::proofs::Times::later_in_time))]
+    pub fn next(&mut self) -> Result<Tick, ClockSpent>
+        ensures ok { IfOk result (λ tick. tick ≡ next_tick self.old.state) }
+        ensures moved { OnOk result (self.new ≡ record { state = at_clock (next_tick self.old.state) self.old.state; layout = self.old.layout }) }
+        ensures spent { IsErr result ↔ (has_tick self.old.state ≡ false) }
+        ensures err { OnErr result (self.new ≡ self.old) }
+    {
+        let _ = self.world.now();
+        self.world.next()
+    }
+
+    /// What a system with these parameters is shown of the state, with nothing written yet: what it writes will count as changed at a tick to
+    /// come. The columns that it may write leave the state, by move, and those that it reads are shared. After an error the state is as it
+    /// was.
+    pub fn open(
+        &mut self,
+        alloc: Global,
+        params: &Params,
+        system: usize,
+        tick: Tick,
+    ) -> Result<View, AllocError>
+        requires known { system < length self.old.state.systems }
+        requires home { AllByRecursion (λ query. ArePickedHome query self.old.layout) params.now.queries }
+        requires apart { ConflictWithin params.now → ⊥ }
+        requires coming { self.old.state.world.clock < tick }
+        ensures params { IfOk result (λ view. view.params ≡ params.now) }
+        ensures shown { IfOk result (λ view. view.shown ≡ input.shown params.now (memory_of_system self.old.state system) self.old.state []) }
+        ensures untouched { IfOk result (λ view. view.outcome ≡ outcome.untouched params.now view.shown) }
+        ensures tick { IfOk result (λ view. view.opening.tick ≡ tick) }
+        ensures lent { IfOk result (λ view. AreLent (store_of self.new) view.opening.taken) }
+        ensures away { IfOk result (λ view. self.new ≡ record { state = self.old.state; layout = with_away (lent_in view.opening.taken) self.old.layout }) }
+        ensures back { IfOk result (λ view. with_back (lent_in view.opening.taken) self.new.layout ≡ self.old.layout) }
+        ensures err { OnErr result (self.new ≡ self.old) }
+    {
+        View::open(alloc, params, &self.systems[system], &mut self.world, tick)
+    }
+
+    /// Brings the columns of a view home, and so lays what was written over the state, as the run of a system at the tick of the view, which
+    /// isn't above the clock.
+    #[tactic(auto, using(crate::proofs::Times::ran_in_time))]
+    pub fn close(&mut self, view: View, system: usize)
+        requires known { system < length self.old.state.systems }
+        requires lent { AreLent (store_of self.old) view.opening.taken }
+        requires past { view.opening.tick ≤ self.old.state.world.clock }
+        ensures { self.new ≡ record { state = laid system view.opening.tick view self.old.state; layout = with_back (lent_in view.opening.taken) self.old.layout } }
+    {
+        let tick = view.tick();
+        view.close(&mut self.world);
+        ran_at(&mut self.systems, system, tick);
+    }
+}
+
+// Notes the run of a system at a tick in its memory.
+fn ran_at(memories: &mut [Memory], system: usize, tick: Tick)
+    requires { system < length memories.old }
+    ensures { memories.new ≡ update_at system (memory_ran tick) memories.old }
+{
+    let memory = &mut memories[system];
+    memory.ran(tick);
+}

@@ -1,0 +1,91 @@
+// The queries of a view as they are opened over a world.
+
+ghost use Rattle.std.specs.Prelude.{◌≡◌, ◌<◌, ℕ, map, IfOk, OnErr};
+ghost use Rattle.std.specs.List.{AllByRecursion};
+ghost use Rattle.model.specs.shown.Input.{rows_of};
+ghost use Rattle.model.specs.access.SelfConflict.{TwoConflictAt};
+ghost use Rattle.model.specs.shown.Outcome.{untouched_rows, untouched_cells};
+ghost use Rattle.query_plan.specs.Standing.{ArePickedHome};
+ghost use Rattle.body.specs.Lent.{AreLent, lent_of, lent_in, with_away, with_back};
+ghost use Rattle.body.specs.Opened.{ArePickedOf};
+ghost use Rattle.body.specs.SeenOver.{AreTogether};
+ghost use Rattle.body.specs.Sheet.{Sheet};
+
+use crate::closing::put_home;
+use crate::columns::take_picked;
+use crate::slot_table::{fill_slots, no_slots};
+use crate::view_query::ViewQuery;
+use archetype_store::store::World;
+use change_ticks::clock::Tick;
+use query::Query;
+use query_plan::plan::plan;
+use std::alloc::{AllocError, Global};
+
+// A query as it is opened over a world at a tick to come: it shows its rows, and the columns that it writes are away. After an error the
+// world is as it was.
+pub(crate) fn open_query(
+    alloc: Global,
+    query: &Query,
+    world: &mut World,
+    last_run: Tick,
+    tick: Tick,
+) -> Result<ViewQuery, AllocError>
+    requires home { ArePickedHome query.now world.old.layout }
+    requires coming { world.old.state.clock < tick }
+    ensures terms { IfOk result (λ q. q.terms ≡ query.now) }
+    ensures rows { IfOk result (λ q. q.rows ≡ rows_of query.now last_run world.old.state.slots) }
+    ensures untouched { IfOk result (λ q. q.cells ≡ untouched_rows q.terms q.rows) }
+    ensures taken { IfOk result (λ q. ArePickedOf query.now world.old q.taken) }
+    ensures tick { IfOk result (λ q. q.tick ≡ tick) }
+    ensures away { IfOk result (λ q. world.new ≡ record { state = world.old.state; layout = with_away (lent_of q.taken) world.old.layout }) }
+    ensures err { OnErr result (world.new ≡ world.old) }
+{
+    // Tell how the layout is that of the state, and that no stamp is above the clock.
+    world.laid();
+    let _now = world.now();
+    let plan = plan(alloc, query, world, last_run)?;
+    let Ok(count) = u32::try_from(plan.picks.len()) else {
+        return Err(AllocError);
+    };
+    let terms = Vec::from_slice(alloc, query.terms())?;
+    let mut slots = no_slots(alloc, plan.archetypes as usize + 1)?;
+    let columns = take_picked(alloc, plan.picks.as_slice(), world)?;
+    fill_slots(&mut slots, terms.as_slice(), columns.as_slice(), count);
+    Ok(ViewQuery::open(tick, terms, slots, plan.rows, columns))
+}
+
+// Queries as they are opened over a world at a tick to come. After an error the world is as it was.
+pub(crate) fn open_queries(
+    alloc: Global,
+    queries: &[Query],
+    world: &mut World,
+    last_run: Tick,
+    tick: Tick,
+) -> Result<Vec<ViewQuery>, AllocError>
+    requires home { AllByRecursion (λ query. ArePickedHome query world.old.layout) queries.now }
+    requires apart { (kind : ℕ) → TwoConflictAt queries.now kind → ⊥ }
+    requires coming { world.old.state.clock < tick }
+    ensures terms { IfOk result (λ v. map (λ (q : Sheet). q.terms) v.items ≡ queries.now) }
+    ensures rows { IfOk result (λ v. map (λ (q : Sheet). q.rows) v.items ≡ map (λ query. rows_of query last_run world.old.state.slots) queries.now) }
+    ensures untouched { IfOk result (λ v. map (λ (q : Sheet). q.cells) v.items ≡ untouched_cells (map (λ (q : Sheet). q.terms) v.items) (map (λ (q : Sheet). q.rows) v.items)) }
+    ensures together { IfOk result (λ v. AreTogether tick v.items) }
+    ensures lent { IfOk result (λ v. AreLent world.new (map (λ (q : Sheet). q.taken) v.items)) }
+    ensures away { IfOk result (λ v. world.new ≡ record { state = world.old.state; layout = with_away (lent_in (map (λ (q : Sheet). q.taken) v.items)) world.old.layout }) }
+    ensures back { IfOk result (λ v. with_back (lent_in (map (λ (q : Sheet). q.taken) v.items)) world.new.layout ≡ world.old.layout) }
+    ensures err { OnErr result (world.new ≡ world.old) }
+{
+    // Tell how the layout is that of the state, and that no stamp is above the clock.
+    world.laid();
+    let _now = world.now();
+    let mut opened = Vec::with_capacity(alloc, queries.len())?;
+    for query in queries {
+        match open_query(alloc, query, world, last_run, tick) {
+            Ok(one) => opened.push_reserved(one),
+            Err(_) => {
+                put_home(opened, world);
+                return Err(AllocError);
+            }
+        }
+    }
+    Ok(opened)
+}
