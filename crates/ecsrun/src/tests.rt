@@ -148,6 +148,26 @@ fn the_examples_are_run(rt: HostRuntime) -> Result<(), Fail> {
 }
 
 #[test]
+fn what_has_changed_is_told_by_stamps(rt: HostRuntime) -> Result<(), Fail> {
+    let answer = serve_file(
+        rt.alloc(),
+        "ecsrun run examples/changes.toml --times 3",
+        "[[entity]]\nHealth = [9]\nScore = [0]\n[[entity]]\nHealth = [5]\nTimer = [1]\nScore = [0]\nFrozen = []\n[[system]]\nname = \"pass\"\nquery = [\"mut Health, without Frozen\", \"mut Timer\"]\n[[system.do]]\neach = 0\ncode = [\"sub Health.v 1\"]\n[[system.do]]\neach = 1\ncode = [\"add Timer.v 2\"]\n[[system]]\nname = \"score\"\nafter = [\"pass\"]\nquery = [\"mut Score, changed Health\"]\n[[system.do]]\neach = 0\ncode = [\"add Score.v 1\"]\n",
+    )?;
+    assert_eq!(rt; answer.status, 0);
+    assert_eq!(rt;
+        answer.out.as_slice(),
+        world(
+            rt.alloc(),
+            3,
+            "0v1 Health 6 Score 3\n1v1 Health 5 Timer 7 Score 1 Frozen\n"
+        )?
+        .as_bytes()
+    );
+    Ok(())
+}
+
+#[test]
 fn every_kind_is_printed(rt: HostRuntime) -> Result<(), Fail> {
     let answer = serve_file(
         rt.alloc(),
@@ -259,8 +279,12 @@ fn schedules_and_scripts_are_refused(rt: HostRuntime) -> Result<(), Fail> {
             "refused X3 a 0 1\n",
         ),
         (
-            "system = [{ name = \"a\", query = [\"\", \"\"] }]",
-            "refused P2 system 0\n",
+            "system = [{ name = \"a\", query = [\"mut Position\", \"read Position\"] }]",
+            "refused B9 a\n",
+        ),
+        (
+            "system = [{ name = \"a\", query = [\"\", \"\", \"\", \"\", \"\", \"\", \"\", \"\", \"\"] }]",
+            "refused B12 4\n",
         ),
         ("system = [{ name = \"A\" }]", "refused P2 system 0\n"),
         (

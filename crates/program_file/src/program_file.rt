@@ -37,7 +37,7 @@ pub struct SystemTable<'a> {
     pub before: Vec<&'a str>,
     /// The names of the items that it runs after.
     pub after: Vec<&'a str>,
-    /// Its queries, one at most.
+    /// Its queries, in order.
     pub queries: Vec<Query>,
     /// Its blocks.
     pub blocks: Vec<Block>,
@@ -92,16 +92,12 @@ impl<'a> SystemTable<'a> {
         ensures named { IfOk result (λ system. IsName system.name.now) }
         ensures before { IfOk result (λ system. All (λ name. IsName name.now) system.before.items) }
         ensures after { IfOk result (λ system. All (λ name. IsName name.now) system.after.items) }
-        ensures queries { IfOk result (λ system. vec_len system.queries ≤ 1) }
     {
         refuse_unknown(table, SYSTEM_KEYS.as_slice())?;
         let name = name_at(table, "name")?;
         let before = names_at(alloc, table, "before")?;
         let after = names_at(alloc, table, "after")?;
         let queries = texts_at(alloc, table, "query")?;
-        if queries.len() > 1 {
-            return Err(PlaceFault::Value);
-        }
         let blocks = blocks_of(alloc, table)?;
         Ok(SystemTable {
             name,
@@ -283,8 +279,8 @@ mod tests {
                 "refused P2 system 0",
             ),
             (
-                "system = [{ name = \"a\", query = [\"\", \"\"] }]",
-                "refused P2 system 0",
+                "system = [{ name = \"a\", query = [\"\", \"mut Positio\"] }]",
+                "refused P3 system 0",
             ),
             (
                 "system = [{ name = \"a\", if = [] }]",

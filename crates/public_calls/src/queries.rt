@@ -45,8 +45,6 @@ fn other_texts_are_no_query(rt: HostRuntime) {
         "opt",
         "opt Round",
         "with Frozen Hidden",
-        "added Health",
-        "changed Health",
     ] {
         assert_eq!(rt;
             Query::read(rt.alloc(), text).err(),

@@ -6,7 +6,7 @@ use Rattle.texts.specs.Reads.{SpellsSeen}
 use Rattle.texts.specs.Words.{AreSpaces, ByWords}
 use Rattle.texts.specs.Parts.{ByParts}
 use Rattle.query.specs.declared.term.Term.{Term}
-use Rattle.query.specs.declared.term.Term.TheVariants.{Entity, Read, Mut, Opt, With, Without}
+use Rattle.query.specs.declared.term.Term.TheVariants.{Entity, Read, Mut, Opt, With, Without, Added, Changed}
 use Rattle.query.specs.Term.{term_of}
 
 -- the words are those of a term: `entity`, or the word of the term and the name of its kind
@@ -17,6 +17,8 @@ AreTerm (Mut kind) (word ∷ name ∷ []) = (word ≡ codes "mut") × IsKind kin
 AreTerm (Opt kind) (word ∷ name ∷ []) = (word ≡ codes "opt") × IsKind kind name
 AreTerm (With kind) (word ∷ name ∷ []) = (word ≡ codes "with") × IsKind kind name
 AreTerm (Without kind) (word ∷ name ∷ []) = (word ≡ codes "without") × IsKind kind name
+AreTerm (Added kind) (word ∷ name ∷ []) = (word ≡ codes "added") × IsKind kind name
+AreTerm (Changed kind) (word ∷ name ∷ []) = (word ≡ codes "changed") × IsKind kind name
 AreTerm _ _ = ⊥
 
 -- the text is that of a term

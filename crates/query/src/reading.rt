@@ -16,8 +16,8 @@ use texts::read_error::ReadError;
 use texts::words::{is_blank, words_of};
 
 impl Term {
-    /// Reads a term: `entity`, `read K`, `mut K`, `opt K`, `with K` or `without K`, with one or more spaces between the words
-    /// and any number at either end.
+    /// Reads a term: `entity`, or one of `read`, `mut`, `opt`, `with`, `without`, `added` and `changed` and the name of a kind, with one or
+    /// more spaces between the words and any number at either end.
     pub fn read(alloc: Global, text: &str) -> Result<Term, ReadError>
         ensures { ReadsUnlessMemory IsTerm text.now result }
     {
@@ -59,6 +59,8 @@ impl Term {
             "opt" => Some(Term::Opt(kind)),
             "with" => Some(Term::With(kind)),
             "without" => Some(Term::Without(kind)),
+            "added" => Some(Term::Added(kind)),
+            "changed" => Some(Term::Changed(kind)),
             _ => None,
         }
     }

@@ -1,9 +1,10 @@
 // The builder: refusals in their order, and else the schedule.
 
 ghost use Rattle.std.specs.Prelude.{◌≡◌, ℕ, ◌<◌, ◌≤◌, ◌^◌, length, map, get_or, string_bytes, [], IfOk, IfErr, OnOk};
+ghost use Rattle.std.specs.Bool.{MatchBool};
 ghost use Rattle.std.specs.List.{All};
-ghost use Rattle.model.specs.declarations.Declarations.{name_of};
-ghost use Rattle.model.specs.declarations.Refusals.{KnowsNames, HasDistinctNames, HasNoLoop, HasNoCycle, HasNoSelfConflict, HasGoodQueries, IsBuildable};
+ghost use Rattle.model.specs.declarations.Declarations.{declared_at, name_of};
+ghost use Rattle.model.specs.declarations.Refusals.{KnowsNames, HasDistinctNames, HasNoLoop, HasNoCycle, HasNoSelfConflict, HasGoodQueries, IsWithinLimits, IsBuildable};
 ghost use Rattle.model.specs.declarations.ScheduleOrder.{HasDeclaredSystems, HasDeclaredEdges, IsOneLevel, IsScheduleOrder};
 ghost use Rattle.schedule_builder.specs.Answers.{IsAnswered};
 ghost use Rattle.cycle_search.specs.Cycles.{IsRankable, IsStep};
@@ -24,6 +25,9 @@ use std::alloc::{AllocError, Global};
 
 /// The most systems that a schedule has.
 const SYSTEMS: usize = 256;
+
+// How many queries a system may have.
+const QUERIES: usize = 8;
 
 /// The name of a system.
 fn name_at(alloc: Global, systems: &[SystemDesc], number: usize) -> Result<String, AllocError>
@@ -138,6 +142,38 @@ fn check_queries(alloc: Global, systems: &[SystemDesc]) -> Result<(), BuildFault
     }
 }
 
+/// Refuses a limit that is passed.
+fn check_limits(systems: &[SystemDesc]) -> Result<(), BuildFault>
+    requires known { KnowsNames (items_of systems.now) }
+    requires distinct { HasDistinctNames (items_of systems.now) }
+    requires no_loop { HasNoLoop (items_of systems.now) }
+    requires no_cycle { HasNoCycle (items_of systems.now) }
+    requires apart { HasNoSelfConflict (items_of systems.now) }
+    requires good { HasGoodQueries (items_of systems.now) }
+    ensures within { OnOk result (IsWithinLimits (items_of systems.now)) }
+    ensures refused { IfErr result (IsAnswered (items_of systems.now)) }
+{
+    if systems.len() > SYSTEMS {
+        return Err(BuildFault::OverLimit(1));
+    }
+    if has_too_many_queries(systems) {
+        return Err(BuildFault::OverLimit(4));
+    }
+    Ok(())
+}
+
+// Whether a system has more queries than it may.
+fn has_too_many_queries(systems: &[SystemDesc]) -> bool
+    ensures { MatchBool result ((n : ℕ) × (8 < length (declared_at (items_of systems.now) n).params.queries)) ((n : ℕ) → length (declared_at (items_of systems.now) n).params.queries ≤ 8) }
+{
+    for system in systems {
+        if system.params().queries().len() > QUERIES {
+            return true;
+        }
+    }
+    false
+}
+
 /// The declared orders by number, where nothing is at fault.
 fn checked(alloc: Global, systems: &[SystemDesc]) -> Result<Vec<Order>, BuildFault>
     ensures declared { IfOk result (λ orders. AreDeclared systems.now orders.items) }
@@ -149,9 +185,7 @@ fn checked(alloc: Global, systems: &[SystemDesc]) -> Result<Vec<Order>, BuildFau
     check_orders(alloc, systems, orders.as_slice())?;
     check_self_conflicts(alloc, systems)?;
     check_queries(alloc, systems)?;
-    if systems.len() > SYSTEMS {
-        return Err(BuildFault::OverLimit(1));
-    }
+    check_limits(systems)?;
     Ok(orders)
 }
 
@@ -175,7 +209,7 @@ fn scheduled(
 /// The schedule of declared systems: an edge for each declared order, one level with one sync point, and the schedule order.
 /// Nothing is built where something is at fault; the first fault is told: a name that no item has, an item with an earlier
 /// item's name, an item ordered with itself, a cycle of orders, a system of which two parameters conflict, a query at fault, more
-/// than 256 systems.
+/// than 256 systems, a system with more than 8 queries.
 pub fn build(alloc: Global, desc: ScheduleDesc) -> Result<Built, BuildFault>
     ensures buildable { OnOk result (IsBuildable desc) }
     ensures systems { IfOk result (HasDeclaredSystems desc) }

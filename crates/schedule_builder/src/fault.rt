@@ -27,7 +27,7 @@ pub enum BuildFault {
         query: usize,
         case: u32,
     },
-    /// B12: the number of the least limit that is passed (1: at most 256 systems).
+    /// B12: the number of the least limit that is passed (1: at most 256 systems, 4: at most 8 queries in a system).
     OverLimit(u32),
     /// Memory is wanting.
     Memory,

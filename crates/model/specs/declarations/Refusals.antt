@@ -111,13 +111,15 @@ pub record IsBadQuery (d : Declared) (owner : List ℕ) (number fault : ℕ) : T
 
 -- ---- limits
 
--- there are few enough systems
-abbrev pub IsWithinLimits : Declared → Type 0
-IsWithinLimits d = length d.systems ≤ 256
+-- there are few enough systems, and few enough queries in each
+pub record IsWithinLimits (d : Declared) : Type 0 where
+  pub systems : length d.systems ≤ 256
+  pub queries : (n : ℕ) → length (declared_at d n).params.queries ≤ 8
 
--- the number of the least limit that is passed
+-- the number of the least limit that is passed: 1 of systems, 4 of the queries of a system
 abbrev pub IsOverLimit : Declared → ℕ → Type 0
-IsOverLimit d limit = (256 < length d.systems) × (limit ≡ 1)
+IsOverLimit d limit = ((256 < length d.systems) × (limit ≡ 1))
+    ⊎ ((length d.systems ≤ 256) × ((n : ℕ) × (8 < length (declared_at d n).params.queries)) × (limit ≡ 4))
 
 -- ---- which one is told
 

@@ -46,7 +46,7 @@ of_parts-requires-clause-built c =
     let d : AreDeclared systems orders = subst (λ (xs : List DeclaredSystem). AreDeclared xs orders) c.systems.ensures c.in_ok-orders.ensures.declared in
     let b : IsBuildable (items_of systems) = subst (λ (xs : List DeclaredSystem). IsBuildable (items_of xs)) c.systems.ensures c.in_ok-orders.ensures.buildable in
     let s : IsScheduleOrder (schedule_of built order) = subst (λ (xs : List ScheduledSystem). IsScheduleOrder (schedule_of xs order)) c.as_slice-2.ensures.value c.in_ok-order.ensures in
-    is_built orders systems built order d a b.within s
+    is_built orders systems built order d a b.within.systems s
 
 pub of_parts-requires-clause-apart : goal.of_parts-requires-clause-apart
 of_parts-requires-clause-apart c =
