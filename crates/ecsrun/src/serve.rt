@@ -49,12 +49,13 @@ pub fn serve<F: Read, O: Write, E: Write>(
     }
 }
 
-// The text of the world that so many runs of a program file leave.
+// The text of the world that so many runs of a program file leave. What was read of the file is dropped before the first run.
 fn answer<F: Read>(alloc: Global, times: u32, mode: &Single, file: &mut F) -> Result<String, Fault>
     ensures { IfOk result (λ text. IsRunText times (string_bytes text)) }
 {
     let bytes = bytes_of(alloc, file)?;
     let document = document_of(alloc, bytes.as_slice())?;
+    drop(bytes);
     let ProgramFile {
         resources,
         entities,
@@ -63,7 +64,9 @@ fn answer<F: Read>(alloc: Global, times: u32, mode: &Single, file: &mut F) -> Re
     let (desc, codes) = declare(alloc, systems)?;
     let built = build(alloc, desc)?;
     let bodies = bodies_of(alloc, &built, codes)?;
+    drop(document);
     let world = world_of(alloc, entities.as_slice(), &resources)?;
+    drop(entities);
     run(alloc, times, mode, built, bodies, world)
 }
 

@@ -1,5 +1,10 @@
 // Code for each kind, written once. With a further kind this file and its neighbours change, and no other crate.
 
+ghost use Rattle.std.specs.Prelude.{◌≡◌, ◌+◌, ◌^◌, ◌<◌};
+ghost use Rattle.kinds.specs.Kind.{kind_count};
+
+use crate::component::Component;
+
 /// Writes a block for each kind, with the kind's type where the block says `K`.
 ///
 /// `each_kind!(K => { f::<K>(x); })` runs the block of every kind, in order. `each_kind!(kind, K => { f::<K>(x) })` is a match on
@@ -61,4 +66,22 @@ macro_rules! for_kind {
     ($type:ident [$($done:tt)*] [$($open:tt)*] $next:tt $($rest:tt)*) => {
         $crate::for_kind!($type [$($done)* $next] [$($open)*] $($rest)*)
     };
+}
+
+/// The sum of 2^n over the numbers n of the kinds, each added in the block of its kind: every block runs once, in order.
+pub fn sum_of_blocks() -> u32
+    ensures { result ≡ 4095 }
+{
+    let mut sum = 0;
+    each_kind!(K => { sum = with_block::<K>(sum); });
+    sum
+}
+
+// Adds 2^n for a kind's number n to the sum of the kinds before it, and of no other.
+fn with_block<C: Component>(sum: u32) -> u32
+    requires kind { C.NUMBER < kind_count }
+    requires before { sum + 1 ≡ 2 ^ C.NUMBER }
+    ensures { result ≡ sum + 2 ^ C.NUMBER }
+{
+    sum + (1 << C::NUMBER)
 }

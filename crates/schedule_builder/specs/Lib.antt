@@ -1,4 +1,5 @@
 pub mod Answers
+pub mod FaultText
 pub mod Orders
 pub mod ScheduleOrder
 pub mod Queries

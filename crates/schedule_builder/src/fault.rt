@@ -1,6 +1,8 @@
 // Why a schedule is refused, as the program tells it.
 
-ghost use Rattle.std.specs.Prelude.{◌≡◌};
+ghost use Rattle.std.specs.Prelude.{◌≡◌, Some};
+ghost use Rattle.std.specs.Fmt.{WritesOnOk};
+ghost use Rattle.schedule_builder.specs.FaultText.{build_fault_text, cycle_text};
 ghost use Rattle.schedule_builder.specs.declared.fault.BuildFault.TheVariants.{Memory};
 
 use std::alloc::{AllocError, AllocFailed};
@@ -34,6 +36,8 @@ pub enum BuildFault {
 }
 
 impl fmt::Display for BuildFault {
+    ghost output = { λ fault. Some (build_fault_text fault) };
+
     fn fmt<W: fmt::Write>(&self, f: &mut fmt::Formatter<W>) -> fmt::Result {
         match self {
             BuildFault::UnknownName(name) => write!(f, "refused B1 {name}"),
@@ -41,13 +45,7 @@ impl fmt::Display for BuildFault {
             BuildFault::DependencyLoop(name) => write!(f, "refused B5 {name}"),
             BuildFault::DependencyCycle(names) => {
                 write!(f, "refused B6")?;
-                for name in names.iter() {
-                    write!(f, " {name}")?;
-                }
-                match names.first() {
-                    Some(name) => write!(f, " {name}"),
-                    None => Ok(()),
-                }
+                write_cycle(f, names)
             }
             BuildFault::SelfConflict(name) => write!(f, "refused B9 {name}"),
             BuildFault::BadQuery { owner, query, case } => write!(
@@ -57,6 +55,19 @@ impl fmt::Display for BuildFault {
             BuildFault::OverLimit(limit) => write!(f, "refused B12 {limit}"),
             BuildFault::Memory => write!(f, "error memory"),
         }
+    }
+}
+
+// Writes the names of a cycle, a space before each, and its first name again.
+fn write_cycle<W: fmt::Write>(f: &mut fmt::Formatter<W>, names: &[String]) -> fmt::Result
+    ensures { WritesOnOk W.write_str_gives f.old result (cycle_text names.now) f.new }
+{
+    for name in names {
+        write!(f, " {name}")?;
+    }
+    match names.first() {
+        Some(name) => write!(f, " {name}"),
+        None => Ok(()),
     }
 }
 

@@ -53,7 +53,51 @@ fn first_line(text: &str) -> &str
 #[cfg(test)]
 mod tests {
     use super::*;
+    use std::alloc::Global;
+    use std::io;
     use std::test::Fail;
+
+    // A writer that holds what it is given back, and writes it where it is flushed.
+    #[derive(Drop)]
+    struct HoldsBack {
+        held: Vec<u8>,
+        written: Vec<u8>,
+    }
+
+    impl HoldsBack {
+        fn new(alloc: Global) -> Self {
+            HoldsBack {
+                held: Vec::new(alloc),
+                written: Vec::new(alloc),
+            }
+        }
+    }
+
+    impl Write for HoldsBack {
+        fn write(&mut self, buf: &[u8]) -> io::Result<usize> {
+            self.held.extend_from_slice(buf)?;
+            Ok(buf.len())
+        }
+
+        fn flush(&mut self) -> io::Result<()> {
+            self.written.extend_from_slice(self.held.as_slice())?;
+            self.held.clear();
+            Ok(())
+        }
+    }
+
+    #[test]
+    fn texts_are_flushed(rt: HostRuntime) -> Result<(), Fail> {
+        let mut writer = HoldsBack::new(rt.alloc());
+        write_whole(&mut writer, "runs 1\n")?;
+        assert_eq!(rt; writer.written.as_slice(), "runs 1\n".as_bytes());
+        write_line(&mut writer, "error file\nand more")?;
+        assert_eq!(rt;
+            writer.written.as_slice(),
+            "runs 1\nerror file\n".as_bytes()
+        );
+        Ok(())
+    }
 
     #[test]
     fn texts_are_written_whole(rt: HostRuntime) -> Result<(), Fail> {
