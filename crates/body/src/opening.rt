@@ -47,11 +47,10 @@ pub(crate) fn open_query(
     let Ok(count) = u32::try_from(plan.picks.len()) else {
         return Err(AllocError);
     };
-    let terms = Vec::from_slice(alloc, query.terms())?;
     let mut slots = no_slots(alloc, plan.archetypes as usize + 1)?;
     let columns = take_picked(alloc, plan.picks.as_slice(), world)?;
-    fill_slots(&mut slots, terms.as_slice(), columns.as_slice(), count);
-    Ok(ViewQuery::open(tick, terms, slots, plan.rows, columns))
+    fill_slots(&mut slots, query.terms(), columns.as_slice(), count);
+    Ok(ViewQuery::open(tick, query, slots, plan.rows, columns))
 }
 
 // Queries as they are opened over a world at a tick to come. After an error the world is as it was.

@@ -7,7 +7,6 @@ ghost use Rattle.model.specs.Lists.{update_at};
 ghost use Rattle.model.specs.access.Query.{writes};
 ghost use Rattle.model.specs.shown.Input.{words_of};
 ghost use Rattle.model.specs.shown.Outcome.{untouched_rows, words_in_query};
-ghost use Rattle.query.specs.Term.{term_of};
 ghost use Rattle.body.specs.Columns.{with_cell, column_after};
 ghost use Rattle.body.specs.HeldColumns.{held_seen, slots_seen};
 ghost use Rattle.body.specs.Seen.{words_read, with_words, no_row};
@@ -19,7 +18,7 @@ use change_ticks::clock::Tick;
 use entity_table::Entity;
 use kinds::component::Component;
 use kinds::kind::Kind;
-use query::Term;
+use query::Query;
 use std::marker::Model;
 use std::snapshot::Snapshot;
 
@@ -29,11 +28,11 @@ pub struct Slots {
     pub columns: [Option<u32>; Kind::COUNT],
 }
 
-// Where the rows of a query stand, and the tick of its writes.
+// Where the rows of a query stand, and the tick of its writes. The query itself has no bytes here.
 #[derive(Drop)]
 struct Placing {
     tick: Tick,
-    terms: Vec<Term>,
+    query: Snapshot<Query>,
     slots: Vec<Slots>,
     rows: Vec<Row>,
 }
@@ -49,31 +48,30 @@ pub struct ViewQuery {
 
 impl Model for ViewQuery {
     ghost use Rattle.std.specs.Prelude.{map};
-    ghost use Rattle.query.specs.Term.{term_of};
-    ghost use Rattle.body.specs.Sheet.{Sheet, sheet_of, IsSheet};
+        ghost use Rattle.body.specs.Sheet.{Sheet, sheet_of, IsSheet};
 
     ghost Value = { Sheet };
 
     ghost use Rattle.body.specs.HeldColumns.{held_seen, slots_seen};
 
-    ghost view = { λ q. sheet_of q.placing.tick (map term_of q.placing.terms.items) (map slots_seen q.placing.slots.items) q.placing.rows.items (map held_seen q.taken.value.items) (map held_seen q.columns.items) };
+    ghost view = { λ q. sheet_of q.placing.tick q.placing.query.value (map slots_seen q.placing.slots.items) q.placing.rows.items (map held_seen q.taken.value.items) (map held_seen q.columns.items) };
 
-    ghost invariant = { λ q. IsSheet q.placing.tick (map term_of q.placing.terms.items) (map slots_seen q.placing.slots.items) q.placing.rows.items (map held_seen q.taken.value.items) (map held_seen q.columns.items) };
+    ghost invariant = { λ q. IsSheet q.placing.tick q.placing.query.value (map slots_seen q.placing.slots.items) q.placing.rows.items (map held_seen q.taken.value.items) (map held_seen q.columns.items) };
 }
 
 impl ViewQuery {
-    /// The query with these terms over these rows, with nothing written: the rows stand in the columns, of which `slots` names one for
+    /// The query over these rows, with nothing written: the rows stand in the columns, of which `slots` names one for
     /// each kind that is fetched, by archetype. What is written counts as changed at the tick.
     pub fn open(
         tick: Tick,
-        terms: Vec<Term>,
+        query: &Query,
         slots: Vec<Slots>,
         rows: Vec<Row>,
         columns: Vec<Held>,
     ) -> Self
-        requires { IsPlan tick (map term_of terms.items) (map slots_seen slots.items) rows.items (map held_seen columns.items) }
-        ensures terms { result.terms ≡ map term_of terms.items }
-        ensures rows { result.rows ≡ map (row_of (map slots_seen slots.items) (map held_seen columns.items) (map term_of terms.items)) rows.items }
+        requires { IsPlan tick query.now (map slots_seen slots.items) rows.items (map held_seen columns.items) }
+        ensures terms { result.terms ≡ query.now }
+        ensures rows { result.rows ≡ map (row_of (map slots_seen slots.items) (map held_seen columns.items) query.now) rows.items }
         ensures untouched { result.cells ≡ untouched_rows result.terms result.rows }
         ensures taken { result.taken ≡ map held_seen columns.items }
         ensures tick { result.tick ≡ tick }
@@ -82,7 +80,7 @@ impl ViewQuery {
         ViewQuery {
             placing: Placing {
                 tick,
-                terms,
+                query: Snapshot::of(query),
                 slots,
                 rows,
             },

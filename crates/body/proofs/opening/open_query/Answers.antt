@@ -2,7 +2,6 @@ use Rattle.std.proofs.Common.{◌≡◌, ℕ, suc, ◌+◌, ◌<◌, ◌++◌, L
 use Rattle.std.specs.List.{AllByRecursion}
 use Rattle.std.proofs.lemmas.List.{length-map}
 use Rattle.model.specs.access.Query.{Term}
-use Rattle.query.specs.Term.{term_of}
 use Rattle.query_plan.specs.declared.row.Row.{Row}
 use Rattle.query_plan.specs.Picks.{Picked, pick_seen, picks_of}
 use Rattle.body.specs.Columns.{Column}
@@ -30,7 +29,7 @@ fill_slots-requires-clause-within c =
     let are = picked-of query w columns c.laid.ensures held in
     let many : length c.in_ok-slots.slots.items ≡ c.in_ok-plan.plan.archetypes + 1 = ap length c.in_ok-slots.ensures ∙ length-replicated _ _ in
     let within : length w.layout < length c.in_ok-slots.slots.items = omega (arith, many, c.in_ok-plan.ensures.archetypes) in
-    rw (c.as_slice-3.ensures.value) (picked-within query w (length c.in_ok-slots.slots.items) columns within are.each)
+    rw (c.as_slice-2.ensures.value) (picked-within query w (length c.in_ok-slots.slots.items) columns within are.each)
 
 pub fill_slots-requires-clause-count : goal.fill_slots-requires-clause-count
 fill_slots-requires-clause-count c =
@@ -41,7 +40,7 @@ fill_slots-requires-clause-count c =
     let split = split-many picks in
     let one = length-map c.as_slice.result.now pick_seen in
     let two = length-map c.in_ok-columns.columns.items held_seen in
-    omega (arith, many, split, one, two, ap length c.as_slice.ensures.value, ap length c.as_slice-3.ensures.value, c.in-Ok.ensures, c.len.ensures, c.in_ok-plan.plan.picks.ok.0)
+    omega (arith, many, split, one, two, ap length c.as_slice.ensures.value, ap length c.as_slice-2.ensures.value, c.in-Ok.ensures, c.len.ensures, c.in_ok-plan.plan.picks.ok.0)
 
 pub open-requires : goal.open-requires
 open-requires c =
@@ -50,12 +49,11 @@ open-requires c =
     let columns = map held_seen c.in_ok-columns.columns.items in
     let picks = ap (map pick_seen) c.as_slice.ensures.value ∙ c.in_ok-plan.ensures.picks in
     let are = picked-of query w columns c.laid.ensures (subst (λ ps. AreHeldOf w (picked_own ps ++ picked_read ps) columns) picks c.in_ok-columns.ensures.held) in
-    let terms = ap (map term_of) c.in_ok-terms.ensures.items ∙ c.terms.ensures in
     let many : length c.in_ok-slots.slots.items ≡ c.in_ok-plan.plan.archetypes + 1 = ap length c.in_ok-slots.ensures ∙ length-replicated _ _ in
     let count : length c.in_ok-slots.slots.items ≡ suc (length w.layout) = omega (arith, many, c.in_ok-plan.ensures.archetypes) in
-    let slots = rw (c.as_slice-2.ensures.value, c.as_slice-3.ensures.value) at c.fill_slots.ensures in
-    (open-over c.args.tick c.args.last_run query (map term_of c.in_ok-terms.terms.items) w (length c.in_ok-slots.slots.items) (map slots_seen c.fill_slots.new.slots.items) c.in_ok-plan.plan.rows.items columns
-    c.laid.ensures c.now-now.ensures.world c.in_ok-plan.ensures.rising c.requires.coming c.in_ok-plan.ensures.rows c.in_ok-plan.ensures.places are slots terms count).0
+    let slots = rw (c.terms.ensures, c.as_slice-2.ensures.value) at c.fill_slots.ensures in
+    (open-over c.args.tick c.args.last_run query query w (length c.in_ok-slots.slots.items) (map slots_seen c.fill_slots.new.slots.items) c.in_ok-plan.plan.rows.items columns
+    c.laid.ensures c.now-now.ensures.world c.in_ok-plan.ensures.rising c.requires.coming c.in_ok-plan.ensures.rows c.in_ok-plan.ensures.places are slots refl count).0
 
 pub returns-clause-rows : goal.returns-clause-rows
 returns-clause-rows c =
@@ -64,13 +62,12 @@ returns-clause-rows c =
     let columns = map held_seen c.in_ok-columns.columns.items in
     let picks = ap (map pick_seen) c.as_slice.ensures.value ∙ c.in_ok-plan.ensures.picks in
     let are = picked-of query w columns c.laid.ensures (subst (λ ps. AreHeldOf w (picked_own ps ++ picked_read ps) columns) picks c.in_ok-columns.ensures.held) in
-    let terms = ap (map term_of) c.in_ok-terms.ensures.items ∙ c.terms.ensures in
     let many : length c.in_ok-slots.slots.items ≡ c.in_ok-plan.plan.archetypes + 1 = ap length c.in_ok-slots.ensures ∙ length-replicated _ _ in
     let count : length c.in_ok-slots.slots.items ≡ suc (length w.layout) = omega (arith, many, c.in_ok-plan.ensures.archetypes) in
-    let slots = rw (c.as_slice-2.ensures.value, c.as_slice-3.ensures.value) at c.fill_slots.ensures in
+    let slots = rw (c.terms.ensures, c.as_slice-2.ensures.value) at c.fill_slots.ensures in
     c.open.ensures.rows
-    ∙ (open-over c.args.tick c.args.last_run query (map term_of c.in_ok-terms.terms.items) w (length c.in_ok-slots.slots.items) (map slots_seen c.fill_slots.new.slots.items) c.in_ok-plan.plan.rows.items columns
-    c.laid.ensures c.now-now.ensures.world c.in_ok-plan.ensures.rising c.requires.coming c.in_ok-plan.ensures.rows c.in_ok-plan.ensures.places are slots terms count).1
+    ∙ (open-over c.args.tick c.args.last_run query query w (length c.in_ok-slots.slots.items) (map slots_seen c.fill_slots.new.slots.items) c.in_ok-plan.plan.rows.items columns
+    c.laid.ensures c.now-now.ensures.world c.in_ok-plan.ensures.rising c.requires.coming c.in_ok-plan.ensures.rows c.in_ok-plan.ensures.places are slots refl count).1
 
 pub returns-clause-taken : goal.returns-clause-taken
 returns-clause-taken c =

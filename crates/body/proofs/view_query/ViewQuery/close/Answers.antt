@@ -1,6 +1,5 @@
 use Rattle.std.proofs.Common.{◌≡◌, List, map, sym, ap, ◌∙◌, subst}
 use Rattle.model.specs.shown.Outcome.{words_in_query}
-use Rattle.query.specs.Term.{term_of}
 use Rattle.body.specs.Columns.{Column, column_after}
 use Rattle.body.specs.Sheet.{Sheet, WritesReach}
 use Rattle.body.specs.HeldColumns.{held_seen, slots_seen}
@@ -11,10 +10,10 @@ pub returns-clause-columns : goal.returns-clause-columns
 returns-clause-columns c =
     let p = c.self.inside.placing in
     subst (λ (s : Sheet). map held_seen c.self.inside.columns.items ≡ map (column_after s.tick (words_in_query s.terms s.rows s.cells)) s.taken) c.self.view_is
-    (columns-closed p.tick (map term_of p.terms.items) (map slots_seen p.slots.items) p.rows.items (map held_seen c.self.inside.taken.value.items) (map held_seen c.self.inside.columns.items) c.self.invariant)
+    (columns-closed p.tick p.query.value (map slots_seen p.slots.items) p.rows.items (map held_seen c.self.inside.taken.value.items) (map held_seen c.self.inside.columns.items) c.self.invariant)
 
 pub returns-clause-reach : goal.returns-clause-reach
 returns-clause-reach c =
     let p = c.self.inside.placing in
     subst (λ (s : Sheet). WritesReach (words_in_query s.terms s.rows s.cells) s.taken) c.self.view_is
-    (reach p.tick (map term_of p.terms.items) (map slots_seen p.slots.items) p.rows.items (map held_seen c.self.inside.taken.value.items) (map held_seen c.self.inside.columns.items) c.self.invariant)
+    (reach p.tick p.query.value (map slots_seen p.slots.items) p.rows.items (map held_seen c.self.inside.taken.value.items) (map held_seen c.self.inside.columns.items) c.self.invariant)

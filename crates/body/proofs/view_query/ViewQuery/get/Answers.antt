@@ -1,5 +1,4 @@
 use Rattle.std.proofs.Common.{map, ◌∙◌}
-use Rattle.query.specs.Term.{term_of}
 use Rattle.body.specs.HeldColumns.{held_seen, slots_seen}
 use Rattle.body.proofs.SheetCalls.{row-readable, sheet-read}
 use Rattle.body.proofs.view_query.ViewQuery.get.Goals as goal
@@ -10,7 +9,7 @@ get_at-requires-clause-readable g c =
     let slots = map slots_seen p.slots.items in
     let taken = map held_seen c.self.inside.taken.value.items in
     let columns = map held_seen c.self.inside.columns.items in
-    let terms = map term_of p.terms.items in
+    let terms = p.query.value in
     rw (c.deref.ensures.value, c.deref-2.ensures.value)
     (row-readable p.tick terms slots p.rows.items taken columns c.self.invariant c.args.self.now c.self.view_is c.args.row c.index.result.now g.C.Component.NUMBER c.requires c.index.ensures)
 
@@ -20,6 +19,6 @@ returns g c =
     let slots = map slots_seen p.slots.items in
     let taken = map held_seen c.self.inside.taken.value.items in
     let columns = map held_seen c.self.inside.columns.items in
-    let terms = map term_of p.terms.items in
+    let terms = p.query.value in
     rw (c.deref.ensures.value, c.deref-2.ensures.value) at c.get_at.ensures
     ∙ sheet-read p.tick terms slots p.rows.items taken columns c.self.invariant c.args.self.now c.self.view_is c.args.row c.index.result.now g.C.Component.NUMBER c.requires c.index.ensures

@@ -1,9 +1,8 @@
 use Rattle.std.proofs.Common.{map, sym, ap, ◌∙◌}
-use Rattle.query.specs.Term.{term_of}
 use Rattle.body.specs.HeldColumns.{held_seen, slots_seen}
 use Rattle.body.proofs.SheetOpens.{untouched-of}
 use Rattle.body.proofs.view_query.ViewQuery.open.Goals as goal
 
 pub returns-clause-untouched : goal.returns-clause-untouched
 returns-clause-untouched c =
-    untouched-of c.args.tick (map term_of c.args.terms.items) (map slots_seen c.args.slots.items) c.args.rows.items (map held_seen c.args.columns.items) (map held_seen c.of-taken.result.value.items) c.requires.fresh
+    untouched-of c.args.tick c.of.result.value (map slots_seen c.args.slots.items) c.args.rows.items (map held_seen c.args.columns.items) (map held_seen c.of-taken.result.value.items) c.requires.fresh

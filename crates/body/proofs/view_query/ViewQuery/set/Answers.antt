@@ -1,5 +1,4 @@
 use Rattle.std.proofs.Common.{map, ◌∙◌}
-use Rattle.query.specs.Term.{term_of}
 use Rattle.body.specs.HeldColumns.{held_seen, slots_seen}
 use Rattle.body.proofs.SheetCalls.{row-writable, sheet-after, sheet-set}
 use Rattle.body.proofs.view_query.ViewQuery.set.Goals as goal
@@ -10,7 +9,7 @@ set_in-requires-clause-writable g c =
     let slots = map slots_seen p.slots.items in
     let taken = map held_seen c.self.inside.taken.value.items in
     let columns = map held_seen c.self.inside.columns.items in
-    let terms = map term_of p.terms.items in
+    let terms = p.query.value in
     rw (c.deref.ensures.value)
     (row-writable p.tick terms slots p.rows.items taken columns c.self.invariant c.args.self.now c.self.view_is c.args.row c.index-at.result.now g.C.Component.NUMBER c.requires.row c.index-at.ensures c.requires.mut_term)
 
@@ -20,7 +19,7 @@ invariant_of-self g c =
     let slots = map slots_seen p.slots.items in
     let taken = map held_seen c.self.inside.taken.value.items in
     let columns = map held_seen c.self.inside.columns.items in
-    let terms = map term_of p.terms.items in
+    let terms = p.query.value in
     let changed = rw (c.deref.ensures.value) at c.set_in.ensures in
     sheet-after p.tick terms slots p.rows.items taken columns c.self.invariant c.args.self.now c.self.view_is c.args.row c.index-at.result.now g.C.Component.NUMBER (g.C.Component.words c.args.component)
     (map held_seen c.set_in.new.columns.items) c.requires.row c.index-at.ensures c.requires.mut_term changed
@@ -31,7 +30,7 @@ returns g c =
     let slots = map slots_seen p.slots.items in
     let taken = map held_seen c.self.inside.taken.value.items in
     let columns = map held_seen c.self.inside.columns.items in
-    let terms = map term_of p.terms.items in
+    let terms = p.query.value in
     let changed = rw (c.deref.ensures.value) at c.set_in.ensures in
     sheet-set p.tick terms slots p.rows.items taken columns c.self.invariant c.args.self.now c.self.view_is c.args.row c.index-at.result.now g.C.Component.NUMBER (g.C.Component.words c.args.component)
     (map held_seen c.set_in.new.columns.items) c.requires.row c.index-at.ensures c.requires.mut_term changed
