@@ -10,6 +10,7 @@ mod schedule;
 mod serve;
 #[cfg(test)]
 mod tests;
+mod words;
 mod world;
 
 use command_line::args::{Args, LineFault};
@@ -18,9 +19,10 @@ use fault::Fault;
 use opened::open;
 use serve::{serve, tell};
 use std::alloc::Global;
-use std::io::{ErrorKind, Write};
+use std::io::Write;
 use std::process::ExitCode;
 use streams::writing::write_whole;
+use words::words_of;
 
 // Tells of a line that asks for no work.
 fn tell_line_fault<O: Write, E: Write>(
@@ -37,15 +39,6 @@ fn tell_line_fault<O: Write, E: Write>(
     match (fault, written) {
         (LineFault::Help(_), Err(error)) => tell(alloc, faults, &Fault::from(error)),
         _ => fault.status(),
-    }
-}
-
-// The words of the command line. One that is no text can name no file that is there.
-fn words_of(rt: &HostRuntime) -> Result<Vec<String>, Fault> {
-    match std::env::args(rt) {
-        Ok(words) => Ok(words.collect(rt.alloc())?),
-        Err(error) if error.kind() == ErrorKind::InvalidData => Err(Fault::File),
-        Err(_) => Err(Fault::Memory),
     }
 }
 

@@ -1,10 +1,12 @@
 // Command lines from file to output.
 
 use crate::fakes::{Sink, Source};
+use crate::opened::open;
 use crate::serve::serve;
 use command_line::args::Args;
 use engine::Single;
 use std::alloc::{AllocError, Global};
+use std::io::Read;
 use std::test::Fail;
 
 // The file of one entity that moves.
@@ -22,6 +24,25 @@ struct Served {
     faults: Vec<u8>,
 }
 
+// The words of a command line.
+fn words_of(alloc: Global, line: &str) -> Result<Vec<String>, AllocError> {
+    line.split(' ')
+        .map(|word| String::from_str(alloc, word))
+        .try_collect(alloc)
+}
+
+// Serves a command over a reader of its file, where the writer fails after so many writes.
+fn serve_reader<F: Read>(alloc: Global, args: &Args<'_>, reader: &mut F, writes: usize) -> Served {
+    let mut out = Sink::new(alloc, 50, writes);
+    let mut faults = Sink::new(alloc, 1000, 1000);
+    let status = serve(alloc, args, &Single, reader, &mut out, &mut faults);
+    Served {
+        status,
+        out: out.taken,
+        faults: faults.taken,
+    }
+}
+
 // Serves a command over a file, where the reader and the writer fail after so many calls.
 fn serve_until(
     alloc: Global,
@@ -30,26 +51,10 @@ fn serve_until(
     reads: usize,
     writes: usize,
 ) -> Result<Served, Fail> {
-    let words: Vec<String> = line
-        .split(' ')
-        .map(|word| String::from_str(alloc, word))
-        .try_collect(alloc)?;
+    let words = words_of(alloc, line)?;
     let args = Args::read(alloc, words.as_slice())?;
-    let mut out = Sink::new(alloc, 50, writes);
-    let mut faults = Sink::new(alloc, 1000, 1000);
-    let status = serve(
-        alloc,
-        &args,
-        &Single,
-        &mut Source::new(file.as_bytes(), 1000, reads),
-        &mut out,
-        &mut faults,
-    );
-    Ok(Served {
-        status,
-        out: out.taken,
-        faults: faults.taken,
-    })
+    let mut source = Source::new(file.as_bytes(), 1000, reads);
+    Ok(serve_reader(alloc, &args, &mut source, writes))
 }
 
 // Serves a command over a file.
@@ -327,6 +332,20 @@ fn a_file_that_fails_is_told(rt: HostRuntime) -> Result<(), Fail> {
         let answer = serve_until(rt.alloc(), "ecsrun run a.toml", MOVE, reads, 100)?;
         assert_eq!(rt; answer.status, 3, "after {reads} reads");
         assert_eq!(rt; answer.out.len(), 0, "after {reads} reads");
+        assert_eq!(rt; answer.faults.as_slice(), "error file\n".as_bytes());
+    }
+    Ok(())
+}
+
+#[test]
+fn a_file_that_cannot_be_opened_is_told(rt: HostRuntime) -> Result<(), Fail> {
+    for path in ["no/such/file.toml", "."] {
+        let line = format!(in rt.alloc(); "ecsrun run {path}")?;
+        let words = words_of(rt.alloc(), line.as_str())?;
+        let args = Args::read(rt.alloc(), words.as_slice())?;
+        let answer = serve_reader(rt.alloc(), &args, &mut open(&rt, args.file), 100);
+        assert_eq!(rt; answer.status, 3, "at {path}");
+        assert_eq!(rt; answer.out.len(), 0, "at {path}");
         assert_eq!(rt; answer.faults.as_slice(), "error file\n".as_bytes());
     }
     Ok(())
