@@ -1,1 +1,2 @@
 pub mod Meets
+pub mod Least

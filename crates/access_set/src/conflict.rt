@@ -76,8 +76,8 @@ fn term_meets(term: Term, query: &Query, other: &Query) -> bool
     }
 }
 
-// Whether they conflict at the kind: both touch it, one writes it, and the least set of kinds matches both.
-fn queries_conflict_at(query: &Query, other: &Query, kind: Kind) -> bool
+/// Whether they conflict at the kind: both touch it, one writes it, and the least set of kinds matches both.
+pub(crate) fn queries_conflict_at(query: &Query, other: &Query, kind: Kind) -> bool
     ensures { result ≡ queries_conflict_at query.now other.now (kind_number kind) }
 {
     if !query.touches(kind) {

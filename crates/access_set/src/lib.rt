@@ -2,5 +2,6 @@
 #![tactic(auto)]
 
 pub mod conflict;
+pub mod datum;
 pub mod params;
 pub mod self_conflict;
