@@ -1,5 +1,5 @@
 -- Rows stand where they say.
-use Rattle.std.proofs.Common.{◌≡◌, ℕ, suc, ◌+◌, Bool, true, false, cond, not, inl, inr, List, [], ◌∷◌, length, get_or, slice_get, refl, sym, ap, ◌∙◌, arith}
+use Rattle.std.proofs.Common.{◌≡◌, ℕ, suc, ◌+◌, Bool, true, false, cond, not, inl, inr, List, [], ◌∷◌, length, get_or, slice_get, refl, sym, ap, subst, ◌∙◌, arith}
 use Rattle.std.specs.List.{AllByRecursion}
 use Rattle.std.proofs.lemmas.Bool.{and_parts, not-true}
 use Rattle.model.specs.declared.entities.Entity.{Entity}
@@ -9,8 +9,7 @@ use Rattle.model.specs.access.Query.{Term}
 use Rattle.model.specs.shown.Input.{is_row}
 use Rattle.archetype_store.specs.Layout.{Archetype, archetype_at}
 use Rattle.query_plan.specs.declared.row.Row.{Row}
-use Rattle.query_plan.specs.Standing.{is_row_at, rows_in, merged, rows_with, is_bare_row, bare_from, IsStanding, AllRowsStand}
-use Rattle.query_plan.proofs.Chosen.{each-merged}
+use Rattle.query_plan.specs.Standing.{is_row_at, rows_in, is_bare_row, bare_from, IsStanding}
 
 -- a row that may be there, before others
 each_cond : (P : Row → Type 0) (b : Bool) (x : Row) (xs : List Row) → (b ≡ true → P x) → AllByRecursion P xs → AllByRecursion P (cond b (x ∷ xs) xs)
@@ -38,17 +37,14 @@ module _ (query : List Term) (last : ℕ) (slots : List Slot) (layout : List Arc
       (λ is. inl (sym (f 0 ∙ ap (slice_get (archetype_at layout n).entities) (let e : place + 0 ≡ place = omega arith in e))))
       (in_stand n (suc place) es (λ k. f (suc k) ∙ ap (slice_get (archetype_at layout n).entities) (let e : place + suc k ≡ suc place + k = omega arith in e)))
 
-  with_stand : (rows : List Row) (n : ℕ) (ls : List Archetype) → ((k : ℕ) → archetype_at ls k ≡ archetype_at layout (n + k)) → AllByRecursion (IsStanding slots layout) rows →
-      AllByRecursion (IsStanding slots layout) (rows_with query last slots rows n ls)
-  with_stand rows n [] f h = h
-  with_stand rows n (a ∷ others) f h =
-      let here : a ≡ archetype_at layout n = f 0 ∙ ap (archetype_at layout) (let e : n + 0 ≡ n = omega arith in e) in
-      with_stand (merged rows (rows_in query last slots n 0 a.entities)) (suc n) others
-      (λ k. f (suc k) ∙ ap (archetype_at layout) (let e : n + suc k ≡ suc n + k = omega arith in e))
-      (each-merged (IsStanding slots layout) rows (rows_in query last slots n 0 a.entities) h
-      (in_stand n 0 a.entities (λ k. ap (λ (b : Archetype). slice_get b.entities k) here ∙ ap (slice_get (archetype_at layout n).entities) (let e : k ≡ 0 + k = omega arith in e))))
+  -- those without components
+  pub all_bare_stand : (n : ℕ) (rows : List Row) → n ≡ length layout → rows ≡ bare_from query last n 0 slots → AllByRecursion (IsStanding slots layout) rows
+  all_bare_stand n rows count is =
+      subst (AllByRecursion (IsStanding slots layout)) (sym (is ∙ ap (λ m. bare_from query last m 0 slots) count))
+      (bare_stand 0 slots (λ k. ap (λ m. get_or slots m fresh_slot) (let e : k ≡ 0 + k = omega arith in e)))
 
-pub all_rows_stand : AllRowsStand
-all_rows_stand slots layout query last =
-    with_stand query last slots layout (bare_from query last (length layout) 0 slots) 0 layout (λ k. ap (archetype_at layout) (let e : k ≡ 0 + k = omega arith in e))
-    (bare_stand query last slots layout 0 slots (λ k. ap (λ m. get_or slots m fresh_slot) (let e : k ≡ 0 + k = omega arith in e)))
+  -- those of an archetype
+  pub theirs_stand : (n : ℕ) (rows : List Row) → rows ≡ rows_in query last slots n 0 (archetype_at layout n).entities → AllByRecursion (IsStanding slots layout) rows
+  theirs_stand n rows is =
+      subst (AllByRecursion (IsStanding slots layout)) (sym is)
+      (in_stand n 0 (archetype_at layout n).entities (λ k. ap (slice_get (archetype_at layout n).entities) (let e : k ≡ 0 + k = omega arith in e)))

@@ -19,9 +19,8 @@ use Rattle.query.specs.declared.term.Term.{Term as QueryTerm}
 use Rattle.query.specs.Term.{term_of}
 use Rattle.query_plan.specs.declared.row.Row.{Row}
 use Rattle.query_plan.specs.declared.filter.Filter.{Filter}
-use Rattle.query_plan.specs.Standing.{is_row_at, rows_in, merged, rows_with, is_newer}
+use Rattle.query_plan.specs.Standing.{is_row_at, rows_in, is_newer}
 use Rattle.query_plan.specs.Filters.{AreFiltersOf}
-use Rattle.query_plan.proofs.Chosen.{merged-nil}
 use Rattle.query_plan.proofs.Gathered.{all_among}
 
 -- a query matches a row just where it matches the row's kinds
@@ -70,12 +69,11 @@ module _ (query : List Term) (last : ℕ) (slots : List Slot) (layout : List Arc
       and_no true = refl
       and_no false = refl
 
-  pub archetype_passed : (rows : List Row) → matches query (λ kind. has kind (archetype_at layout n).kinds) ≡ false →
-      rows ≡ merged rows (rows_in query last slots n 0 (archetype_at layout n).entities)
-  archetype_passed rows unlike =
+  pub archetype_passed : matches query (λ kind. has kind (archetype_at layout n).kinds) ≡ false → [] ≡ rows_in query last slots n 0 (archetype_at layout n).entities
+  archetype_passed unlike =
       let none = all_among (λ e. matches query (kinds_of (row_at slots e.index)) ≡ false) (archetype_at layout n).entities
       (λ e m. matches_row query (row_at slots e.index) (archetype_at layout n).kinds (laid.theirs n e m).1 ∙ unlike) in
-      sym (ap (merged rows) (unmatched (archetype_at layout n).entities 0 none) ∙ merged-nil rows)
+      sym (unmatched (archetype_at layout n).entities 0 none)
 
 -- ---- places, one by one
 
@@ -101,19 +99,6 @@ pub places_done : (query : List Term) (last : ℕ) (slots : List Slot) (n place 
     rows ++ rows_in query last slots n place (drop place es) ≡ all → rows ≡ all
 places_done query last slots n place es rows all l h =
     sym (append-nil rows) ∙ ap (λ rs. rows ++ rs) (sym (ap (rows_in query last slots n place) (drop_all place es l))) ∙ h
-
--- ---- archetypes, one by one
-
-pub archetype_done : (query : List Term) (last : ℕ) (slots : List Slot) (layout : List Archetype) (n : ℕ) (rows next all : List Row) → n < length layout →
-    rows_with query last slots rows n (drop n layout) ≡ all → next ≡ merged rows (rows_in query last slots n 0 (archetype_at layout n).entities) →
-    rows_with query last slots next (n + 1) (drop (n + 1) layout) ≡ all
-archetype_done query last slots layout n rows next all l h is =
-    ap₂ (λ rs m. rows_with query last slots rs m (drop (n + 1) layout)) is (let e : n + 1 ≡ suc n = omega arith in e)
-    ∙ sym (ap (rows_with query last slots rows n) (drop_more layout n (record { kinds = []; entities = []; homes = [] }) l)) ∙ h
-
-pub archetypes_done : (query : List Term) (last : ℕ) (slots : List Slot) (layout : List Archetype) (n : ℕ) (rows all : List Row) → length layout ≤ n →
-    rows_with query last slots rows n (drop n layout) ≡ all → rows ≡ all
-archetypes_done query last slots layout n rows all l h = sym (ap (rows_with query last slots rows n) (drop_all n layout l)) ∙ h
 
 -- the test of filters is that of a row, where it is known by another name
 pub place_tested : (query : List Term) (last : ℕ) (slots : List Slot) (layout : List Archetype) (n : ℕ) (fs : List Filter) (es : List Entity) (place : ℕ) (d : Entity) (b : Bool) → IsLayoutOf slots layout →

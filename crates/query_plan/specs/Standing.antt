@@ -1,14 +1,13 @@
 -- The rows of a query by archetype, and what is asked of columns to find them.
-use Rattle.std.specs.Prelude.{◌≡◌, ℕ, suc, Bool, true, false, cond, not, nat_lt, ◌&&◌, ◌⊎◌, List, [], ◌∷◌, length, map, get_or, slice_get, Option, Some}
-use Rattle.std.specs.List.{AllByRecursion}
+use Rattle.std.specs.Prelude.{◌≡◌, ℕ, suc, Bool, true, false, cond, not, nat_lt, ◌&&◌, ◌-◌, ◌⊎◌, List, [], ◌∷◌, length, take, drop, get_or, slice_get, Option, Some}
+use Rattle.std.specs.List.{AllByRecursion, list_any}
 use Rattle.model.specs.declared.entities.Entity.{Entity}
 use Rattle.model.specs.Lists.{has, is_there}
 use Rattle.model.specs.state.State.{Cell, Slot, fresh_slot}
 use Rattle.model.specs.access.Query.{Term, matches}
 use Rattle.model.specs.access.Query.Term.{Added, Changed}
-use Rattle.model.specs.shown.Input.{is_row, rows_of, added_since, changed_since}
-use Rattle.column_store.specs.Order.{AreRising}
-use Rattle.archetype_store.specs.Layout.{Archetype, archetype_at, column_home, AreAllHome, IsLayoutOf}
+use Rattle.model.specs.shown.Input.{is_row, added_since, changed_since}
+use Rattle.archetype_store.specs.Layout.{Archetype, archetype_at, column_home, has_index, AreAllHome, IsLayoutOf}
 use Rattle.query_plan.specs.declared.row.Row.{Row}
 use Rattle.query_plan.specs.Picks.{picks_of}
 
@@ -30,10 +29,18 @@ merged (x ∷ xs) [] = x ∷ xs
 merged (x ∷ xs) (y ∷ ys) = cond (nat_lt x.entity.index y.entity.index) (x ∷ merged xs (y ∷ ys))
     (cond (nat_lt y.entity.index x.entity.index) (y ∷ merged (x ∷ xs) ys) (x ∷ merged xs ys))
 
--- these rows with those of the archetypes of a layout, of which the first has this number
-abbrev pub rows_with : List Term → ℕ → List Slot → List Row → ℕ → List Archetype → List Row
-rows_with query last slots rows n [] = rows
-rows_with query last slots rows n (a ∷ others) = rows_with query last slots (merged rows (rows_in query last slots n 0 a.entities)) (suc n) others
+-- the entities of the indices that pass a test, among slots whose first has this index
+abbrev pub chosen : (ℕ → Bool) → ℕ → List Slot → List Entity
+chosen test index [] = []
+chosen test index (slot ∷ slots) = cond (test index) (record { index = index; generation = slot.generation } ∷ chosen test (suc index) slots) (chosen test (suc index) slots)
+
+-- whether an index is that of a row in one of these archetypes
+abbrev pub is_row_among : List Term → ℕ → List Slot → List Archetype → ℕ → Bool
+is_row_among query last slots archetypes index = list_any (λ a. has_index index a.entities && is_row_at query last slots index) archetypes
+
+-- the archetypes of a layout from a first number up to an end
+abbrev pub archetypes_between : ℕ → ℕ → List Archetype → List Archetype
+archetypes_between first end layout = take (end - first) (drop first layout)
 
 -- whether a slot is a row without components
 abbrev pub is_bare_row : List Term → ℕ → Slot → Bool
@@ -46,23 +53,10 @@ bare_from query last n index (slot ∷ slots) = cond (is_bare_row query last slo
     (record { entity = record { index = index; generation = slot.generation }; archetype = n; place = index } ∷ bare_from query last n (suc index) slots)
     (bare_from query last n (suc index) slots)
 
--- all rows of a query: those without components, and those of each archetype
-abbrev pub all_rows : List Term → ℕ → List Slot → List Archetype → List Row
-all_rows query last slots layout = rows_with query last slots (bare_from query last (length layout) 0 slots) 0 layout
-
--- where the layout is that of the slots, and the entities of each archetype rise, they are the entities of the query's rows, in order
-abbrev pub AllRowsAre : Type 0
-AllRowsAre = (slots : List Slot) (layout : List Archetype) (query : List Term) (last : ℕ) → IsLayoutOf slots layout → AllByRecursion (λ a. AreRising a.entities) layout →
-    map (λ row. row.entity) (all_rows query last slots layout) ≡ map (λ row. row.entity) (rows_of query last slots)
-
 -- a row stands where it says: at its place in its archetype, or behind all archetypes, at its index, without components
 abbrev pub IsStanding : List Slot → List Archetype → Row → Type 0
 IsStanding slots layout row = (slice_get (archetype_at layout row.archetype).entities row.place ≡ Some row.entity)
     ⊎ ((row.archetype ≡ length layout) × (row.place ≡ row.entity.index) × (is_there (get_or slots row.entity.index fresh_slot).row ≡ false))
-
--- all rows stand where they say
-abbrev pub AllRowsStand : Type 0
-AllRowsStand = (slots : List Slot) (layout : List Archetype) (query : List Term) (last : ℕ) → AllByRecursion (IsStanding slots layout) (all_rows query last slots layout)
 
 -- ---- the columns that filters read
 
