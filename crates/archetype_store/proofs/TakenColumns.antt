@@ -208,12 +208,6 @@ can_take layout [] (suc i) h = tt
 can_take layout (p ∷ ps) zero h = tt
 can_take layout (p ∷ ps) (suc i) h = (h.0, can_take (with_home false p.archetype (kind_number p.kind) layout) ps i h.1)
 
-pub can_share_next : (layout : List Archetype) (ps : List ColumnAt) (i : ℕ) (p : ColumnAt) → i < length ps → p ≡ get_or ps i p → CanShare layout ps →
-    column_home (archetype_at layout p.archetype) (kind_number p.kind) ≡ Some true
-can_share_next layout [] i p l is h = absurd (omega arith)
-can_share_next layout (q ∷ ps) zero p l is h = ap (λ (x : ColumnAt). column_home (archetype_at layout x.archetype) (kind_number x.kind)) is ∙ h.0
-can_share_next layout (q ∷ ps) (suc i) p l is h = can_share_next layout ps i p (omega arith) is h.1
-
 module _ (slots : List Slot) (layout : List Archetype) (ps : List ColumnAt) (i : ℕ) (p : ColumnAt) (l : i < length ps) (is : p ≡ get_or ps i p) where
   so_far : take (i + 1) ps ≡ take i ps ++ p ∷ []
   so_far = take_more ps i p l ∙ ap (λ x. take i ps ++ x ∷ []) (sym is)

@@ -30,26 +30,6 @@ outcome_of (Ok x) fault true P Q p q h = inl (refl, p)
 outcome_of (Ok x) fault false P Q p q h = let e = h refl in cc
 outcome_of (Err e) fault test P Q p q h = inr q
 
--- what one has done that may refuse for want of memory alone
-pub ok_or_err : {T E : Type 0} (r : Result T E) (P Q : Type 0) → OnOk r P → OnErr r Q → P ⊎ Q
-ok_or_err (Ok x) P Q p q = inl p
-ok_or_err (Err e) P Q p q = inr q
-
--- a component has the width of its kind
-pub value_width : (v : Value) → length (value_words v) ≡ widths (value_number v)
-value_width (value.Position c) = refl
-value_width (value.Velocity c) = refl
-value_width (value.Health c) = refl
-value_width (value.Damage c) = refl
-value_width (value.Team c) = refl
-value_width (value.Timer c) = refl
-value_width (value.Score c) = refl
-value_width (value.Energy c) = refl
-value_width (value.Charge c) = refl
-value_width (value.Target c) = refl
-value_width (value.Frozen c) = refl
-value_width (value.Hidden c) = refl
-
 -- ---- worlds
 
 -- a world with other slots of the shape
@@ -90,9 +70,6 @@ only-width W k v width kind words = go (kind == k) refl
     go : (b : Bool) → (kind == k) ≡ b → cond b (Some v) None ≡ Some words → length words ≡ W kind
     go true same e = (let is : v ≡ words = cc in sym (ap length is) ∙ width ∙ ap W (sym (eqb-true kind k same)))
     go false other e = cc
-
-pub world-write : (W : ℕ → ℕ) (w : World) (i t k : ℕ) (v : List ℤ) → length v ≡ W k → t ≤ w.clock → IsWorld W w → IsWorld W (with_slot i (slot_after t (only k v)) w)
-world-write W w i t k v width l p = world-slot W w i (slot_after t (only k v)) (slot-after W w.clock t (only k v) l (only-width W k v width) (get_or w.slots i fresh_slot)) p
 
 pub world-set : (W : ℕ → ℕ) (w : World) (n : ℕ) (v : ℤ) (t : ℕ) → t ≤ w.clock → IsWorld W w → IsWorld W (with_resource n v t w)
 world-set W w n v t l p = record {

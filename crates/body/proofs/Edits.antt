@@ -14,9 +14,3 @@ pub map-set_update : {A B : Type 0} (f : A → B) (g : B → B) (xs : List A) (i
 map-set_update f g [] i y d h = refl
 map-set_update f g (x ∷ xs) zero y d h = ap (λ z. z ∷ map f xs) h
 map-set_update f g (x ∷ xs) (suc i) y d h = ap (λ zs. f x ∷ zs) (map-set_update f g xs i y d h)
-
--- a fact of each
-pub all-set : {A : Type 0} (P : A → Type 0) (xs : List A) (i : ℕ) (y : A) → AllByRecursion P xs → P y → AllByRecursion P (set xs i y)
-all-set P [] i y h p = tt
-all-set P (x ∷ xs) zero y h p = (p, h.1)
-all-set P (x ∷ xs) (suc i) y h p = (h.0, all-set P xs i y h.1 p)

@@ -43,10 +43,6 @@ all-get P [] i x h e = absurd (cc)
 all-get P (y ∷ ys) zero x h e = let s = same-some y x e in subst P s h.0
 all-get P (y ∷ ys) (suc i) x h e = all-get P ys i x h.1 e
 
-pub map-nothing : {A B : Type 0} (f : A → B) (o : Option A) → option_map f o ≡ None → o ≡ None
-map-nothing f None e = refl
-map-nothing f (Some x) e = absurd (cc)
-
 -- what is mapped to something
 pub mapped : {A B : Type 0} (f : A → B) (o : Option A) (y : B) → option_map f o ≡ Some y → (x : A) × (o ≡ Some x) × (f x ≡ y)
 mapped f None y e = absurd (cc)

@@ -320,11 +320,3 @@ pub lent_next : (state : World) (layout : List Archetype) (taken : List (List Co
     AreOfOtherPlaces (lent_of columns) → AllByRecursion (IsOfEntities (record { state = state; layout = layout })) columns →
     AreLent (record { state = state; layout = with_away (lent_of columns) layout }) (taken ++ columns ∷ [])
 lent_next state layout taken columns lent fit others of_them = lent_more state layout columns fit others taken lent of_them
-
--- a later clock changes nothing of it
-pub lent_later : (w : StoreValue) (clock : ℕ) (columns : List (List Column)) → AreLent w columns → AreLent (record { state = record { slots = w.state.slots; resources = w.state.resources; clock = clock }; layout = w.layout }) columns
-lent_later w clock columns h = record {
-  each = each-weaker (IsLent w) (IsLent (record { state = record { slots = w.state.slots; resources = w.state.resources; clock = clock }; layout = w.layout })) (λ c l. record { away = l.away; cells_are = l.cells_are }) (lent_in columns) h.each;
-  once = h.once;
-  entities_are = h.entities_are;
-}

@@ -121,7 +121,7 @@ module _ (picks : List Pick) (i : ℕ) (p : Pick) (l : i < length picks) (is : p
   own-next b xs ys e h y =
       y ∙ ap₂ ◌++◌ h (spots b)
       ∙ sym (ap (λ ps. map spot_of (picked_own ps)) so-far ∙ ap (map spot_of) (own-append (map pick_seen (take i picks)) (pick_seen p ∷ [])) ∙ map-append spot_of (picked_own (map pick_seen (take i picks))) (picked_own (pick_seen p ∷ []))
-          ∙ ap (λ ps. map spot_of (picked_own (map pick_seen (take i picks))) ++ map spot_of ps) (one-own b e))
+      ∙ ap (λ ps. map spot_of (picked_own (map pick_seen (take i picks))) ++ map spot_of ps) (one-own b e))
     where
       spots : (t : Bool) → cond t (spot_of (pick_seen p) ∷ []) [] ≡ map spot_of (cond t (pick_seen p ∷ []) [])
       spots true = refl
@@ -131,7 +131,7 @@ module _ (picks : List Pick) (i : ℕ) (p : Pick) (l : i < length picks) (is : p
   read-next b xs ys e h y =
       y ∙ ap₂ ◌++◌ h (spots b)
       ∙ sym (ap (λ ps. map spot_of (picked_read ps)) so-far ∙ ap (map spot_of) (read-append (map pick_seen (take i picks)) (pick_seen p ∷ [])) ∙ map-append spot_of (picked_read (map pick_seen (take i picks))) (picked_read (pick_seen p ∷ []))
-          ∙ ap (λ ps. map spot_of (picked_read (map pick_seen (take i picks))) ++ map spot_of ps) (one-read b e))
+      ∙ ap (λ ps. map spot_of (picked_read (map pick_seen (take i picks))) ++ map spot_of ps) (one-read b e))
     where
       spots : (t : Bool) → cond t [] (spot_of (pick_seen p) ∷ []) ≡ map spot_of (cond t [] (pick_seen p ∷ []))
       spots true = refl
@@ -418,8 +418,8 @@ from-others query m [] h = tt
 from-others query m (a ∷ others) h =
     others-append (picked_of query m a.kinds) (picked_from query (suc m) (map (λ (b : Archetype). b.kinds) others)) (of-others query m a.kinds h.0.shape.below) (from-others query (suc m) others h.1)
     (lower m m (picked_of query m a.kinds) (picked_from query (suc m) (map (λ (b : Archetype). b.kinds) others))
-        (in-archetype query (λ (p : Picked). p.archetype ≡ m) m a.kinds (λ e k there t. refl))
-        (in-archetypes query (λ (q : Picked). m < q.archetype) (suc m) others (λ n e k there t. omega arith)))
+    (in-archetype query (λ (p : Picked). p.archetype ≡ m) m a.kinds (λ e k there t. refl))
+    (in-archetypes query (λ (q : Picked). m < q.archetype) (suc m) others (λ n e k there t. omega arith)))
 
 pub picks-others : (slots : List Slot) (query : List Term) (layout : List Archetype) → IsLayoutOf slots layout → AreOtherSpots (picks_of query layout)
 picks-others slots query layout laid = from-others query 0 layout laid.each

@@ -74,7 +74,7 @@ pub open-over : (tick last : ℕ) (query terms : List Term) (w : StoreValue) (ma
     IsPlan tick terms tables rows columns × (map (row_of tables columns terms) rows ≡ rows_of query last w.state.slots)
 open-over tick last query terms w many tables rows columns laid world rising coming entities standing picked slots same count =
     let both = opens-over tick last query w tables rows columns laid world rising coming entities standing picked
-        (subst (λ n. AreSlotsOf query n columns tables) count (subst (λ ts. AreSlotsOf ts many columns tables) same slots)) in
+    (subst (λ n. AreSlotsOf query n columns tables) count (subst (λ ts. AreSlotsOf ts many columns tables) same slots)) in
     (subst (λ ts. IsPlan tick ts tables rows columns) (sym same) both.0, ap (λ ts. map (row_of tables columns ts) rows) same ∙ both.1)
 
 -- ---- lent columns, one by one
@@ -184,30 +184,27 @@ terms-at queries i opened e m t there =
 
 module _ (tick last : ℕ) (w : StoreValue) (queries : List (List Term)) (i : ℕ) (query : List Term) (opened : List Sheet) (now : StoreValue)
     (are : AreOpened tick last w (take i queries) opened now) (is : get_or queries i [] ≡ query) (apart : (kind : ℕ) → TwoConflictAt queries kind → ⊥) (home : ArePickedHome query w.layout) where
-  lent-columns : List TakenColumn
-  lent-columns = lent_in (map (λ (s : Sheet). s.taken) opened)
-
   -- what was lent before is elsewhere than what the query picks
   elsewhere : (p : Picked) → IsPickIn query w.layout p → AllByRecursion (λ (c : TakenColumn). c.archetype ≡ p.archetype → c.column.kind ≡ p.kind → ⊥) (lent_in (map (λ (s : Sheet). s.taken) opened))
   elsewhere p here =
       each-lent-in (λ (c : TakenColumn). c.archetype ≡ p.archetype → c.column.kind ≡ p.kind → ⊥) opened (λ m t there.
-          each-lent (λ (c : TakenColumn). c.archetype ≡ p.archetype → c.column.kind ≡ p.kind → ⊥) t.taken (λ j c e own a k.
-              (let theirs = all-get (IsPickedOf t.terms w) t.taken j c (all-get (λ (s : Sheet). ArePickedOf s.terms w s.taken) opened m t are.taken there).each e in
-              let at = terms-at queries i opened are.terms m t there in
-              apart p.kind (record {
-                first = m;
-                second = i;
-                differ = (let l : m < i = at.0 in λ x. omega arith);
-                conflict = subst (λ ts. QueriesConflictAt ts (get_or queries i []) p.kind) (sym at.1) (subst (λ ts. QueriesConflictAt t.terms ts p.kind) (sym is) (record {
-                  kinds = λ kind. has kind (archetype_at w.layout p.archetype).kinds;
-                  first_matches = subst (λ n. matches t.terms (λ kind. has kind (archetype_at w.layout n).kinds) ≡ true) a theirs.picked.matched;
-                  second_matches = here.matched;
-                  holds = here.held;
-                  first_touches = subst (λ kind. touches t.terms kind ≡ true) k theirs.picked.touched;
-                  second_touches = here.touched;
-                  one_writes = or_left (writes t.terms p.kind) (writes query p.kind) (ap (writes t.terms) (sym k) ∙ sym theirs.own ∙ own);
-                }));
-              }))))
+      each-lent (λ (c : TakenColumn). c.archetype ≡ p.archetype → c.column.kind ≡ p.kind → ⊥) t.taken (λ j c e own a k.
+      (let theirs = all-get (IsPickedOf t.terms w) t.taken j c (all-get (λ (s : Sheet). ArePickedOf s.terms w s.taken) opened m t are.taken there).each e in
+      let at = terms-at queries i opened are.terms m t there in
+      apart p.kind (record {
+        first = m;
+        second = i;
+        differ = (let l : m < i = at.0 in λ x. omega arith);
+        conflict = subst (λ ts. QueriesConflictAt ts (get_or queries i []) p.kind) (sym at.1) (subst (λ ts. QueriesConflictAt t.terms ts p.kind) (sym is) (record {
+          kinds = λ kind. has kind (archetype_at w.layout p.archetype).kinds;
+          first_matches = subst (λ n. matches t.terms (λ kind. has kind (archetype_at w.layout n).kinds) ≡ true) a theirs.picked.matched;
+          second_matches = here.matched;
+          holds = here.held;
+          first_touches = subst (λ kind. touches t.terms kind ≡ true) k theirs.picked.touched;
+          second_touches = here.touched;
+          one_writes = or_left (writes t.terms p.kind) (writes query p.kind) (ap (writes t.terms) (sym k) ∙ sym theirs.own ∙ own);
+        }));
+      }))))
 
   each-home : (ps : List Picked) → AllByRecursion (IsPickIn query w.layout) ps → AllByRecursion (λ (p : Picked). column_home (archetype_at w.layout p.archetype) p.kind ≡ Some true) ps →
       AllByRecursion (λ (p : Picked). column_home (archetype_at (with_away (lent_in (map (λ (s : Sheet). s.taken) opened)) w.layout) p.archetype) p.kind ≡ Some true) ps
@@ -228,9 +225,6 @@ module _ (tick last : ℕ) (w : StoreValue) (queries : List (List Term)) (i : �
     taken-first : ArePickedOf query w q.taken
     taken-first = picked-same query w.state (lent_in (map (λ (s : Sheet). s.taken) opened)) w.layout q.taken (subst (λ v. ArePickedOf query v q.taken) are.away taken)
 
-    all-taken : (P : List Column → Type 0) → map (λ (s : Sheet). s.taken) (opened ++ q ∷ []) ≡ map (λ (s : Sheet). s.taken) opened ++ q.taken ∷ []
-    all-taken P = map-append (λ (s : Sheet). s.taken) opened (q ∷ [])
-
     lent-all : lent_in (map (λ (s : Sheet). s.taken) (opened ++ q ∷ [])) ≡ lent_in (map (λ (s : Sheet). s.taken) opened) ++ lent_of q.taken
     lent-all = ap lent_in (map-append (λ (s : Sheet). s.taken) opened (q ∷ [])) ∙ lent_in-append (map (λ (s : Sheet). s.taken) opened) (q.taken ∷ []) ∙ ap (λ xs. lent_in (map (λ (s : Sheet). s.taken) opened) ++ xs) (append-nil (lent_of q.taken))
 
@@ -247,14 +241,14 @@ module _ (tick last : ℕ) (w : StoreValue) (queries : List (List Term)) (i : �
       taken = one-more (λ (s : Sheet). ArePickedOf s.terms w s.taken) are.taken (subst (λ ts. ArePickedOf ts w q.taken) (sym terms) taken-first);
       spots = subst (AllByRecursion (λ (c : TakenColumn). column_home (archetype_at w.layout c.archetype) c.column.kind ≡ Some true)) (sym lent-all)
           (each-append (λ (c : TakenColumn). column_home (archetype_at w.layout c.archetype) c.column.kind ≡ Some true) (lent_in (map (λ (s : Sheet). s.taken) opened)) (lent_of q.taken) are.spots
-              (each-lent (λ (c : TakenColumn). column_home (archetype_at w.layout c.archetype) c.column.kind ≡ Some true) q.taken (λ j c e own. column-home query w c home (all-get (IsPickedOf query w) q.taken j c taken-first.each e))));
+          (each-lent (λ (c : TakenColumn). column_home (archetype_at w.layout c.archetype) c.column.kind ≡ Some true) q.taken (λ j c e own. column-home query w c home (all-get (IsPickedOf query w) q.taken j c taken-first.each e))));
       lent = subst (λ (v : StoreValue). AreLent v (map (λ (s : Sheet). s.taken) (opened ++ q ∷ []))) (sym away)
           (subst (AreLent (record { state = now.state; layout = with_away (lent_of q.taken) now.layout })) (sym (map-append (λ (s : Sheet). s.taken) opened (q ∷ [])))
           (lent_next now.state now.layout (map (λ (s : Sheet). s.taken) opened) q.taken are.lent
-              (each-lent (λ (c : TakenColumn). (column_home (archetype_at now.layout c.archetype) c.column.kind ≡ Some true) × (map (λ cell. Some cell) c.column.cells ≡ column_cells now.state.slots (archetype_at now.layout c.archetype).entities c.column.kind)) q.taken
-                  (λ j c e own. (let p = all-get (IsPickedOf query now) q.taken j c taken.each e in (column-home query now c home-next p, p.cells_are ∙ ap (λ es. column_cells now.state.slots es c.kind) p.picked.entities_are))))
-              (others-lent q.taken taken.unlike)
-              (each-weaker (IsPickedOf query now) (IsOfEntities now) (λ c p. p.picked.entities_are) q.taken taken.each)));
+          (each-lent (λ (c : TakenColumn). (column_home (archetype_at now.layout c.archetype) c.column.kind ≡ Some true) × (map (λ cell. Some cell) c.column.cells ≡ column_cells now.state.slots (archetype_at now.layout c.archetype).entities c.column.kind)) q.taken
+          (λ j c e own. (let p = all-get (IsPickedOf query now) q.taken j c taken.each e in (column-home query now c home-next p, p.cells_are ∙ ap (λ es. column_cells now.state.slots es c.kind) p.picked.entities_are))))
+          (others-lent q.taken taken.unlike)
+          (each-weaker (IsPickedOf query now) (IsOfEntities now) (λ c p. p.picked.entities_are) q.taken taken.each)));
       away = away ∙ ap (λ (v : StoreValue). let x : StoreValue = record { state = v.state; layout = with_away (lent_of q.taken) v.layout } in x) are.away
           ∙ ap (λ layout. let x : StoreValue = record { state = w.state; layout = layout } in x) (sym (with_away-append (lent_in (map (λ (s : Sheet). s.taken) opened)) (lent_of q.taken) w.layout) ∙ ap (λ cs. with_away cs w.layout) (sym lent-all));
     }

@@ -72,7 +72,7 @@ get-set [] q n new x h = absurd (cc)
 get-set (y ∷ ys) zero zero new x h = inl (refl, sym (same-some new x h))
 get-set (y ∷ ys) zero (suc n) new x h = inr h
 get-set (y ∷ ys) (suc q) zero new x h = inr h
-get-set (y ∷ ys) (suc q) (suc n) new x h = elim (get-set ys q n new x h) [ | inl p ↦ inl (ap suc p.0, p.1) | inr e ↦ inr e ]
+get-set (y ∷ ys) (suc q) (suc n) new x h = elim (get-set ys q n new x h) [ inl p ↦ inl (ap suc p.0, p.1) | inr e ↦ inr e ]
 
 -- a query now was one before, with the same opening
 record WasThere (qs : List Sheet) (n : ℕ) (x : Sheet) : Type 0 where

@@ -13,12 +13,12 @@ ghost use Rattle.body.specs.Seen.{words_read, with_words, no_row};
 ghost use Rattle.body.specs.Sheet.{slot_in, seen_at, at_slot, row_of, IsPlan, IsReadable, IsWritable, WritesReach};
 
 use crate::held::Held;
-use query_plan::row::Row;
 use change_ticks::clock::Tick;
 use entity_table::Entity;
 use kinds::component::Component;
 use kinds::kind::Kind;
 use query::Query;
+use query_plan::row::Row;
 use std::marker::Model;
 use std::snapshot::Snapshot;
 
@@ -48,7 +48,7 @@ pub struct ViewQuery {
 
 impl Model for ViewQuery {
     ghost use Rattle.std.specs.Prelude.{map};
-        ghost use Rattle.body.specs.Sheet.{Sheet, sheet_of, IsSheet};
+    ghost use Rattle.body.specs.Sheet.{Sheet, sheet_of, IsSheet};
 
     ghost Value = { Sheet };
 

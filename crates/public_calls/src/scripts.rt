@@ -103,12 +103,7 @@ fn adding(alloc: Global, second: Axis) -> Result<Vec<Block>, AllocError> {
 }
 
 // The state of a world after one run of blocks, as a system that starts at the next tick.
-fn run_once(
-    alloc: Global,
-    params: &Params,
-    blocks: Vec<Block>,
-    world: World,
-) -> Result<State, Fail>
+fn run_once(alloc: Global, params: &Params, blocks: Vec<Block>, world: World) -> Result<State, Fail>
     requires { AreAllHome world.layout }
 {
     let mut script = ScriptBody::check(alloc, params, blocks)?;

@@ -176,18 +176,6 @@ fn frees_what_is_despawned(rt: HostRuntime) -> Result<(), Fail> {
 }
 
 #[test]
-fn settles_by_use(rt: HostRuntime) -> Result<(), Fail> {
-    let mut world = World::new(rt.alloc(), Clock::at(1))?;
-    let ids = world.grant(rt.alloc(), 2)?;
-    world.settle(&[], ids.as_slice());
-    assert_eq!(rt; world.next_living(0), None);
-    let again = world.grant(rt.alloc(), 1)?;
-    assert_eq!(rt; again.len(), 1);
-    assert_eq!(rt; format!(in rt.alloc(); "{}", again[0])?.as_str(), "0v2");
-    Ok(())
-}
-
-#[test]
 fn moves_between_archetypes(rt: HostRuntime) -> Result<(), Fail> {
     let mut world = three(rt.alloc())?;
     let now = world.now();
@@ -218,26 +206,6 @@ fn moves_between_archetypes(rt: HostRuntime) -> Result<(), Fail> {
         (Value::Health(Health { v: 9 }), Value::Frozen(Frozen))
     );
     assert_eq!(rt; world.components(rt.alloc(), 7)?.len(), 0);
-    Ok(())
-}
-
-#[test]
-fn leaves_the_rows_beside_it(rt: HostRuntime) -> Result<(), Fail> {
-    let mut world = three(rt.alloc())?;
-    let now = world.now();
-    world.insert(FIRST, Health { v: 9 }, now)?;
-    assert_eq!(rt; world.remove(THIRD, Kind::Frozen), Ok(()));
-    assert_eq!(rt; world.get::<Health>(THIRD), Some(Health { v: 4 }));
-    assert!(rt; !world.has(THIRD, Kind::Frozen));
-    assert_eq!(rt; world.get::<Health>(SECOND), Some(Health { v: 3 }));
-    assert_eq!(rt; world.get::<Health>(FIRST), Some(Health { v: 9 }));
-    assert_eq!(rt; world.despawn(SECOND), Ok(()));
-    assert_eq!(rt; world.get::<Health>(SECOND), None);
-    assert_eq!(rt; world.get::<Health>(THIRD), Some(Health { v: 4 }));
-    assert_eq!(rt; world.remove(THIRD, Kind::Health), Ok(()));
-    assert_eq!(rt; world.components(rt.alloc(), 2)?.len(), 0);
-    assert!(rt; world.lives(THIRD));
-    assert_eq!(rt; world.get::<Health>(FIRST), Some(Health { v: 9 }));
     Ok(())
 }
 
@@ -297,31 +265,6 @@ fn clear(world: &mut World, count: u32) -> Result<(), Fail>
     Ok(())
 }
 
-// Despawns so many entities, from the first on.
-fn clear_from_the_first(world: &mut World, count: u32) -> Result<(), Fail>
-    requires { AreAllHome world.old.layout }
-    ensures { AreAllHome world.new.layout }
-{
-    for index in 0..count {
-        world.despawn(entity(index))?;
-    }
-    Ok(())
-}
-
-// Freezes each of so many entities.
-fn freeze(world: &mut World, count: u32) -> Result<(), Fail>
-    requires few { count ≤ 4000 }
-    requires home { AreAllHome world.old.layout }
-    ensures { AreAllHome world.new.layout }
-{
-    for turn in 0..count {
-        let now = world.now();
-        // 1,999 has no factor in common with 4,000: each index has its turn.
-        world.insert(entity(turn * 1_999 % count), Frozen, now)?;
-    }
-    Ok(())
-}
-
 #[test]
 fn holds_many(rt: HostRuntime) -> Result<(), Fail> {
     let count = 100_000;
@@ -336,22 +279,6 @@ fn holds_many(rt: HostRuntime) -> Result<(), Fail> {
     clear(&mut world, count)?;
     assert_eq!(rt; world.next_living(0), None);
     assert!(rt; is_so(&world, 0, None, false));
-    Ok(())
-}
-
-#[test]
-fn moves_many(rt: HostRuntime) -> Result<(), Fail> {
-    let count = 4_000;
-    let mut world = World::new(rt.alloc(), Clock::at(4))?;
-    spawn(rt.alloc(), &mut world, count)?;
-    fill(&mut world, count)?;
-    freeze(&mut world, count)?;
-    assert!(rt; is_so(&world, 0, Some(0), true));
-    assert!(rt; is_so(&world, 3_999, Some(3_999), true));
-    strip(&mut world, count)?;
-    assert!(rt; is_so(&world, 2_000, None, true));
-    clear_from_the_first(&mut world, count)?;
-    assert_eq!(rt; world.next_living(0), None);
     Ok(())
 }
 

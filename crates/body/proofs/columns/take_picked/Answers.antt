@@ -42,7 +42,7 @@ returns-clause-held c =
     let shared = rw (c.deref.ensures.value) at c.in_ok-read.ensures.shared in
     let away = rw (c.deref-2.ensures.value, c.in_ok-read.ensures.same) at c.in_ok-own.ensures.away in
     let same : (m : ℕ) → (archetype_at v.layout m).entities ≡ (archetype_at w.layout m).entities = λ m. ap (λ (x : StoreValue). (archetype_at x.layout m).entities) (away ∙ ap (λ layout. let x : StoreValue = record { state = w.state; layout = layout } in x) (away-taken w.state.slots w.layout w.layout c.in_ok-spots.spots.own.items cs taken))
-        ∙ entities_away cs w.layout m in
+    ∙ entities_away cs w.layout m in
     let columns = c.hold_read.ensures ∙ ap (λ xs. xs ++ map (read_column v) ds) (c.hold_own.ensures.columns ∙ ap (λ xs. map held_seen xs ++ map (own_column v) cs) c.in_ok-columns.ensures.items) in
     subst (AreHeldOf w (picked_own picks ++ picked_read picks)) (sym columns)
     (all-held w v same c.in_ok-spots.spots.own.items c.in_ok-spots.spots.read.items picks cs ds c.in_ok-spots.ensures.own c.in_ok-spots.ensures.read taken shared)

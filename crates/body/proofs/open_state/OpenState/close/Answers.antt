@@ -23,5 +23,5 @@ invariant_of-self c =
     = c.ran_at.ensures ∙ ap (λ (ms : List Memory). update_at n (memory_ran tick) ms) c.deref_mut.ensures.value in
     let whole = with_items_is before c.ran_at.new.memories (ap length after ∙ length-update_at n (memory_ran tick) before.items ∙ sym before.ok.0) ∙ after in
     subst (λ (k : ℕ). IsInTime k (with_items before c.ran_at.new.memories).items) (sym same)
-        (subst (λ (ms : List Memory). IsInTime clock ms) (sym whole)
-        (ran_in_time clock tick n before.items c.self.invariant past))
+    (subst (λ (ms : List Memory). IsInTime clock ms) (sym whole)
+    (ran_in_time clock tick n before.items c.self.invariant past))
