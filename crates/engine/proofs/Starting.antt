@@ -17,9 +17,6 @@ use Rattle.model.proofs.lists.Lists.{map_index-id}
 use Rattle.model.proofs.serial.Engine.{after_sync-between, serial_start-no_ids, whole_start, whole_start-between, whole_state, memories_started}
 use Rattle.std.specs.List.{AllByRecursion}
 use Rattle.std.proofs.lemmas.Option.{slice_get-get_or}
-use Rattle.archetype_store.specs.Layout.{Archetype, AreAllHome, IsLayoutOf}
-use Rattle.query_plan.specs.Standing.{ArePickedHome}
-use Rattle.query_plan.proofs.PickedHome.{home_tells_picks}
 use Rattle.body.specs.Seen.{Seen}
 use Rattle.body.specs.Steps.{at_clock, laid, memory_ran}
 use Rattle.script.specs.declared.script_body.ScriptBody.{ScriptBody}
@@ -228,10 +225,3 @@ rows_there view params memory state same_params same_shown = ap (λ (x : Shown).
 pub laid_there : (n tick : ℕ) (seen : Seen) (state later end : State) → end ≡ laid n tick seen later → tick ≡ next_tick state →
     later ≡ at_clock (next_tick state) state → end ≡ laid n (next_tick state) seen (at_clock (next_tick state) state)
 laid_there n tick seen state later end ends ticks moved = ends ∙ ap (λ (t : ℕ). laid n t seen later) ticks ∙ ap (λ (x : State). laid n (next_tick state) seen x) moved
-
--- ---- columns
-
--- where all columns are at home, so are those that the queries of a system pick
-pub picked_home : (slots : List Slot) (layout : List Archetype) (queries : List (List Term)) → IsLayoutOf slots layout → AreAllHome layout → AllByRecursion (λ query. ArePickedHome query layout) queries
-picked_home slots layout [] laid home = tt
-picked_home slots layout (query ∷ queries) laid home = (home_tells_picks slots layout query laid home, picked_home slots layout queries laid home)

@@ -8,11 +8,12 @@ use Rattle.model.proofs.lists.Lists.{length-update_at}
 use Rattle.body.specs.Seen.{Opening}
 use Rattle.body.specs.Steps.{StateValue, at_clock, memory_ran}
 use Rattle.engine.specs.EngineValue.{meanings}
-use Rattle.engine.proofs.Starting.{start_laid, ran_there, laid_there, queries_alone, HasQueriesAlone, has_tick_from, fits_there, rows_there, picked_home}
+use Rattle.query_plan.proofs.PickedHome.{home_tells_each}
+use Rattle.engine.proofs.Starting.{start_laid, ran_there, laid_there, queries_alone, HasQueriesAlone, has_tick_from, fits_there, rows_there}
 use Rattle.engine.proofs.steps.start.Goals as goal
 
 pub open-requires-clause-home : goal.open-requires-clause-home
-open-requires-clause-home c = picked_home c.args.state.now.state.world.slots c.args.state.now.layout c.params-params.result.now.queries c.law-2.ensures.laid c.requires.home
+open-requires-clause-home c = home_tells_each c.args.state.now.state.world.slots c.args.state.now.layout c.params-params.result.now.queries c.law-2.ensures.laid c.requires.home
 
 pub open-requires-clause-apart : goal.open-requires-clause-apart
 open-requires-clause-apart c = λ conflict. c.apart.ensures c.args.system c.requires.known (subst ConflictWithin c.params-params.ensures conflict)
