@@ -1,7 +1,18 @@
 -- What a command line may ask for, and the exit status of one that is at fault.
-use Rattle.std.specs.Prelude.{ℕ, List, [], ◌∷◌, ◌++◌, codes, string_bytes}
+use Rattle.std.specs.Prelude.{ℕ, ◌≤◌, List, [], ◌∷◌, ◌++◌, codes, string_bytes}
+use Rattle.command_line.specs.declared.args.Work.{Work}
+use Rattle.command_line.specs.declared.args.Work.TheVariants.{Run, Ambiguities}
 use Rattle.command_line.specs.declared.args.LineFault.{LineFault}
 use Rattle.command_line.specs.declared.args.LineFault.TheVariants.{Help, Usage, Memory}
+
+-- how many runs the work asks for
+abbrev pub runs_of : Work → ℕ
+runs_of (Run times) = times
+runs_of Ambiguities = 0
+
+-- at most 1,000,000 runs
+abbrev pub IsWithinTimes : Work → Type 0
+IsWithinTimes work = runs_of work ≤ 1000000
 
 -- 0 where help was asked for, 2 where the line is at fault, 3 where memory is wanting
 abbrev pub line_status_of : LineFault → ℕ

@@ -1,20 +1,32 @@
 // The command line.
 
-ghost use Rattle.std.specs.Prelude.{◌≡◌, ◌≤◌, IfOk};
-ghost use Rattle.command_line.specs.Args.{line_status_of, line_text_of};
+ghost use Rattle.std.specs.Prelude.{◌≡◌, IfOk};
+ghost use Rattle.command_line.specs.Args.{IsWithinTimes, line_status_of, line_text_of};
 
 use clap::error::ErrorKind;
-use clap::{Arg, Command, Error, value_parser};
+use clap::{Arg, ArgMatches, Command, Error, value_parser};
 use std::alloc::{AllocError, Global};
 
-/// What a command line asks for: so many runs of the schedule that a file declares.
+/// The work that a command line asks for.
+#[derive(Clone, Copy, PartialEq, Eq, Debug)]
+pub enum Work {
+    /// So many runs of the schedule, and the world that they leave.
+    Run {
+        /// How many runs, at most 1,000,000.
+        times: u32,
+    },
+    /// The report of which systems of the schedule race.
+    Ambiguities,
+}
+
+/// What a command line asks for: some work on the schedule that a file declares.
 #[derive(Clone, Copy, PartialEq, Eq, Debug)]
 pub struct Args<'a> {
     /// The path of the program file.
     pub file: &'a str,
-    /// How many runs, at most 1,000,000.
-    pub times: u32,
-    ghost within: { times ≤ 1000000 },
+    /// The work.
+    pub work: Work,
+    ghost within: { IsWithinTimes work },
 }
 
 /// A command line that asks for no work.
@@ -32,21 +44,33 @@ const MOST_TIMES: u32 = 1_000_000;
 
 impl<'a> Args<'a> {
     /// Reads the words of a command line, of which the first is the program's own name: `run FILE [--times N]`, where N is from 0
-    /// to 1,000,000, and 1 if it is left out.
+    /// to 1,000,000, and 1 if it is left out; or `ambiguities FILE`.
     pub fn read(alloc: Global, words: &'a [String]) -> Result<Args<'a>, LineFault>
-        ensures { IfOk result (λ args. args.times ≤ 1000000) }
+        ensures { IfOk result (λ args. IsWithinTimes args.work) }
     {
         let matches = match command(alloc)?.try_get_matches_from(words) {
             Ok(matches) => matches,
             Err(error) => return Err(LineFault::of(alloc, &error)),
         };
-        let Some(matches) = matches.subcommand_matches("run") else {
-            return Err(LineFault::Memory);
-        };
-        Ok(Args {
+        if let Some(run) = matches.subcommand_matches("run") {
+            let times = run.get_one::<u32>("times").unwrap_or(1).min(MOST_TIMES);
+            return Ok(Args::of(run, Work::Run { times }));
+        }
+        if let Some(ambiguities) = matches.subcommand_matches("ambiguities") {
+            return Ok(Args::of(ambiguities, Work::Ambiguities));
+        }
+        Err(LineFault::Memory)
+    }
+
+    // The work, on the file that the matches name.
+    fn of(matches: &ArgMatches<'a>, work: Work) -> Args<'a>
+        requires { IsWithinTimes work }
+        ensures { result.work ≡ work }
+    {
+        Args {
             file: matches.get_str("file").unwrap_or(""),
-            times: matches.get_one::<u32>("times").unwrap_or(1).min(MOST_TIMES),
-        })
+            work,
+        }
     }
 }
 
@@ -91,12 +115,16 @@ impl From<AllocError> for LineFault {
     }
 }
 
-// What the program takes.
-fn command<'a>(alloc: Global) -> Result<Command<'a>, AllocError> {
-    let file = Arg::new(alloc, "file")
+// The path of the program file.
+fn file<'a>(alloc: Global) -> Arg<'a> {
+    Arg::new(alloc, "file")
         .value_name("FILE")
         .required(true)
-        .help("the program file");
+        .help("the program file")
+}
+
+// What the program takes.
+fn command<'a>(alloc: Global) -> Result<Command<'a>, AllocError> {
     let times = Arg::new(alloc, "times")
         .long("times")
         .value_name("N")
@@ -104,12 +132,16 @@ fn command<'a>(alloc: Global) -> Result<Command<'a>, AllocError> {
         .help("how many runs, 0 to 1000000, 1 if left out");
     let run = Command::new(alloc, "run")
         .about("runs the schedule of a program file and prints the world")
-        .arg(file)?
+        .arg(file(alloc))?
         .arg(times)?;
+    let ambiguities = Command::new(alloc, "ambiguities")
+        .about("prints which systems of a program file race")
+        .arg(file(alloc))?;
     Command::new(alloc, "ecsrun")
         .bin_name("ecsrun")?
         .subcommand_required(true)
-        .subcommand(run)
+        .subcommand(run)?
+        .subcommand(ambiguities)
 }
 
 #[cfg(test)]
@@ -125,16 +157,33 @@ mod tests {
 
     #[test]
     fn lines_are_read(rt: HostRuntime) -> Result<(), Fail> {
-        for (line, file, times) in [
-            ("ecsrun run world.toml", "world.toml", 1),
-            ("ecsrun run world.toml --times 3", "world.toml", 3),
-            ("ecsrun run --times=0 a.toml", "a.toml", 0),
-            ("ecsrun run a.toml --times 1000000", "a.toml", 1_000_000),
+        for (line, file, work) in [
+            (
+                "ecsrun run world.toml",
+                "world.toml",
+                Work::Run { times: 1 },
+            ),
+            (
+                "ecsrun run world.toml --times 3",
+                "world.toml",
+                Work::Run { times: 3 },
+            ),
+            (
+                "ecsrun run --times=0 a.toml",
+                "a.toml",
+                Work::Run { times: 0 },
+            ),
+            (
+                "ecsrun run a.toml --times 1000000",
+                "a.toml",
+                Work::Run { times: 1_000_000 },
+            ),
+            ("ecsrun ambiguities a.toml", "a.toml", Work::Ambiguities),
         ] {
             let words = words_of(rt.alloc(), line)?;
             let args = Args::read(rt.alloc(), words.as_slice())?;
             assert_eq!(rt; args.file, file, "at {line}");
-            assert_eq!(rt; args.times, times, "at {line}");
+            assert_eq!(rt; args.work, work, "at {line}");
         }
         Ok(())
     }
@@ -151,9 +200,13 @@ mod tests {
             ("ecsrun run a.toml --times 1000001", 2),
             ("ecsrun run a.toml --times -1", 2),
             ("ecsrun run a.toml --times 1 --times 2", 2),
+            ("ecsrun ambiguities", 2),
+            ("ecsrun ambiguities a.toml b.toml", 2),
+            ("ecsrun ambiguities a.toml --times 1", 2),
             ("ecsrun --version", 2),
             ("ecsrun --help", 0),
             ("ecsrun run --help", 0),
+            ("ecsrun ambiguities --help", 0),
         ] {
             let words = words_of(rt.alloc(), line)?;
             let answer = Args::read(rt.alloc(), words.as_slice());

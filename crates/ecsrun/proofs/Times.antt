@@ -1,5 +1,5 @@
 -- Runs one after the other: one more run, and none.
-use Rattle.std.proofs.Common.{◌≡◌, ℕ, ◌+◌, List, [], ◌∷◌, ◌++◌, length, map, refl, sym, subst, ◌∙◌, arith, length-append}
+use Rattle.std.proofs.Common.{◌≡◌, ℕ, ◌+◌, List, [], ◌∷◌, ◌++◌, refl, sym, subst, arith, length-append}
 use Rattle.model.specs.declared.steps.Step.{Step}
 use Rattle.model.specs.shown.Outcome.{BodyMeaning}
 use Rattle.model.specs.runs.Runs.{AreSingleRuns, AreSoundRuns}

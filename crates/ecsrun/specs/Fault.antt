@@ -1,7 +1,7 @@
 -- The exit status of a fault, and the faults of reading, of a program file and of a script.
 use Rattle.std.specs.Prelude.{◌≡◌, ℕ, List, string_bytes}
 use Rattle.ecsrun.specs.declared.fault.Fault.{Fault}
-use Rattle.ecsrun.specs.declared.fault.Fault.TheVariants.{TooLong, Content, Build, Script, ClockSpent, IdsSpent, File, Write, Memory}
+use Rattle.ecsrun.specs.declared.fault.Fault.TheVariants.{TooLong, Content, Script, File, Write, Memory}
 use Rattle.streams.specs.declared.reading.ReadFault.{ReadFault}
 use Rattle.streams.specs.declared.reading.ReadFault.TheVariants as read
 use Rattle.program_file.specs.declared.fault.FileFault.{FileFault}

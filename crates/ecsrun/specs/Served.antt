@@ -1,19 +1,24 @@
 -- What a command leaves with its streams.
-use Rattle.std.specs.Prelude.{ℕ, ◌≡◌, ◌≢◌, ◌⊎◌, ℤ, List, [], ◌∷◌, ◌++◌, length, Option}
-use Rattle.std.specs.List.{All}
+use Rattle.std.specs.Prelude.{ℕ, ◌≡◌, ◌≢◌, ◌⊎◌, ◌↔◌, ℤ, Bool, true, List, length, map, Option}
 use Rattle.std.specs.Io.KnownBytes.{Keeps, Appends}
 use Rattle.model.specs.declared.steps.Step.{Step}
-use Rattle.model.specs.declarations.Declarations.{Declared}
+use Rattle.model.specs.declarations.Declarations.{Declared, DeclaredSystem}
 use Rattle.model.specs.state.Loaded.{Given, loaded}
 use Rattle.model.specs.shown.Outcome.{BodyMeaning}
 use Rattle.model.specs.runs.Runs.{AreSingleRuns, AreSoundRuns}
+use Rattle.model.specs.steps.Ambiguity.{Settled}
 use Rattle.model.specs.steps.Schedule.{Schedule}
 use Rattle.model.specs.state.State.{State}
+use Rattle.ambiguity_report.specs.declared.report.Pair.{Pair}
+use Rattle.ambiguity_report.specs.Report.{IsReport}
+use Rattle.command_line.specs.declared.args.Work.{Work}
+use Rattle.command_line.specs.declared.args.Work.TheVariants.{Run, Ambiguities}
 use Rattle.script.specs.declared.script_body.ScriptBody.{ScriptBody}
 use Rattle.engine.specs.EngineValue.{meanings}
 use Rattle.ecsrun.specs.Setup.{IsScheduleOf, AreScriptsOf}
 use Rattle.streams.specs.Writing.{AppendsFront}
-use Rattle.world_text.specs.WorldText.{world_text}
+use Rattle.output_text.specs.ReportText.{report_text}
+use Rattle.output_text.specs.WorldText.{world_text}
 
 -- so many complete runs of a schedule, one after the other, lead from one state to another
 pub record HaveRun (s : Schedule) (bodies : List BodyMeaning) (start : State) (times : ℕ) (final : State) : Type 0 where
@@ -43,18 +48,42 @@ pub record IsRunText (times : ℕ) (text : List ℕ) : Type 0 where
   pub values : List ℤ
   pub runs : IsTextOfRuns schedule (meanings schedule scripts) (loaded schedule entities values) times text
 
+-- the names of declared systems, by number
+abbrev pub declared_names : Declared → List (List ℕ)
+declared_names d = map (λ (x : DeclaredSystem). x.name) d.systems
+
+-- the text of the report of a schedule whose systems have these names: the pairs that race, and whether it is settled
+pub record IsTextOfReport (names : List (List ℕ)) (s : Schedule) (text : List ℕ) : Type 0 where
+  pub pairs : List Pair
+  pub report : IsReport s pairs
+  pub settled : Bool
+  pub told : (settled ≡ true) ↔ Settled s
+  pub same : text ≡ report_text names pairs settled
+
+-- the text of a report of a schedule that the builder accepted, by the declared names
+pub record IsReportText (text : List ℕ) : Type 0 where
+  pub declared : Declared
+  pub schedule : Schedule
+  pub built : IsScheduleOf declared schedule
+  pub report : IsTextOfReport (declared_names declared) schedule text
+
+-- what is printed of some work
+abbrev pub IsTextOf : Work → List ℕ → Type 0
+IsTextOf (Run times) text = IsRunText times text
+IsTextOf Ambiguities text = IsReportText text
+
 -- the work is done, and the output gained its text
-pub record IsDone (times status : ℕ) (old new : Option (List ℕ)) : Type 0 where
+pub record IsDone (work : Work) (status : ℕ) (old new : Option (List ℕ)) : Type 0 where
   pub success : status ≡ 0
   pub text : List ℕ
-  pub run : IsRunText times text
+  pub is : IsTextOf work text
   pub written : Appends old new text
 
 -- the output failed, and gained a beginning of the text
-pub record IsCutOff (times status : ℕ) (old new : Option (List ℕ)) : Type 0 where
+pub record IsCutOff (work : Work) (status : ℕ) (old new : Option (List ℕ)) : Type 0 where
   pub failure : status ≡ 3
   pub text : List ℕ
-  pub run : IsRunText times text
+  pub is : IsTextOf work text
   pub written : AppendsFront old new text
 
 -- the work is refused, and nothing was written
@@ -63,5 +92,5 @@ pub record IsRefusal (status : ℕ) (old new : Option (List ℕ)) : Type 0 where
   pub kept : Keeps old new
 
 -- what the output of a command is, by its status
-abbrev pub IsServed : ℕ → ℕ → Option (List ℕ) → Option (List ℕ) → Type 0
-IsServed times status old new = IsDone times status old new ⊎ (IsCutOff times status old new ⊎ IsRefusal status old new)
+abbrev pub IsServed : Work → ℕ → Option (List ℕ) → Option (List ℕ) → Type 0
+IsServed work status old new = IsDone work status old new ⊎ (IsCutOff work status old new ⊎ IsRefusal status old new)

@@ -1,6 +1,7 @@
 // The schedule that a program file declares, and the scripts of its systems.
 
-ghost use Rattle.std.specs.Prelude.{◌≡◌, length, IfOk, OnOk};
+ghost use Rattle.std.specs.Prelude.{◌≡◌, map, length, IfOk, OnOk};
+ghost use Rattle.ecsrun.specs.Served.{declared_names};
 ghost use Rattle.ecsrun.specs.Setup.{AreScriptsOf, HasNoReaders};
 
 use crate::fault::Fault;
@@ -27,7 +28,8 @@ pub fn declare<'a>(
     alloc: Global,
     rows: Vec<SystemTable<'a>>,
 ) -> Result<(ScheduleDesc, Vec<Code<'a>>), AllocError>
-    ensures { IfOk result (λ declared. length declared.1.items ≡ length declared.0.systems) }
+    ensures count { IfOk result (λ declared. length declared.1.items ≡ length declared.0.systems) }
+    ensures names { IfOk result (λ declared. map (λ code. code.name.now) declared.1.items ≡ declared_names declared.0) }
 {
     let mut desc = ScheduleDesc::new(alloc);
     let mut codes = Vec::with_capacity(alloc, rows.len())?;
@@ -52,7 +54,9 @@ fn system_of(
     before: &[&str],
     after: &[&str],
     queries: Vec<Query>,
-) -> Result<SystemDesc, AllocError> {
+) -> Result<SystemDesc, AllocError>
+    ensures { IfOk result (λ system. system.name ≡ name.now) }
+{
     let name = String::from_str(alloc, name)?;
     let mut system = SystemDesc::new(alloc, name, params_of(alloc, queries)?);
     for name in before {
@@ -71,6 +75,17 @@ fn params_of(alloc: Global, queries: Vec<Query>) -> Result<Params, AllocError> {
         params.add_query(query)?;
     }
     Ok(params)
+}
+
+/// The names of the systems, by number.
+pub fn names_of<'a>(alloc: Global, codes: &[Code<'a>]) -> Result<Vec<&'a str>, AllocError>
+    ensures { IfOk result (λ names. map (λ name. name.now) names.items ≡ map (λ code. code.name.now) codes.now) }
+{
+    let mut names = Vec::with_capacity(alloc, codes.len())?;
+    for code in codes {
+        names.push(code.name)?;
+    }
+    Ok(names)
 }
 
 /// The scripts of the systems of a schedule. The first that doesn't fit its system is told with the system's name.

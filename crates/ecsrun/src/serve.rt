@@ -1,21 +1,24 @@
 // The work of a command line, on readers and writers.
 
-ghost use Rattle.std.specs.Prelude.{◌≡◌, length, string_bytes, IfOk, OnOk, IsFalse};
+ghost use Rattle.std.specs.Prelude.{◌≡◌, map, length, string_bytes, IfOk, OnOk, IsFalse};
 ghost use Rattle.archetype_store.specs.Layout.{AreAllHome};
 ghost use Rattle.engine.specs.EngineValue.{meanings};
 ghost use Rattle.ecsrun.specs.Fault.{status_of};
-ghost use Rattle.ecsrun.specs.Served.{HaveRun, IsRunText, IsServed, IsTextOfRuns};
+ghost use Rattle.ecsrun.specs.Served.{HaveRun, IsServed, IsTextOf, IsTextOfReport, IsTextOfRuns};
 ghost use Rattle.ecsrun.specs.Setup.{AreScriptsOf, start_of};
 ghost use Rattle.streams.specs.Writing.{GainsLine};
 
 use crate::fault::Fault;
 use crate::file::bytes_of;
-use crate::schedule::{bodies_of, declare};
+use crate::schedule::{bodies_of, declare, names_of};
 use crate::world::world_of;
+use ambiguity_report::report::{is_settled, report};
 use archetype_store::store::World;
 use body::state::State;
-use command_line::args::Args;
+use command_line::args::{Args, Work};
 use engine::{Engine, NewFault, RunFault, Single};
+use output_text::report::text_of_report;
+use output_text::world::text_of_world;
 use program_file::{ProgramFile, document_of};
 use schedule_builder::builder::build;
 use schedule_builder::built::Built;
@@ -23,11 +26,10 @@ use script::script_body::ScriptBody;
 use std::alloc::Global;
 use std::io::{Read, Write};
 use streams::writing::{write_line, write_whole};
-use world_text::text::text_of;
 
-/// Does the work of a command line: reads the program file, runs its schedule so many times in the mode, and writes the world to
-/// `out`. What goes wrong is told to `faults` in one line. Gives the exit status: 0 where the work is done, 1 where the content
-/// is refused, 3 where input, output or memory fail.
+/// Does the work of a command line: reads the program file, and writes to `out` the world that so many runs of its schedule in the
+/// mode leave, or the report of which of its systems race. What goes wrong is told to `faults` in one line. Gives the exit
+/// status: 0 where the work is done, 1 where the content is refused, 3 where input, output or memory fail.
 pub fn serve<F: Read, O: Write, E: Write>(
     alloc: Global,
     args: &Args<'_>,
@@ -36,10 +38,10 @@ pub fn serve<F: Read, O: Write, E: Write>(
     out: &mut O,
     faults: &mut E,
 ) -> u8
-    ensures output { IsServed args.now.times result (O.contents out.old) (O.contents out.new) }
+    ensures output { IsServed args.now.work result (O.contents out.old) (O.contents out.new) }
     ensures told { GainsLine (E.contents faults.old) (E.contents faults.new) }
 {
-    let text = match answer(alloc, args.times, mode, file) {
+    let text = match answer(alloc, args.work, mode, file) {
         Ok(text) => text,
         Err(fault) => return tell(alloc, faults, &fault),
     };
@@ -49,9 +51,9 @@ pub fn serve<F: Read, O: Write, E: Write>(
     }
 }
 
-// The text of the world that so many runs of a program file leave. What was read of the file is dropped before the first run.
-fn answer<F: Read>(alloc: Global, times: u32, mode: &Single, file: &mut F) -> Result<String, Fault>
-    ensures { IfOk result (λ text. IsRunText times (string_bytes text)) }
+// What is printed of the work on a program file. What was read of the file is dropped before the first run.
+fn answer<F: Read>(alloc: Global, work: Work, mode: &Single, file: &mut F) -> Result<String, Fault>
+    ensures { IfOk result (λ text. IsTextOf work (string_bytes text)) }
 {
     let bytes = bytes_of(alloc, file)?;
     let document = document_of(alloc, bytes.as_slice())?;
@@ -63,11 +65,25 @@ fn answer<F: Read>(alloc: Global, times: u32, mode: &Single, file: &mut F) -> Re
     } = ProgramFile::read(alloc, &document)?;
     let (desc, codes) = declare(alloc, systems)?;
     let built = build(alloc, desc)?;
+    let names = names_of(alloc, codes.as_slice())?;
     let bodies = bodies_of(alloc, &built, codes)?;
+    let Work::Run { times } = work else {
+        return report_of(alloc, &built, names.as_slice());
+    };
+    drop(names);
     drop(document);
     let world = world_of(alloc, entities.as_slice(), &resources)?;
     drop(entities);
     run(alloc, times, mode, built, bodies, world)
+}
+
+// The text of the report of a schedule whose systems have these names.
+fn report_of(alloc: Global, built: &Built, names: &[&str]) -> Result<String, Fault>
+    ensures { IfOk result (λ text. IsTextOfReport (map (λ name. name.now) names.now) built.now (string_bytes text)) }
+{
+    let pairs = report(alloc, built)?;
+    let settled = is_settled(built);
+    Ok(text_of_report(alloc, names, pairs.as_slice(), settled)?)
 }
 
 // The text of the world that so many runs of a schedule leave.
@@ -92,7 +108,7 @@ fn run(
     };
     run_times(alloc, &mut engine, times, mode)?;
     let state = engine.state();
-    Ok(text_of(alloc, times, state.world(), state.passed_over())?)
+    Ok(text_of_world(alloc, times, state.world(), state.passed_over())?)
 }
 
 // Runs a schedule so many times, one run after the other: the steps of a run are dropped before the next one begins.

@@ -173,6 +173,27 @@ fn what_has_changed_is_told_by_stamps(rt: HostRuntime) -> Result<(), Fail> {
 }
 
 #[test]
+fn what_races_is_told(rt: HostRuntime) -> Result<(), Fail> {
+    for (order, report) in [
+        ("", "burn heal Health\nburn wear Damage\nsettled no\n"),
+        ("before = [\"heal\", \"wear\"]\n", "settled yes\n"),
+    ] {
+        let file = format!(in rt.alloc();
+            "[[entity]]\nHealth = [9]\nDamage = [2]\n[[system]]\nname = \"burn\"\n{order}query = [\"mut Health, mut Damage\"]\n[[system.do]]\neach = 0\ncode = [\"sub Health.v Damage.v\", \"sub Damage.v 1\"]\n[[system]]\nname = \"heal\"\nquery = [\"mut Health, without Frozen\"]\n[[system.do]]\neach = 0\ncode = [\"add Health.v 1\"]\n[[system]]\nname = \"mark\"\nafter = [\"heal\"]\nquery = [\"mut Score, read Health, without Damage\"]\n[[system.do]]\neach = 0\ncode = [\"set Score.v Health.v\"]\n[[system]]\nname = \"wear\"\nquery = [\"mut Damage\"]\n[[system.do]]\neach = 0\ncode = [\"sub Damage.v 1\"]\n"
+        )?;
+        let answer = serve_file(
+            rt.alloc(),
+            "ecsrun ambiguities examples/races.toml",
+            file.as_str(),
+        )?;
+        assert_eq!(rt; answer.status, 0);
+        assert_eq!(rt; answer.out.as_slice(), report.as_bytes());
+        assert_eq!(rt; answer.faults.len(), 0);
+    }
+    Ok(())
+}
+
+#[test]
 fn every_kind_is_printed(rt: HostRuntime) -> Result<(), Fail> {
     let answer = serve_file(
         rt.alloc(),

@@ -11,6 +11,7 @@ use change_ticks::clock::Clock;
 use engine::{Engine, Single};
 use kinds::component::{Position, Velocity};
 use kinds::kind::Kind;
+use output_text::world::text_of_world;
 use query::{Query, Term};
 use schedule_builder::builder::build;
 use schedule_builder::built::Built;
@@ -20,7 +21,6 @@ use script::script_body::{Block, ScriptBody};
 use std::alloc::Global;
 use std::process::ExitCode;
 use streams::writing::write_whole;
-use world_text::text::text_of;
 
 // How often the schedule runs.
 const RUNS: u32 = 3;
@@ -74,7 +74,7 @@ fn text(alloc: Global) -> Option<String> {
     let mut engine = Engine::new(alloc, schedule(alloc)?, bodies, state).ok()?;
     engine.run(alloc, RUNS, &Single).ok()?;
     let state = engine.state();
-    text_of(alloc, RUNS, state.world(), state.passed_over()).ok()
+    text_of_world(alloc, RUNS, state.world(), state.passed_over()).ok()
 }
 
 fn main(rt: HostRuntime) -> ExitCode {

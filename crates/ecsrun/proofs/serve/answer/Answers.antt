@@ -1,18 +1,24 @@
-use Rattle.std.proofs.Common.{map, string_bytes}
+use Rattle.std.proofs.Common.{map, sym, ◌∙◌, subst, string_bytes}
+use Rattle.command_line.specs.declared.args.Work.{Work}
 use Rattle.engine.specs.EngineValue.{meanings}
 use Rattle.ecsrun.specs.Load.{entity_given}
 use Rattle.ecsrun.specs.Setup.{start_of}
-use Rattle.ecsrun.specs.Served.{IsTextOfRuns, IsRunText}
+use Rattle.ecsrun.specs.Served.{IsTextOf, IsTextOfRuns}
+use Rattle.ecsrun.proofs.Fitting.{count-declared}
 use Rattle.ecsrun.proofs.Serving.{of-ok, runs-loaded}
 use Rattle.ecsrun.proofs.serve.answer.Goals as goal
+
+-- there are as many codes as systems of the schedule
+pub bodies_of-requires : goal.bodies_of-requires
+bodies_of-requires g c = c.in_ok-desc.ensures.count ∙ sym (count-declared c.in_ok-desc.desc c.in_ok-built.built c.in_ok-built.ensures.systems)
 
 pub returns : goal.returns
 returns g c =
     let s = c.in_ok-built.built in
     let scripts = c.in_ok-bodies.bodies.items in
-    let entities = map entity_given c.as_slice-2.result.now in
-    of-ok (λ text. IsTextOfRuns s (meanings s scripts) (start_of s c.in_ok-world.world.state) c.args.times (string_bytes text)) (λ text. IsRunText c.args.times (string_bytes text)) c.run.result
-    (λ text h. record {
+    let entities = map entity_given c.as_slice-3.result.now in
+    of-ok (λ text. IsTextOfRuns s (meanings s scripts) (start_of s c.in_ok-world.world.state) c.in-Run.times (string_bytes text)) (λ text. IsTextOf c.args.work (string_bytes text)) c.run.result
+    (λ text h. subst (λ (w : Work). IsTextOf w (string_bytes text)) (sym c.in-Run.is) (record {
       declared = c.in_ok-desc.desc;
       schedule = s;
       built = record {
@@ -27,6 +33,6 @@ returns g c =
       fitting = c.in_ok-bodies.ensures.scripts;
       entities = entities;
       values = c.in_ok-resources.field-0.resources;
-      runs = runs-loaded s scripts c.in_ok-world.world.state entities c.in_ok-resources.field-0.resources c.args.times (string_bytes text) c.in_ok-built.ensures.conditions
+      runs = runs-loaded s scripts c.in_ok-world.world.state entities c.in_ok-resources.field-0.resources c.in-Run.times (string_bytes text) c.in_ok-built.ensures.conditions
           c.in_ok-bodies.ensures.readers c.in_ok-world.ensures.world h;
-    }) c.run.ensures
+    })) c.run.ensures

@@ -1,6 +1,6 @@
 use Rattle.std.proofs.Common.{◌≡◌, ◌++◌, take, string_bytes}
-use Rattle.world_text.specs.WorldText.{lines_of}
-use Rattle.world_text.proofs.text.push_resources.Given as goal
+use Rattle.output_text.specs.WorldText.{lines_of}
+use Rattle.output_text.proofs.world.push_resources.Given as goal
 
 -- the resources so far are written
 abbrev pub invariant-loop-res : goal.invariant-loop-res

@@ -1,7 +1,7 @@
 -- The lines of a list of slots, one slot after the other.
 use Rattle.std.proofs.Common.{◌≡◌, ℕ, zero, suc, ◌+◌, ◌<◌, List, [], ◌∷◌, ◌++◌, length, take, get_or, append_assoc, append-nil, add-zero, sym, arith}
 use Rattle.model.specs.state.State.{Slot, fresh_slot}
-use Rattle.world_text.specs.WorldText.{slot_line, slot_lines}
+use Rattle.output_text.specs.WorldText.{slot_line, slot_lines}
 
 -- one slot more is one line more
 pub slot_lines-take-suc : (n : ℕ) (slots : List Slot) (i : ℕ) → i < length slots

@@ -1,6 +1,6 @@
 use Rattle.std.proofs.Common.{◌≡◌, ◌++◌, take, string_bytes}
-use Rattle.world_text.specs.WorldText.{slot_lines}
-use Rattle.world_text.proofs.text.push_entities.Given as goal
+use Rattle.output_text.specs.WorldText.{slot_lines}
+use Rattle.output_text.proofs.world.push_entities.Given as goal
 
 -- the entities of the indices so far are written
 abbrev pub invariant-loop-index : goal.invariant-loop-index

@@ -1,6 +1,6 @@
 use Rattle.std.proofs.Common.{◌≡◌, ◌++◌, take, string_bytes}
-use Rattle.world_text.specs.WorldText.{words_text}
-use Rattle.world_text.proofs.text.push_words.Given as goal
+use Rattle.output_text.specs.WorldText.{words_text}
+use Rattle.output_text.proofs.world.push_words.Given as goal
 
 -- the words so far are written
 abbrev pub invariant-loop-word : goal.invariant-loop-word

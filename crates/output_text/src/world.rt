@@ -5,7 +5,7 @@ ghost use Rattle.kinds.specs.Value.{value_number, value_words};
 ghost use Rattle.archetype_store.specs.Row.{component_of};
 ghost use Rattle.archetype_store.specs.Layout.{AreAllHome};
 ghost use Rattle.entity_table.specs.Ids.{slot_at};
-ghost use Rattle.world_text.specs.WorldText.{words_text, component_text, row_text, entity_line, slot_line, slot_lines, resource_line, lines_of, count_line, printed};
+ghost use Rattle.output_text.specs.WorldText.{words_text, component_text, row_text, entity_line, slot_line, slot_lines, resource_line, lines_of, count_line, printed};
 
 use archetype_store::store::World;
 use column_store::stamped::StampedValue;
@@ -15,7 +15,7 @@ use std::alloc::{AllocError, Global};
 
 /// The text of a world after so many runs, in which so many commands were passed over: the number of runs, each resource, each
 /// living entity in rising index, the count of commands passed over, a line for each.
-pub fn text_of(
+pub fn text_of_world(
     alloc: Global,
     runs: u32,
     world: &World,
@@ -136,13 +136,13 @@ mod tests {
     #[test]
     fn worlds_are_printed(rt: HostRuntime) -> Result<(), Fail> {
         let mut world = World::new(rt.alloc(), Clock::at(1))?;
-        let text = text_of(rt.alloc(), 1, &world, 0)?;
+        let text = text_of_world(rt.alloc(), 1, &world, 0)?;
         assert_eq!(rt;
             text.as_str(),
             "runs 1\nRound 0\nGravity 0\nTotal 0\nSeed 0\nLimit 0\nAlarm 0\nMode 0\nStep 0\npassed 0\n"
         );
         world.set_res(Res::Gravity, i64::MIN, 1);
-        let text = text_of(rt.alloc(), 1_000_000, &world, 7)?;
+        let text = text_of_world(rt.alloc(), 1_000_000, &world, 7)?;
         assert_eq!(rt;
             text.as_str(),
             "runs 1000000\nRound 0\nGravity -9223372036854775808\nTotal 0\nSeed 0\nLimit 0\nAlarm 0\nMode 0\nStep 0\npassed 7\n"
