@@ -1,2 +1,4 @@
 pub mod Meets
 pub mod Least
+pub mod Footprints
+pub mod TermWords

@@ -1,20 +1,17 @@
-// When two accesses conflict: of all sets of kinds that two queries could both match, the least is enough.
+// When two accesses conflict: of all sets of kinds that two queries could both match, the least is enough, and that is asked of
+// the words of both.
 
-ghost use Rattle.std.specs.Prelude.{◌≡◌, ◌↔◌, ◌||◌, IsTrue};
-ghost use Rattle.std.specs.List.{list_any, list_all};
-ghost use Rattle.kinds.specs.Kind.{kind_number};
+ghost use Rattle.std.specs.Prelude.{◌≡◌, ◌↔◌, IsTrue};
+ghost use Rattle.std.specs.List.{list_any};
 ghost use Rattle.kinds.specs.Res.{res_number, event_number};
-ghost use Rattle.query.specs.Term.{term_of};
-ghost use Rattle.model.specs.access.Query.{admits, matches, touched, writes};
 ghost use Rattle.model.specs.access.Access.{names_resource, names_event};
-ghost use Rattle.model.specs.access.Conflict.{Conflict, least_kinds, queries_conflict_at};
-ghost use Rattle.model.specs.access.SelfConflict.{meets_at, queries_meet};
+ghost use Rattle.model.specs.access.Conflict.{Conflict};
+ghost use Rattle.access_set.specs.Footprints.{footprints_meet};
 ghost use Rattle.access_set.specs.Meets.{MeetAtKind, MeetAtResource, MeetAtEvent};
 
+use crate::footprint::Footprint;
 use crate::params::Params;
-use kinds::kind::Kind;
 use kinds::res::{Event, Res};
-use query::{Presence, Query, Term};
 
 /// Whether two accesses conflict: they name a resource or an event kind that one of them writes, or some set of kinds
 /// matches a query of each and holds a kind that both touch and one writes.
@@ -34,117 +31,23 @@ pub fn conflicts(a: &Params, b: &Params) -> bool
 fn meet_at_kind(a: &Params, b: &Params) -> bool
     ensures { IsTrue result ↔ MeetAtKind a.now b.now }
 {
-    any_queries_meet(a.queries(), b.queries())
+    any_meets(a.footprints(), b.footprints())
 }
 
-// Whether some query of the one conflicts with some query of the other.
-fn any_queries_meet(queries: &[Query], others: &[Query]) -> bool
-    ensures { result ≡ list_any (λ q. list_any (λ r. queries_meet q r) others.now) queries.now }
+// Whether some of these footprints meets some of the others.
+fn any_meets(footprints: &[Footprint], others: &[Footprint]) -> bool
+    ensures { result ≡ list_any (λ f. list_any (footprints_meet f) others.now) footprints.now }
 {
-    queries.iter().any(|query| any_query_meets(query, others))
-}
-
-/// Whether the query conflicts with some of the others.
-pub(crate) fn any_query_meets(query: &Query, others: &[Query]) -> bool
-    ensures { result ≡ list_any (λ r. queries_meet query.now r) others.now }
-{
-    others.iter().any(|other| queries_meet(query, other))
-}
-
-// Whether two queries conflict at a kind that the first touches.
-#[tactic(auto, using(query::proofs::Terms::any_of_terms))]
-fn queries_meet(query: &Query, other: &Query) -> bool
-    ensures { result ≡ queries_meet query.now other.now }
-{
-    any_term_meets(query.terms(), query, other)
-}
-
-// Whether they conflict at a kind that some of the terms touches.
-fn any_term_meets(terms: &[Term], query: &Query, other: &Query) -> bool
-    ensures { result ≡ list_any (λ t. meets_at query.now other.now (touched (term_of t))) terms.now }
-{
-    terms.iter().any(|term| term_meets(*term, query, other))
-}
-
-// Whether they conflict at the kind that the term touches.
-fn term_meets(term: Term, query: &Query, other: &Query) -> bool
-    ensures { result ≡ meets_at query.now other.now (touched (term_of term)) }
-{
-    match term.touched() {
-        None => false,
-        Some(kind) => queries_conflict_at(query, other, kind),
-    }
-}
-
-/// Whether they conflict at the kind: both touch it, one writes it, and the least set of kinds matches both.
-pub(crate) fn queries_conflict_at(query: &Query, other: &Query, kind: Kind) -> bool
-    ensures { result ≡ queries_conflict_at query.now other.now (kind_number kind) }
-{
-    if !query.touches(kind) {
-        return false;
-    }
-    if !other.touches(kind) {
-        return false;
-    }
-    if !one_writes(query, other, kind) {
-        return false;
-    }
-    if !matches_least(query, query, other, kind) {
-        return false;
-    }
-    matches_least(other, query, other, kind)
-}
-
-// Whether one of two queries writes the kind.
-fn one_writes(query: &Query, other: &Query, kind: Kind) -> bool
-    ensures { result ≡ (writes query.now (kind_number kind) || writes other.now (kind_number kind)) }
-{
-    if query.writes(kind) {
-        return true;
-    }
-    other.writes(kind)
-}
-
-// Whether the one query matches the least set of kinds.
-#[tactic(auto, using(query::proofs::Terms::all_of_terms))]
-fn matches_least(one: &Query, query: &Query, other: &Query, kind: Kind) -> bool
-    ensures { result ≡ matches one.now (least_kinds query.now other.now (kind_number kind)) }
-{
-    all_admit_least(one.terms(), query, other, kind)
-}
-
-// Whether each of the terms admits the least set of kinds.
-fn all_admit_least(terms: &[Term], query: &Query, other: &Query, kind: Kind) -> bool
-    ensures { result
-        ≡ list_all (λ t. admits (least_kinds query.now other.now (kind_number kind)) (term_of t)) terms.now }
-{
-    terms
+    footprints
         .iter()
-        .all(|term| admits_least(*term, query, other, kind))
+        .any(|footprint| meets_any(*footprint, others))
 }
 
-// Whether the term admits the least set of kinds.
-fn admits_least(term: Term, query: &Query, other: &Query, kind: Kind) -> bool
-    ensures { result ≡ admits (least_kinds query.now other.now (kind_number kind)) (term_of term) }
+/// Whether the footprint meets some of the others.
+pub(crate) fn meets_any(footprint: Footprint, others: &[Footprint]) -> bool
+    ensures { result ≡ list_any (footprints_meet footprint) others.now }
 {
-    match term.presence() {
-        Presence::Free => true,
-        Presence::Has(wanted) => is_least(query, other, kind, wanted),
-        Presence::Lacks(excluded) => !is_least(query, other, kind, excluded),
-    }
-}
-
-// Whether a kind is in the least set that both queries could match and that holds the given kind.
-fn is_least(query: &Query, other: &Query, kind: Kind, one: Kind) -> bool
-    ensures { result ≡ least_kinds query.now other.now (kind_number kind) (kind_number one) }
-{
-    if query.requires_kind(one) {
-        return true;
-    }
-    if other.requires_kind(one) {
-        return true;
-    }
-    one.number() == kind.number()
+    others.iter().any(|other| footprint.meets(*other))
 }
 
 // Whether they conflict at a resource.

@@ -8,11 +8,12 @@ ghost use Rattle.kinds.specs.Res.{res_number, event_number};
 ghost use Rattle.model.specs.Lists.{IsIn};
 ghost use Rattle.model.specs.access.Query.{Term, touches};
 ghost use Rattle.model.specs.access.Access.{names_resource, names_event};
-ghost use Rattle.model.specs.access.Conflict.{ConflictAt, IsLeastDatum, conflict_at, queries_conflict_at};
+ghost use Rattle.model.specs.access.Conflict.{ConflictAt, IsLeastDatum, conflict_at};
 ghost use Rattle.model.specs.access.Conflict.Datum.{OfKind, OfResource, OfEvent};
+ghost use Rattle.access_set.specs.Footprints.{has_bit, kinds_met};
 ghost use Rattle.access_set.specs.Datum.{datum_of, datum_name, IsLeastAt, AreKnownKinds};
 
-use crate::conflict::queries_conflict_at;
+use crate::footprint::Footprint;
 use crate::params::{Params, has_event, has_resource};
 use kinds::kind::{Kind, kinds_are_apart};
 use kinds::res::{Event, Res};
@@ -88,25 +89,23 @@ fn least_kind(a: &Params, b: &Params) -> Option<Kind>
 fn conflict_at_kind(a: &Params, b: &Params, kind: Kind) -> bool
     ensures { result ≡ conflict_at a.now b.now (OfKind (kind_number kind)) }
 {
-    any_conflict_at(a.queries(), b.queries(), kind)
+    any_meets_at(a.footprints(), b.footprints(), kind)
 }
 
-// Whether some query of the one conflicts with some query of the other at the kind.
-fn any_conflict_at(queries: &[Query], others: &[Query], kind: Kind) -> bool
-    ensures { result ≡ list_any (λ q. list_any (λ r. queries_conflict_at q r (kind_number kind)) others.now) queries.now }
+// Whether some of these footprints meets some of the others at the kind.
+fn any_meets_at(footprints: &[Footprint], others: &[Footprint], kind: Kind) -> bool
+    ensures { result ≡ list_any (λ f. list_any (λ g. has_bit (kinds_met f g) (kind_number kind)) others.now) footprints.now }
 {
-    queries
+    footprints
         .iter()
-        .any(|query| any_query_conflicts_at(query, others, kind))
+        .any(|footprint| meets_any_at(*footprint, others, kind))
 }
 
-// Whether the query conflicts with some of the others at the kind.
-fn any_query_conflicts_at(query: &Query, others: &[Query], kind: Kind) -> bool
-    ensures { result ≡ list_any (λ r. queries_conflict_at query.now r (kind_number kind)) others.now }
+// Whether the footprint meets some of the others at the kind.
+fn meets_any_at(footprint: Footprint, others: &[Footprint], kind: Kind) -> bool
+    ensures { result ≡ list_any (λ g. has_bit (kinds_met footprint g) (kind_number kind)) others.now }
 {
-    others
-        .iter()
-        .any(|other| queries_conflict_at(query, other, kind))
+    others.iter().any(|other| footprint.meets_at(*other, kind))
 }
 
 // What queries touch has the number of a kind.

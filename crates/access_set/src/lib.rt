@@ -3,5 +3,6 @@
 
 pub mod conflict;
 pub mod datum;
+mod footprint;
 pub mod params;
 pub mod self_conflict;

@@ -5,7 +5,9 @@ ghost use Rattle.kinds.specs.Res.{res_number, event_number};
 ghost use Rattle.std.specs.List.{list_any};
 ghost use Rattle.model.specs.access.Access.{no_params, names_resource, names_event};
 ghost use Rattle.model.specs.Lists.{has};
+ghost use Rattle.access_set.specs.Footprints.{AreFootprints};
 
+use crate::footprint::Footprint;
 use kinds::res::{Event, Res};
 use query::Query;
 use std::alloc::{AllocError, Global};
@@ -17,6 +19,7 @@ use std::marker::Model;
 #[derive(Drop)]
 pub struct Params {
     queries: Vec<Query>,
+    footprints: Vec<Footprint>,
     res: Vec<Res>,
     res_mut: Vec<Res>,
     reads: Vec<Event>,
@@ -28,12 +31,13 @@ impl Model for Params {
     ghost use Rattle.std.specs.Prelude.{◌≡◌, [], map, None};
     ghost use Rattle.model.specs.access.Access as access;
     ghost use Rattle.kinds.specs.Res.{res_number, event_number};
+    ghost use Rattle.access_set.specs.Footprints.{AreFootprints};
 
     ghost Value = { access.Params };
 
     ghost view = { λ p. record { queries = p.queries.items; res = map res_number p.res.items; res_mut = map res_number p.res_mut.items; reads = map event_number p.reads.items; writes = map event_number p.writes.items; spawns = p.spawns } };
 
-    ghost invariant = { λ p. (p.res.items ≡ []) × (p.res_mut.items ≡ []) × (p.reads.items ≡ []) × (p.writes.items ≡ []) × (p.spawns ≡ None) };
+    ghost invariant = { λ p. (p.res.items ≡ []) × (p.res_mut.items ≡ []) × (p.reads.items ≡ []) × (p.writes.items ≡ []) × (p.spawns ≡ None) × AreFootprints p.queries.items p.footprints.items };
 }
 
 impl Params {
@@ -43,6 +47,7 @@ impl Params {
     {
         Params {
             queries: Vec::new(alloc),
+            footprints: Vec::new(alloc),
             res: Vec::new(alloc),
             res_mut: Vec::new(alloc),
             reads: Vec::new(alloc),
@@ -56,7 +61,11 @@ impl Params {
         ensures ok { OnOk result (self.new ≡ record self.old { queries = self.old.queries ++ query ∷ [] }) }
         ensures err { OnErr result (self.new ≡ self.old) }
     {
-        self.queries.push(query)?;
+        self.footprints.push(Footprint::of_query(&query))?;
+        if let Err(fault) = self.queries.push(query) {
+            self.footprints.pop();
+            return Err(fault.into());
+        }
         Ok(())
     }
 
@@ -73,6 +82,13 @@ impl Params {
         ensures alone { self.now ≡ record no_params { queries = result.now } }
     {
         self.queries.as_slice()
+    }
+
+    /// The footprints of the queries, in order.
+    pub(crate) fn footprints(&self) -> &[Footprint]
+        ensures { AreFootprints self.now.queries result.now }
+    {
+        self.footprints.as_slice()
     }
 
     /// The resources that are read (`Res`), in order.

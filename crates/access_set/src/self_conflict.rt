@@ -6,11 +6,12 @@ ghost use Rattle.kinds.specs.Res.{res_number, event_number};
 ghost use Rattle.model.specs.Lists.{has};
 ghost use Rattle.model.specs.access.QueryFaults.{has_twice};
 ghost use Rattle.model.specs.access.SelfConflict.{ConflictWithin, two_meet, writes_beside, conflict_within};
+ghost use Rattle.access_set.specs.Footprints.{two_footprints_meet};
 
-use crate::conflict::any_query_meets;
+use crate::conflict::meets_any;
+use crate::footprint::Footprint;
 use crate::params::{Params, has_event, has_resource};
 use kinds::res::{Event, Res};
-use query::Query;
 
 /// Whether two parameters conflict: two of the queries, or two that name a resource or an event kind that one of them writes.
 /// A draft: each query is compared with all behind it, so the time grows with the square of their number.
@@ -24,7 +25,7 @@ pub fn conflicts_within(params: &Params) -> bool
 fn conflict_within(params: &Params) -> bool
     ensures { result ≡ conflict_within params.now }
 {
-    if two_meet(params.queries()) {
+    if two_meet(params) {
         return true;
     }
     if writes_resource_beside(params) {
@@ -34,12 +35,19 @@ fn conflict_within(params: &Params) -> bool
 }
 
 // Whether two of the queries conflict.
-fn two_meet(queries: &[Query]) -> bool
-    ensures { result ≡ two_meet queries.now }
+fn two_meet(params: &Params) -> bool
+    ensures { result ≡ two_meet params.now.queries }
 {
-    let mut rest = queries;
-    while let Some((query, others)) = rest.split_first() {
-        if any_query_meets(query, others) {
+    two_footprints_meet(params.footprints())
+}
+
+// Whether two of these footprints meet.
+fn two_footprints_meet(footprints: &[Footprint]) -> bool
+    ensures { result ≡ two_footprints_meet footprints.now }
+{
+    let mut rest = footprints;
+    while let Some((footprint, others)) = rest.split_first() {
+        if meets_any(*footprint, others) {
             return true;
         }
         rest = others;

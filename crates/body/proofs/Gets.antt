@@ -1,8 +1,8 @@
 -- Lists by what is at each place.
-use Rattle.std.proofs.Common.{◌≡◌, ◌≢◌, ℕ, zero, suc, ◌<◌, List, [], ◌∷◌, length, get_or, map, slice_get, Option, Some, None, option_map, refl, sym, ap, ap₂, ◌∙◌, subst, arith}
+use Rattle.std.proofs.Common.{◌≡◌, ◌≢◌, ℕ, zero, suc, ◌<◌, List, [], ◌∷◌, ◌++◌, inl, inr, length, get_or, map, slice_get, Option, Some, None, option_map, refl, sym, ap, ap₂, ◌∙◌, subst, arith}
 use Rattle.std.proofs.lemmas.Option.{slice_get-map, slice_get_within}
 use Rattle.std.specs.List.{AllByRecursion}
-use Rattle.model.specs.Lists.{update_at}
+use Rattle.model.specs.Lists.{update_at, IsIn}
 
 pub same-some : {A : Type 0} (x y : A) → (let o : Option A = Some x in o) ≡ Some y → x ≡ y
 same-some x y e = cc
@@ -47,3 +47,23 @@ all-get P (y ∷ ys) (suc i) x h e = all-get P ys i x h.1 e
 pub mapped : {A B : Type 0} (f : A → B) (o : Option A) (y : B) → option_map f o ≡ Some y → (x : A) × (o ≡ Some x) × (f x ≡ y)
 mapped f None y e = absurd (cc)
 mapped f (Some x) y e = (x, refl, same-some (f x) y e)
+
+-- what holds of each element, by membership
+pub each-in : {A : Type 0} (P : A → Type 0) (xs : List A) → AllByRecursion P xs → (x : A) → IsIn x xs → P x
+each-in P [] h x i = absurd i
+each-in P (y ∷ ys) h x (inl same) = subst P (sym same) h.0
+each-in P (y ∷ ys) h x (inr i) = each-in P ys h.1 x i
+
+pub each-from : {A : Type 0} (P : A → Type 0) (xs : List A) → ((x : A) → IsIn x xs → P x) → AllByRecursion P xs
+each-from P [] h = tt
+each-from P (y ∷ ys) h = (h y (inl refl), each-from P ys (λ x i. h x (inr i)))
+
+pub in-get : {A : Type 0} (xs : List A) (i : ℕ) (x : A) → slice_get xs i ≡ Some x → IsIn x xs
+in-get [] i x e = absurd (cc)
+in-get (y ∷ ys) zero x e = inl (sym (same-some y x e))
+in-get (y ∷ ys) (suc i) x e = inr (in-get ys i x e)
+
+-- what holds of two lists together holds of each
+pub each-split : {A : Type 0} (P : A → Type 0) (xs ys : List A) → AllByRecursion P (xs ++ ys) → AllByRecursion P xs × AllByRecursion P ys
+each-split P [] ys h = (tt, h)
+each-split P (x ∷ xs) ys h = let more = each-split P xs ys h.1 in ((h.0, more.0), more.1)

@@ -1,5 +1,5 @@
 -- The columns that a world lent come home with what was written.
-use Rattle.std.proofs.Common.{◌≡◌, ℕ, zero, suc, ℤ, Bool, true, false, cond, ◌==◌, ◌&&◌, List, [], ◌∷◌, ◌++◌, inl, inr, length, map, slice_get, Option, Some, None, option_map, refl, sym, ap, ap₂, subst, ◌∙◌, append_assoc, append-nil}
+use Rattle.std.proofs.Common.{◌≡◌, ℕ, zero, suc, ℤ, Bool, true, false, cond, ◌==◌, ◌&&◌, ◌||◌, List, [], ◌∷◌, ◌++◌, inl, inr, length, map, slice_get, Option, Some, None, option_map, refl, sym, ap, ap₂, subst, ◌∙◌, append_assoc, append-nil}
 use Rattle.std.specs.List.{AllByRecursion, list_any}
 use Rattle.std.proofs.lemmas.Bool.{eq-eqb, and_from, or_left, or_right}
 use Rattle.std.proofs.lemmas.List.{length-map, map-append}
@@ -21,7 +21,7 @@ use Rattle.archetype_store.specs.Layout.{Archetype, archetype_at, column_home, w
 use Rattle.archetype_store.specs.Slot.{cell_of}
 use Rattle.archetype_store.specs.Store.{StoreValue, with_slots, slots_with}
 use Rattle.archetype_store.specs.Lending.{all_home, IsAway, CanComeHome}
-use Rattle.archetype_store.specs.Overlays.{IsAfter, AreReached}
+use Rattle.archetype_store.specs.Overlays.{IsAfter, is_reached, AreReached}
 use Rattle.archetype_store.proofs.ColumnOverlays.{entities_all_home, same_again, taken_close}
 use Rattle.archetype_store.proofs.TakenColumns.{laid_home, cells_past}
 use Rattle.body.specs.Columns.{Column, cells_after, column_after}
@@ -30,7 +30,7 @@ use Rattle.body.specs.Together.{words_of_sheet, words_of_all, IsAlone}
 use Rattle.body.specs.Lent.{taken_of, lent_of, lent_in, columns_written, lent_after, with_away, IsLent, IsOfEntities, AreLent}
 use Rattle.body.proofs.Gets.{all-get, map-same-get}
 use Rattle.body.proofs.Alongside.{close-together, reach-together, cells-stored}
-use Rattle.body.proofs.Lendings.{homes_back, homes_layout, all_home-join, can_come-join, lent_in-append, each_lent, can_come-each}
+use Rattle.body.proofs.Lendings.{place_of, places_lent, homes_back, homes_layout, all_home-join, can_come-join, lent_in-append, each_lent, can_come-each}
 
 -- ---- nothing written
 
@@ -223,3 +223,16 @@ module _ (before after : List Sheet) (last : Sheet) (w : StoreValue) (is : befor
 -- one query more whose writes are in its columns
 pub reach-more : (all before after closed : List Sheet) (last : Sheet) → all ≡ before ++ closed → before ≡ after ++ last ∷ [] → all ≡ after ++ (last ∷ closed)
 reach-more all before after closed last e f = e ∙ ap (λ xs. xs ++ closed) f ∙ append_assoc after (last ∷ []) closed
+
+-- all that is written is written in columns that the world lent
+pub lent_reach : (w : StoreValue) (tick : ℕ) (sheets : List Sheet) → AllByRecursion (λ (s : Sheet). s.tick ≡ tick) sheets → ((n : ℕ) (s : Sheet) → slice_get sheets n ≡ Some s → WritesReach (words_of_sheet s) s.taken) →
+    AreLent w (map (λ (s : Sheet). s.taken) sheets) → AreReached w.layout (lent_in (map (λ (s : Sheet). s.taken) sheets)) (words_of_all sheets)
+lent_reach w tick sheets ticks reach lent index kind words h =
+    sym (reached_places w.layout (lent_in (map (λ (s : Sheet). s.taken) sheets)) index kind)
+    ∙ ap (λ cs. is_reached w.layout cs index kind) (sym (places_lent sheets))
+    ∙ reached_places w.layout (lent_after sheets) index kind
+    ∙ each_reached w tick sheets ticks lent reach index kind words h
+  where
+    reached_places : (layout : List Archetype) (cs : List TakenColumn) (i k : ℕ) → is_reached layout (map place_of cs) i k ≡ is_reached layout cs i k
+    reached_places layout [] i k = refl
+    reached_places layout (c ∷ cs) i k = ap (λ b. (has_index i (archetype_at layout c.archetype).entities && (k == c.column.kind)) || b) (reached_places layout cs i k)

@@ -20,6 +20,7 @@ use Rattle.archetype_store.proofs.TakenColumns.{home_again, away_now, cells_past
 use Rattle.body.specs.Columns.{Column, cells_after, column_after}
 use Rattle.body.specs.Sheet.{Sheet}
 use Rattle.body.specs.Together.{words_of_sheet}
+use Rattle.body.proofs.Gets.{each-split}
 use Rattle.body.specs.Lent.{taken_of, lent_of, lent_in, columns_written, lent_after, with_away, with_back, AreOfOtherPlaces, IsLent, IsOfEntities, AreLent}
 
 -- whether the place of a column is at home
@@ -27,7 +28,7 @@ abbrev pub IsAt : Bool → List Archetype → TakenColumn → Type 0
 IsAt home layout c = column_home (archetype_at layout c.archetype) c.column.kind ≡ Some home
 
 -- a column is of another place than this one
-abbrev IsOther : TakenColumn → TakenColumn → Type 0
+abbrev pub IsOther : TakenColumn → TakenColumn → Type 0
 IsOther c d = c.archetype ≡ d.archetype → c.column.kind ≡ d.column.kind → ⊥
 
 -- ---- flags of other places
@@ -94,7 +95,7 @@ pub entities_away : (cs : List TakenColumn) (layout : List Archetype) (m : ℕ) 
 entities_away [] layout m = refl
 entities_away (c ∷ cs) layout m = entities_away cs (with_home false c.archetype c.column.kind layout) m ∙ entities_home false c.archetype c.column.kind m layout
 
-away_later : (cs : List TakenColumn) (layout : List Archetype) (m j : ℕ) → column_home (archetype_at layout m) j ≡ Some false → column_home (archetype_at (with_away cs layout) m) j ≡ Some false
+pub away_later : (cs : List TakenColumn) (layout : List Archetype) (m j : ℕ) → column_home (archetype_at layout m) j ≡ Some false → column_home (archetype_at (with_away cs layout) m) j ≡ Some false
 away_later [] layout m j h = h
 away_later (c ∷ cs) layout m j h = away_later cs (with_home false c.archetype c.column.kind layout) m j (away_still c.archetype c.column.kind m j layout h)
 
@@ -123,7 +124,7 @@ can_come-join (x ∷ xs) ys w h = let more = can_come-join xs ys w h.0 in (more.
 
 -- ---- places
 
-abbrev place_of : TakenColumn → TakenColumn
+abbrev pub place_of : TakenColumn → TakenColumn
 place_of c = record { archetype = c.archetype; column = record { kind = c.column.kind; cells = [] } }
 
 back_places : (cs : List TakenColumn) (layout : List Archetype) → with_back (map place_of cs) layout ≡ with_back cs layout
@@ -153,7 +154,7 @@ places_after tick words (c ∷ cs) = go c.is_written (places_after tick words cs
     go false more = more
 
 -- what was written moves no column
-places_lent : (sheets : List Sheet) → map place_of (lent_after sheets) ≡ map place_of (lent_in (map (λ (s : Sheet). s.taken) sheets))
+pub places_lent : (sheets : List Sheet) → map place_of (lent_after sheets) ≡ map place_of (lent_in (map (λ (s : Sheet). s.taken) sheets))
 places_lent [] = refl
 places_lent (s ∷ ss) =
     map-append place_of (lent_of (columns_written s)) (lent_after ss)
@@ -171,10 +172,6 @@ after_apart : (sheets : List Sheet) → AreOfOtherPlaces (lent_in (map (λ (s : 
 after_apart sheets h = apart_places (lent_after sheets) (subst AreOfOtherPlaces (sym (places_lent sheets)) (places_apart (lent_in (map (λ (s : Sheet). s.taken) sheets)) h))
 
 -- ---- what holds of each column after writes
-
-each_split : {A : Type 0} (P : A → Type 0) (xs ys : List A) → AllByRecursion P (xs ++ ys) → AllByRecursion P xs × AllByRecursion P ys
-each_split P [] ys h = (tt, h)
-each_split P (x ∷ xs) ys h = let more = each_split P xs ys h.1 in ((h.0, more.0), more.1)
 
 module _ (P Q : TakenColumn → Type 0) (E : Column → Type 0) where
   each_of : (tick : ℕ) (words : ℕ → ℕ → Option (List ℤ)) → ((c : Column) → E c → P (taken_of c) → Q (taken_of (column_after tick words c))) → (cs : List Column) → AllByRecursion E cs → AllByRecursion P (lent_of cs) →
@@ -194,7 +191,7 @@ module _ (P Q : TakenColumn → Type 0) (E : Column → Type 0) where
       AllByRecursion Q (lent_in (map (λ (s : Sheet). map (column_after (ticks s) (words s)) s.taken) sheets))
   each_lent F ticks words step [] f e h = tt
   each_lent F ticks words step (s ∷ ss) f e h =
-      let parts = each_split P (lent_of s.taken) (lent_in (map (λ (t : Sheet). t.taken) ss)) h in
+      let parts = each-split P (lent_of s.taken) (lent_in (map (λ (t : Sheet). t.taken) ss)) h in
       each-append Q (lent_of (map (column_after (ticks s) (words s)) s.taken)) (lent_in (map (λ (t : Sheet). map (column_after (ticks t) (words t)) t.taken) ss))
       (each_of (ticks s) (words s) (λ c. step s c f.0) s.taken e.0 parts.0)
       (each_lent F ticks words step ss f.1 e.1 parts.1)
@@ -263,12 +260,12 @@ lent_in-append (x ∷ xs) ys = ap (λ zs. lent_of x ++ zs) (lent_in-append xs ys
 lent_in-more : (xs : List (List Column)) (columns : List Column) → lent_in (xs ++ columns ∷ []) ≡ lent_in xs ++ lent_of columns
 lent_in-more xs columns = lent_in-append xs (columns ∷ []) ∙ ap (λ zs. lent_in xs ++ zs) (append-nil (lent_of columns))
 
-apart-append : (xs ys : List TakenColumn) → AreOfOtherPlaces xs → AreOfOtherPlaces ys → AllByRecursion (λ (x : TakenColumn). AllByRecursion (IsOther x) ys) xs → AreOfOtherPlaces (xs ++ ys)
+pub apart-append : (xs ys : List TakenColumn) → AreOfOtherPlaces xs → AreOfOtherPlaces ys → AllByRecursion (λ (x : TakenColumn). AllByRecursion (IsOther x) ys) xs → AreOfOtherPlaces (xs ++ ys)
 apart-append [] ys h k cross = k
 apart-append (x ∷ xs) ys h k cross = (each-append (IsOther x) xs ys h.0 cross.0, apart-append xs ys h.1 k cross.1)
 
 -- a place that is away is none that is at home
-not_both : (layout : List Archetype) (c d : TakenColumn) → IsAt false layout c → IsAt true layout d → IsOther c d
+pub not_both : (layout : List Archetype) (c d : TakenColumn) → IsAt false layout c → IsAt true layout d → IsOther c d
 not_both layout c d away home e f = let same = sym away ∙ ap₂ (λ m j. column_home (archetype_at layout m) j) e f ∙ home in (let clash : ⊥ = cc in clash)
 
 module _ (state : World) (layout : List Archetype) (columns : List Column)

@@ -18,3 +18,4 @@ pub mod LendingCloses
 pub mod Pickings
 pub mod Openings
 pub mod QueryOpens
+pub mod Outs

@@ -42,7 +42,7 @@ and-parts false b h = absurd (cc)
 
 -- ---- archetypes
 
-archetype-fact : (P : Archetype → Type 0) (layout : List Archetype) (n : ℕ) → AllByRecursion P layout → n < length layout → P (archetype_at layout n)
+pub archetype-fact : (P : Archetype → Type 0) (layout : List Archetype) (n : ℕ) → AllByRecursion P layout → n < length layout → P (archetype_at layout n)
 archetype-fact P [] n h l = absurd (omega arith)
 archetype-fact P (a ∷ layout) zero h l = h.0
 archetype-fact P (a ∷ layout) (suc n) h l = archetype-fact P layout n h.1 (omega arith)
@@ -53,7 +53,7 @@ archetype-within [] n place e h = absurd (cc)
 archetype-within (a ∷ layout) zero place e h = omega arith
 archetype-within (a ∷ layout) (suc n) place e h = let l = archetype-within layout n place e h in omega arith
 
-same-archetype : (layout : List Archetype) (n m : ℕ) → AreOfOtherKinds layout → n < length layout → m < length layout → (archetype_at layout n).kinds ≡ (archetype_at layout m).kinds → n ≡ m
+pub same-archetype : (layout : List Archetype) (n m : ℕ) → AreOfOtherKinds layout → n < length layout → m < length layout → (archetype_at layout n).kinds ≡ (archetype_at layout m).kinds → n ≡ m
 same-archetype [] n m h l k e = absurd (omega arith)
 same-archetype (a ∷ layout) zero zero h l k e = refl
 same-archetype (a ∷ layout) zero (suc m) h l k e = absurd (archetype-fact (λ b. a.kinds ≢ b.kinds) layout m h.0 (omega arith) e)

@@ -29,6 +29,7 @@ use Rattle.body.specs.Apart.{IsPicked, IsOver}
 use Rattle.body.specs.Columns.{Column}
 use Rattle.body.specs.Lent.{taken_of, lent_of, lent_in, with_away, with_back, AreOfOtherPlaces, IsLent, IsOfEntities, AreLent}
 use Rattle.body.specs.Opened.{IsPickedOf, ArePickedOf}
+use Rattle.body.specs.Out.{IsWrittenBy}
 use Rattle.body.specs.Picked.{picked_own, picked_read, AreHeldOf}
 use Rattle.body.specs.Planned.{IsAmong}
 use Rattle.body.specs.SeenOver.{AreTogether}
@@ -36,7 +37,7 @@ use Rattle.body.specs.Sheet.{Sheet, IsPlan, row_of}
 use Rattle.body.specs.SlotTable.{AreSlotsOf}
 use Rattle.body.specs.Together.{IsAlone}
 use Rattle.body.proofs.Aloneness.{apart-alone, writes-touches}
-use Rattle.body.proofs.Gets.{same-some, all-get}
+use Rattle.body.proofs.Gets.{same-some, all-get, in-get}
 use Rattle.body.proofs.Lendings.{homes_back, home_other, entities_away, with_away-append, lent_in-append, lent_next}
 use Rattle.body.proofs.Openings.{opens-over}
 use Rattle.body.proofs.Pickings.{picked-of, picks-are, IsPickIn}
@@ -58,7 +59,7 @@ split-many (p ∷ ps) = go p.is_written (split-many ps)
     go false e = let a = length-append (picked_own ps) (p ∷ picked_read ps) in let b = length-append (picked_own ps) (picked_read ps) in omega arith
 
 -- an archetype that has a kind is one of the layout
-has-within : (layout : List Archetype) (n kind : ℕ) → has kind (archetype_at layout n).kinds ≡ true → n < length layout
+pub has-within : (layout : List Archetype) (n kind : ℕ) → has kind (archetype_at layout n).kinds ≡ true → n < length layout
 has-within [] n kind h = absurd (cc)
 has-within (a ∷ layout) zero kind h = omega arith
 has-within (a ∷ layout) (suc n) kind h = let l = has-within layout n kind h in omega arith
@@ -111,7 +112,7 @@ kinds-away : (cs : List TakenColumn) (layout : List Archetype) → map (λ (a : 
 kinds-away [] layout = refl
 kinds-away (c ∷ cs) layout = kinds-away cs (with_home false c.archetype c.column.kind layout) ∙ kinds-flag false c.archetype c.column.kind layout
 
-kinds-at-away : (cs : List TakenColumn) (layout : List Archetype) (m : ℕ) → (archetype_at (with_away cs layout) m).kinds ≡ (archetype_at layout m).kinds
+pub kinds-at-away : (cs : List TakenColumn) (layout : List Archetype) (m : ℕ) → (archetype_at (with_away cs layout) m).kinds ≡ (archetype_at layout m).kinds
 kinds-at-away [] layout m = refl
 kinds-at-away (c ∷ cs) layout m = kinds-at-away cs (with_home false c.archetype c.column.kind layout) m ∙ kinds_home false c.archetype c.column.kind m layout
 
@@ -273,6 +274,18 @@ module _ (tick last : ℕ) (w : StoreValue) (queries : List (List Term)) (opened
 
   pub opened-back : with_back (lent_in (map (λ (s : Sheet). s.taken) opened)) now.layout ≡ w.layout
   opened-back = ap (λ (v : StoreValue). with_back (lent_in (map (λ (s : Sheet). s.taken) opened)) v.layout) are.away ∙ homes_back (lent_in (map (λ (s : Sheet). s.taken) opened)) w.layout are.spots are.lent.once
+
+  -- what is lent is written by the queries
+  pub opened-written : AllByRecursion (IsWrittenBy queries w.layout) (lent_in (map (λ (s : Sheet). s.taken) opened))
+  opened-written = each-lent-in (IsWrittenBy queries w.layout) opened (λ m t there.
+      each-lent (IsWrittenBy queries w.layout) t.taken (λ j c e own.
+      (let p = all-get (IsPickedOf t.terms w) t.taken j c (all-get (λ (s : Sheet). ArePickedOf s.terms w s.taken) opened m t are.taken there).each e in record {
+        query = t.terms;
+        declared = in-get queries m t.terms (ap (λ ts. slice_get ts m) (sym are.terms) ∙ slice_get-map (λ (s : Sheet). s.terms) opened m ∙ ap (option_map (λ (s : Sheet). s.terms)) there);
+        matched = p.picked.matched;
+        held = p.picked.held;
+        writing = sym p.own ∙ own;
+      })))
 
   over : (m : ℕ) (t : Sheet) → slice_get opened m ≡ Some t → IsOver w.state.slots w.layout last t
   over m t there = record {

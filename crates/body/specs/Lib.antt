@@ -12,3 +12,5 @@ pub mod Apart
 pub mod Picked
 pub mod Opened
 pub mod Lent
+pub mod Answers
+pub mod Out

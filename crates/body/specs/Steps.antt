@@ -23,16 +23,26 @@ at_clock clock state = record {
 abbrev pub memory_ran : ℕ → Memory → Memory
 memory_ran tick memory = record { last_run = tick; cursors = []; registers = memory.registers }
 
--- the state with what was written in a view laid over it at a tick, as the run of a system
-abbrev pub laid : ℕ → ℕ → Seen → State → State
-laid n tick seen state = record {
+-- the state with the run of a system at a tick noted
+abbrev pub noted : ℕ → ℕ → State → State
+noted n tick state = record {
+  world = state.world;
+  events = state.events;
+  systems = update_at n (memory_ran tick) state.systems;
+  conditions = state.conditions;
+  passed_over = state.passed_over;
+}
+
+-- the state with what was written in a view laid over it at a tick
+abbrev pub laid : ℕ → Seen → State → State
+laid tick seen state = record {
   world = record {
     slots = slots_after tick (words_written seen.params.queries seen.shown.rows seen.outcome.cells) state.world.slots;
     resources = state.world.resources;
     clock = state.world.clock;
   };
   events = state.events;
-  systems = update_at n (memory_ran tick) state.systems;
+  systems = state.systems;
   conditions = state.conditions;
   passed_over = state.passed_over;
 }

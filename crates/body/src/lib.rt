@@ -9,5 +9,6 @@ pub mod open_state;
 mod opening;
 mod slot_table;
 pub mod state;
+pub mod system_body;
 pub mod view;
 pub mod view_query;

@@ -1,6 +1,6 @@
 // A state in a run: a tick, a system shown what it may see, an outcome laid over the world.
 
-ghost use Rattle.std.specs.Prelude.{◌≡◌, ◌<◌, ◌≤◌, ◌↔◌, [], false, replicate, length, IfOk, OnOk, OnErr, IsErr};
+ghost use Rattle.std.specs.Prelude.{◌≡◌, ◌<◌, ◌≤◌, ◌↔◌, ◌++◌, List, [], false, replicate, length, IfOk, OnOk, OnErr, IsErr};
 ghost use Rattle.std.specs.List.{AllByRecursion};
 ghost use Rattle.model.specs.state.State.{most_indices, empty_queue, event_count};
 ghost use Rattle.model.specs.Lists.{update_at};
@@ -10,8 +10,10 @@ ghost use Rattle.model.specs.shown.Outcome as outcome;
 ghost use Rattle.model.specs.runs.RunState.{has_tick, next_tick, memory_of_system};
 ghost use Rattle.archetype_store.specs.Layout.{AreAllHome, IsLayoutOf};
 ghost use Rattle.query_plan.specs.Standing.{ArePickedHome};
+ghost use Rattle.body.specs.Columns.{Column};
 ghost use Rattle.body.specs.Lent.{AreLent, lent_in, with_away, with_back};
-ghost use Rattle.body.specs.Steps.{IsInTime, at_clock, laid, memory_ran, state_of, store_of};
+ghost use Rattle.body.specs.Out.{IsWrittenBy, AreOut};
+ghost use Rattle.body.specs.Steps.{IsInTime, at_clock, laid, memory_ran, noted, state_of, store_of};
 
 use crate::memory::Memory;
 use crate::state::State;
@@ -113,7 +115,9 @@ impl OpenState {
         ensures shown { IfOk result (λ view. view.shown ≡ input.shown params.now (memory_of_system self.old.state system) self.old.state []) }
         ensures untouched { IfOk result (λ view. view.outcome ≡ outcome.untouched params.now view.shown) }
         ensures tick { IfOk result (λ view. view.opening.tick ≡ tick) }
+        ensures written { IfOk result (λ view. AllByRecursion (IsWrittenBy params.now.queries self.old.layout) (lent_in view.opening.taken)) }
         ensures lent { IfOk result (λ view. AreLent (store_of self.new) view.opening.taken) }
+        ensures out { IfOk result (λ view. (others : List (List Column)) → AreOut (store_of self.old) others → AreOut (store_of self.new) (others ++ view.opening.taken)) }
         ensures away { IfOk result (λ view. self.new ≡ record { state = self.old.state; layout = with_away (lent_in view.opening.taken) self.old.layout }) }
         ensures back { IfOk result (λ view. with_back (lent_in view.opening.taken) self.new.layout ≡ self.old.layout) }
         ensures err { OnErr result (self.new ≡ self.old) }
@@ -121,18 +125,26 @@ impl OpenState {
         View::open(alloc, params, &self.systems[system], &mut self.world, tick)
     }
 
-    /// Brings the columns of a view home, and so lays what was written over the state, as the run of a system at the tick of the view, which
-    /// isn't above the clock.
+    /// Notes the run of a system at a tick, which isn't above the clock.
     #[tactic(auto, using(crate::proofs::Times::ran_in_time))]
-    pub fn close(&mut self, view: View, system: usize)
+    pub fn note(&mut self, system: usize, tick: Tick)
         requires known { system < length self.old.state.systems }
+        requires past { tick ≤ self.old.state.world.clock }
+        ensures { self.new ≡ record { state = noted system tick self.old.state; layout = self.old.layout } }
+    {
+        ran_at(&mut self.systems, system, tick);
+    }
+
+    /// Brings the columns of a view home, and so lays what was written over the state, at the tick of the view, which isn't above the clock.
+    /// What other views hold stays away.
+    pub fn close(&mut self, view: View)
         requires lent { AreLent (store_of self.old) view.opening.taken }
         requires past { view.opening.tick ≤ self.old.state.world.clock }
-        ensures { self.new ≡ record { state = laid system view.opening.tick view self.old.state; layout = with_back (lent_in view.opening.taken) self.old.layout } }
+        ensures laid { self.new ≡ record { state = laid view.opening.tick view self.old.state; layout = with_back (lent_in view.opening.taken) self.old.layout } }
+        ensures out { (front rest : List (List Column)) → AreOut (store_of self.old) (front ++ (view.opening.taken ++ rest)) → AreOut (store_of self.new) (front ++ rest) }
     {
-        let tick = view.tick();
+        self.world.laid();
         view.close(&mut self.world);
-        ran_at(&mut self.systems, system, tick);
     }
 }
 

@@ -8,6 +8,7 @@ ghost use Rattle.model.specs.shown.Outcome.{untouched_rows, untouched_cells};
 ghost use Rattle.query_plan.specs.Standing.{ArePickedHome};
 ghost use Rattle.body.specs.Lent.{AreLent, lent_of, lent_in, with_away, with_back};
 ghost use Rattle.body.specs.Opened.{ArePickedOf};
+ghost use Rattle.body.specs.Out.{IsWrittenBy};
 ghost use Rattle.body.specs.SeenOver.{AreTogether};
 ghost use Rattle.body.specs.Sheet.{Sheet};
 
@@ -67,6 +68,7 @@ pub(crate) fn open_queries(
     ensures terms { IfOk result (λ v. map (λ (q : Sheet). q.terms) v.items ≡ queries.now) }
     ensures rows { IfOk result (λ v. map (λ (q : Sheet). q.rows) v.items ≡ map (λ query. rows_of query last_run world.old.state.slots) queries.now) }
     ensures untouched { IfOk result (λ v. map (λ (q : Sheet). q.cells) v.items ≡ untouched_cells (map (λ (q : Sheet). q.terms) v.items) (map (λ (q : Sheet). q.rows) v.items)) }
+    ensures written { IfOk result (λ v. AllByRecursion (IsWrittenBy queries.now world.old.layout) (lent_in (map (λ (q : Sheet). q.taken) v.items))) }
     ensures together { IfOk result (λ v. AreTogether tick v.items) }
     ensures lent { IfOk result (λ v. AreLent world.new (map (λ (q : Sheet). q.taken) v.items)) }
     ensures away { IfOk result (λ v. world.new ≡ record { state = world.old.state; layout = with_away (lent_in (map (λ (q : Sheet). q.taken) v.items)) world.old.layout }) }

@@ -11,8 +11,10 @@ ghost use Rattle.model.specs.shown.Input.{shown};
 ghost use Rattle.model.specs.shown.Outcome.{untouched, words_written};
 ghost use Rattle.model.specs.shown.Overlay.{slots_after};
 ghost use Rattle.query_plan.specs.Standing.{ArePickedHome};
+ghost use Rattle.archetype_store.specs.Overlays.{AreReached};
 ghost use Rattle.body.specs.Laid.{with_slots};
 ghost use Rattle.body.specs.Lent.{AreLent, lent_in, with_away, with_back};
+ghost use Rattle.body.specs.Out.{IsWrittenBy};
 ghost use Rattle.body.specs.Seen.{query_at, rows_at, row_at, read_at, with_written};
 
 use crate::closing::put_home;
@@ -69,6 +71,7 @@ impl View {
         ensures shown { IfOk result (λ v. (state : State) → state.world ≡ world.old.state → v.shown ≡ shown params.now memory.now state []) }
         ensures untouched { IfOk result (λ v. v.outcome ≡ untouched v.params v.shown) }
         ensures tick { IfOk result (λ v. v.opening.tick ≡ tick) }
+        ensures written { IfOk result (λ v. AllByRecursion (IsWrittenBy params.now.queries world.old.layout) (lent_in v.opening.taken)) }
         ensures lent { IfOk result (λ v. AreLent world.new v.opening.taken) }
         ensures away { IfOk result (λ v. world.new ≡ record { state = world.old.state; layout = with_away (lent_in v.opening.taken) world.old.layout }) }
         ensures back { IfOk result (λ v. with_back (lent_in v.opening.taken) world.new.layout ≡ world.old.layout) }
@@ -82,18 +85,29 @@ impl View {
         })
     }
 
-    // The tick at which what is written counts as changed.
-    pub(crate) fn tick(&self) -> Tick
+    /// What holds of every view: it shows rows for each query, has queries alone and no commands, and leaves the registers.
+    pub fn law(&self)
+        ensures rows { length self.now.shown.rows ≡ length self.now.params.queries }
+        ensures commands { self.now.outcome.commands ≡ [] }
+        ensures registers { self.now.outcome.registers ≡ self.now.shown.registers }
+    {
+        let _tick = self.tick;
+    }
+
+    /// The tick at which what is written counts as changed.
+    pub fn tick(&self) -> Tick
         ensures { result ≡ self.now.opening.tick }
     {
         self.tick
     }
 
-    /// Brings the columns home, and so lays what was written over the world. All else of the world stays.
+    /// Brings the columns home, and so lays what was written over the world. All else of the world stays. All that was written is written in
+    /// columns that the world lent.
     pub fn close(self, world: &mut World)
         requires lent { AreLent world.old self.opening.taken }
         requires past { self.opening.tick ≤ world.old.state.clock }
-        ensures { world.new ≡ record { state = with_slots world.old.state (slots_after self.opening.tick (words_written self.params.queries self.shown.rows self.outcome.cells) world.old.state.slots); layout = with_back (lent_in self.opening.taken) world.old.layout } }
+        ensures home { world.new ≡ record { state = with_slots world.old.state (slots_after self.opening.tick (words_written self.params.queries self.shown.rows self.outcome.cells) world.old.state.slots); layout = with_back (lent_in self.opening.taken) world.old.layout } }
+        ensures reach { AreReached world.old.layout (lent_in self.opening.taken) (words_written self.params.queries self.shown.rows self.outcome.cells) }
     {
         // Tell how the layout is that of the state, and that no stamp is above the clock.
         world.laid();

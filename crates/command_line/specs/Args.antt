@@ -7,12 +7,17 @@ use Rattle.command_line.specs.declared.args.LineFault.TheVariants.{Help, Usage, 
 
 -- how many runs the work asks for
 abbrev pub runs_of : Work → ℕ
-runs_of (Run times) = times
+runs_of (Run times workers) = times
 runs_of Ambiguities = 0
 
--- at most 1,000,000 runs
-abbrev pub IsWithinTimes : Work → Type 0
-IsWithinTimes work = runs_of work ≤ 1000000
+-- how many workers
+abbrev pub workers_of : Work → ℕ
+workers_of (Run times workers) = workers
+workers_of Ambiguities = 0
+
+-- at most 1,000,000 runs, and 64 workers
+abbrev pub IsWithin : Work → Type 0
+IsWithin work = (runs_of work ≤ 1000000) × (workers_of work ≤ 64)
 
 -- 0 where help was asked for, 2 where the line is at fault, 3 where memory is wanting
 abbrev pub line_status_of : LineFault → ℕ

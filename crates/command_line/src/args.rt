@@ -1,7 +1,7 @@
 // The command line.
 
 ghost use Rattle.std.specs.Prelude.{◌≡◌, IfOk};
-ghost use Rattle.command_line.specs.Args.{IsWithinTimes, line_status_of, line_text_of};
+ghost use Rattle.command_line.specs.Args.{IsWithin, line_status_of, line_text_of};
 
 use clap::error::ErrorKind;
 use clap::{Arg, ArgMatches, Command, Error, value_parser};
@@ -14,6 +14,8 @@ pub enum Work {
     Run {
         /// How many runs, at most 1,000,000.
         times: u32,
+        /// How many worker threads, at most 64. With none all is done on the program's own thread.
+        workers: u8,
     },
     /// The report of which systems of the schedule race.
     Ambiguities,
@@ -26,7 +28,7 @@ pub struct Args<'a> {
     pub file: &'a str,
     /// The work.
     pub work: Work,
-    ghost within: { IsWithinTimes work },
+    ghost within: { IsWithin work },
 }
 
 /// A command line that asks for no work.
@@ -42,11 +44,13 @@ pub enum LineFault {
 
 const MOST_TIMES: u32 = 1_000_000;
 
+const MOST_WORKERS: u8 = 64;
+
 impl<'a> Args<'a> {
-    /// Reads the words of a command line, of which the first is the program's own name: `run FILE [--times N]`, where N is from 0
-    /// to 1,000,000, and 1 if it is left out; or `ambiguities FILE`.
+    /// Reads the words of a command line, of which the first is the program's own name: `run FILE [--times N] [--workers W]`, where N is
+    /// from 0 to 1,000,000, and 1 if it is left out, and W from 0 to 64, and 0 if it is left out; or `ambiguities FILE`.
     pub fn read(alloc: Global, words: &'a [String]) -> Result<Args<'a>, LineFault>
-        ensures { IfOk result (λ args. IsWithinTimes args.work) }
+        ensures { IfOk result (λ args. IsWithin args.work) }
     {
         let matches = match command(alloc)?.try_get_matches_from(words) {
             Ok(matches) => matches,
@@ -54,7 +58,8 @@ impl<'a> Args<'a> {
         };
         if let Some(run) = matches.subcommand_matches("run") {
             let times = run.get_one::<u32>("times").unwrap_or(1).min(MOST_TIMES);
-            return Ok(Args::of(run, Work::Run { times }));
+            let workers = run.get_one::<u8>("workers").unwrap_or(0).min(MOST_WORKERS);
+            return Ok(Args::of(run, Work::Run { times, workers }));
         }
         if let Some(ambiguities) = matches.subcommand_matches("ambiguities") {
             return Ok(Args::of(ambiguities, Work::Ambiguities));
@@ -64,7 +69,7 @@ impl<'a> Args<'a> {
 
     // The work, on the file that the matches name.
     fn of(matches: &ArgMatches<'a>, work: Work) -> Args<'a>
-        requires { IsWithinTimes work }
+        requires { IsWithin work }
         ensures { result.work ≡ work }
     {
         Args {
@@ -130,10 +135,16 @@ fn command<'a>(alloc: Global) -> Result<Command<'a>, AllocError> {
         .value_name("N")
         .value_parser(value_parser!(u32).range(0..=1_000_000))
         .help("how many runs, 0 to 1000000, 1 if left out");
+    let workers = Arg::new(alloc, "workers")
+        .long("workers")
+        .value_name("W")
+        .value_parser(value_parser!(u8).range(0..=64))
+        .help("how many worker threads, 0 to 64, 0 (one thread) if left out");
     let run = Command::new(alloc, "run")
         .about("runs the schedule of a program file and prints the world")
         .arg(file(alloc))?
-        .arg(times)?;
+        .arg(times)?
+        .arg(workers)?;
     let ambiguities = Command::new(alloc, "ambiguities")
         .about("prints which systems of a program file race")
         .arg(file(alloc))?;
@@ -161,22 +172,34 @@ mod tests {
             (
                 "ecsrun run world.toml",
                 "world.toml",
-                Work::Run { times: 1 },
+                Work::Run {
+                    times: 1,
+                    workers: 0,
+                },
             ),
             (
                 "ecsrun run world.toml --times 3",
                 "world.toml",
-                Work::Run { times: 3 },
+                Work::Run {
+                    times: 3,
+                    workers: 0,
+                },
             ),
             (
                 "ecsrun run --times=0 a.toml",
                 "a.toml",
-                Work::Run { times: 0 },
+                Work::Run {
+                    times: 0,
+                    workers: 0,
+                },
             ),
             (
-                "ecsrun run a.toml --times 1000000",
+                "ecsrun run a.toml --times 1000000 --workers 64",
                 "a.toml",
-                Work::Run { times: 1_000_000 },
+                Work::Run {
+                    times: 1_000_000,
+                    workers: 64,
+                },
             ),
             ("ecsrun ambiguities a.toml", "a.toml", Work::Ambiguities),
         ] {
@@ -196,6 +219,7 @@ mod tests {
             ("ecsrun check a.toml b.txt", 2),
             ("ecsrun run a.toml b.toml", 2),
             ("ecsrun run a.toml --workers 65", 2),
+            ("ecsrun run a.toml --workers -1", 2),
             ("ecsrun run a.toml --trace b.txt", 2),
             ("ecsrun run a.toml --times 1000001", 2),
             ("ecsrun run a.toml --times -1", 2),

@@ -9,15 +9,15 @@ use Rattle.model.specs.declarations.ScheduleOrder.{HasDeclaredSystems}
 use Rattle.script.specs.declared.script_body.ScriptBody.{ScriptBody}
 use Rattle.script.specs.Script.{ScriptBlock}
 use Rattle.script.specs.Faults.{fits, script_fault}
-use Rattle.engine.specs.Fits.{body_fits, fits_at}
+use Rattle.ecsrun.specs.Setup.{script_fits, fits_at}
 
 -- a script without a fault fits
 pub fits-none : (params : Params) (script : List ScriptBlock) → script_fault params script ≡ None → fits params script ≡ true
 unfolding fits
 fits-none params script e = rw e refl
 
-fits-each : (params : ℕ → Params) (scripts : List ScriptBody) (script : ScriptBody) → ((n : ℕ) → n < length scripts → body_fits (slice_get scripts n) (params n) ≡ true)
-    → fits (params (length scripts)) script ≡ true → (n : ℕ) → n < length (scripts ++ script ∷ []) → body_fits (slice_get (scripts ++ script ∷ []) n) (params n) ≡ true
+fits-each : (params : ℕ → Params) (scripts : List ScriptBody) (script : ScriptBody) → ((n : ℕ) → n < length scripts → script_fits (slice_get scripts n) (params n) ≡ true)
+    → fits (params (length scripts)) script ≡ true → (n : ℕ) → n < length (scripts ++ script ∷ []) → script_fits (slice_get (scripts ++ script ∷ []) n) (params n) ≡ true
 fits-each params [] script h f zero l = f
 fits-each params [] script h f (suc n) l = absurd (omega arith)
 fits-each params (x ∷ scripts) script h f zero l = h zero (omega arith)

@@ -1,5 +1,7 @@
 -- A schedule that the builder accepted, with a script for each system.
-use Rattle.std.specs.Prelude.{ℕ, ◌<◌, ◌≡◌, true, List, [], length, replicate}
+use Rattle.std.specs.Prelude.{ℕ, ◌<◌, ◌≡◌, Bool, true, false, List, [], length, map, replicate, slice_get, Option, Some, None}
+use Rattle.model.specs.access.Access.{Params}
+use Rattle.model.specs.shown.Outcome.{BodyMeaning}
 use Rattle.model.specs.declarations.Declarations.{Declared}
 use Rattle.model.specs.state.Loaded.{first_memory}
 use Rattle.model.specs.declarations.Refusals.{IsBuildable}
@@ -7,7 +9,9 @@ use Rattle.model.specs.steps.Schedule.{Schedule, params_of}
 use Rattle.model.specs.declarations.ScheduleOrder.{HasDeclaredSystems, HasDeclaredEdges, IsOneLevel, IsScheduleOrder}
 use Rattle.model.specs.state.State.{State, World, event_count, empty_queue}
 use Rattle.script.specs.declared.script_body.ScriptBody.{ScriptBody}
-use Rattle.engine.specs.Fits.{fits_at}
+use Rattle.script.specs.Faults.{fits}
+use Rattle.script.specs.Script.{script_meaning}
+use Rattle.engine.specs.Meanings.{meanings}
 
 -- the schedule is the one that declared items stand for, which have no fault
 pub record IsScheduleOf (d : Declared) (s : Schedule) : Type 0 where
@@ -17,6 +21,23 @@ pub record IsScheduleOf (d : Declared) (s : Schedule) : Type 0 where
   pub levels : IsOneLevel s
   pub order : IsScheduleOrder s
   pub conditions : s.conditions ≡ []
+
+-- whether there is a script, and it fits these parameters
+abbrev pub script_fits : Option ScriptBody → Params → Bool
+script_fits None params = false
+script_fits (Some script) params = fits params script
+
+-- whether the script of a system fits its parameters
+abbrev pub fits_at : Schedule → List ScriptBody → ℕ → Bool
+fits_at s scripts n = script_fits (slice_get scripts n) (params_of s n)
+
+-- what a script means to an engine
+abbrev pub script_means : ScriptBody → Params → BodyMeaning
+script_means script params = script_meaning params script
+
+-- what the scripts of the systems of a schedule mean
+abbrev pub meanings_of_scripts : Schedule → List ScriptBody → List BodyMeaning
+meanings_of_scripts s scripts = meanings script_means s (map Some scripts)
 
 -- a script for each system, each of which fits its system
 pub record AreScriptsOf (s : Schedule) (scripts : List ScriptBody) : Type 0 where

@@ -39,6 +39,9 @@ pub enum Fault {
     /// No ids are left for the entities of the file.
     #[error("refused E3")]
     IdsSpent,
+    /// The body of a system refused. No script does.
+    #[error("refused E6")]
+    BodyRefused,
     /// The program file can't be read.
     #[error("error file")]
     File,
@@ -48,15 +51,18 @@ pub enum Fault {
     /// Memory is wanting.
     #[error("error memory")]
     Memory,
+    /// A worker's thread couldn't be started.
+    #[error("error worker")]
+    NoWorker,
 }
 
 impl Fault {
-    /// The exit status: 1 where the content is refused, 3 where input, output or memory fail.
+    /// The exit status: 1 where the content is refused, 3 where input, output, memory or a thread fail.
     pub fn status(&self) -> u8
         ensures { result ≡ status_of self.now }
     {
         match self {
-            Fault::File | Fault::Write | Fault::Memory => 3,
+            Fault::File | Fault::Write | Fault::Memory | Fault::NoWorker => 3,
             _ => 1,
         }
     }

@@ -11,18 +11,21 @@ mod serve;
 #[cfg(test)]
 mod tests;
 mod words;
+mod workers;
 mod world;
 
-use command_line::args::{Args, LineFault};
-use engine::Single;
+use command_line::args::{Args, LineFault, Work};
 use fault::Fault;
 use opened::open;
 use serve::{serve, tell};
 use std::alloc::Global;
 use std::io::Write;
 use std::process::ExitCode;
+use std::thread;
 use streams::writing::write_whole;
 use words::words_of;
+use worker_pool::Single;
+use workers::serve_in_scope;
 
 // Tells of a line that asks for no work.
 fn tell_line_fault<O: Write, E: Write>(
@@ -42,27 +45,49 @@ fn tell_line_fault<O: Write, E: Write>(
     }
 }
 
+// What a command line asks for. The exit status of one that is at fault, which is told.
+fn args_of<'a, O: Write, E: Write>(
+    alloc: Global,
+    words: &'a [String],
+    out: &mut O,
+    faults: &mut E,
+) -> Result<Args<'a>, u8> {
+    match Args::read(alloc, words) {
+        Ok(args) => Ok(args),
+        Err(fault) => Err(tell_line_fault(alloc, out, faults, &fault)),
+    }
+}
+
 fn main(rt: HostRuntime) -> ExitCode {
     let words: Vec<String> = match words_of(&rt) {
         Ok(words) => words,
         Err(fault) => return ExitCode::from(tell(rt.alloc(), &mut rt.stderr(), &fault)),
     };
-    let args = match Args::read(rt.alloc(), words.as_slice()) {
+    let mut out = rt.stdout();
+    let mut faults = rt.stderr();
+    let args = match args_of(rt.alloc(), words.as_slice(), &mut out, &mut faults) {
         Ok(args) => args,
-        Err(fault) => return ExitCode::from(tell_line_fault(
-            rt.alloc(),
-            &mut rt.stdout(),
-            &mut rt.stderr(),
-            &fault,
-        )),
+        Err(status) => return ExitCode::from(status),
     };
-    let status = serve(
-        rt.alloc(),
-        &args,
-        &Single,
-        &mut open(&rt, args.file),
-        &mut rt.stdout(),
-        &mut rt.stderr(),
-    );
+    let mut file = open(&rt, args.file);
+    let status = match args.work {
+        Work::Run { workers, .. } if workers > 0 => thread::scope(
+            thread::scope_env(),
+            &rt,
+            |scope| {
+                serve_in_scope(
+                    scope,
+                    rt,
+                    workers,
+                    rt.alloc(),
+                    &args,
+                    &mut file,
+                    &mut out,
+                    &mut faults,
+                )
+            },
+        ),
+        _ => serve(rt.alloc(), &args, &Single, &mut file, &mut out, &mut faults),
+    };
     ExitCode::from(status)
 }

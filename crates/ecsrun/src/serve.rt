@@ -2,10 +2,10 @@
 
 ghost use Rattle.std.specs.Prelude.{◌≡◌, map, length, string_bytes, IfOk, OnOk, IsFalse};
 ghost use Rattle.archetype_store.specs.Layout.{AreAllHome};
-ghost use Rattle.engine.specs.EngineValue.{meanings};
+ghost use Rattle.engine.specs.Meanings.{meanings};
 ghost use Rattle.ecsrun.specs.Fault.{status_of};
 ghost use Rattle.ecsrun.specs.Served.{HaveRun, IsServed, IsTextOf, IsTextOfReport, IsTextOfRuns};
-ghost use Rattle.ecsrun.specs.Setup.{AreScriptsOf, start_of};
+ghost use Rattle.ecsrun.specs.Setup.{AreScriptsOf, meanings_of_scripts, script_means, start_of};
 ghost use Rattle.streams.specs.Writing.{GainsLine};
 
 use crate::fault::Fault;
@@ -16,7 +16,7 @@ use ambiguity_report::report::{is_settled, report};
 use archetype_store::store::World;
 use body::state::State;
 use command_line::args::{Args, Work};
-use engine::{Engine, NewFault, RunFault, Single};
+use engine::{Engine, NewFault, RunFault};
 use output_text::report::text_of_report;
 use output_text::world::text_of_world;
 use program_file::{ProgramFile, document_of};
@@ -26,19 +26,20 @@ use script::script_body::ScriptBody;
 use std::alloc::Global;
 use std::io::{Read, Write};
 use streams::writing::{write_line, write_whole};
+use worker_pool::Mode;
 
 /// Does the work of a command line: reads the program file, and writes to `out` the world that so many runs of its schedule in the
 /// mode leave, or the report of which of its systems race. What goes wrong is told to `faults` in one line. Gives the exit
 /// status: 0 where the work is done, 1 where the content is refused, 3 where input, output or memory fail.
-pub fn serve<F: Read, O: Write, E: Write>(
+pub fn serve<'s, M: Mode<'s>, F: Read, O: Write, E: Write>(
     alloc: Global,
     args: &Args<'_>,
-    mode: &Single,
+    mode: &M,
     file: &mut F,
     out: &mut O,
     faults: &mut E,
 ) -> u8
-    ensures output { IsServed args.now.work result (O.contents out.old) (O.contents out.new) }
+    ensures output { IsServed (M.width mode.now) args.now.work result (O.contents out.old) (O.contents out.new) }
     ensures told { GainsLine (E.contents faults.old) (E.contents faults.new) }
 {
     let text = match answer(alloc, args.work, mode, file) {
@@ -52,8 +53,13 @@ pub fn serve<F: Read, O: Write, E: Write>(
 }
 
 // What is printed of the work on a program file. What was read of the file is dropped before the first run.
-fn answer<F: Read>(alloc: Global, work: Work, mode: &Single, file: &mut F) -> Result<String, Fault>
-    ensures { IfOk result (λ text. IsTextOf work (string_bytes text)) }
+fn answer<'s, M: Mode<'s>, F: Read>(
+    alloc: Global,
+    work: Work,
+    mode: &M,
+    file: &mut F,
+) -> Result<String, Fault>
+    ensures { IfOk result (λ text. IsTextOf (M.width mode.now) work (string_bytes text)) }
 {
     let bytes = bytes_of(alloc, file)?;
     let document = document_of(alloc, bytes.as_slice())?;
@@ -67,7 +73,7 @@ fn answer<F: Read>(alloc: Global, work: Work, mode: &Single, file: &mut F) -> Re
     let built = build(alloc, desc)?;
     let names = names_of(alloc, codes.as_slice())?;
     let bodies = bodies_of(alloc, &built, codes)?;
-    let Work::Run { times } = work else {
+    let Work::Run { times, workers: _ } = work else {
         return report_of(alloc, &built, names.as_slice());
     };
     drop(names);
@@ -87,17 +93,17 @@ fn report_of(alloc: Global, built: &Built, names: &[&str]) -> Result<String, Fau
 }
 
 // The text of the world that so many runs of a schedule leave.
-fn run(
+fn run<'s, M: Mode<'s>>(
     alloc: Global,
     times: u32,
-    mode: &Single,
+    mode: &M,
     built: Built,
     bodies: Vec<ScriptBody>,
     world: World,
 ) -> Result<String, Fault>
     requires scripts { AreScriptsOf built bodies.items }
     requires home { AreAllHome world.layout }
-    ensures { IfOk result (λ text. IsTextOfRuns built (meanings built bodies.items) (start_of built world.state) times (string_bytes text)) }
+    ensures { IfOk result (λ text. IsTextOfRuns (M.width mode.now) built (meanings_of_scripts built bodies.items) (start_of built world.state) times (string_bytes text)) }
 {
     let state = State::new(alloc, world, built.count() as usize)?;
     let mut engine = match Engine::new(alloc, built, bodies, state) {
@@ -112,9 +118,14 @@ fn run(
 }
 
 // Runs a schedule so many times, one run after the other: the steps of a run are dropped before the next one begins.
-fn run_times(alloc: Global, engine: &mut Engine, times: u32, mode: &Single) -> Result<(), Fault>
+fn run_times<'s, M: Mode<'s>>(
+    alloc: Global,
+    engine: &mut Engine<ScriptBody>,
+    times: u32,
+    mode: &M,
+) -> Result<(), Fault>
     requires { IsFalse engine.old.spoiled }
-    ensures { OnOk result (HaveRun engine.old.schedule (meanings engine.old.schedule engine.old.bodies) engine.old.state times engine.new.state) }
+    ensures { OnOk result (HaveRun (M.width mode.now) engine.old.schedule (meanings script_means engine.old.schedule engine.old.bodies) engine.old.state times engine.new.state) }
 {
     for _run in 0..times {
         run_once(alloc, engine, mode)?;
@@ -123,17 +134,23 @@ fn run_times(alloc: Global, engine: &mut Engine, times: u32, mode: &Single) -> R
 }
 
 // Runs a schedule once.
-fn run_once(alloc: Global, engine: &mut Engine, mode: &Single) -> Result<(), Fault>
+fn run_once<'s, M: Mode<'s>>(
+    alloc: Global,
+    engine: &mut Engine<ScriptBody>,
+    mode: &M,
+) -> Result<(), Fault>
     requires { IsFalse engine.old.spoiled }
-    ensures ran { OnOk result (HaveRun engine.old.schedule (meanings engine.old.schedule engine.old.bodies) engine.old.state 1 engine.new.state) }
+    ensures ran { OnOk result (HaveRun (M.width mode.now) engine.old.schedule (meanings script_means engine.old.schedule engine.old.bodies) engine.old.state 1 engine.new.state) }
     ensures schedule { engine.new.schedule ≡ engine.old.schedule }
-    ensures bodies { engine.new.bodies ≡ engine.old.bodies }
+    ensures meant { OnOk result (meanings script_means engine.old.schedule engine.new.bodies ≡ meanings script_means engine.old.schedule engine.old.bodies) }
     ensures sound { OnOk result (IsFalse engine.new.spoiled) }
 {
     match engine.run(alloc, 1, mode) {
         Ok(_) => Ok(()),
         Err(RunFault::Memory) => Err(Fault::Memory),
         Err(RunFault::ClockSpent) => Err(Fault::ClockSpent),
+        Err(RunFault::NoWorker) => Err(Fault::NoWorker),
+        Err(RunFault::BodyFault(_)) => Err(Fault::BodyRefused),
         Err(RunFault::Spoiled) => unreachable!(),
     }
 }

@@ -3,11 +3,13 @@
 use crate::fakes::{Sink, Source};
 use crate::opened::open;
 use crate::serve::serve;
+use crate::workers::serve_in_scope;
 use command_line::args::Args;
-use engine::Single;
 use std::alloc::{AllocError, Global};
 use std::io::Read;
 use std::test::Fail;
+use std::thread;
+use worker_pool::Single;
 
 // The file of one entity that moves.
 const MOVE: &str =
@@ -98,6 +100,42 @@ fn an_entity_moves(rt: HostRuntime) -> Result<(), Fail> {
             world(rt.alloc(), runs, entity)?.as_bytes()
         );
         assert_eq!(rt; answer.faults.len(), 0, "at {line}");
+    }
+    Ok(())
+}
+
+// The file of `examples/wide.toml`.
+const WIDE: &str =
+    "[[entity]]\nPosition = [0, 0]\nVelocity = [1, 2]\nHealth = [7]\nTimer = [10]\n[[entity]]\nPosition = [5, 5]\nVelocity = [-1, 0]\nEnergy = [0]\nCharge = [3]\n[[entity]]\nHealth = [10]\nTimer = [4]\n[[system]]\nname = \"move\"\nquery = [\"mut Position, read Velocity\"]\n[[system.do]]\neach = 0\ncode = [\"add Position.x Velocity.x\", \"add Position.y Velocity.y\"]\n[[system]]\nname = \"tick\"\nquery = [\"mut Timer\"]\n[[system.do]]\neach = 0\ncode = [\"sub Timer.v 1\"]\n[[system]]\nname = \"heal\"\nquery = [\"mut Health\"]\n[[system.do]]\neach = 0\ncode = [\"add Health.v 1\", \"min Health.v 10\"]\n[[system]]\nname = \"charge\"\nquery = [\"mut Energy, read Charge\"]\n[[system.do]]\neach = 0\ncode = [\"add Energy.v Charge.v\"]\n";
+
+#[test]
+fn systems_run_side_by_side(rt: HostRuntime) -> Result<(), Fail> {
+    let entities =
+        "0v1 Position 4 8 Velocity 1 2 Health 10 Timer 6\n1v1 Position 1 5 Velocity -1 0 Energy 12 Charge 3\n2v1 Health 10 Timer 0\n";
+    let words = words_of(rt.alloc(), "ecsrun run examples/wide.toml --times 4")?;
+    let args = Args::read(rt.alloc(), words.as_slice())?;
+    for workers in [1, 2, 3, 64] {
+        let mut source = Source::new(WIDE.as_bytes(), 1000, 10_000);
+        let mut out = Sink::new(rt.alloc(), 50, 10_000);
+        let mut faults = Sink::new(rt.alloc(), 1000, 1000);
+        let status = thread::scope(thread::scope_env(), &rt, |scope| {
+            serve_in_scope(
+                scope,
+                rt,
+                workers,
+                rt.alloc(),
+                &args,
+                &mut source,
+                &mut out,
+                &mut faults,
+            )
+        });
+        assert_eq!(rt; status, 0, "with {workers}");
+        assert_eq!(rt;
+            out.taken.as_slice(),
+            world(rt.alloc(), 4, entities)?.as_bytes()
+        );
+        assert_eq!(rt; faults.taken.len(), 0, "with {workers}");
     }
     Ok(())
 }

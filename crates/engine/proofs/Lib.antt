@@ -1,2 +1,6 @@
-mod Starting
-mod Turning
+mod Bodies
+mod Weaving
+mod Placing
+mod Returning
+mod Staging
+mod Turns

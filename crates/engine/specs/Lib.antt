@@ -1,4 +1,5 @@
 pub mod History
-pub mod Fits
+pub mod Meanings
 pub mod EngineValue
+pub mod Jobs
 pub mod Stage

@@ -1,26 +1,37 @@
--- Where a run on one thread stands between two turns, and where it stops.
-use Rattle.std.specs.Prelude.{◌≡◌, List, Some, None}
+-- Where a run stands between two turns.
+use Rattle.std.specs.Prelude.{ℕ, ◌<◌, ◌≤◌, ◌≡◌, ◌⊎◌, List, length, Option, Some, None}
 use Rattle.model.specs.declared.steps.Step.{Step}
+use Rattle.model.specs.declared.steps.Ready.{Ready}
+use Rattle.model.specs.declared.steps.Ready.TheVariants as ready
 use Rattle.model.specs.state.State.{State}
 use Rattle.model.specs.shown.Outcome.{BodyMeaning}
 use Rattle.model.specs.steps.Schedule.{Schedule}
-use Rattle.model.specs.steps.Lawful.{NoneRuns}
-use Rattle.model.specs.steps.Widths.{IsSingle, just_started}
-use Rattle.model.specs.runs.RunState.{between}
-use Rattle.model.specs.runs.Meaning.{serial, HasTrueAnswers}
-use Rattle.model.specs.runs.Causes.{Cause, serial_cause}
+use Rattle.model.specs.steps.Lawful.{MayStart, MaySync, NoneRuns, IsComplete}
+use Rattle.model.specs.steps.Ready.{IsReady}
+use Rattle.model.specs.steps.Widths.{IsWide, running_after}
+use Rattle.model.specs.runs.Meaning.{interleaved, HasTrueAnswers}
+use Rattle.worker_pool.specs.JobOut.{JobOut}
+use Rattle.engine.specs.Jobs.{woven}
+use Rattle.engine.specs.declared.turn.Turn.{Turn}
+use Rattle.engine.specs.declared.turn.Turn.TheVariants as turn
 
--- after this history nothing runs, and the serial meaning is this state with nothing beside it
-pub record Stage (s : Schedule) (bodies : List BodyMeaning) (start : State) (h : List Step) (state : State) : Type 0 where
-  pub idle : NoneRuns h
-  pub settled : just_started h ≡ None
-  pub single : IsSingle s h
+-- after this history as many systems run as jobs are out, and the interleaved meaning is this state with these jobs out
+pub record Stage {B : Type 0} (width : ℕ) (s : Schedule) (bodies : List BodyMeaning) (start : State) (h : List Step) (state : State) (out : List (JobOut B)) : Type 0 where
+  pub wide : IsWide width s h
+  pub running : length (running_after h) ≡ length out
+  pub room : length out ≤ width
   pub answers : HasTrueAnswers s bodies start h
-  pub meaning : serial s bodies start h ≡ Some (between state)
+  pub meaning : interleaved s bodies start h ≡ Some (woven state out)
 
--- a front of the single-threaded list with true answers, on which the serial meaning stops for this cause
-pub record Stops (s : Schedule) (bodies : List BodyMeaning) (start : State) (cause : Cause) : Type 0 where
-  pub front : List Step
-  pub single : IsSingle s front
-  pub answers : HasTrueAnswers s bodies start front
-  pub stops : serial_cause s bodies start front ≡ Some cause
+-- there is room for one more running system, and this is what is ready
+pub record IsTake (s : Schedule) (h : List Step) (running width : ℕ) (offer : Ready) (may : Type 0) : Type 0 where
+  pub room : running < width
+  pub is : IsReady s h (Some offer)
+  pub allowed : may
+
+-- what is next: what is ready where there is room, else a job that comes back, and none where nothing is ready and nothing runs
+abbrev pub IsTurn : Schedule → List Step → ℕ → ℕ → Option Turn → Type 0
+IsTurn s h running width None = (running ≡ 0) × (NoneRuns h → IsComplete s h)
+IsTurn s h running width (Some (turn.Start n)) = IsTake s h running width (ready.Start n) (MayStart s h n)
+IsTurn s h running width (Some (turn.Sync k)) = IsTake s h running width (ready.Sync k) (MaySync s h k)
+IsTurn s h running width (Some turn.Collect) = (0 < running) × ((running ≡ width) ⊎ IsReady s h None)

@@ -1,86 +1,124 @@
-// The turns of a run on one thread: what is ready is done at once, and each start is finished before anything else is done.
+// The turns of a run: what is ready is done while there is room for one more running system, else a job is waited for.
 
-ghost use Rattle.std.specs.Prelude.{◌≡◌, ◌<◌, ◌↔◌, ◌∷◌, [], ℕ, List, false, length, reverse, map, Some, Err, OnOk, IfOk};
+ghost use Rattle.std.specs.Prelude.{◌≡◌, ◌<◌, ◌∷◌, [], ℕ, length, reverse, map, true, Some, Err, OnOk, IfOk};
 ghost use Rattle.model.specs.declared.steps.Step.{Step};
-ghost use Rattle.model.specs.declared.steps.Step.TheVariants.{Start, Finish};
-ghost use Rattle.model.specs.steps.Schedule.{Schedule};
-ghost use Rattle.model.specs.steps.Lawful.{May, MayStart, NoneRuns};
-ghost use Rattle.model.specs.runs.Runs.{IsSingleRun, AreSingleRuns, IsStopped};
+ghost use Rattle.model.specs.steps.Lawful.{May};
 ghost use Rattle.model.specs.runs.Causes.{Cause};
+ghost use Rattle.model.specs.runs.WideRuns.{IsWideRun, AreWideRuns, WideStops, IsWideStopped};
 ghost use Rattle.archetype_store.specs.Layout.{AreAllHome};
 ghost use Rattle.executor_core.specs.Stands.{Stands};
-ghost use Rattle.engine.specs.EngineValue.{meanings};
-ghost use Rattle.engine.specs.Fits.{IsEngine};
+ghost use Rattle.engine.specs.Meanings.{meanings, Suits};
 ghost use Rattle.engine.specs.History.{history_of};
-ghost use Rattle.engine.specs.Stage.{Stops};
 
+use crate::effects::{finish, open, start, sync};
 use crate::faults::RunFault;
-use crate::steps::{open, start, sync};
+use crate::turn::{Turn, next_turn};
 use body::open_state::OpenState;
-use executor_core::{Core, Ready, Step, Trace};
+use body::system_body::Body;
+use executor_core::{Core, Step, Trace};
 use schedule_builder::built::Built;
-use script::script_body::ScriptBody;
 use std::alloc::{AllocError, Global};
+use worker_pool::{Mode, Pool, drain};
 
 /// The runs of a schedule, one after the other.
-pub fn run_times(
+pub(crate) fn run_times<'s, M: Mode<'s>, B: Body + 's>(
     alloc: Global,
     built: &Built,
-    bodies: &mut [ScriptBody],
+    slots: &mut [Option<B>],
     state: &mut OpenState,
     times: u32,
+    mode: &M,
 ) -> Result<Vec<Trace>, RunFault>
-    requires suits { IsEngine built.now bodies.old state.old.state }
+    requires suits { Suits B.fits built.now slots.old state.old.state }
     requires home { AreAllHome state.old.layout }
     ensures count { IfOk result (λ traces. length traces.items ≡ times) }
-    ensures ran { IfOk result (λ traces. AreSingleRuns built.now (meanings built.now bodies.old) state.old.state (map history_of traces.items) state.new.state) }
-    ensures clock { result ≡ Err RunFault.ClockSpent → IsStopped built.now (meanings built.now bodies.old) times state.old.state Cause.NoTick }
-    ensures other { result ≡ Err RunFault.Spoiled → ⊥ }
-    ensures bodies { bodies.new ≡ bodies.old }
-    ensures memories { length state.new.state.systems ≡ length state.old.state.systems }
-    ensures layout { state.new.layout ≡ state.old.layout }
+    ensures ran { IfOk result (λ traces. AreWideRuns (M.width mode.now) built.now (meanings B.meaning built.now slots.old) state.old.state (map history_of traces.items) state.new.state) }
+    ensures clock { result ≡ Err RunFault.ClockSpent → IsWideStopped (M.width mode.now) built.now (meanings B.meaning built.now slots.old) times state.old.state Cause.NoTick }
+    ensures refusal { (k : ℕ) → result ≡ Err (RunFault.BodyFault k) → IsWideStopped (M.width mode.now) built.now (meanings B.meaning built.now slots.old) times state.old.state (Cause.Refused k) }
+    ensures worker { result ≡ Err RunFault.NoWorker → M.has_scope mode.now ≡ true }
+    ensures unspoiled { result ≡ Err RunFault.Spoiled → ⊥ }
+    ensures suits { OnOk result (Suits B.fits built.now slots.new state.new.state) }
+    ensures meanings { OnOk result (meanings B.meaning built.now slots.new ≡ meanings B.meaning built.now slots.old) }
+    ensures home { OnOk result (AreAllHome state.new.layout) }
 {
     let mut traces = Vec::new(alloc);
     for _run in 0..times {
-        let trace = run_once(alloc, built, bodies, state)?;
+        let trace = run_once(alloc, built, slots, state, mode)?;
         traces.push(trace)?;
     }
     Ok(traces)
 }
 
 // One run.
-fn run_once(
+fn run_once<'s, M: Mode<'s>, B: Body + 's>(
     alloc: Global,
     built: &Built,
-    bodies: &mut [ScriptBody],
+    slots: &mut [Option<B>],
     state: &mut OpenState,
+    mode: &M,
 ) -> Result<Trace, RunFault>
-    requires suits { IsEngine built.now bodies.old state.old.state }
+    requires suits { Suits B.fits built.now slots.old state.old.state }
     requires home { AreAllHome state.old.layout }
-    ensures ran { IfOk result (λ trace. IsSingleRun built.now (meanings built.now bodies.old) state.old.state (history_of trace) state.new.state) }
-    ensures clock { result ≡ Err RunFault.ClockSpent → Stops built.now (meanings built.now bodies.old) state.old.state Cause.NoTick }
-    ensures other { result ≡ Err RunFault.Spoiled → ⊥ }
-    ensures bodies { bodies.new ≡ bodies.old }
-    ensures memories { length state.new.state.systems ≡ length state.old.state.systems }
-    ensures layout { state.new.layout ≡ state.old.layout }
+    ensures ran { IfOk result (λ trace. IsWideRun (M.width mode.now) built.now (meanings B.meaning built.now slots.old) state.old.state (history_of trace) state.new.state) }
+    ensures clock { result ≡ Err RunFault.ClockSpent → WideStops (M.width mode.now) built.now (meanings B.meaning built.now slots.old) state.old.state Cause.NoTick }
+    ensures refusal { (k : ℕ) → result ≡ Err (RunFault.BodyFault k) → WideStops (M.width mode.now) built.now (meanings B.meaning built.now slots.old) state.old.state (Cause.Refused k) }
+    ensures worker { result ≡ Err RunFault.NoWorker → M.has_scope mode.now ≡ true }
+    ensures unspoiled { result ≡ Err RunFault.Spoiled → ⊥ }
+    ensures suits { OnOk result (Suits B.fits built.now slots.new state.new.state) }
+    ensures meanings { OnOk result (meanings B.meaning built.now slots.new ≡ meanings B.meaning built.now slots.old) }
+    ensures home { OnOk result (AreAllHome state.new.layout) }
+{
+    let mut pool = Pool::new(alloc)?;
+    let trace = run_turns(alloc, built, slots, state, &mut pool, mode);
+    drain(&mut pool, mode);
+    trace
+}
+
+// The turns of a run. After an error jobs may still be out.
+fn run_turns<'s, M: Mode<'s>, B: Body + 's>(
+    alloc: Global,
+    built: &Built,
+    slots: &mut [Option<B>],
+    state: &mut OpenState,
+    pool: &mut Pool<B>,
+    mode: &M,
+) -> Result<Trace, RunFault>
+    requires suits { Suits B.fits built.now slots.old state.old.state }
+    requires home { AreAllHome state.old.layout }
+    requires empty { pool.old ≡ [] }
+    ensures ran { IfOk result (λ trace. IsWideRun (M.width mode.now) built.now (meanings B.meaning built.now slots.old) state.old.state (history_of trace) state.new.state) }
+    ensures clock { result ≡ Err RunFault.ClockSpent → WideStops (M.width mode.now) built.now (meanings B.meaning built.now slots.old) state.old.state Cause.NoTick }
+    ensures refusal { (k : ℕ) → result ≡ Err (RunFault.BodyFault k) → WideStops (M.width mode.now) built.now (meanings B.meaning built.now slots.old) state.old.state (Cause.Refused k) }
+    ensures worker { result ≡ Err RunFault.NoWorker → M.has_scope mode.now ≡ true }
+    ensures unspoiled { result ≡ Err RunFault.Spoiled → ⊥ }
+    ensures suits { OnOk result (Suits B.fits built.now slots.new state.new.state) }
+    ensures meanings { OnOk result (meanings B.meaning built.now slots.new ≡ meanings B.meaning built.now slots.old) }
+    ensures home { OnOk result (AreAllHome state.new.layout) }
 {
     built.no_conditions();
+    let width = mode.width();
     let mut core = Core::new(alloc, built)?;
     let mut steps = Vec::new(alloc);
+    let mut number: u64 = 0;
     open(state)?;
-    while let Some(offer) = core.ready() {
-        match offer {
-            Ready::Start(system) => {
-                start(alloc, built, bodies, state, system)?;
-                take_start(&mut core, &mut steps, system)?;
+    while let Some(turn) = next_turn(&core, pool.count(), width) {
+        match turn {
+            Turn::Start(system) => {
+                number = number.saturating_add(1);
+                start(alloc, built, slots, state, pool, mode, system, number)?;
+                take(&mut core, &mut steps, Step::Start(system))?;
             }
-            Ready::Sync(point) => {
+            Turn::Sync(point) => {
                 sync(state)?;
                 take(&mut core, &mut steps, Step::Sync(point))?;
             }
-            Ready::Ask(_) | Ready::Skip(_) => unreachable!(),
+            Turn::Collect => {
+                let system = finish(built, slots, state, pool, mode)?;
+                take(&mut core, &mut steps, Step::Finish(system))?;
+            }
         }
     }
+    state.law();
     Ok(Trace { steps })
 }
 
@@ -97,16 +135,4 @@ fn take(core: &mut Core<'_>, steps: &mut Vec<Step>, step: Step) -> Result<(), Al
         unreachable!()
     };
     Ok(())
-}
-
-// Takes a start that may come, and its finish.
-fn take_start(core: &mut Core<'_>, steps: &mut Vec<Step>, system: u32) -> Result<(), AllocError>
-    requires stands { Stands core.old (reverse steps.old.items) }
-    requires may { MayStart core.old.schedule (reverse steps.old.items) system }
-    ensures taken { OnOk result (reverse steps.new.items ≡ Finish system ∷ (Start system ∷ reverse steps.old.items)) }
-    ensures stands { OnOk result (Stands core.new (Finish system ∷ (Start system ∷ reverse steps.old.items))) }
-    ensures schedule { core.new.schedule ≡ core.old.schedule }
-{
-    take(core, steps, Step::Start(system))?;
-    take(core, steps, Step::Finish(system))
 }

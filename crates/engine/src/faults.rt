@@ -33,6 +33,12 @@ pub enum RunFault {
     /// An earlier run stopped.
     #[error("the engine is spoiled")]
     Spoiled,
+    /// A worker's thread couldn't be started.
+    #[error("a worker could not be started")]
+    NoWorker,
+    /// A body refused, with this number.
+    #[error("a body refused with {0}")]
+    BodyFault(u32),
 }
 
 impl From<AllocError> for RunFault {

@@ -1,18 +1,19 @@
 // Which bodies fit the systems of a schedule.
 
-ghost use Rattle.std.specs.Prelude.{◌≡◌, ◌<◌, ℕ, length, true, false, IfSome, IfNone};
-ghost use Rattle.engine.specs.Fits.{fits_at};
+ghost use Rattle.std.specs.Prelude.{◌≡◌, ◌<◌, ℕ, length, map, true, false, Some, IfSome, IfNone, IfOk};
+ghost use Rattle.engine.specs.Meanings.{fits_at};
 
+use body::system_body::Body;
 use schedule_builder::built::Built;
-use script::script_body::ScriptBody;
+use std::alloc::{AllocError, Global};
 
 /// The least system whose body doesn't fit its parameters.
-pub fn first_misfit(built: &Built, bodies: &[ScriptBody]) -> Option<u32>
+pub(crate) fn first_misfit<B: Body>(built: &Built, bodies: &[B]) -> Option<u32>
     requires { length bodies.now ≡ length built.now.systems }
     ensures known { IfSome result (λ n. n < length built.now.systems) }
-    ensures misfit { IfSome result (λ n. fits_at built.now bodies.now n ≡ false) }
-    ensures least { IfSome result (λ n. (m : ℕ) → m < n → fits_at built.now bodies.now m ≡ true) }
-    ensures none { IfNone result ((m : ℕ) → m < length built.now.systems → fits_at built.now bodies.now m ≡ true) }
+    ensures misfit { IfSome result (λ n. fits_at B.fits built.now (map Some bodies.now) n ≡ false) }
+    ensures least { IfSome result (λ n. (m : ℕ) → m < n → fits_at B.fits built.now (map Some bodies.now) m ≡ true) }
+    ensures none { IfNone result ((m : ℕ) → m < length built.now.systems → fits_at B.fits built.now (map Some bodies.now) m ≡ true) }
 {
     for system in 0..built.count() {
         if !body_fits(built, bodies, system) {
@@ -23,10 +24,18 @@ pub fn first_misfit(built: &Built, bodies: &[ScriptBody]) -> Option<u32>
 }
 
 // Whether the body of a system fits its parameters.
-fn body_fits(built: &Built, bodies: &[ScriptBody], system: u32) -> bool
+#[tactic(auto, using(crate::proofs::Bodies::at_body))]
+fn body_fits<B: Body>(built: &Built, bodies: &[B], system: u32) -> bool
     requires count { length bodies.now ≡ length built.now.systems }
     requires known { system < length built.now.systems }
-    ensures { result ≡ fits_at built.now bodies.now system }
+    ensures { result ≡ fits_at B.fits built.now (map Some bodies.now) system }
 {
     bodies[system as usize].fits(built.params(system))
+}
+
+// The places of bodies that are all at home.
+pub(crate) fn placed<B: Body>(alloc: Global, bodies: Vec<B>) -> Result<Vec<Option<B>>, AllocError>
+    ensures { IfOk result (λ slots. slots.items ≡ map Some bodies.items) }
+{
+    bodies.into_iter().map(Some).collect(alloc)
 }

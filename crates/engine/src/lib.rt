@@ -2,12 +2,11 @@
 #![tactic(auto)]
 
 mod coordinator;
+mod effects;
 pub mod engine;
 pub mod faults;
 mod fitting;
-pub mod mode;
-mod steps;
+pub mod turn;
 
 pub use engine::Engine;
 pub use faults::{NewFault, RunFault};
-pub use mode::Single;

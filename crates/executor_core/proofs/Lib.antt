@@ -1,3 +1,4 @@
 pub mod Judging
 pub mod Keeping
 pub mod Telling
+pub mod Counted

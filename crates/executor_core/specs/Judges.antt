@@ -1,21 +1,39 @@
 -- What the parts of a core answer, of its sets and of each history for which it stands.
-use Rattle.std.specs.Prelude.{ℕ, ◌+◌, ◌/◌, ◌<◌, ◌≤◌, true, false, ◌≡◌, List, length, Option, Some, None, Result, Ok, Err}
+use Rattle.std.specs.Prelude.{ℕ, ◌+◌, ◌/◌, ◌<◌, ◌≤◌, Bool, true, false, not, ◌&&◌, ◌≡◌, List, length, get_or, Option, Some, None, Result, Ok, Err}
 use Rattle.number_set.specs.Members.{contains}
 use Rattle.model.specs.declared.steps.Step.{Step}
 use Rattle.model.specs.declared.steps.Step.TheVariants.{Cond, Start, Skip, Finish, Sync}
 use Rattle.model.specs.declared.steps.StepFault.{StepFault}
 use Rattle.model.specs.declared.steps.Ready.{Ready}
-use Rattle.model.specs.steps.Schedule.{Schedule, has_edge, level_of}
+use Rattle.model.specs.steps.Schedule.{Schedule, ScheduledSystem, has_edge, level_of}
 use Rattle.model.specs.steps.Lawful.{May}
 use Rattle.model.specs.steps.Faults.{IsFirstFault}
 use Rattle.model.specs.steps.Ready.{Offers, OffersNothing}
 use Rattle.schedule_builder.specs.Rows.{IsRival}
+use Rattle.model.specs.Counts.{count_below}
+use Rattle.schedule_builder.specs.Counts.{waits_for, is_at}
 use Rattle.executor_core.specs.Stands.{Stand}
 
 -- both sets have room for all systems
 pub record IsRoomy (count : ℕ) (begun_set over_set : List ℕ) : Type 0 where
   pub begun : length begun_set ≡ count / 64 + 1
   pub over : length over_set ≡ count / 64 + 1
+
+-- whether a system has an edge to this one and isn't over, and whether it is of the level and isn't over
+abbrev pub holds_up : List ScheduledSystem → List ℕ → ℕ → ℕ → Bool
+holds_up systems over_set n m = waits_for systems n m && not (contains over_set m)
+
+abbrev pub is_left_at : List ScheduledSystem → List ℕ → ℕ → ℕ → Bool
+is_left_at systems over_set k m = is_at systems k m && not (contains over_set m)
+
+-- the counts are those of the systems that aren't over: with an edge to each system, and of each level
+pub record AreCounted (systems : List ScheduledSystem) (over_set open_counts level_counts : List ℕ) : Type 0 where
+  pub waits : (n : ℕ) → get_or open_counts n 0 ≡ count_below (holds_up systems over_set n) (length systems)
+  pub left : (k : ℕ) → get_or level_counts k 0 ≡ count_below (is_left_at systems over_set k) (length systems)
+
+-- the same as a word that no search looks into, since each holder of a core has it at hand
+unfoldable pub HasCounts : List ScheduledSystem → List ℕ → List ℕ → List ℕ → Type 0
+HasCounts systems over_set open_counts level_counts = AreCounted systems over_set open_counts level_counts
 
 -- each system with an edge to this one is over
 abbrev pub AllOver : Stand → ℕ → Type 0

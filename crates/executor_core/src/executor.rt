@@ -1,4 +1,4 @@
-// The core of a run: which steps it has accepted, as sets of systems, and what may come next.
+// The core of a run: which steps it has accepted, as sets of systems and counts beside them, and what may come next.
 
 ghost use Rattle.std.specs.Prelude.{ℕ, ◌≡◌, ◌+◌, ◌<◌, ◌≤◌, ◌↔◌, ◌||◌, ◌&&◌, ◌==◌, not, true, Bool, List, [], ◌∷◌, length, get_or, IsTrue, IsOk, IfOk, OnOk, IfErr, OnErr, IfSome, IfNone};
 ghost use Rattle.std.specs.Bool.{OnFalse};
@@ -12,6 +12,7 @@ ghost use Rattle.model.specs.steps.Ready.{IsReady, OnlyFinish, step_of};
 ghost use Rattle.executor_core.specs.Stands.{Stands, IsPassed, room};
 ghost use Rattle.executor_core.specs.Judges.{AllOver, NoneMeets, IsReleased, IsOpen, IsKnown};
 
+use crate::counts::Counts;
 use model::steps::{Ready, Step, StepFault};
 use number_set::NumberSet;
 use schedule_builder::built::Built;
@@ -27,12 +28,14 @@ pub struct Core<'a> {
     over: NumberSet,
     done: u32,
     from: usize,
+    waits: Counts,
+    left: Counts,
 }
 
 impl<'a> Model for Core<'a> {
     ghost use Rattle.std.specs.Prelude.{length};
     ghost use Rattle.executor_core.specs.Stands.{Stand, stand_code};
-    ghost use Rattle.executor_core.specs.Judges.{IsRoomy};
+    ghost use Rattle.executor_core.specs.Judges.{IsRoomy, HasCounts};
 
     ghost Value = { Stand };
 
@@ -40,7 +43,7 @@ impl<'a> Model for Core<'a> {
 
     ghost view = { λ c. record { schedule = c.built.now; begun = c.begun; over = c.over; done = c.done; from = c.from } };
 
-    ghost invariant = { λ c. IsRoomy (length c.built.now.systems) c.begun c.over };
+    ghost invariant = { λ c. IsRoomy (length c.built.now.systems) c.begun c.over × HasCounts c.built.now.systems c.over c.waits c.left };
 }
 
 impl<'a> Core<'a> {
@@ -51,12 +54,16 @@ impl<'a> Core<'a> {
     {
         let begun = NumberSet::new(alloc, built.count())?;
         let over = NumberSet::new(alloc, built.count())?;
+        let waits = Counts::new(alloc, built.waits())?;
+        let left = Counts::new(alloc, built.sizes())?;
         Ok(Core {
             built,
             begun,
             over,
             done: 0,
             from: 0,
+            waits,
+            left,
         })
     }
 
@@ -183,10 +190,17 @@ impl<'a> Core<'a> {
 
     // Whether each system with an edge to this one is over.
     pub(crate) fn is_after(&self, system: u32) -> bool
-        requires { system < length self.now.schedule.systems }
         ensures { IsTrue result ↔ AllOver self.now system }
     {
-        self.built.before(system).is_within(&self.over)
+        self.built.law();
+        self.waits.is_none(system)
+    }
+
+    // Whether some system of the level isn't over.
+    pub(crate) fn is_open(&self, level: u32) -> bool
+        ensures { IsTrue result ↔ IsOpen self.now level }
+    {
+        !self.left.is_none(level)
     }
 
     // Whether no system that conflicts with this one runs.
@@ -234,7 +248,12 @@ impl<'a> Core<'a> {
         ensures rest { self.new ≡ record self.old { over = self.new.over } }
         ensures over { (n : ℕ) → contains self.new.over n ≡ ((system == n) || contains self.old.over n) }
     {
+        if self.over.contains(system) {
+            return;
+        }
         self.over.insert(system);
+        self.waits.lower_each(self.built.after(system));
+        self.left.lower(self.built.level(system));
     }
 
     // Notes that the sync point is done.

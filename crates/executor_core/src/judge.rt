@@ -5,7 +5,7 @@ ghost use Rattle.number_set.specs.Members.{contains};
 ghost use Rattle.model.specs.declared.steps.Step.{Step};
 ghost use Rattle.model.specs.declared.steps.Step.TheVariants.{Cond, Start, Skip, Finish, Sync};
 ghost use Rattle.executor_core.specs.Stands.{Stands};
-ghost use Rattle.executor_core.specs.Judges.{Judges, IsKnown, IsReleased, IsOpen};
+ghost use Rattle.executor_core.specs.Judges.{Judges, IsKnown, IsReleased};
 
 use crate::executor::Core;
 use model::steps::{Step, StepFault};
@@ -123,17 +123,5 @@ impl<'a> Core<'a> {
         ensures { result ≡ (contains self.now.begun system && not (contains self.now.over system)) }
     {
         self.has_begun(system) && !self.is_over(system)
-    }
-
-    // Whether some system of the level isn't over.
-    fn is_open(&self, level: u32) -> bool
-        ensures { IsTrue result ↔ IsOpen self.now level }
-    {
-        for system in 0..self.count() {
-            if self.level(system) == level && !self.is_over(system) {
-                return true;
-            }
-        }
-        false
     }
 }

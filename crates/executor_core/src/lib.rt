@@ -1,6 +1,7 @@
 // Which steps of a run may come: which are accepted, which fault is told of one that isn't, and what is ready.
 #![tactic(auto)]
 
+mod counts;
 pub mod executor;
 mod judge;
 mod offer;

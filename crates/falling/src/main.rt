@@ -1,14 +1,18 @@
 // A program that needs no file: a world, a schedule of one system and its script, and three runs of it.
 #![tactic(auto)]
 
-ghost use Rattle.std.specs.Prelude.{IfSome};
+ghost use Rattle.std.specs.Prelude.{◌≡◌, IfSome, string_bytes};
 ghost use Rattle.archetype_store.specs.Layout.{AreAllHome};
+ghost use Rattle.engine.specs.Meanings.{meanings};
+ghost use Rattle.output_text.specs.WorldText.{world_text};
+ghost use Rattle.falling.specs.Told.{IsTold};
 
 use access_set::params::Params;
 use archetype_store::store::World;
 use body::state::State;
+use body::system_body::Body;
 use change_ticks::clock::Clock;
-use engine::{Engine, Single};
+use engine::Engine;
 use kinds::component::{Position, Velocity};
 use kinds::kind::Kind;
 use output_text::world::text_of_world;
@@ -21,6 +25,7 @@ use script::script_body::{Block, ScriptBody};
 use std::alloc::Global;
 use std::process::ExitCode;
 use streams::writing::write_whole;
+use worker_pool::Single;
 
 // How often the schedule runs.
 const RUNS: u32 = 3;
@@ -66,19 +71,38 @@ fn world(alloc: Global) -> Option<World>
     Some(world)
 }
 
-// The text of the world after the runs.
-fn text(alloc: Global) -> Option<String> {
+// The engine: the schedule, the script of its system, and the world.
+fn engine(alloc: Global) -> Option<Engine<ScriptBody>> {
     let mut bodies = Vec::new(alloc);
     bodies.push(script(alloc)?).ok()?;
     let state = State::new(alloc, world(alloc)?, 1).ok()?;
-    let mut engine = Engine::new(alloc, schedule(alloc)?, bodies, state).ok()?;
-    engine.run(alloc, RUNS, &Single).ok()?;
+    Engine::new(alloc, schedule(alloc)?, bodies, state).ok()
+}
+
+// The text of the world after so many runs of an engine. None where a run stops by a fault.
+fn text_after<B: Body>(alloc: Global, engine: Engine<B>, times: u32) -> Option<String>
+    ensures { IfSome result (λ text. IsTold times engine.schedule (meanings B.meaning engine.schedule engine.bodies) engine.state (string_bytes text)) }
+{
+    let mut engine = engine;
+    match engine.run(alloc, times, &Single) {
+        Ok(_traces) => text_of(alloc, &engine, times),
+        Err(_fault) => None,
+    }
+}
+
+// The text of the state of an engine after so many runs.
+fn text_of<B: Body>(alloc: Global, engine: &Engine<B>, times: u32) -> Option<String>
+    ensures { IfSome result (λ text. string_bytes text ≡ world_text times engine.now.state) }
+{
     let state = engine.state();
-    text_of_world(alloc, RUNS, state.world(), state.passed_over()).ok()
+    text_of_world(alloc, times, state.world(), state.passed_over()).ok()
 }
 
 fn main(rt: HostRuntime) -> ExitCode {
-    match text(rt.alloc()) {
+    let Some(engine) = engine(rt.alloc()) else {
+        return ExitCode::FAILURE;
+    };
+    match text_after(rt.alloc(), engine, RUNS) {
         Some(text) if write_whole(&mut rt.stdout(), text.as_str()).is_ok() => ExitCode::SUCCESS,
         _ => ExitCode::FAILURE,
     }

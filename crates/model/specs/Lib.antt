@@ -1,4 +1,5 @@
 pub mod Lists
+pub mod Counts
 pub mod state
 pub mod access
 pub mod shown

@@ -6,6 +6,8 @@ mod conflicts;
 #[cfg(test)]
 mod events;
 #[cfg(test)]
+mod gathering;
+#[cfg(test)]
 mod plans;
 #[cfg(test)]
 mod queries;
@@ -17,5 +19,9 @@ mod schedules;
 mod scripts;
 #[cfg(test)]
 mod steps;
+#[cfg(test)]
+mod threads;
+#[cfg(test)]
+mod wide;
 #[cfg(test)]
 mod worlds;

@@ -4,7 +4,7 @@ use access_set::params::Params;
 use archetype_store::store::World;
 use body::state::State;
 use change_ticks::clock::{Clock, LAST_TICK};
-use engine::{Engine, NewFault, RunFault, Single};
+use engine::{Engine, NewFault, RunFault};
 use entity_table::Entity;
 use executor_core::Step;
 use kinds::component::{Position, Velocity};
@@ -17,6 +17,7 @@ use script::instruction::Instruction;
 use script::script_body::{Block, ScriptBody};
 use std::alloc::{AllocError, Global};
 use std::test::Fail;
+use worker_pool::Single;
 
 const FIRST: Entity = Entity {
     index: 0,
@@ -129,7 +130,8 @@ fn spoils(rt: HostRuntime) -> Result<(), Fail> {
 fn counts(rt: HostRuntime) -> Result<(), Fail> {
     let alloc = rt.alloc();
     let state = state(alloc, Clock::at(1))?;
-    let fault = Engine::new(alloc, schedule(alloc)?, Vec::new(alloc), state)
+    let none: Vec<ScriptBody> = Vec::new(alloc);
+    let fault = Engine::new(alloc, schedule(alloc)?, none, state)
         .err()
         .ok_or("no fault")?;
     assert_eq!(rt; fault, NewFault::Count);

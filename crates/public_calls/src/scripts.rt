@@ -3,19 +3,22 @@
 ghost use Rattle.archetype_store.specs.Layout.{AreAllHome};
 
 use access_set::params::Params;
-use access_set::self_conflict::conflicts_within;
 use archetype_store::store::World;
 use body::state::State;
 use change_ticks::clock::Clock;
+use engine::Engine;
 use kinds::component::{Health, Position, Velocity};
 use kinds::kind::Kind;
 use query::{Query, Term};
+use schedule_builder::builder::build;
+use schedule_builder::desc::{ScheduleDesc, SystemDesc};
 use script::fault::{Cause, CheckFault, ScriptFault};
 use script::instruction::{Axis, Field, Instruction, Operation, Source};
 use script::script_body::{Block, ScriptBody};
 use std::alloc::{AllocError, Global};
 use std::test::Fail;
 use texts::read_error::ReadError;
+use worker_pool::Single;
 
 #[test]
 fn instructions(rt: HostRuntime) -> Result<(), Fail> {
@@ -102,22 +105,24 @@ fn adding(alloc: Global, second: Axis) -> Result<Vec<Block>, AllocError> {
     Ok(blocks)
 }
 
-// The state of a world after one run of blocks, as a system that starts at the next tick.
-fn run_once(alloc: Global, params: &Params, blocks: Vec<Block>, world: World) -> Result<State, Fail>
+// An engine over a world, of one system with these blocks, after a run.
+fn run_once(
+    alloc: Global,
+    params: Params,
+    blocks: Vec<Block>,
+    world: World,
+) -> Result<Engine<ScriptBody>, Fail>
     requires { AreAllHome world.layout }
 {
-    let mut script = ScriptBody::check(alloc, params, blocks)?;
-    if conflicts_within(params) {
-        return Err(Fail::from("the queries conflict"));
-    }
-    let mut state = State::new(alloc, world, 1)?.into_open();
-    state.law();
-    let tick = state.coming()?;
-    let mut view = state.open(alloc, params, 0, tick)?;
-    state.next()?;
-    script.run(&mut view);
-    state.close(view, 0);
-    Ok(state.into_state())
+    let mut bodies = Vec::new(alloc);
+    bodies.push(ScriptBody::check(alloc, &params, blocks)?)?;
+    let mut desc = ScheduleDesc::new(alloc);
+    let name = String::from_str(alloc, "script")?;
+    desc.add_system(SystemDesc::new(alloc, name, params))?;
+    let state = State::new(alloc, world, 1)?;
+    let mut engine = Engine::new(alloc, build(alloc, desc)?, bodies, state)?;
+    engine.run(alloc, 1, &Single)?;
+    Ok(engine)
 }
 
 // The place of an entity after one run of the two additions.
@@ -129,8 +134,8 @@ fn moved(alloc: Global, place: Position, step: Velocity) -> Result<Option<Positi
     world.insert(entity, place, 1)?;
     world.insert(entity, step, 1)?;
     let params = moving(alloc)?;
-    let state = run_once(alloc, &params, adding(alloc, Axis::Y)?, world)?;
-    Ok(state.world().get::<Position>(entity))
+    let engine = run_once(alloc, params, adding(alloc, Axis::Y)?, world)?;
+    Ok(engine.state().world().get::<Position>(entity))
 }
 
 #[test]
@@ -167,8 +172,8 @@ fn healed(alloc: Global, health: Health, text: &str) -> Result<Option<Health>, F
     let entity = *granted.first().ok_or("no id")?;
     world.spawn_at(entity);
     world.insert(entity, health, 1)?;
-    let state = run_once(alloc, &params, blocks, world)?;
-    Ok(state.world().get::<Health>(entity))
+    let engine = run_once(alloc, params, blocks, world)?;
+    Ok(engine.state().world().get::<Health>(entity))
 }
 
 #[test]

@@ -1,6 +1,6 @@
 -- A test of the terms that contracts see is a test of the terms.
-use Rattle.std.proofs.Common.{Bool, ◌||◌, ◌&&◌, ◌≡◌, List, [], ◌∷◌, map, refl, ap}
-use Rattle.std.specs.List.{list_any, list_all}
+use Rattle.std.proofs.Common.{Bool, ◌||◌, ◌≡◌, List, [], ◌∷◌, map, refl, ap}
+use Rattle.std.specs.List.{list_any}
 use Rattle.model.specs.access.Query.{Term as ModelTerm}
 use Rattle.query.specs.declared.term.Term.{Term}
 use Rattle.query.specs.Term.{term_of}
@@ -13,11 +13,6 @@ list_any-map test f (x ∷ xs) = ap (λ b. test (f x) || b) (list_any-map test f
 -- for some term
 pub any_of_terms : (test : ModelTerm → Bool) (terms : List Term) → list_any test (map term_of terms) ≡ list_any (λ t. test (term_of t)) terms
 any_of_terms test terms = list_any-map test term_of terms
-
--- for each term
-pub all_of_terms : (test : ModelTerm → Bool) (terms : List Term) → list_all test (map term_of terms) ≡ list_all (λ t. test (term_of t)) terms
-all_of_terms test [] = refl
-all_of_terms test (t ∷ terms) = ap (λ b. test (term_of t) && b) (all_of_terms test terms)
 
 -- a test of numbers is one of the kinds that have them
 pub ruleset of_kinds = (list_any-map)

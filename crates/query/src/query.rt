@@ -5,7 +5,7 @@ ghost use Rattle.std.specs.List.{list_any};
 ghost use Rattle.kinds.specs.Kind.{kind_number};
 ghost use Rattle.model.specs.Lists.{is_number};
 ghost use Rattle.model.specs.access.Query.{touched, written, touches, writes};
-ghost use Rattle.model.specs.access.Conflict.{required, requires_kind};
+ghost use Rattle.model.specs.access.Conflict.{required};
 ghost use Rattle.query.specs.Term.{term_of};
 
 use crate::term::Term;
@@ -79,14 +79,6 @@ impl Query {
         ensures { result ≡ writes self.now (kind_number kind) }
     {
         any_writes(self.terms(), kind)
-    }
-
-    /// Whether every entity that the query matches has the kind.
-    #[tactic(auto, using(crate::proofs::Terms::any_of_terms))]
-    pub fn requires_kind(&self, kind: Kind) -> bool
-        ensures { result ≡ requires_kind self.now (kind_number kind) }
-    {
-        any_requires(self.terms(), kind)
     }
 }
 

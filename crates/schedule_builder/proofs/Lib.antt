@@ -4,3 +4,5 @@ pub mod ScheduleOrders
 pub mod Transfer
 pub mod Assembly
 pub mod SystemSets
+pub mod Counting
+pub mod Counted

@@ -4,3 +4,4 @@ pub mod Orders
 pub mod ScheduleOrder
 pub mod Queries
 pub mod Rows
+pub mod Counts

@@ -1,12 +1,16 @@
 // A built schedule, and what it tells of its systems.
 
-ghost use Rattle.std.specs.Prelude.{◌≡◌, ◌<◌, ℕ, [], length, IfOk};
+ghost use Rattle.std.specs.Prelude.{◌≡◌, ◌<◌, ℕ, [], length, get_or, IfOk};
 ghost use Rattle.model.specs.access.SelfConflict.{ConflictWithin};
 ghost use Rattle.model.specs.steps.Schedule.{system_at, params_of, level_of};
 ghost use Rattle.model.specs.steps.Built.{IsBuilt};
 ghost use Rattle.schedule_builder.specs.Rows.{IsRow, IsBefore, IsRival, AreApart};
+ghost use Rattle.model.specs.Counts.{count_below};
+ghost use Rattle.schedule_builder.specs.Counts.{IsListing, IsAfter, waits_for, is_at};
 
+use crate::counts::{counts_at, counts_before, lists_after};
 use crate::rows::{rows_before, rows_of_rivals};
+use crate::successors::Successors;
 pub use crate::system::System;
 use access_set::params::Params;
 use number_set::NumberSet;
@@ -22,6 +26,9 @@ pub struct Built {
     order: Vec<u32>,
     before: Vec<NumberSet>,
     rivals: Vec<NumberSet>,
+    after: Vec<Successors>,
+    waits: Vec<u32>,
+    sizes: Vec<u32>,
 }
 
 impl Model for Built {
@@ -30,6 +37,7 @@ impl Model for Built {
     ghost use Rattle.model.specs.steps.Built.{IsBuilt};
     ghost use Rattle.model.specs.steps.Codes.{schedule_code};
     ghost use Rattle.schedule_builder.specs.Rows.{HasRows, AreApart};
+    ghost use Rattle.schedule_builder.specs.Counts.{HasCounts};
 
     ghost Value = { Schedule };
 
@@ -37,13 +45,13 @@ impl Model for Built {
 
     ghost view = { λ b. record { systems = b.systems.items; conditions = []; syncs = b.syncs; order = b.order.items } };
 
-    ghost invariant = { λ b. IsBuilt (record { systems = b.systems.items; conditions = []; syncs = b.syncs; order = b.order.items }) × HasRows b.systems.items b.before.items b.rivals.items × AreApart b.systems.items };
+    ghost invariant = { λ b. IsBuilt (record { systems = b.systems.items; conditions = []; syncs = b.syncs; order = b.order.items }) × HasRows b.systems.items b.before.items b.rivals.items × AreApart b.systems.items × HasCounts b.systems.items b.after.items b.waits.items b.sizes.items };
 }
 
 impl Built {
     /// A schedule of its parts: the systems in declared order, how many sync points there are, and the schedule order. Asks
-    /// that the parts meet `IsBuilt` and that no system's parameters conflict among themselves. What each system waits for and
-    /// which ones it conflicts with is found out here, once.
+    /// that the parts meet `IsBuilt` and that no system's parameters conflict among themselves. What each system waits for, what
+    /// waits for it, which ones it conflicts with and how many are on each level is found out here, once.
     pub(crate) fn of_parts(
         alloc: Global,
         systems: Vec<System>,
@@ -56,16 +64,23 @@ impl Built {
     {
         let before = rows_before(alloc, systems.as_slice())?;
         let rivals = rows_of_rivals(alloc, systems.as_slice())?;
+        let after = lists_after(alloc, before.as_slice())?;
+        let waits = counts_before(alloc, before.as_slice())?;
+        let sizes = counts_at(alloc, systems.as_slice(), syncs)?;
         Ok(Built {
             systems,
             syncs,
             order,
             before,
             rivals,
+            after,
+            waits,
+            sizes,
         })
     }
 
     /// The schedule with no system and one sync point.
+    #[tactic(auto, unfolding(crate::specs::Counts::HasCounts))]
     pub fn empty(alloc: Global) -> Self
         ensures { result ≡ record { systems = []; conditions = []; syncs = 1; order = [] } }
     {
@@ -75,6 +90,9 @@ impl Built {
             order: Vec::new(alloc),
             before: Vec::new(alloc),
             rivals: Vec::new(alloc),
+            after: Vec::new(alloc),
+            waits: Vec::new(alloc),
+            sizes: Vec::new(alloc),
         }
     }
 
@@ -174,5 +192,30 @@ impl Built {
         ensures { IsRow (length self.now.systems) (IsRival self.now.systems number) result.now }
     {
         &self.rivals[number as usize]
+    }
+
+    /// The systems with an edge from a system, each once.
+    #[tactic(auto, unfolding(crate::specs::Counts::HasCounts))]
+    pub fn after(&self, number: u32) -> &[u32]
+        requires { number < length self.now.systems }
+        ensures { IsListing (IsAfter self.now.systems number) result.now }
+    {
+        self.after[number as usize].systems()
+    }
+
+    /// By number how many systems have an edge to each system.
+    #[tactic(auto, unfolding(crate::specs::Counts::HasCounts))]
+    pub fn waits(&self) -> &[u32]
+        ensures { (n : ℕ) → get_or result.now n 0 ≡ count_below (waits_for self.now.systems n) (length self.now.systems) }
+    {
+        self.waits.as_slice()
+    }
+
+    /// By number how many systems have each level.
+    #[tactic(auto, unfolding(crate::specs::Counts::HasCounts))]
+    pub fn sizes(&self) -> &[u32]
+        ensures { (k : ℕ) → get_or result.now k 0 ≡ count_below (is_at self.now.systems k) (length self.now.systems) }
+    {
+        self.sizes.as_slice()
     }
 }

@@ -3,6 +3,7 @@
 
 pub mod builder;
 pub mod built;
+mod counts;
 pub mod desc;
 pub mod fault;
 mod names;
@@ -11,4 +12,5 @@ mod query_faults;
 mod rows;
 mod schedule_order;
 mod self_conflicts;
+mod successors;
 pub mod system;

@@ -3,17 +3,13 @@ use Rattle.std.proofs.Common.{ℕ, zero, suc, ◌+◌, ◌*◌, ◌<◌, ◌≤�
 use Rattle.std.proofs.lemmas.Bool.{or_left, or_right, cases_order}
 use Rattle.model.specs.declared.steps.Step.{Step}
 use Rattle.model.specs.declared.steps.Step.TheVariants.{Cond, Start, Skip, Finish, Sync}
+use Rattle.model.specs.Counts.{count_below}
 use Rattle.model.specs.steps.Schedule.{Schedule}
 use Rattle.model.specs.steps.Lawful.{was_asked, begun, started, finished, synced, IsLawful}
 use Rattle.model.specs.runs.Laws.{ListsEnd}
 use Rattle.model.proofs.order.Histories.{runs_parts, runs_known, begun_later, synced_later}
 
 -- ---- counting
-
--- how many numbers below a bound pass a test
-abbrev pub count_below : (ℕ → Bool) → ℕ → ℕ
-count_below f zero = 0
-count_below f (suc n) = cond (f n) (suc (count_below f n)) (count_below f n)
 
 -- no more pass than there are
 pub count_at_most : (f : ℕ → Bool) (n : ℕ) → count_below f n ≤ n

@@ -10,7 +10,7 @@ use Rattle.query_plan.specs.Standing.{ArePickedHome}
 use Rattle.body.specs.Lent.{AreLent, lent_after}
 use Rattle.body.specs.Sheet.{Sheet}
 use Rattle.body.proofs.LendingCloses.{untouched_come, untouched_back}
-use Rattle.body.proofs.QueryOpens.{AreOpened, opened-none, home-next, opened-more, opened-rows, opened-cells, opened-back, opened-together}
+use Rattle.body.proofs.QueryOpens.{AreOpened, opened-none, home-next, opened-more, opened-rows, opened-cells, opened-back, opened-written, opened-together}
 use Rattle.body.proofs.opening.open_queries.Goals as goal
 
 pub loop-query-init : goal.loop-query-init
@@ -75,6 +75,11 @@ returns-clause-rows c =
 pub returns-clause-untouched : goal.returns-clause-untouched
 returns-clause-untouched c =
     opened-cells c.args.tick c.args.last_run c.args.world.now (take c.loop-query.query-index c.args.queries.now) c.loop-query.opened.items c.loop-query.world c.loop-query.invariant.opened
+
+pub returns-clause-written : goal.returns-clause-written
+returns-clause-written c =
+    opened-written c.args.tick c.args.last_run c.args.world.now c.args.queries.now c.loop-query.opened.items c.loop-query.world
+    (subst (λ qs. AreOpened c.args.tick c.args.last_run c.args.world.now qs c.loop-query.opened.items c.loop-query.world) (take_all c.loop-query.query-index c.args.queries.now c.loop-query-test.false) c.loop-query.invariant.opened)
 
 pub returns-clause-together : goal.returns-clause-together
 returns-clause-together c =

@@ -1,6 +1,6 @@
 use Rattle.std.proofs.Common.{◌≡◌, ◌<◌, ℕ, [], length, true}
 use Rattle.model.specs.steps.Schedule.{params_of}
-use Rattle.engine.specs.Fits.{fits_at}
+use Rattle.ecsrun.specs.Setup.{fits_at}
 use Rattle.ecsrun.proofs.schedule.bodies_of.Given as goal
 
 -- the scripts so far fit their systems, which read no events

@@ -1,8 +1,7 @@
 use Rattle.std.proofs.Common.{map, sym, ◌∙◌, subst, string_bytes}
 use Rattle.command_line.specs.declared.args.Work.{Work}
-use Rattle.engine.specs.EngineValue.{meanings}
 use Rattle.ecsrun.specs.Load.{entity_given}
-use Rattle.ecsrun.specs.Setup.{start_of}
+use Rattle.ecsrun.specs.Setup.{meanings_of_scripts, start_of}
 use Rattle.ecsrun.specs.Served.{IsTextOf, IsTextOfRuns}
 use Rattle.ecsrun.proofs.Fitting.{count-declared}
 use Rattle.ecsrun.proofs.Serving.{of-ok, runs-loaded}
@@ -14,11 +13,12 @@ bodies_of-requires g c = c.in_ok-desc.ensures.count ∙ sym (count-declared c.in
 
 pub returns : goal.returns
 returns g c =
+    let width = g.M.Mode.width c.args.mode.now in
     let s = c.in_ok-built.built in
     let scripts = c.in_ok-bodies.bodies.items in
     let entities = map entity_given c.as_slice-3.result.now in
-    of-ok (λ text. IsTextOfRuns s (meanings s scripts) (start_of s c.in_ok-world.world.state) c.in-Run.times (string_bytes text)) (λ text. IsTextOf c.args.work (string_bytes text)) c.run.result
-    (λ text h. subst (λ (w : Work). IsTextOf w (string_bytes text)) (sym c.in-Run.is) (record {
+    of-ok (λ text. IsTextOfRuns width s (meanings_of_scripts s scripts) (start_of s c.in_ok-world.world.state) c.in-Run.times (string_bytes text)) (λ text. IsTextOf width c.args.work (string_bytes text)) c.run.result
+    (λ text h. subst (λ (w : Work). IsTextOf width w (string_bytes text)) (sym c.in-Run.is) (record {
       declared = c.in_ok-desc.desc;
       schedule = s;
       built = record {
@@ -33,6 +33,6 @@ returns g c =
       fitting = c.in_ok-bodies.ensures.scripts;
       entities = entities;
       values = c.in_ok-resources.field-0.resources;
-      runs = runs-loaded s scripts c.in_ok-world.world.state entities c.in_ok-resources.field-0.resources c.in-Run.times (string_bytes text) c.in_ok-built.ensures.conditions
+      runs = runs-loaded width s scripts c.in_ok-world.world.state entities c.in_ok-resources.field-0.resources c.in-Run.times (string_bytes text) c.in_ok-built.ensures.conditions
           c.in_ok-bodies.ensures.readers c.in_ok-world.ensures.world h;
     })) c.run.ensures

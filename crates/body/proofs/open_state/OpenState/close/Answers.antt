@@ -1,27 +1,15 @@
-use Rattle.std.proofs.Common.{ℕ, ◌≡◌, ◌≤◌, List, length, ap, sym, ◌∙◌, subst, arith}
-use Rattle.std.proofs.lemmas.List.{with_items_is}
-use Rattle.std.specs.List.{AllByRecursion}
-use Rattle.std.specs.Vec.{with_items}
-use Rattle.model.specs.Lists.{update_at}
-use Rattle.model.specs.state.State.{Memory}
-use Rattle.model.proofs.lists.Lists.{length-update_at}
+use Rattle.std.proofs.Common.{◌≡◌, ◌++◌, List, sym, subst}
+use Rattle.model.specs.shown.Outcome.{words_written}
 use Rattle.archetype_store.specs.Store.{StoreValue}
-use Rattle.body.specs.Steps.{StateValue, IsInTime, memory_ran}
-use Rattle.body.proofs.Times.{ran_in_time}
+use Rattle.body.specs.Columns.{Column}
+use Rattle.body.specs.Out.{AreOut}
+use Rattle.body.specs.Steps.{StateValue, store_of}
+use Rattle.body.proofs.Outs.{out-closed}
 use Rattle.body.proofs.open_state.OpenState.close.Goals as goal
 
-pub invariant_of-self : goal.invariant_of-self
-invariant_of-self c =
-    let n = c.args.system in
-    let tick = c.tick-tick.result in
-    let before = c.self.inside.systems in
-    let clock = c.self.inside.world.state.clock in
-    let same : c.close.new.world.state.clock ≡ clock = ap (λ (w : StoreValue). w.state.clock) c.close.ensures in
-    let now : clock ≡ c.args.self.now.state.world.clock = ap (λ (s : StateValue). s.state.world.clock) c.self.view_is in
-    let past : tick ≤ clock = let p = c.requires.past in let t = c.tick-tick.ensures in omega arith in
-    let after : c.ran_at.new.memories ≡ update_at n (memory_ran tick) before.items
-    = c.ran_at.ensures ∙ ap (λ (ms : List Memory). update_at n (memory_ran tick) ms) c.deref_mut.ensures.value in
-    let whole = with_items_is before c.ran_at.new.memories (ap length after ∙ length-update_at n (memory_ran tick) before.items ∙ sym before.ok.0) ∙ after in
-    subst (λ (k : ℕ). IsInTime k (with_items before c.ran_at.new.memories).items) (sym same)
-    (subst (λ (ms : List Memory). IsInTime clock ms) (sym whole)
-    (ran_in_time clock tick n before.items c.self.invariant past))
+pub returns-clause-out : goal.returns-clause-out
+returns-clause-out c = λ front rest held.
+    let view = c.args.view in
+    subst (λ (w : StoreValue). AreOut w (front ++ rest)) (sym c.close.ensures.home)
+    (out-closed c.self.inside.world view.opening.tick (words_written view.params.queries view.shown.rows view.outcome.cells) front view.opening.taken rest c.laid.ensures c.close.ensures.reach
+    (subst (λ (s : StateValue). AreOut (store_of s) (front ++ (view.opening.taken ++ rest))) (sym c.self.view_is) held))

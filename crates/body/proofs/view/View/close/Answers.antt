@@ -4,6 +4,7 @@ use Rattle.model.specs.shown.Overlay.{slots_after}
 use Rattle.model.specs.state.State.{World}
 use Rattle.archetype_store.specs.Layout.{Archetype}
 use Rattle.archetype_store.specs.Lending.{all_home}
+use Rattle.archetype_store.specs.Overlays.{AreReached}
 use Rattle.archetype_store.specs.Store.{StoreValue}
 use Rattle.body.specs.Laid.{with_slots}
 use Rattle.body.specs.Lent.{AreLent, lent_in, lent_after, with_back}
@@ -12,7 +13,7 @@ use Rattle.body.specs.Sheet.{Sheet, WritesReach}
 use Rattle.body.specs.Together.{words_of_sheet}
 use Rattle.body.proofs.Gets.{all-get}
 use Rattle.body.proofs.Lendings.{can_come, homes_layout, back_after}
-use Rattle.body.proofs.LendingCloses.{lent_close}
+use Rattle.body.proofs.LendingCloses.{lent_close, lent_reach}
 use Rattle.body.proofs.view.View.close.Goals as goal
 
 pub put_home-requires : goal.put_home-requires
@@ -22,8 +23,8 @@ put_home-requires c =
     can_come w inside.tick inside.queries.items c.now-now.ensures.world (subst (λ (s : Seen). s.opening.tick ≤ w.state.clock) (sym c.self.view_is) c.requires.past) c.self.invariant.ticks
     (subst (λ (s : Seen). AreLent w s.opening.taken) (sym c.self.view_is) c.requires.lent)
 
-pub returns : goal.returns
-returns c =
+pub returns-clause-home : goal.returns-clause-home
+returns-clause-home c =
     let w = c.args.world.now in
     let inside = c.self.inside in
     let queries = inside.queries.items in
@@ -34,3 +35,12 @@ returns c =
     c.put_home.ensures.home
     ∙ subst (λ (s : Seen). all_home (lent_after queries) w ≡ (let x : StoreValue = record { state = with_slots w.state (slots_after s.opening.tick (words_written s.params.queries s.shown.rows s.outcome.cells) w.state.slots); layout = with_back (lent_in s.opening.taken) w.layout } in x)) c.self.view_is
     (ap₂ (λ (v : World) (l : List Archetype). let x : StoreValue = record { state = v; layout = l } in x) state layout)
+
+pub returns-clause-reach : goal.returns-clause-reach
+returns-clause-reach c =
+    let w = c.args.world.now in
+    let inside = c.self.inside in
+    let queries = inside.queries.items in
+    let lent = subst (λ (s : Seen). AreLent w s.opening.taken) (sym c.self.view_is) c.requires.lent in
+    subst (λ (s : Seen). AreReached w.layout (lent_in s.opening.taken) (words_written s.params.queries s.shown.rows s.outcome.cells)) c.self.view_is
+    (lent_reach w inside.tick queries c.self.invariant.ticks (λ n s e. all-get (λ (s : Sheet). WritesReach (words_of_sheet s) s.taken) queries n s c.put_home.ensures.reach e) lent)

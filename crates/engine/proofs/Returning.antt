@@ -1,0 +1,112 @@
+-- A job that has come back.
+use Rattle.std.proofs.Common.{ℕ, ◌<◌, ◌≤◌, Bool, true, ◌≡◌, List, [], ◌∷◌, ◌++◌, length, set, remove, slice_get, Option, Some, None, Result, Ok, Err, inl, refl, sym, ◌∙◌, ap, subst, arith}
+use Rattle.std.specs.Option.{IsSomeAnd}
+use Rattle.model.specs.declared.steps.Step.TheVariants.{Finish}
+use Rattle.model.specs.Lists.{IsIn}
+use Rattle.model.specs.access.Access.{Params, no_params}
+use Rattle.model.specs.shown.Outcome.{BodyMeaning}
+use Rattle.model.specs.steps.Schedule.{Schedule, params_of}
+use Rattle.model.specs.runs.Meaning.{interleaved_step}
+use Rattle.model.specs.runs.Causes.{Cause, interleaved_cause_of}
+use Rattle.model.specs.runs.Causes.Cause.{Refused}
+use Rattle.model.proofs.lists.Lists.{IsIn_right}
+use Rattle.body.specs.Answers.{Answers}
+use Rattle.body.specs.declared.system_body.BodyFault.{BodyFault}
+use Rattle.body.specs.declared.system_body.BodyFault.TheVariants.{Refused as Refusing}
+use Rattle.body.specs.Columns.{Column}
+use Rattle.body.specs.Lent.{AreLent, lent_in, with_back}
+use Rattle.body.specs.Out.{AreOut}
+use Rattle.body.specs.Seen.{Opening, Seen}
+use Rattle.body.proofs.Gets.{in-get}
+use Rattle.body.specs.Steps.{StateValue, laid, store_of}
+use Rattle.worker_pool.specs.JobOut.{JobOut}
+use Rattle.worker_pool.specs.Ran.{Ran}
+use Rattle.engine.specs.Jobs.{woven, IsJob, Placed}
+use Rattle.engine.proofs.Placing.{IsAround, around, IsReturned, lent-there, refused_there, finish_there, placed_finish}
+use Rattle.engine.proofs.Weaving.{queries_alone}
+
+-- of jobs that were out one came back, and its body has run
+pub record IsBack {B : Type 0} (meaning : B → Params → BodyMeaning) (fits : B → Params → Bool) (out later_out : List (JobOut B)) (system : ℕ) (body : B) (after : Seen) (answer : Result (Unit {0}) BodyFault) : Type 0 where
+  pub job : JobOut B
+  pub front : List (JobOut B)
+  pub rest : List (JobOut B)
+  pub whole : out ≡ front ++ (job ∷ rest)
+  pub left : later_out ≡ front ++ rest
+  pub ran : Ran meaning fits job.system job.body job.view system body after answer
+
+module _ {B : Type 0} (meaning : B → Params → BodyMeaning) (fits : B → Params → Bool) (out later_out : List (JobOut B)) (system : ℕ) (body : B) (after : Seen) (answer : Result (Unit {0}) BodyFault) where
+  pub back_from : (i : ℕ) → IsSomeAnd (slice_get out i) (λ job. Ran meaning fits job.system job.body job.view system body after answer) → later_out ≡ remove out i →
+      IsBack meaning fits out later_out system body after answer
+  back_from i some removed = go (slice_get out i) refl some
+    where
+      go : (o : Option (JobOut B)) → slice_get out i ≡ o → IsSomeAnd o (λ job. Ran meaning fits job.system job.body job.view system body after answer) → IsBack meaning fits out later_out system body after answer
+      go None e none = absurd none
+      go (Some job) e ran = let at = around out i job e in record { job = job; front = at.front; rest = at.rest; whole = at.whole; left = removed ∙ at.left; ran = ran }
+
+  module _ (there : Bool) (s : Schedule) (bodies : List BodyMeaning) (slots : List (Option B)) (w : StateValue) (back : IsBack meaning fits out later_out system body after answer) (placed : Placed meaning fits there s bodies slots out w) where
+    placed-around : Placed meaning fits there s bodies slots (back.front ++ (back.job ∷ back.rest)) w
+    placed-around = subst (λ xs. Placed meaning fits there s bodies slots xs w) back.whole placed
+
+    pub back_in : IsIn back.job out
+    back_in = subst (IsIn back.job) (sym back.whole) (IsIn_right back.job back.front (back.job ∷ back.rest) (inl refl))
+
+    back-job : IsJob meaning fits there s bodies w back.job
+    back-job = placed.jobs back.job back_in
+
+    pub back_known : system < length s.systems
+    back_known = let k = back-job.known in let e = back.ran.same_system in omega arith
+
+    pub back_slot : system < length slots
+    back_slot = let k = back_known in let e = placed.body_count in omega arith
+
+    pub back_lent : AreLent (store_of w) after.opening.taken
+    back_lent = subst (λ (o : Opening). AreLent (store_of w) o.taken) (sym back.ran.same_opening) (lent-there meaning fits there s bodies slots back.front back.rest back.job w placed-around)
+
+    pub back_past : after.opening.tick ≤ w.state.world.clock
+    back_past = subst (λ (o : Opening). o.tick ≤ w.state.world.clock) (sym back.ran.same_opening) back-job.past
+
+    -- where the body refuses, the finish stops
+    pub back_refused : (k : ℕ) → answer ≡ Err (Refusing k) → interleaved_cause_of s bodies (Finish back.job.system) (woven w.state out) ≡ Some (Refused k)
+    back_refused k e =
+        ap (λ xs. interleaved_cause_of s bodies (Finish back.job.system) (woven w.state xs)) back.whole
+        ∙ refused_there meaning fits there s bodies slots back.front back.rest back.job w placed-around k
+        (subst (λ (r : Result (Unit {0}) BodyFault). Answers (meaning back.job.body back.job.view.params back.job.view.shown) after r) e back.ran.answered)
+
+    module _ (later : StateValue) (ok : answer ≡ Ok tt) (alone : params_of s system ≡ record no_params { queries = (params_of s system).queries }) (is_later : later ≡ record { state = laid after.opening.tick after w.state; layout = with_back (lent_in after.opening.taken) w.layout })
+        (held : (front rest : List (List Column)) → AreOut (store_of w) (front ++ (after.opening.taken ++ rest)) → AreOut (store_of later) (front ++ rest)) (commands : after.outcome.commands ≡ []) (registers : after.outcome.registers ≡ after.shown.registers) where
+      returned : IsReturned meaning fits w later back.job body after
+      returned = record {
+        same_meaning = back.ran.same_meaning;
+        same_fit = back.ran.same_fit;
+        params = back.ran.same_params;
+        shown_is = back.ran.same_shown;
+        opening = back.ran.same_opening;
+        answered = subst (λ (r : Result (Unit {0}) BodyFault). Answers (meaning back.job.body back.job.view.params back.job.view.shown) after r) ok back.ran.answered;
+        commands = commands;
+        registers = registers;
+        is_later = is_later;
+        held = held;
+      }
+
+      pub back_finished : interleaved_step s bodies (Finish system) (woven w.state out) ≡ Some (woven later.state later_out)
+      back_finished =
+          ap (λ n. interleaved_step s bodies (Finish n) (woven w.state out)) back.ran.same_system
+          ∙ ap (λ xs. interleaved_step s bodies (Finish back.job.system) (woven w.state xs)) back.whole
+          ∙ finish_there meaning fits there s bodies slots back.front back.rest back.job w placed-around later body after returned
+          (queries_alone (params_of s back.job.system) (subst (λ n. params_of s n ≡ record no_params { queries = (params_of s n).queries }) back.ran.same_system alone))
+          ∙ ap (λ xs. Some (woven later.state xs)) (sym back.left)
+
+      pub back_placed : Placed meaning fits there s bodies (set slots system (Some body)) later_out later
+      back_placed =
+          subst (λ n. Placed meaning fits there s bodies (set slots n (Some body)) later_out later) (sym back.ran.same_system)
+          (subst (λ xs. Placed meaning fits there s bodies (set slots back.job.system (Some body)) xs later) (sym back.left)
+          (placed_finish meaning fits there s bodies slots back.front back.rest back.job w placed-around later body after returned))
+
+-- a job that is out in a thread tells that there are threads
+pub job_there : {B : Type 0} (meaning : B → Params → BodyMeaning) (fits : B → Params → Bool) (there : Bool) (s : Schedule) (bodies : List BodyMeaning) (slots : List (Option B)) (out : List (JobOut B)) (w : StateValue) →
+    Placed meaning fits there s bodies slots out w → (i : ℕ) → IsSomeAnd (slice_get out i) (λ job. job.there ≡ true) → there ≡ true
+job_there {B} meaning fits there s bodies slots out w placed i some = go (slice_get out i) refl some
+  where
+    go : (o : Option (JobOut B)) → slice_get out i ≡ o → IsSomeAnd o (λ job. job.there ≡ true) → there ≡ true
+    go None e none = absurd none
+    go (Some job) e h = sym (placed.jobs job (in-get out i job e)).where_is ∙ h

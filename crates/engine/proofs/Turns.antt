@@ -1,0 +1,118 @@
+-- A turn of the loop: what is next, and what is known once it is done.
+use Rattle.std.proofs.Common.{ℕ, zero, suc, ◌+◌, ◌<◌, ◌≤◌, Bool, true, false, ◌≡◌, ◌⊎◌, inl, inr, List, [], ◌∷◌, length, map, Option, Some, None, refl, sym, ◌∙◌, ap, subst, arith}
+use Rattle.std.specs.List.{AllByRecursion}
+use Rattle.model.specs.declared.steps.Step.{Step}
+use Rattle.model.specs.declared.steps.Step.TheVariants.{Sync}
+use Rattle.model.specs.declared.steps.Ready.TheVariants as ready
+use Rattle.model.specs.Lists.{has, IsIn}
+use Rattle.model.specs.access.Access.{Params}
+use Rattle.model.specs.state.State.{State}
+use Rattle.model.specs.shown.Outcome.{BodyMeaning}
+use Rattle.model.specs.steps.Schedule.{Schedule, params_of}
+use Rattle.model.specs.steps.Lawful.{MayStart, MaySync, NoneRuns, IsComplete}
+use Rattle.model.specs.steps.Ready.{IsReady}
+use Rattle.model.specs.runs.RunState.{between, has_tick, next_tick}
+use Rattle.model.specs.runs.Meaning.{interleaved_step}
+use Rattle.archetype_store.specs.Layout.{AreAllHome, IsLayoutOf}
+use Rattle.body.specs.Lent.{lent_in}
+use Rattle.body.specs.Out.{AreOut, IsApartFrom}
+use Rattle.body.specs.Steps.{StateValue, at_clock, store_of}
+use Rattle.body.proofs.Outs.{out-same, all-home}
+use Rattle.executor_core.specs.Stands.{Stand, Stands}
+use Rattle.worker_pool.specs.JobOut.{JobOut}
+use Rattle.engine.specs.declared.turn.Turn.{Turn}
+use Rattle.engine.specs.declared.turn.Turn.TheVariants as turn
+use Rattle.engine.specs.Jobs.{running_of, systems_of, held_by, woven, IsJob, Placed}
+use Rattle.engine.specs.Meanings.{meanings, Suits}
+use Rattle.engine.specs.Stage.{Stage, IsTake, IsTurn}
+use Rattle.engine.proofs.Placing.{start-free, apart-held, placed_first, suits_last, means_last, meanings_count}
+use Rattle.engine.proofs.Staging.{holds_there}
+use Rattle.engine.proofs.Weaving.{sync_woven}
+
+-- ---- what is next, told of a core
+
+module _ (core : Stand) (s : Schedule) (h : List Step) (running width : ℕ) (next : Turn) (same : core.schedule ≡ s) (stands : Stands core h) (told : (x : List Step) → Stands core x → IsTurn core.schedule x running width (Some next)) where
+  there : IsTurn s h running width (Some next)
+  there = subst (λ (x : Schedule). IsTurn x h running width (Some next)) same (told h stands)
+
+  pub turn_start : (n : ℕ) → next ≡ turn.Start n → IsTake s h running width (ready.Start n) (MayStart s h n)
+  turn_start n is = subst (λ t. IsTurn s h running width (Some t)) is there
+
+  pub turn_sync : (k : ℕ) → next ≡ turn.Sync k → IsTake s h running width (ready.Sync k) (MaySync s h k)
+  turn_sync k is = subst (λ t. IsTurn s h running width (Some t)) is there
+
+  pub turn_collect : next ≡ turn.Collect → (0 < running) × ((running ≡ width) ⊎ IsReady s h None)
+  turn_collect is = subst (λ t. IsTurn s h running width (Some t)) is there
+
+-- as many run as are out, and there is room for so many
+pub waits : (s : Schedule) (h : List Step) (running width many room : ℕ) → running ≡ many → width ≡ room → (running ≡ width) ⊎ IsReady s h None → (many ≡ room) ⊎ IsReady s h None
+waits s h running width many room e f (inl full) = inl (sym e ∙ full ∙ f)
+waits s h running width many room e f (inr is) = inr is
+
+pub no_elements : {A : Type 0} (xs : List A) → length xs ≡ 0 → xs ≡ []
+no_elements [] e = refl
+no_elements (x ∷ xs) e = absurd (omega (arith, e))
+
+-- ---- what a start asks
+
+pub record IsAllowed {B : Type 0} (s : Schedule) (n : ℕ) (out : List (JobOut B)) (w : StateValue) : Type 0 where
+  pub known : n < length s.systems
+  pub home : has n (systems_of out) ≡ false
+  pub apart : AllByRecursion (IsApartFrom (params_of s n) w.layout) (lent_in (held_by out))
+
+module _ {B : Type 0} (meaning : B → Params → BodyMeaning) (fits : B → Params → Bool) (where_is : Bool) (s : Schedule) (bodies : List BodyMeaning) (slots : List (Option B)) (out : List (JobOut B)) (w : StateValue) (placed : Placed meaning fits where_is s bodies slots out w) where
+  pub start_allowed : (width : ℕ) (start : State) (h : List Step) (n : ℕ) → Stage width s bodies start h w.state out → MayStart s h n → IsAllowed s n out w
+  start_allowed width start h n stage may =
+      let holds = holds_there width s bodies start h w.state out stage in
+      record {
+        known = may.free.known;
+        home = start-free meaning fits where_is s bodies slots out w placed h n may holds;
+        apart = apart-held meaning fits where_is s bodies slots out w placed h n may holds;
+      }
+
+  -- at a later tick
+  pub placed_later : (later : StateValue) → later ≡ record { state = at_clock (next_tick w.state) w.state; layout = w.layout } → Placed meaning fits where_is s bodies slots out later
+  placed_later later is = subst (Placed meaning fits where_is s bodies slots out) (sym is) (record {
+    body_count = placed.body_count;
+    memory_count = placed.memory_count;
+    home = placed.home;
+    jobs = λ job i. (let h = placed.jobs job i in record {
+      known = h.known;
+      params = h.params;
+      means = h.means;
+      fit = h.fit;
+      where_is = h.where_is;
+      past = (let p = h.past in omega arith);
+      registers = h.registers;
+      written = h.written;
+    });
+    distinct = placed.distinct;
+    held = out-same (store_of w) (record { state = (at_clock (next_tick w.state) w.state).world; layout = w.layout }) (held_by out) refl refl placed.held;
+  })
+
+  -- where none is out
+  placed-none : length out ≡ 0 → Placed meaning fits where_is s bodies slots [] w
+  placed-none none = subst (λ xs. Placed meaning fits where_is s bodies slots xs w) (no_elements out none) placed
+
+  pub suits_end : length out ≡ 0 → Suits fits s slots w.state
+  suits_end none = suits_last meaning fits where_is s bodies slots w (placed-none none)
+
+  pub means_end : length out ≡ 0 → length bodies ≡ length s.systems → meanings meaning s slots ≡ bodies
+  means_end none count = means_last meaning fits where_is s bodies slots w (placed-none none) count
+
+  pub home_end : length out ≡ 0 → IsLayoutOf w.state.world.slots w.layout → AreAllHome w.layout
+  home_end none laid = all-home (store_of w) laid (placed-none none).held
+
+-- at the opening
+pub placed_open : {B : Type 0} (meaning : B → Params → BodyMeaning) (fits : B → Params → Bool) (where_is : Bool) (s : Schedule) (slots : List (Option B)) (out : List (JobOut B)) (w later : StateValue) → out ≡ [] →
+    later ≡ record { state = at_clock (next_tick w.state) w.state; layout = w.layout } → Suits fits s slots w.state → AreAllHome w.layout → Placed meaning fits where_is s (meanings meaning s slots) slots out later
+placed_open meaning fits where_is s slots out w later none is suits home =
+    subst (λ xs. Placed meaning fits where_is s (meanings meaning s slots) slots xs later) (sym none)
+    (placed_later meaning fits where_is s (meanings meaning s slots) slots [] w (placed_first meaning fits where_is s slots w suits home) later is)
+
+-- a sync point
+pub sync_there : {B : Type 0} (s : Schedule) (bodies : List BodyMeaning) (k : ℕ) (w later : StateValue) (out : List (JobOut B)) → has_tick w.state ≡ true →
+    later ≡ record { state = at_clock (next_tick w.state) w.state; layout = w.layout } → interleaved_step s bodies (Sync k) (woven w.state out) ≡ Some (woven later.state out)
+sync_there s bodies k w later out tick is =
+    sync_woven s bodies k w.state (map running_of out) tick
+    ∙ ap (λ (state : State). Some (woven state out)) (sym (ap (λ (x : StateValue). x.state) is))

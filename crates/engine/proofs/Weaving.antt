@@ -1,0 +1,186 @@
+-- What a start, a finish and a sync point do to an interleaved run with nothing commanded or granted.
+use Rattle.std.proofs.Common.{ℕ, ℤ, zero, suc, ◌≤◌, Bool, true, false, ◌≡◌, ◌↔◌, List, [], ◌∷◌, ◌++◌, length, get_or, Option, Some, None, Result, Ok, Err, refl, sym, ◌∙◌, ap, cond}
+use Rattle.std.proofs.lemmas.Bool.{true_from_ne_false}
+use Rattle.std.specs.Option.{unwrap_or, option_and_then}
+use Rattle.model.specs.declared.steps.Step.TheVariants.{Start, Finish, Sync}
+use Rattle.model.specs.Lists.{all_index, update_at, with_at, provided}
+use Rattle.model.specs.declared.entities.Entity.{Entity}
+use Rattle.model.specs.state.State.{Slot, Resource, EventQueue, Memory, State, no_resource, empty_queue, no_memory, most_indices}
+use Rattle.model.specs.access.Access.{Params, no_params}
+use Rattle.model.specs.state.Events.{send_all}
+use Rattle.model.specs.state.Ids.{grant, granted_ids}
+use Rattle.model.specs.shown.Input.{Shown, shown}
+use Rattle.model.specs.shown.Outcome.{Command, Outcome, BodyMeaning, words_written, value_written, events_sent}
+use Rattle.model.specs.shown.Overlay.{slots_after, resource_after, resources_after, queues_after, has_event_numbers}
+use Rattle.model.specs.steps.Schedule.{Schedule, params_of}
+use Rattle.model.specs.runs.RunState.{RunState, RunningSystem, between, has_tick, next_tick, memory_of_system, memory_after_run, with_registers, spawns_of, ids_of_start, can_start, started_system, after_start, can_finish, overlaid, body_of, finish, finish_with, after_sync}
+use Rattle.model.specs.runs.Meaning.{Interleaved, running_system, without_system, with_running_systems, interleaved_step}
+use Rattle.model.proofs.lists.Lists.{map_index-id}
+use Rattle.model.proofs.serial.Engine.{grant-none, granted_ids-none, can_start-no_ids, started_run, memories_started, shown_with, after_sync-between, with_at-same}
+use Rattle.body.specs.Seen.{Seen}
+use Rattle.body.specs.Steps.{at_clock, laid, memory_ran, noted}
+
+-- a run of a state with these running systems
+abbrev pub over : State → List RunningSystem → Interleaved
+over state running = record { run = between state; running_systems = running }
+
+-- what is left of the parameters of a system that has queries alone
+pub record HasQueriesAlone (params : Params) : Type 0 where
+  pub res_mut : params.res_mut ≡ []
+  pub reads : params.reads ≡ []
+  pub writes : params.writes ≡ []
+  pub spawns : params.spawns ≡ None
+
+pub queries_alone : (params : Params) → params ≡ record no_params { queries = params.queries } → HasQueriesAlone params
+queries_alone params e = record {
+  res_mut = ap (λ (p : Params). p.res_mut) e;
+  reads = ap (λ (p : Params). p.reads) e;
+  writes = ap (λ (p : Params). p.writes) e;
+  spawns = ap (λ (p : Params). p.spawns) e;
+}
+
+-- ---- a start
+
+-- an interleaved start, with its test, its slots, its memories and its ids as arguments
+abbrev start_form : Schedule → ℕ → State → List RunningSystem → Bool → List Slot → List Memory → List Entity → Option Interleaved
+start_form s n state running can slots memories ids = provided can (record {
+  run = started_run n slots memories ids (between state);
+  running_systems = running ++ record { system = n; tick = next_tick state; shown = shown_with s n ids state } ∷ [];
+})
+
+start-form : (s : Schedule) (bodies : List BodyMeaning) (n : ℕ) (state : State) (running : List RunningSystem) → interleaved_step s bodies (Start n) (over state running)
+    ≡ start_form s n state running (can_start s n (between state)) (grant (spawns_of s n) state.world.slots) (memories_started s n state) (granted_ids (spawns_of s n) state.world.slots)
+unfolding started_system after_start ids_of_start
+start-form s bodies n state running = refl
+
+-- the memories after a start without event readers
+memories-noted : (s : Schedule) (n : ℕ) (state : State) → (params_of s n).reads ≡ [] → memories_started s n state ≡ update_at n (memory_ran (next_tick state)) state.systems
+memories-noted s n state none = ap (λ reads. update_at n (memory_after_run (next_tick state) reads state.events) state.systems) none
+
+-- nothing granted
+grants-none : (n : ℕ) → with_at {A = List Entity} n [] (λ m. []) ≡ (let none : ℕ → List Entity = λ m. [] in none)
+grants-none n = with_at-same {A = List Entity} n (λ m. [])
+
+-- a start notes the run of the system at the next tick, and the system runs
+pub start_woven : (s : Schedule) (bodies : List BodyMeaning) (n : ℕ) (state : State) (running : List RunningSystem) → HasQueriesAlone (params_of s n) → length state.world.slots ≤ most_indices → has_tick state ≡ true →
+    interleaved_step s bodies (Start n) (over state running)
+    ≡ Some (over (noted n (next_tick state) (at_clock (next_tick state) state)) (running ++ record { system = n; tick = next_tick state; shown = shown (params_of s n) (memory_of_system state n) state [] } ∷ []))
+start_woven s bodies n state running alone few tick =
+    let slots = state.world.slots in
+    let memories = memories_started s n state in
+    let none : spawns_of s n ≡ 0 = ap (λ (o : Option ℕ). unwrap_or o 0) alone.spawns in
+    let ran = update_at n (memory_ran (next_tick state)) state.systems in
+    start-form s bodies n state running
+    ∙ ap (λ can. start_form s n state running can (grant (spawns_of s n) slots) memories (granted_ids (spawns_of s n) slots)) (can_start-no_ids s n (between state) none few ∙ tick)
+    ∙ ap (λ m. start_form s n state running true (grant m slots) memories (granted_ids m slots)) none
+    ∙ ap (λ xs. start_form s n state running true xs memories (granted_ids 0 slots)) (grant-none slots)
+    ∙ ap (start_form s n state running true slots memories) (granted_ids-none slots)
+    ∙ ap (λ ms. start_form s n state running true slots ms []) (memories-noted s n state alone.reads)
+    ∙ ap (λ (grants : ℕ → List Entity). Some (record {
+      run = record { state = noted n (next_tick state) (at_clock (next_tick state) state); buffers = λ m. []; grants = grants };
+      running_systems = running ++ record { system = n; tick = next_tick state; shown = shown (params_of s n) (memory_of_system state n) state [] } ∷ [];
+    })) (grants-none n)
+
+-- ---- a finish
+
+-- no resource is written
+resources-none : (tick : ℕ) (values : List (Option ℤ)) (resources : List Resource) → resources_after tick (value_written [] values) resources ≡ resources
+unfolding resources_after
+resources-none tick values resources = map_index-id (λ number. resource_after tick (value_written [] values number)) no_resource resources (λ i. refl)
+
+-- no event is sent
+queues-none : (events : List (List ℤ)) (queues : List EventQueue) → queues_after (events_sent [] events) queues ≡ queues
+unfolding queues_after
+queues-none events queues = map_index-id (λ kind. send_all (events_sent [] events kind)) empty_queue queues (λ i. refl)
+
+-- a test that is passed everywhere
+all_index-true : {A : Type 0} (xs : List A) → all_index (λ i x. true) xs ≡ true
+all_index-true [] = refl
+all_index-true (x ∷ xs) = all_index-true xs
+
+-- no event wants a number
+numbers-none : (events : List (List ℤ)) (queues : List EventQueue) → has_event_numbers (events_sent [] events) queues ≡ true
+unfolding has_event_numbers
+numbers-none events queues = all_index-true queues
+
+-- a change that leaves the element
+same_at : {A : Type 0} (n : ℕ) (f : A → A) (xs : List A) (d : A) → f (get_or xs n d) ≡ get_or xs n d → update_at n f xs ≡ xs
+same_at n f [] d e = refl
+same_at zero f (x ∷ xs) d e = ap (λ y. y ∷ xs) e
+same_at (suc n) f (x ∷ xs) d e = ap (λ ys. x ∷ ys) (same_at n f xs d e)
+
+-- a state of its parts that a finish changes
+abbrev finished_with : State → List Slot → List Resource → List EventQueue → List Memory → State
+finished_with state slots resources events systems = record {
+  world = record { slots = slots; resources = resources; clock = state.world.clock };
+  events = events;
+  systems = systems;
+  conditions = state.conditions;
+  passed_over = state.passed_over;
+}
+
+-- an outcome laid over a state, with its test, and its parts as arguments
+abbrev finish_form : State → List RunningSystem → Bool → List Slot → List Resource → List EventQueue → List Memory → (ℕ → List Command) → Option Interleaved
+finish_form state running can slots resources events systems buffers = with_running_systems running (provided can (record {
+  state = finished_with state slots resources events systems;
+  buffers = buffers;
+  grants = λ m. [];
+}))
+
+finish-form : (s : Schedule) (n tick : ℕ) (x : Shown) (outcome : Outcome) (state : State) (running : List RunningSystem) →
+    with_running_systems running (finish_with s (Ok outcome) (record { system = n; tick = tick; shown = x }) (between state))
+    ≡ finish_form state running (has_event_numbers (events_sent (params_of s n).writes outcome.events) state.events)
+    (slots_after tick (words_written (params_of s n).queries x.rows outcome.cells) state.world.slots)
+    (resources_after tick (value_written (params_of s n).res_mut outcome.res_mut) state.world.resources)
+    (queues_after (events_sent (params_of s n).writes outcome.events) state.events) (update_at n (with_registers outcome.registers) state.systems) (with_at n outcome.commands (λ m. []))
+unfolding overlaid can_finish
+finish-form s n tick x outcome state running = refl
+
+-- a running system that answers an outcome
+pub record IsAnswered (s : Schedule) (bodies : List BodyMeaning) (n : ℕ) (state : State) (seen : Seen) : Type 0 where
+  pub params : seen.params ≡ params_of s n
+  pub answered : body_of bodies n seen.shown ≡ Ok seen.outcome
+  pub commands : seen.outcome.commands ≡ []
+  pub registers : seen.outcome.registers ≡ (memory_of_system state n).registers
+
+-- a finish lays the outcome over the state, and the system runs no more
+pub finish_woven : (s : Schedule) (bodies : List BodyMeaning) (n tick : ℕ) (state : State) (running : List RunningSystem) (seen : Seen) → HasQueriesAlone (params_of s n) → IsAnswered s bodies n state seen →
+    running_system n running ≡ Some (record { system = n; tick = tick; shown = seen.shown }) →
+    interleaved_step s bodies (Finish n) (over state running) ≡ Some (over (laid tick seen state) (without_system n running))
+finish_woven s bodies n tick state running seen alone is found =
+    let left = without_system n running in
+    let x = seen.shown in
+    let o = seen.outcome in
+    let slots = slots_after tick (words_written (params_of s n).queries x.rows o.cells) state.world.slots in
+    let resources = resources_after tick (value_written (params_of s n).res_mut o.res_mut) state.world.resources in
+    let events = queues_after (events_sent (params_of s n).writes o.events) state.events in
+    let systems = update_at n (with_registers o.registers) state.systems in
+    let buffers = with_at n o.commands (λ m. []) in
+    ap (option_and_then (λ p. with_running_systems left (finish s bodies p (between state)))) found
+    ∙ ap (λ (answer : Result Outcome ℕ). with_running_systems left (finish_with s answer (record { system = n; tick = tick; shown = x }) (between state))) is.answered
+    ∙ finish-form s n tick x o state left
+    ∙ ap (λ (can : Bool). finish_form state left can slots resources events systems buffers)
+    (ap (λ (ws : List ℕ). has_event_numbers (events_sent ws o.events) state.events) alone.writes ∙ numbers-none o.events state.events)
+    ∙ ap (λ (rs : List Resource). finish_form state left true slots rs events systems buffers)
+    (ap (λ (ns : List ℕ). resources_after tick (value_written ns o.res_mut) state.world.resources) alone.res_mut ∙ resources-none tick o.res_mut state.world.resources)
+    ∙ ap (λ (queues : List EventQueue). finish_form state left true slots state.world.resources queues systems buffers)
+    (ap (λ (ws : List ℕ). queues_after (events_sent ws o.events) state.events) alone.writes ∙ queues-none o.events state.events)
+    ∙ ap (λ (ms : List Memory). finish_form state left true slots state.world.resources state.events ms buffers)
+    (same_at n (with_registers o.registers) state.systems no_memory (ap (λ (rs : List ℤ). with_registers rs (get_or state.systems n no_memory)) is.registers))
+    ∙ ap (λ (bs : ℕ → List Command). finish_form state left true slots state.world.resources state.events state.systems bs)
+    (ap (λ (cs : List Command). with_at n cs (λ m. [])) is.commands ∙ with_at-same {A = List Command} n (λ m. []))
+    ∙ ap (λ (p : Params). Some (over (finished_with state (slots_after tick (words_written p.queries x.rows o.cells) state.world.slots) state.world.resources state.events state.systems) left)) (sym is.params)
+
+-- ---- a sync point
+
+pub sync_woven : (s : Schedule) (bodies : List BodyMeaning) (k : ℕ) (state : State) (running : List RunningSystem) → has_tick state ≡ true →
+    interleaved_step s bodies (Sync k) (over state running) ≡ Some (over (at_clock (next_tick state) state) running)
+sync_woven s bodies k state running tick =
+    ap (λ b. provided b (let w : Interleaved = record { run = after_sync s k (between state); running_systems = running } in w)) tick
+    ∙ ap (λ (run : RunState). Some (let w : Interleaved = record { run = run; running_systems = running } in w)) (after_sync-between s k state)
+
+-- ---- ticks
+
+-- where a call didn't tell that the clock is spent there is a tick
+pub has_tick_from : (state : State) (failed : Bool) → (failed ≡ true) ↔ (has_tick state ≡ false) → failed ≡ false → has_tick state ≡ true
+has_tick_from state failed spent ok = true_from_ne_false (has_tick state) (λ e. let both : failed ≡ true = spent.1 e in absurd (cc))

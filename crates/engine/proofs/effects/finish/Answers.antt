@@ -1,0 +1,127 @@
+use Rattle.std.proofs.Common.{◌≡◌, ◌++◌, List, set, Some, refl, sym, ap, ◌∙◌, subst}
+use Rattle.model.specs.declared.steps.Step.TheVariants.{Finish}
+use Rattle.worker_pool.specs.JobOut.{JobOut}
+use Rattle.engine.specs.Jobs.{Placed}
+use Rattle.engine.proofs.Returning.{back_from, back_in, back_known, back_slot, back_lent, back_past, back_refused, back_finished, back_placed, job_there}
+use Rattle.engine.proofs.effects.finish.Goals as goal
+
+pub settle-requires-clause-known : goal.settle-requires-clause-known
+settle-requires-clause-known g c = λ lifetimes lives.
+    let done = c.in-Some.done in
+    let meaning = g.B.Body.meaning in
+    let fits = g.B.Body.fits in
+    let there = g.M.Hosts.has_scope c.args.mode.now in
+    let s = c.args.built.now in
+    let out = c.args.pool.now in
+    let left = c.bring_back.new.self in
+    let ran = c.in-Some.ensures.ran in
+    let back = back_from meaning fits out left done.system done.body done.view done.answer ran.0 ran.1 ran.2 in
+    let placed = c.requires.placed in
+    back_known meaning fits out left done.system done.body done.view done.answer there s placed.0 c.args.slots.now c.args.state.now back placed.1
+
+pub settle-requires-clause-slot : goal.settle-requires-clause-slot
+settle-requires-clause-slot g c = λ lifetimes lives.
+    let done = c.in-Some.done in
+    let meaning = g.B.Body.meaning in
+    let fits = g.B.Body.fits in
+    let there = g.M.Hosts.has_scope c.args.mode.now in
+    let s = c.args.built.now in
+    let out = c.args.pool.now in
+    let left = c.bring_back.new.self in
+    let ran = c.in-Some.ensures.ran in
+    let back = back_from meaning fits out left done.system done.body done.view done.answer ran.0 ran.1 ran.2 in
+    let placed = c.requires.placed in
+    back_slot meaning fits out left done.system done.body done.view done.answer there s placed.0 c.args.slots.now c.args.state.now back placed.1
+
+pub settle-requires-clause-lent : goal.settle-requires-clause-lent
+settle-requires-clause-lent g c = λ lifetimes lives.
+    let done = c.in-Some.done in
+    let meaning = g.B.Body.meaning in
+    let fits = g.B.Body.fits in
+    let there = g.M.Hosts.has_scope c.args.mode.now in
+    let s = c.args.built.now in
+    let out = c.args.pool.now in
+    let left = c.bring_back.new.self in
+    let ran = c.in-Some.ensures.ran in
+    let back = back_from meaning fits out left done.system done.body done.view done.answer ran.0 ran.1 ran.2 in
+    let placed = c.requires.placed in
+    back_lent meaning fits out left done.system done.body done.view done.answer there s placed.0 c.args.slots.now c.args.state.now back placed.1
+
+pub settle-requires-clause-past : goal.settle-requires-clause-past
+settle-requires-clause-past g c = λ lifetimes lives.
+    let done = c.in-Some.done in
+    let meaning = g.B.Body.meaning in
+    let fits = g.B.Body.fits in
+    let there = g.M.Hosts.has_scope c.args.mode.now in
+    let s = c.args.built.now in
+    let out = c.args.pool.now in
+    let left = c.bring_back.new.self in
+    let ran = c.in-Some.ensures.ran in
+    let back = back_from meaning fits out left done.system done.body done.view done.answer ran.0 ran.1 ran.2 in
+    let placed = c.requires.placed in
+    back_past meaning fits out left done.system done.body done.view done.answer there s placed.0 c.args.slots.now c.args.state.now back placed.1
+
+pub returns-in_default-clause-worker : goal.returns-in_default-clause-worker
+returns-in_default-clause-worker g c = λ e.
+    let placed = c.requires.placed in
+    let none = c.in_default.ensures.none in
+    job_there g.B.Body.meaning g.B.Body.fits (g.M.Hosts.has_scope c.args.mode.now) c.args.built.now placed.0 c.args.slots.now c.args.pool.now c.args.state.now placed.1 none.0 none.1
+
+pub returns-clause-running : goal.returns-clause-running
+returns-clause-running g c =
+    let done = c.in-Some.done in
+    let meaning = g.B.Body.meaning in
+    let fits = g.B.Body.fits in
+    let there = g.M.Hosts.has_scope c.args.mode.now in
+    let s = c.args.built.now in
+    let out = c.args.pool.now in
+    let left = c.bring_back.new.self in
+    let ran = c.in-Some.ensures.ran in
+    let back = back_from meaning fits out left done.system done.body done.view done.answer ran.0 ran.1 ran.2 in
+    (back.job, back_in meaning fits out left done.system done.body done.view done.answer there s c.requires.placed.0 c.args.slots.now c.args.state.now back c.requires.placed.1, sym back.ran.same_system)
+
+pub returns-clause-finished : goal.returns-clause-finished
+returns-clause-finished g c = λ bodies placed.
+    let done = c.in-Some.done in
+    let meaning = g.B.Body.meaning in
+    let fits = g.B.Body.fits in
+    let there = g.M.Hosts.has_scope c.args.mode.now in
+    let s = c.args.built.now in
+    let out = c.args.pool.now in
+    let left = c.bring_back.new.self in
+    let ran = c.in-Some.ensures.ran in
+    let back = back_from meaning fits out left done.system done.body done.view done.answer ran.0 ran.1 ran.2 in
+    let ok = c.in_ok-settle.ensures in
+    back_finished meaning fits out left done.system done.body done.view done.answer there s bodies c.args.slots.now c.args.state.now back placed c.settle.new.state ok.answer ok.alone ok.laid ok.held ok.commands ok.registers
+
+pub returns-clause-placed : goal.returns-clause-placed
+returns-clause-placed g c = λ bodies placed.
+    let done = c.in-Some.done in
+    let meaning = g.B.Body.meaning in
+    let fits = g.B.Body.fits in
+    let there = g.M.Hosts.has_scope c.args.mode.now in
+    let s = c.args.built.now in
+    let out = c.args.pool.now in
+    let left = c.bring_back.new.self in
+    let ran = c.in-Some.ensures.ran in
+    let back = back_from meaning fits out left done.system done.body done.view done.answer ran.0 ran.1 ran.2 in
+    let ok = c.in_ok-settle.ensures in
+    subst (λ slots. Placed meaning fits there s bodies slots left c.settle.new.state) (sym ok.slots)
+    (back_placed meaning fits out left done.system done.body done.view done.answer there s bodies c.args.slots.now c.args.state.now back placed c.settle.new.state ok.answer ok.alone ok.laid ok.held ok.commands ok.registers)
+
+pub returns-in_err-settle-clause-refused : goal.returns-in_err-settle-clause-refused
+returns-in_err-settle-clause-refused g c = λ k e bodies placed.
+    let done = c.in-Some.done in
+    let meaning = g.B.Body.meaning in
+    let fits = g.B.Body.fits in
+    let there = g.M.Hosts.has_scope c.args.mode.now in
+    let s = c.args.built.now in
+    let out = c.args.pool.now in
+    let left = c.bring_back.new.self in
+    let ran = c.in-Some.ensures.ran in
+    let back = back_from meaning fits out left done.system done.body done.view done.answer ran.0 ran.1 ran.2 in
+    let answer = c.in_err-settle.ensures.refused k (let q = c.from_residual.ensures in let p = rw e at q.1 in cc) in (
+      back.job,
+      back_in meaning fits out left done.system done.body done.view done.answer there s bodies c.args.slots.now c.args.state.now back placed,
+      back_refused meaning fits out left done.system done.body done.view done.answer there s bodies c.args.slots.now c.args.state.now back placed k answer,
+    )

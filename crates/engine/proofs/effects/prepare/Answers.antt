@@ -1,0 +1,15 @@
+use Rattle.std.proofs.Common.{◌≡◌, ◌++◌, List, refl, sym, ap, ◌∙◌, subst}
+use Rattle.model.specs.access.SelfConflict.{ConflictWithin}
+use Rattle.body.specs.Steps.{StateValue, store_of}
+use Rattle.body.proofs.Outs.{out-same}
+use Rattle.engine.proofs.effects.prepare.Goals as goal
+
+pub open-requires-clause-apart : goal.open-requires-clause-apart
+open-requires-clause-apart c = λ conflict. c.apart.ensures c.args.system c.requires.known (subst ConflictWithin c.params-params.ensures conflict)
+
+pub returns-clause-held : goal.returns-clause-held
+returns-clause-held c = λ others held.
+    out-same (store_of c.open.new.self) (store_of c.note.new.self) (others ++ c.in_ok-view.view.opening.taken)
+    (ap (λ (s : StateValue). s.state.world.slots) (c.note.ensures) ∙ ap (λ (s : StateValue). s.state.world.slots) c.in-Ok.ensures.moved)
+    (ap (λ (s : StateValue). s.layout) (c.note.ensures) ∙ ap (λ (s : StateValue). s.layout) c.in-Ok.ensures.moved)
+    (c.in_ok-view.ensures.out others held)

@@ -1,0 +1,62 @@
+-- What is known of the jobs that are out in a run, and of the bodies that are at home.
+use Rattle.std.specs.Prelude.{ℕ, ◌<◌, ◌≤◌, ◌≡◌, ◌≢◌, Bool, true, false, List, [], ◌∷◌, length, map, flat_map, Option, Some, None}
+use Rattle.std.specs.List.{AllByRecursion}
+use Rattle.model.specs.Lists.{has, IsIn}
+use Rattle.model.specs.access.Access.{Params}
+use Rattle.model.specs.state.State.{State}
+use Rattle.model.specs.shown.Outcome.{BodyMeaning}
+use Rattle.model.specs.steps.Schedule.{Schedule, params_of}
+use Rattle.model.specs.runs.RunState.{RunningSystem, between, memory_of_system, body_of}
+use Rattle.model.specs.runs.Meaning.{Interleaved}
+use Rattle.body.specs.Columns.{Column}
+use Rattle.body.specs.Lent.{lent_in}
+use Rattle.body.specs.Out.{AreOut, IsWrittenBy}
+use Rattle.body.specs.Steps.{StateValue, store_of}
+use Rattle.worker_pool.specs.JobOut.{JobOut}
+use Rattle.engine.specs.Meanings.{body_at}
+
+-- the running system of a job, the systems of jobs, and the columns that they hold
+abbrev pub running_of : {B : Type 0} → JobOut B → RunningSystem
+running_of job = record { system = job.system; tick = job.view.opening.tick; shown = job.view.shown }
+
+abbrev pub systems_of : {B : Type 0} → List (JobOut B) → List ℕ
+systems_of out = map (λ job. job.system) out
+
+abbrev pub held_by : {B : Type 0} → List (JobOut B) → List (List Column)
+held_by out = flat_map (λ job. job.view.opening.taken) out
+
+-- the interleaved run of a state with these jobs out, with nothing commanded or granted
+abbrev pub woven : {B : Type 0} → State → List (JobOut B) → Interleaved
+woven state out = record { run = between state; running_systems = map running_of out }
+
+-- a job of a system of the schedule, with the parameters and the body of this, in a thread or not, started not after the clock: it holds
+-- columns that the system writes
+pub record IsJob {B : Type 0} (meaning : B → Params → BodyMeaning) (fits : B → Params → Bool) (there : Bool) (s : Schedule) (bodies : List BodyMeaning) (w : StateValue) (job : JobOut B) : Type 0 where
+  pub known : job.system < length s.systems
+  pub params : job.view.params ≡ params_of s job.system
+  pub means : meaning job.body (params_of s job.system) ≡ body_of bodies job.system
+  pub fit : fits job.body (params_of s job.system) ≡ true
+  pub where_is : job.there ≡ there
+  pub past : job.view.opening.tick ≤ w.state.world.clock
+  pub registers : job.view.shown.registers ≡ (memory_of_system w.state job.system).registers
+  pub written : AllByRecursion (IsWrittenBy (params_of s job.system).queries w.layout) (lent_in job.view.opening.taken)
+
+-- a body that is at home isn't out, means what is said of it, and fits; one that isn't at home is out
+abbrev pub IsPlaced : {B : Type 0} → (B → Params → BodyMeaning) → (B → Params → Bool) → Params → BodyMeaning → Bool → Option B → Type 0
+IsPlaced meaning fits params means out None = out ≡ true
+IsPlaced meaning fits params means out (Some body) = (out ≡ false) × (meaning body params ≡ means) × (fits body params ≡ true)
+
+-- no number stands twice
+abbrev pub AreDistinct : List ℕ → Type 0
+AreDistinct [] = Unit {0}
+AreDistinct (n ∷ ns) = (has n ns ≡ false) × AreDistinct ns
+
+-- of each system the body is at home or out, each job is one of the schedule, no system is out twice, and what is away of the world is held
+-- by the jobs
+pub record Placed {B : Type 0} (meaning : B → Params → BodyMeaning) (fits : B → Params → Bool) (there : Bool) (s : Schedule) (bodies : List BodyMeaning) (slots : List (Option B)) (out : List (JobOut B)) (w : StateValue) : Type 0 where
+  pub body_count : length slots ≡ length s.systems
+  pub memory_count : length w.state.systems ≡ length s.systems
+  pub home : (n : ℕ) → n < length s.systems → IsPlaced meaning fits (params_of s n) (body_of bodies n) (has n (systems_of out)) (body_at slots n)
+  pub jobs : (job : JobOut B) → IsIn job out → IsJob meaning fits there s bodies w job
+  pub distinct : AreDistinct (systems_of out)
+  pub held : AreOut (store_of w) (held_by out)

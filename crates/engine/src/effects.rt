@@ -1,0 +1,205 @@
+// What the opening, a start, a finish and a sync point do to the state, the bodies and the jobs that are out.
+
+ghost use Rattle.std.specs.Prelude.{◌≡◌, ◌<◌, ◌≤◌, ◌+◌, ◌↔◌, ◌⊎◌, ◌++◌, ℕ, List, [], true, false, length, set, Some, None, Ok, Err, is_some, IfOk, OnOk, OnErr, IsErr, IsErrOf};
+ghost use Rattle.std.specs.List.{AllByRecursion};
+ghost use Rattle.model.specs.declared.steps.Step.TheVariants.{Start as Begin, Finish, Sync};
+ghost use Rattle.model.specs.Lists.{has, IsIn};
+ghost use Rattle.model.specs.access.Access.{no_params};
+ghost use Rattle.model.specs.shown.Input.{shown};
+ghost use Rattle.model.specs.shown.Outcome.{BodyMeaning, untouched};
+ghost use Rattle.model.specs.steps.Schedule.{params_of};
+ghost use Rattle.model.specs.runs.RunState.{between, begin_run, has_tick, next_tick, memory_of_system};
+ghost use Rattle.model.specs.runs.Meaning.{interleaved_step};
+ghost use Rattle.model.specs.runs.Causes.{interleaved_cause_of};
+ghost use Rattle.model.specs.runs.Causes.{Cause as cause};
+ghost use Rattle.query_plan.specs.Standing.{ArePickedHome};
+ghost use Rattle.body.specs.declared.system_body.BodyFault.TheVariants.{Refused};
+ghost use Rattle.body.specs.Columns.{Column};
+ghost use Rattle.body.specs.Lent.{AreLent, lent_in, with_away, with_back};
+ghost use Rattle.body.specs.Out.{IsWrittenBy, AreOut, IsApartFrom};
+ghost use Rattle.body.specs.Steps.{at_clock, laid, noted, store_of};
+ghost use Rattle.worker_pool.specs.JobOut.{JobOut};
+ghost use Rattle.engine.specs.Meanings.{body_at};
+ghost use Rattle.engine.specs.Jobs.{systems_of, held_by, woven, Placed};
+
+use crate::faults::RunFault;
+use body::open_state::OpenState;
+use body::system_body::{Body, BodyFault};
+use body::view::View;
+use change_ticks::clock::ClockSpent;
+use schedule_builder::built::Built;
+use std::alloc::Global;
+use worker_pool::{Done, HandFault, Mode, Pool, Start};
+
+/// The opening of a run.
+pub(crate) fn open(state: &mut OpenState) -> Result<(), ClockSpent>
+    ensures opened { OnOk result (begin_run state.old.state ≡ Some (between state.new.state)) }
+    ensures moved { OnOk result (state.new ≡ record { state = at_clock (next_tick state.old.state) state.old.state; layout = state.old.layout }) }
+    ensures spent { IsErr result ↔ (has_tick state.old.state ≡ false) }
+{
+    state.law();
+    state.next()?;
+    Ok(())
+}
+
+/// A sync point.
+pub(crate) fn sync(state: &mut OpenState) -> Result<(), ClockSpent>
+    ensures moved { OnOk result (state.new ≡ record { state = at_clock (next_tick state.old.state) state.old.state; layout = state.old.layout }) }
+    ensures spent { IsErr result ↔ (has_tick state.old.state ≡ false) }
+{
+    state.next()?;
+    Ok(())
+}
+
+// What a system is shown as it starts: its run is noted at the tick to come, which becomes the clock.
+fn prepare(
+    alloc: Global,
+    built: &Built,
+    state: &mut OpenState,
+    system: u32,
+) -> Result<View, RunFault>
+    requires known { system < length built.now.systems }
+    requires memory { system < length state.old.state.systems }
+    requires home { AllByRecursion (λ query. ArePickedHome query state.old.layout) (params_of built.now system).queries }
+    ensures params { IfOk result (λ view. view.params ≡ params_of built.now system) }
+    ensures shown { IfOk result (λ view. view.shown ≡ shown (params_of built.now system) (memory_of_system state.old.state system) state.old.state []) }
+    ensures untouched { IfOk result (λ view. view.outcome ≡ untouched view.params view.shown) }
+    ensures tick { IfOk result (λ view. view.opening.tick ≡ next_tick state.old.state) }
+    ensures written { IfOk result (λ view. AllByRecursion (IsWrittenBy (params_of built.now system).queries state.old.layout) (lent_in view.opening.taken)) }
+    ensures held { IfOk result (λ view. (others : List (List Column)) → AreOut (store_of state.old) others → AreOut (store_of state.new) (others ++ view.opening.taken)) }
+    ensures noted { IfOk result (λ view. state.new ≡ record { state = noted system (next_tick state.old.state) (at_clock (next_tick state.old.state) state.old.state); layout = with_away (lent_in view.opening.taken) state.old.layout }) }
+    ensures spent { IsErrOf result RunFault.ClockSpent ↔ (has_tick state.old.state ≡ false) }
+    ensures only { (f : RunFault) → result ≡ Err f → (f ≡ RunFault.ClockSpent) ⊎ (f ≡ RunFault.Memory) }
+{
+    let params = built.params(system);
+    built.apart();
+    let tick = state.coming()?;
+    let view = state.open(alloc, params, system as usize, tick)?;
+    let Ok(_) = state.next() else {
+        unreachable!();
+    };
+    state.note(system as usize, tick);
+    Ok(view)
+}
+
+// Takes the body of a system from its place.
+fn take_body<B: Body>(slots: &mut [Option<B>], system: usize) -> B
+    requires there { is_some (body_at slots.old system) ≡ true }
+    ensures body { body_at slots.old system ≡ Some result }
+    ensures left { slots.new ≡ set slots.old system None }
+{
+    let slot = &mut slots[system];
+    let Some(body) = slot.take() else {
+        unreachable!()
+    };
+    body
+}
+
+/// A start: the system is shown the state, and its body is handed out. It runs from then on.
+pub(crate) fn start<'s, M: Mode<'s>, B: Body + 's>(
+    alloc: Global,
+    built: &Built,
+    slots: &mut [Option<B>],
+    state: &mut OpenState,
+    pool: &mut Pool<B>,
+    mode: &M,
+    system: u32,
+    number: u64,
+) -> Result<(), RunFault>
+    requires known { system < length built.now.systems }
+    requires placed { (bodies : List BodyMeaning) × Placed B.meaning B.fits (M.has_scope mode.now) built.now bodies slots.old pool.old state.old }
+    requires home { has system (systems_of pool.old) ≡ false }
+    requires apart { AllByRecursion (IsApartFrom (params_of built.now system) state.old.layout) (lent_in (held_by pool.old)) }
+    ensures started { OnOk result ((bodies : List BodyMeaning) → interleaved_step built.now bodies (Begin system) (woven state.old.state pool.old) ≡ Some (woven state.new.state pool.new)) }
+    ensures placed { OnOk result ((bodies : List BodyMeaning) → Placed B.meaning B.fits (M.has_scope mode.now) built.now bodies slots.old pool.old state.old → Placed B.meaning B.fits (M.has_scope mode.now) built.now bodies slots.new pool.new state.new) }
+    ensures longer { OnOk result (length pool.new ≡ length pool.old + 1) }
+    ensures worker { result ≡ Err RunFault.NoWorker → M.has_scope mode.now ≡ true }
+    ensures spent { result ≡ Err RunFault.ClockSpent → has_tick state.old.state ≡ false }
+    ensures unspoiled { result ≡ Err RunFault.Spoiled → ⊥ }
+    ensures unrefused { (k : ℕ) → result ≡ Err (RunFault.BodyFault k) → ⊥ }
+{
+    built.params(system).law();
+    state.law();
+    let view = prepare(alloc, built, state, system)?;
+    let body = take_body(slots, system as usize);
+    match pool.hand_out(
+        mode,
+        Start {
+            number,
+            system,
+            body,
+            view,
+        },
+    ) {
+        Ok(()) => Ok(()),
+        Err(HandFault::Memory) => Err(RunFault::Memory),
+        Err(HandFault::NoWorker) => Err(RunFault::NoWorker),
+    }
+}
+
+/// A finish: a job comes back, its body is put in its place, and its outcome is laid over the state. The system that has ended.
+pub(crate) fn finish<'s, M: Mode<'s>, B: Body + 's>(
+    built: &Built,
+    slots: &mut [Option<B>],
+    state: &mut OpenState,
+    pool: &mut Pool<B>,
+    mode: &M,
+) -> Result<u32, RunFault>
+    requires out { 0 < length pool.old }
+    requires placed { (bodies : List BodyMeaning) × Placed B.meaning B.fits (M.has_scope mode.now) built.now bodies slots.old pool.old state.old }
+    ensures running { IfOk result (λ n. (job : JobOut B) × IsIn job pool.old × (job.system ≡ n)) }
+    ensures finished { IfOk result (λ n. (bodies : List BodyMeaning) → Placed B.meaning B.fits (M.has_scope mode.now) built.now bodies slots.old pool.old state.old → interleaved_step built.now bodies (Finish n) (woven state.old.state pool.old) ≡ Some (woven state.new.state pool.new)) }
+    ensures placed { OnOk result ((bodies : List BodyMeaning) → Placed B.meaning B.fits (M.has_scope mode.now) built.now bodies slots.old pool.old state.old → Placed B.meaning B.fits (M.has_scope mode.now) built.now bodies slots.new pool.new state.new) }
+    ensures shorter { OnOk result (length pool.new + 1 ≡ length pool.old) }
+    ensures worker { result ≡ Err RunFault.NoWorker → M.has_scope mode.now ≡ true }
+    ensures refused { (k : ℕ) → result ≡ Err (RunFault.BodyFault k) → (bodies : List BodyMeaning) → Placed B.meaning B.fits (M.has_scope mode.now) built.now bodies slots.old pool.old state.old → (job : JobOut B) × IsIn job pool.old × (interleaved_cause_of built.now bodies (Finish job.system) (woven state.old.state pool.old) ≡ Some (cause.Refused k)) }
+    ensures unspent { result ≡ Err RunFault.ClockSpent → ⊥ }
+    ensures unspoiled { result ≡ Err RunFault.Spoiled → ⊥ }
+{
+    let Some(done) = pool.bring_back(mode) else {
+        return Err(RunFault::NoWorker);
+    };
+    let system = done.system;
+    settle(built, slots, state, done)?;
+    Ok(system)
+}
+
+// A job that came back: its body is put in its place, and its outcome laid over the state.
+fn settle<B: Body>(
+    built: &Built,
+    slots: &mut [Option<B>],
+    state: &mut OpenState,
+    done: Done<B>,
+) -> Result<(), RunFault>
+    requires known { done.system < length built.now.systems }
+    requires slot { done.system < length slots.old }
+    requires lent { AreLent (store_of state.old) done.view.opening.taken }
+    requires past { done.view.opening.tick ≤ state.old.state.world.clock }
+    ensures alone { OnOk result (params_of built.now done.system ≡ record no_params { queries = (params_of built.now done.system).queries }) }
+    ensures answer { OnOk result (done.answer ≡ Ok tt) }
+    ensures slots { OnOk result (slots.new ≡ set slots.old done.system (Some done.body)) }
+    ensures laid { OnOk result (state.new ≡ record { state = laid done.view.opening.tick done.view state.old.state; layout = with_back (lent_in done.view.opening.taken) state.old.layout }) }
+    ensures held { OnOk result ((front rest : List (List Column)) → AreOut (store_of state.old) (front ++ (done.view.opening.taken ++ rest)) → AreOut (store_of state.new) (front ++ rest)) }
+    ensures commands { done.view.outcome.commands ≡ [] }
+    ensures registers { done.view.outcome.registers ≡ done.view.shown.registers }
+    ensures refused { (k : ℕ) → result ≡ Err (RunFault.BodyFault k) → done.answer ≡ Err (Refused k) }
+    ensures only { (f : RunFault) → result ≡ Err f → (f ≡ RunFault.Memory) ⊎ ((k : ℕ) × (f ≡ RunFault.BodyFault k)) }
+{
+    let Done {
+        system,
+        body,
+        view,
+        answer,
+    } = done;
+    built.params(system).law();
+    view.law();
+    slots[system as usize] = Some(body);
+    match answer {
+        Ok(()) => {
+            state.close(view);
+            Ok(())
+        }
+        Err(BodyFault::Memory) => Err(RunFault::Memory),
+        Err(BodyFault::Refused(number)) => Err(RunFault::BodyFault(number)),
+    }
+}

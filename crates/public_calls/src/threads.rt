@@ -1,0 +1,136 @@
+// Runs on threads: how many systems run at once, what a refusal does, and that many threads leave what one leaves.
+
+ghost use Rattle.std.specs.Prelude.{◌≤◌};
+
+use crate::gathering::{Answering, Gathering};
+use access_set::params::Params;
+use archetype_store::store::World;
+use body::state::State;
+use body::system_body::Body;
+use change_ticks::clock::Clock;
+use engine::{Engine, RunFault};
+use executor_core::Trace;
+use schedule_builder::builder::build;
+use schedule_builder::desc::{ScheduleDesc, SystemDesc};
+use std::alloc::Global;
+use std::sync::Wait;
+use std::test::Fail;
+use std::thread;
+use std::thread::{Scope, Threads};
+use std::time::Clock as Watch;
+use worker_pool::single::NoGate;
+use worker_pool::{Gate, Single, Workers};
+
+// Runs an engine so many times, on so many threads of a scope.
+fn run_in_scope<'s, E: 's, R: Threads + Wait + Copy + Send + 's, G: Gate + 's, B: Body + 's>(
+    scope: &Scope<'s, E>,
+    runtime: R,
+    gate: &'s G,
+    alloc: Global,
+    workers: usize,
+    times: u32,
+    engine: &mut Engine<B>,
+) -> Result<Vec<Trace>, RunFault>
+    requires some { 1 ≤ workers }
+    requires few { workers ≤ 64 }
+{
+    let mode = Workers::new(workers, scope, runtime, gate);
+    engine.run(alloc, times, &mode)
+}
+
+/// Runs an engine so many times, on so many threads of a scope of its own.
+pub fn run_on_threads<
+    R: Threads + Wait + Copy + Send + Sync + 'static,
+    G: Gate + 'static,
+    B: Body + 'static,
+>(
+    runtime: R,
+    gate: &G,
+    alloc: Global,
+    workers: usize,
+    times: u32,
+    engine: &mut Engine<B>,
+) -> Result<Vec<Trace>, RunFault>
+    requires some { 1 ≤ workers }
+    requires few { workers ≤ 64 }
+{
+    thread::scope(
+        thread::scope_env(),
+        &runtime,
+        |scope| -> Result<Vec<Trace>, RunFault>
+            requires some { 1 ≤ workers }
+            requires few { workers ≤ 64 }
+        { run_in_scope(scope, runtime, gate, alloc, workers, times, engine) },
+    )
+}
+
+// An engine of systems that touch nothing, each with one of these bodies.
+fn answering(alloc: Global, refusals: &[Option<u32>]) -> Result<Engine<Answering>, Fail> {
+    let mut desc = ScheduleDesc::new(alloc);
+    let mut bodies = Vec::new(alloc);
+    for refusal in refusals {
+        let name = format!(in alloc; "s{}", bodies.len())?;
+        desc.add_system(SystemDesc::new(alloc, name, Params::new(alloc)))?;
+        bodies.push(Answering { refusal: *refusal })?;
+    }
+    let world = World::empty(alloc, Clock::at(1));
+    let state = State::new(alloc, world, refusals.len())?;
+    Ok(Engine::new(alloc, build(alloc, desc)?, bodies, state)?)
+}
+
+// How many of these systems were past a gate at once, that waits for so many, where so many threads run them.
+fn gathered<R: Threads + Wait + Watch + Copy + Send + Sync + Drop + 'static>(
+    runtime: R,
+    alloc: Global,
+    systems: &[Option<u32>],
+    workers: usize,
+) -> Result<u64, Fail>
+    requires some { 1 ≤ workers }
+    requires few { workers ≤ 64 }
+{
+    let gate = Gathering::new(runtime, workers as u64);
+    let mut engine = answering(alloc, systems)?;
+    run_on_threads(runtime, &gate, alloc, workers, 1, &mut engine)?;
+    Ok(gate.most())
+}
+
+#[test]
+fn starts_meet(rt: HostRuntime) -> Result<(), Fail> {
+    for _trial in 0..3 {
+        assert_eq!(rt; gathered(rt, rt.alloc(), &[None; 2], 2)?, 2);
+        assert_eq!(rt; gathered(rt, rt.alloc(), &[None; 3], 3)?, 3);
+    }
+    Ok(())
+}
+
+#[test]
+fn sixty_four_of_many_run_at_once(rt: HostRuntime) -> Result<(), Fail> {
+    assert_eq!(rt; gathered(rt, rt.alloc(), &[None; 256], 64)?, 64);
+    Ok(())
+}
+
+#[test]
+fn a_refusal_spoils(rt: HostRuntime) -> Result<(), Fail> {
+    let alloc = rt.alloc();
+    let mut engine = answering(alloc, &[None, Some(7)])?;
+    let single = engine.run(alloc, 1, &Single).err();
+    assert_eq!(rt; single, Some(RunFault::BodyFault(7)));
+    let again = engine.run(alloc, 1, &Single).err();
+    assert_eq!(rt; again, Some(RunFault::Spoiled));
+    let gate = Gathering::new(rt, 2);
+    let mut engine = answering(alloc, &[None, Some(7)])?;
+    let wide = run_on_threads(rt, &gate, alloc, 2, 1, &mut engine).err();
+    assert_eq!(rt; wide, Some(RunFault::BodyFault(7)));
+    assert_eq!(rt; gate.most(), 2);
+    let again = run_on_threads(rt, &gate, alloc, 2, 1, &mut engine).err();
+    assert_eq!(rt; again, Some(RunFault::Spoiled));
+    Ok(())
+}
+
+#[test]
+fn runs_many_times(rt: HostRuntime) -> Result<(), Fail> {
+    let mut engine = answering(rt.alloc(), &[None; 4])?;
+    let traces = run_on_threads(rt, &NoGate, rt.alloc(), 4, 1_000, &mut engine)?;
+    assert_eq!(rt; traces.len(), 1_000);
+    Ok(())
+}

@@ -1,0 +1,19 @@
+// Jobs of a run: a body that a system starts with, where it runs, and how it comes back. No other crate starts threads.
+#![tactic(auto)]
+
+pub mod fault;
+pub mod mode;
+pub mod pool;
+pub mod single;
+pub mod start;
+pub mod workers;
+
+pub use fault::HandFault;
+pub use mode::{Gate, Hosts, Joins, Line, Mode};
+pub use pool::{Pool, drain};
+pub use single::Single;
+pub use start::{Done, Start};
+pub use workers::Workers;
+
+#[cfg(test)]
+mod trials;

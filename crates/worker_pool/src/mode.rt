@@ -1,0 +1,67 @@
+// How the systems of a run are executed: on how many threads, and what these threads ask of who waits for them.
+
+ghost use Rattle.std.specs.Prelude.{◌≡◌, ℕ, ◌<◌, Bool, is_some, IfSome, IsSome, IsTrue};
+
+use crossbeam_channel::{Receiver, Sender};
+use std::thread::{Promise, PromisedHandle, Scope};
+
+/// What a worker passes before and after it runs a body. It is called with the number of the start.
+pub trait Gate: Send + Sync + Drop {
+    /// Before the body runs.
+    fn enter(&self, number: u64);
+
+    /// After the body has run.
+    fn leave(&self, number: u64);
+}
+
+/// Where the threads of a run are started: in a scope, or nowhere.
+pub trait Hosts<'s> {
+    /// What the scope's threads may borrow.
+    type Environment: 's;
+
+    ghost has_scope: { Self → Bool };
+
+    /// The scope, none where no thread is started.
+    fn scope(&self) -> Option<&Scope<'s, Self::Environment>>
+        ensures { is_some result ≡ has_scope self.now };
+}
+
+/// How a thread's result is waited for.
+pub trait Joins {
+    ghost joins: { Self → Bool };
+
+    /// The result of a thread, none where it can't be had.
+    fn join<T: Drop, P: Promise<T>>(&self, child: PromisedHandle<T, P>) -> Option<T>
+        ensures kept { IfSome result (λ r. P.kept_by child.promise r) }
+        ensures joined { IsTrue (joins self.now) → IsSome result };
+}
+
+/// How a worker tells that it is done, and how that is heard.
+pub trait Line: Copy + Send {
+    /// Tells that the start of this number is done.
+    fn ring(&self, to: &Sender<u64>, number: u64);
+
+    /// The number of a start that is done, none where none is heard.
+    fn hear(&self, from: &Receiver<u64>) -> Option<u64>;
+}
+
+/// How the systems of a run are executed.
+pub trait Mode<'s>: Hosts<'s> + Joins {
+    /// How its workers tell that they are done.
+    type Line: Line + 's;
+    /// What its workers pass.
+    type Gate: Gate + 's;
+
+    ghost width: { Self → ℕ };
+
+    /// How many systems may run at once, at least one.
+    fn width(&self) -> usize
+        ensures width { result ≡ width self.now }
+        ensures some { 0 < result };
+
+    /// The line of its workers.
+    fn line(&self) -> Self::Line;
+
+    /// The gate of its workers.
+    fn gate(&self) -> &'s Self::Gate;
+}

@@ -1,0 +1,180 @@
+// The jobs that are out, and how they are handed out and come back.
+
+ghost use Rattle.std.specs.Prelude.{◌≡◌, ℕ, ◌+◌, ◌<◌, true, Err, [], ◌∷◌, ◌++◌, length, is_some, slice_get, remove, IfOk, IfSome, IfNone, IsSome, IsTrue, IsSomeAnd, OnOk, OnErr};
+ghost use Rattle.worker_pool.specs.Ran.{Ran};
+
+use crate::fault::HandFault;
+use crate::mode::{Gate, Joins, Line, Mode};
+use crate::start::{Done, DoneOf, Start, run_start};
+use body::system_body::Body;
+use crossbeam_channel::{Receiver, Sender};
+use std::alloc::{AllocError, Global};
+use std::marker::Model;
+use std::thread::{PromisedHandle, Scope};
+
+// How many notices a channel holds.
+const MOST_NOTICES: usize = 64;
+
+// A job that is out: kept to be run here, or in a thread.
+#[derive(Drop)]
+enum Work<B: Body> {
+    Here(Start<B>),
+    There(PromisedHandle<Done<B>, DoneOf<B>>),
+}
+
+// A job that is out, with the number of its start.
+#[derive(Drop)]
+struct Out<B: Body> {
+    number: u64,
+    work: Work<B>,
+}
+
+impl<B: Body> Model for Out<B> {
+    ghost use Rattle.std.specs.Prelude.{true, false};
+    ghost use Rattle.worker_pool.specs.JobOut.{JobOut};
+    ghost use Rattle.worker_pool.specs.declared.pool.Work.TheVariants.{Here, There};
+
+    ghost Value = { JobOut B };
+
+    ghost view = { λ o. elim o.work [
+      | Here start ↦ record { number = start.number; system = start.system; body = start.body; view = start.view; there = false }
+      | There child ↦ record { number = child.promise.start.value.number; system = child.promise.start.value.system; body = child.promise.start.value.body; view = child.promise.start.value.view; there = true }
+    ] };
+}
+
+impl<B: Body> Out<B> {
+    // Whether a notice tells of this job.
+    fn is_told(&self, number: u64) -> bool {
+        self.number == number
+    }
+
+    // What comes of the job.
+    fn finish<J: Joins>(self, mode: &J) -> Option<Done<B>>
+        ensures ran { IfSome result (λ done. Ran B.meaning B.fits self.system self.body self.view done.system done.body done.view done.answer) }
+        ensures none { IfNone result (self.there ≡ true) }
+        ensures joins { IsTrue (J.joins mode.now) → IsSome result }
+    {
+        match self.work {
+            Work::Here(start) => Some(run_start(start)),
+            Work::There(child) => mode.join(child),
+        }
+    }
+}
+
+/// The jobs that are out. Contracts see them as a list, in the order in which they were handed out.
+#[derive(Drop)]
+pub struct Pool<B: Body> {
+    out: Vec<Out<B>>,
+    notices: Receiver<u64>,
+    bell: Sender<u64>,
+}
+
+impl<B: Body> Model for Pool<B> {
+    ghost use Rattle.std.specs.Prelude.{List};
+    ghost use Rattle.worker_pool.specs.JobOut.{JobOut};
+
+    ghost Value = { List (JobOut B) };
+
+    ghost view = { λ p. p.out.items };
+}
+
+impl<B: Body> Pool<B> {
+    /// A pool with no job out.
+    pub fn new(alloc: Global) -> Result<Self, AllocError>
+        ensures { IfOk result (λ pool. pool ≡ []) }
+    {
+        let (bell, notices) = crossbeam_channel::bounded(alloc, MOST_NOTICES)?;
+        Ok(Pool {
+            out: Vec::new(alloc),
+            notices,
+            bell,
+        })
+    }
+
+    /// How many jobs are out.
+    pub fn count(&self) -> usize
+        ensures { result ≡ length self.now }
+    {
+        self.out.len()
+    }
+
+    /// Hands a job out: to a thread where the mode has a scope, else it is kept to be run when it is brought back. After an error nothing
+    /// is handed out, and the job is dropped.
+    pub fn hand_out<'s, M: Mode<'s>>(&mut self, mode: &M, start: Start<B>) -> Result<(), HandFault>
+    where
+        B: 's,
+        ensures ok { OnOk result (self.new ≡ self.old ++ record { number = start.number; system = start.system; body = start.body; view = start.view; there = M.has_scope mode.now } ∷ []) }
+        ensures err { OnErr result (self.new ≡ self.old) }
+        ensures worker { result ≡ Err HandFault.NoWorker → M.has_scope mode.now ≡ true }
+    {
+        self.give(mode.scope(), mode.line(), mode.gate(), start)
+    }
+
+    // Hands a job out to a thread of the scope, or keeps it where there is none.
+    fn give<'s, E: 's, N: Line + 's, G: Gate>(
+        &mut self,
+        scope: Option<&Scope<'s, E>>,
+        line: N,
+        gate: &'s G,
+        start: Start<B>,
+    ) -> Result<(), HandFault>
+    where
+        B: 's,
+        ensures ok { OnOk result (self.new ≡ self.old ++ record { number = start.number; system = start.system; body = start.body; view = start.view; there = is_some scope.entry } ∷ []) }
+        ensures err { OnErr result (self.new ≡ self.old) }
+        ensures worker { result ≡ Err HandFault.NoWorker → is_some scope.entry ≡ true }
+    {
+        self.out.reserve(1)?;
+        let number = start.number;
+        let work = match scope {
+            None => Work::Here(start),
+            Some(scope) => {
+                let bell = self.bell.clone()?;
+                let promise = DoneOf::of(&start);
+                let job = move || {
+                    gate.enter(number);
+                    let done = run_start(start);
+                    gate.leave(number);
+                    line.ring(&bell, number);
+                    done
+                };
+                match scope.spawn_with(promise, job) {
+                    Ok(child) => Work::There(child),
+                    Err(_refused) => return Err(HandFault::NoWorker),
+                }
+            }
+        };
+        let Ok(()) = self.out.push(Out { number, work }) else {
+            unreachable!()
+        };
+        Ok(())
+    }
+
+    /// Brings one job back, that of whichever thread is done, once it is. None only where the mode can't wait for a thread.
+    pub fn bring_back<'s, M: Mode<'s>>(&mut self, mode: &M) -> Option<Done<B>>
+    where
+        B: 's,
+        requires { 0 < length self.old }
+        ensures ran { IfSome result (λ done. (i : ℕ) × IsSomeAnd (slice_get self.old i) (λ job. Ran B.meaning B.fits job.system job.body job.view done.system done.body done.view done.answer) × (self.new ≡ remove self.old i)) }
+        ensures none { IfNone result ((i : ℕ) × IsSomeAnd (slice_get self.old i) (λ job. job.there ≡ true)) }
+        ensures joins { IsTrue (M.joins mode.now) → IsSome result }
+        ensures shorter { length self.new + 1 ≡ length self.old }
+    {
+        let heard = mode.line().hear(&self.notices).unwrap_or(0);
+        let at = self
+            .out
+            .iter()
+            .position(|out| out.is_told(heard))
+            .unwrap_or(0);
+        self.out.remove(at).finish(mode)
+    }
+}
+
+/// Brings all jobs back and drops what comes of them.
+pub fn drain<'s, B: Body + 's, M: Mode<'s>>(pool: &mut Pool<B>, mode: &M)
+    ensures { pool.new ≡ [] }
+{
+    while pool.count() > 0 {
+        let _done = pool.bring_back(mode);
+    }
+}

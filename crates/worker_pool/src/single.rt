@@ -1,0 +1,74 @@
+// One thread: the bodies run where they are brought back.
+
+ghost use Rattle.std.specs.Prelude.{false};
+
+use crate::mode::{Gate, Hosts, Joins, Line, Mode};
+use crossbeam_channel::{Receiver, Sender};
+use std::thread::{Promise, PromisedHandle, Scope};
+
+/// One thread: each start is finished before anything else is done.
+#[derive(Clone, Copy, PartialEq, Eq, Debug, Default)]
+pub struct Single;
+
+/// A gate that lets all pass at once.
+#[derive(Clone, Copy, PartialEq, Eq, Debug, Default)]
+pub struct NoGate;
+
+/// A line on which nothing is heard.
+#[derive(Clone, Copy, PartialEq, Eq, Debug, Default)]
+pub struct NoLine;
+
+// The gate of a run on one thread.
+const NO_GATE: NoGate = NoGate;
+
+impl Gate for NoGate {
+    fn enter(&self, _number: u64) {}
+
+    fn leave(&self, _number: u64) {}
+}
+
+impl Line for NoLine {
+    fn ring(&self, _to: &Sender<u64>, _number: u64) {}
+
+    fn hear(&self, _from: &Receiver<u64>) -> Option<u64> {
+        None
+    }
+}
+
+impl<'s> Hosts<'s> for Single {
+    type Environment = ();
+
+    ghost has_scope = { λ _. false };
+
+    fn scope(&self) -> Option<&Scope<'s, ()>> {
+        None
+    }
+}
+
+impl Joins for Single {
+    ghost joins = { λ _. false };
+
+    fn join<T: Drop, P: Promise<T>>(&self, _child: PromisedHandle<T, P>) -> Option<T> {
+        None
+    }
+}
+
+impl<'s> Mode<'s> for Single {
+    type Line = NoLine;
+
+    type Gate = NoGate;
+
+    ghost width = { λ _. 1 };
+
+    fn width(&self) -> usize {
+        1
+    }
+
+    fn line(&self) -> NoLine {
+        NoLine
+    }
+
+    fn gate(&self) -> &'s NoGate {
+        &NO_GATE
+    }
+}

@@ -1,0 +1,77 @@
+// A job: a body to be run on a view, and what comes of it.
+
+ghost use Rattle.std.specs.Prelude.{◌≡◌, IsTrue};
+ghost use Rattle.model.specs.shown.Outcome.{untouched};
+ghost use Rattle.worker_pool.specs.Ran.{Ran};
+
+use body::system_body::{Body, BodyFault};
+use body::view::View;
+use std::snapshot::Snapshot;
+use std::thread::Promise;
+
+/// A body that a system starts with: it fits the parameters of the view, in which nothing is written yet.
+#[derive(Drop)]
+pub struct Start<B: Body> {
+    /// The number of the start in its run, which a gate is told.
+    pub number: u64,
+    /// The system.
+    pub system: u32,
+    /// Its body.
+    pub body: B,
+    /// What it is shown.
+    pub view: View,
+    ghost fits: { IsTrue (B.fits body view.params) },
+    ghost untouched: { view.outcome ≡ untouched view.params view.shown },
+}
+
+/// A body that has run.
+#[derive(Drop)]
+pub struct Done<B> {
+    /// The system.
+    pub system: u32,
+    /// Its body.
+    pub body: B,
+    /// What it was shown and what it wrote.
+    pub view: View,
+    /// What it answered.
+    pub answer: Result<(), BodyFault>,
+}
+
+/// Runs the body of a start.
+pub fn run_start<B: Body>(start: Start<B>) -> Done<B>
+    ensures { Ran B.meaning B.fits start.system start.body start.view result.system result.body result.view result.answer }
+{
+    let Start {
+        number: _,
+        system,
+        mut body,
+        mut view,
+    } = start;
+    let answer = body.run(&mut view);
+    Done {
+        system,
+        body,
+        view,
+        answer,
+    }
+}
+
+// What a thread promises of its result: the body of this start has run.
+#[derive(Drop)]
+pub(crate) struct DoneOf<B: Body> {
+    pub(crate) start: Snapshot<Start<B>>,
+}
+
+impl<B: Body> DoneOf<B> {
+    pub(crate) fn of(start: &Start<B>) -> Self
+        ensures { result.start.value ≡ start.now }
+    {
+        DoneOf {
+            start: Snapshot::of(start),
+        }
+    }
+}
+
+impl<B: Body> Promise<Done<B>> for DoneOf<B> {
+    ghost kept_by = { λ p d. Ran B.meaning B.fits p.start.value.system p.start.value.body p.start.value.view d.system d.body d.view d.answer };
+}
