@@ -30,7 +30,7 @@ use worker_pool::Mode;
 
 /// Does the work of a command line: reads the program file, and writes to `out` the world that so many runs of its schedule in the
 /// mode leave, or the report of which of its systems race. What goes wrong is told to `faults` in one line. Gives the exit
-/// status: 0 where the work is done, 1 where the content is refused, 3 where input, output or memory fail.
+/// status: 0 where the work is done, 1 where the content is refused, 3 where input, output, memory or a thread fail.
 pub fn serve<'s, M: Mode<'s>, F: Read, O: Write, E: Write>(
     alloc: Global,
     args: &Args<'_>,
