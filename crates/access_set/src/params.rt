@@ -37,7 +37,7 @@ impl Model for Params {
 
     ghost view = { λ p. record { queries = p.queries.items; res = map res_number p.res.items; res_mut = map res_number p.res_mut.items; reads = map event_number p.reads.items; writes = map event_number p.writes.items; spawns = p.spawns } };
 
-    ghost invariant = { λ p. (p.res.items ≡ []) × (p.res_mut.items ≡ []) × (p.reads.items ≡ []) × (p.writes.items ≡ []) × (p.spawns ≡ None) × AreFootprints p.queries.items p.footprints.items };
+    ghost invariant = { λ p. (p.reads.items ≡ []) × (p.writes.items ≡ []) × (p.spawns ≡ None) × AreFootprints p.queries.items p.footprints.items };
 }
 
 impl Params {
@@ -69,17 +69,35 @@ impl Params {
         Ok(())
     }
 
-    /// Queries are all that there is yet.
+    /// Adds a resource that is read (`Res`) after the others. Where memory is wanting the parameters stay as they were.
+    pub fn add_res(&mut self, resource: Res) -> Result<(), AllocError>
+        ensures ok { OnOk result (self.new ≡ record self.old { res = self.old.res ++ res_number resource ∷ [] }) }
+        ensures err { OnErr result (self.new ≡ self.old) }
+    {
+        self.res.push(resource)?;
+        Ok(())
+    }
+
+    /// Adds a resource that is written (`ResMut`) after the others. Where memory is wanting the parameters stay as they were.
+    pub fn add_res_mut(&mut self, resource: Res) -> Result<(), AllocError>
+        ensures ok { OnOk result (self.new ≡ record self.old { res_mut = self.old.res_mut ++ res_number resource ∷ [] }) }
+        ensures err { OnErr result (self.new ≡ self.old) }
+    {
+        self.res_mut.push(resource)?;
+        Ok(())
+    }
+
+    /// Queries and resources are all that there is yet: no events and no commands.
     pub fn law(&self)
-        ensures { self.now ≡ record no_params { queries = self.now.queries } }
+        ensures { self.now ≡ record no_params { queries = self.now.queries; res = self.now.res; res_mut = self.now.res_mut } }
     {
         let _ = &self.spawns;
     }
 
-    /// The queries, in order, which are all that there is yet.
+    /// The queries, in order. Beside them there are only resources yet.
     pub fn queries(&self) -> &[Query]
         ensures queries { result.now ≡ self.now.queries }
-        ensures alone { self.now ≡ record no_params { queries = result.now } }
+        ensures alone { self.now ≡ record no_params { queries = result.now; res = self.now.res; res_mut = self.now.res_mut } }
     {
         self.queries.as_slice()
     }
@@ -133,6 +151,13 @@ impl Params {
         if has_resource(self.res(), resource) {
             return true;
         }
+        has_resource(self.res_mut(), resource)
+    }
+
+    /// Whether the resource is written (`ResMut`).
+    pub fn writes_resource(&self, resource: Res) -> bool
+        ensures { result ≡ has (res_number resource) self.now.res_mut }
+    {
         has_resource(self.res_mut(), resource)
     }
 

@@ -178,6 +178,13 @@ pub lent_close : (w : StoreValue) (tick : ℕ) (sheets : List Sheet) → IsLayou
 lent_close w tick sheets laid world ticks alone reach lent =
     taken_close w tick (words_of_all sheets) (lent_after sheets) laid world (each_after w tick sheets ticks lent alone) (each_reached w tick sheets ticks lent reach)
 
+-- ---- the clock
+
+-- what comes home leaves the clock
+pub home-clock : (cs : List TakenColumn) (w : StoreValue) → (all_home cs w).state.clock ≡ w.state.clock
+home-clock [] w = refl
+home-clock (c ∷ cs) w = home-clock cs w
+
 -- ---- one column after the other
 
 pub lent_of-append : (xs ys : List Column) → lent_of (xs ++ ys) ≡ lent_of xs ++ lent_of ys

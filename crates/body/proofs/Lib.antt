@@ -2,6 +2,7 @@ mod Edits
 mod Views
 mod States
 mod Times
+pub mod Values
 pub mod Gets
 pub mod SheetWords
 pub mod Sheets

@@ -4,6 +4,7 @@ pub mod Steps
 pub mod Columns
 pub mod HeldColumns
 pub mod Sheet
+pub mod Values
 pub mod SeenOver
 pub mod Together
 pub mod SlotTable

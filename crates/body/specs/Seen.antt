@@ -1,12 +1,13 @@
--- What a body sees of its view: the parameters, what is shown, and the outcome so far. Reads and writes of one row.
-use Rattle.std.specs.Prelude.{ℕ, ℤ, Bool, cond, List, [], ◌∷◌, get_or, Option, Some, None}
+-- What a body sees of its view: the parameters, what is shown, and the outcome so far. Reads and writes of one row, of a resource and of a
+-- register.
+use Rattle.std.specs.Prelude.{ℕ, ℤ, pos, ◌==◌, Bool, cond, List, [], ◌∷◌, get_or, set, Option, Some, None, unwrap_or}
 use Rattle.std.specs.List.{list_any}
 use Rattle.model.specs.Lists.{first_some, is_number, update_at}
 use Rattle.model.specs.access.Query.{Term, written}
 pub use Rattle.model.specs.access.QueryFaults.{fetched}
 use Rattle.model.specs.access.Access.{Params}
 use Rattle.model.specs.shown.Input.{ShownRow, Shown}
-use Rattle.model.specs.shown.Outcome.{Outcome, words_in_row}
+use Rattle.model.specs.shown.Outcome.{Outcome, words_in_row, value_written}
 use Rattle.body.specs.Columns.{Column}
 
 -- what a view was opened over: the columns of each query as they were taken, and the tick at which what is written there counts as
@@ -79,5 +80,61 @@ with_written seen q r kind words = record {
   params = seen.params;
   shown = seen.shown;
   outcome = with_row_cells q r (with_words (query_at seen.params q) kind words) seen.outcome;
+  opening = seen.opening;
+}
+
+-- ---- resources
+
+-- what a resource is shown as, among those that are named
+abbrev pub value_shown : List ℕ → List ℤ → ℕ → Option ℤ
+value_shown [] values number = None
+value_shown (n ∷ ns) [] number = None
+value_shown (n ∷ ns) (v ∷ vs) number = cond (n == number) (Some v) (value_shown ns vs number)
+
+-- what a resource is read as, by the names of those that are read and of those that are written, what these are shown as, and what was
+-- written: this, else what is shown. 0 where it isn't named
+abbrev pub value_read : List ℕ → List ℕ → List ℤ → List ℤ → List (Option ℤ) → ℕ → ℤ
+value_read res res_mut shown shown_mut written number =
+    unwrap_or (first_some (value_written res_mut written number) (first_some (value_shown res shown number) (value_shown res_mut shown_mut number))) (pos 0)
+
+-- the values written, with one more at each place of a resource
+abbrev pub with_value : List ℕ → ℕ → ℤ → List (Option ℤ) → List (Option ℤ)
+with_value [] number value values = values
+with_value (n ∷ ns) number value [] = []
+with_value (n ∷ ns) number value (v ∷ vs) = cond (n == number) (Some value) v ∷ with_value ns number value vs
+
+-- what a view reads a resource as
+abbrev pub resource_read : Seen → ℕ → ℤ
+resource_read seen number = value_read seen.params.res seen.params.res_mut seen.shown.res seen.shown.res_mut seen.outcome.res_mut number
+
+-- a view with a resource written
+abbrev pub with_resource : Seen → ℕ → ℤ → Seen
+with_resource seen number value = record {
+  params = seen.params;
+  shown = seen.shown;
+  outcome = record {
+    cells = seen.outcome.cells;
+    res_mut = with_value seen.params.res_mut number value seen.outcome.res_mut;
+    events = seen.outcome.events;
+    commands = seen.outcome.commands;
+    registers = seen.outcome.registers;
+  };
+  opening = seen.opening;
+}
+
+-- ---- registers
+
+-- a view with another value in a register
+abbrev pub with_register : Seen → ℕ → ℤ → Seen
+with_register seen register value = record {
+  params = seen.params;
+  shown = seen.shown;
+  outcome = record {
+    cells = seen.outcome.cells;
+    res_mut = seen.outcome.res_mut;
+    events = seen.outcome.events;
+    commands = seen.outcome.commands;
+    registers = set seen.outcome.registers register value;
+  };
   opening = seen.opening;
 }

@@ -1,15 +1,16 @@
--- What is seen of a view over queries with these sheets.
-use Rattle.std.specs.Prelude.{ℕ, ◌≡◌, ℤ, List, [], map, slice_get, Some, None}
+-- What is seen of a view over queries with these sheets, and these values of resources and registers.
+use Rattle.std.specs.Prelude.{ℕ, ◌≡◌, List, [], map, slice_get, Some, None}
 use Rattle.std.specs.List.{AllByRecursion}
 use Rattle.body.specs.Seen.{Seen}
 use Rattle.body.specs.Sheet.{Sheet}
 use Rattle.body.specs.Together.{IsAlone}
+use Rattle.body.specs.Values.{ValuesSeen}
 
-abbrev pub seen_over : ℕ → List Sheet → List ℤ → Seen
-seen_over tick queries registers = record {
-  params = record { queries = map (λ (q : Sheet). q.terms) queries; res = []; res_mut = []; reads = []; writes = []; spawns = None };
-  shown = record { rows = map (λ (q : Sheet). q.rows) queries; res = []; res_mut = []; unread = []; registers = registers; granted = [] };
-  outcome = record { cells = map (λ (q : Sheet). q.cells) queries; res_mut = []; events = []; commands = []; registers = registers };
+abbrev pub seen_over : ℕ → List Sheet → ValuesSeen → Seen
+seen_over tick queries values = record {
+  params = record { queries = map (λ (q : Sheet). q.terms) queries; res = values.res; res_mut = values.res_mut; reads = []; writes = []; spawns = None };
+  shown = record { rows = map (λ (q : Sheet). q.rows) queries; res = values.res_shown; res_mut = values.res_mut_shown; unread = []; registers = values.registers_shown; granted = [] };
+  outcome = record { cells = map (λ (q : Sheet). q.cells) queries; res_mut = values.written; events = []; commands = []; registers = values.registers };
   opening = record { taken = map (λ (q : Sheet). q.taken) queries; tick = tick };
 }
 

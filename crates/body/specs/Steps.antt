@@ -5,8 +5,8 @@ use Rattle.archetype_store.specs.Layout.{Archetype, AreAllHome}
 use Rattle.archetype_store.specs.Store.{StoreValue}
 use Rattle.model.specs.Lists.{update_at}
 use Rattle.model.specs.state.State.{Memory, State, World, event_count, empty_queue}
-use Rattle.model.specs.shown.Overlay.{slots_after}
-use Rattle.model.specs.shown.Outcome.{words_written}
+use Rattle.model.specs.runs.RunState.{with_registers}
+use Rattle.body.specs.Laid.{world_after}
 use Rattle.body.specs.Seen.{Seen}
 
 -- the state at another tick
@@ -33,16 +33,12 @@ noted n tick state = record {
   passed_over = state.passed_over;
 }
 
--- the state with what was written in a view laid over it at a tick
-abbrev pub laid : ℕ → Seen → State → State
-laid tick seen state = record {
-  world = record {
-    slots = slots_after tick (words_written seen.params.queries seen.shown.rows seen.outcome.cells) state.world.slots;
-    resources = state.world.resources;
-    clock = state.world.clock;
-  };
+-- the state with what was written in a view of a system laid over it at a tick
+abbrev pub laid : ℕ → ℕ → Seen → State → State
+laid n tick seen state = record {
+  world = world_after tick seen state.world;
   events = state.events;
-  systems = state.systems;
+  systems = update_at n (with_registers seen.outcome.registers) state.systems;
   conditions = state.conditions;
   passed_over = state.passed_over;
 }

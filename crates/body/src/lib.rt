@@ -12,3 +12,4 @@ pub mod state;
 pub mod system_body;
 pub mod view;
 pub mod view_query;
+mod view_values;

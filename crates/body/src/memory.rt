@@ -2,6 +2,7 @@
 
 ghost use Rattle.std.specs.Prelude.{◌≡◌, []};
 ghost use Rattle.model.specs.state.Loaded.{first_memory};
+ghost use Rattle.model.specs.runs.RunState.{with_registers};
 ghost use Rattle.body.specs.Steps.{memory_ran};
 
 use change_ticks::clock::Tick;
@@ -51,6 +52,13 @@ impl Memory {
         ensures { result ≡ self.now.registers }
     {
         self.registers
+    }
+
+    /// Replaces the registers.
+    pub fn set_registers(&mut self, registers: [i64; 8])
+        ensures { self.new ≡ with_registers registers self.old }
+    {
+        self.registers = registers;
     }
 
     /// Remembers a run at a tick of a system without event readers.

@@ -7,7 +7,7 @@ ghost use Rattle.model.specs.Lists.{update_at};
 ghost use Rattle.model.specs.access.SelfConflict.{ConflictWithin};
 ghost use Rattle.model.specs.shown.Input as input;
 ghost use Rattle.model.specs.shown.Outcome as outcome;
-ghost use Rattle.model.specs.runs.RunState.{has_tick, next_tick, memory_of_system};
+ghost use Rattle.model.specs.runs.RunState.{has_tick, next_tick, memory_of_system, with_registers};
 ghost use Rattle.archetype_store.specs.Layout.{AreAllHome, IsLayoutOf};
 ghost use Rattle.query_plan.specs.Standing.{ArePickedHome};
 ghost use Rattle.body.specs.Columns.{Column};
@@ -135,16 +135,19 @@ impl OpenState {
         ran_at(&mut self.systems, system, tick);
     }
 
-    /// Brings the columns of a view home, and so lays what was written over the state, at the tick of the view, which isn't above the clock.
-    /// What other views hold stays away.
-    pub fn close(&mut self, view: View)
+    /// Brings the columns of a view of a system home, and so lays what was written over the state, at the tick of the view, which isn't above
+    /// the clock: components, resources, and the registers of the system. What other views hold stays away.
+    #[tactic(auto, using(crate::proofs::Times::kept_in_time))]
+    pub fn close(&mut self, view: View, system: usize)
+        requires known { system < length self.old.state.systems }
         requires lent { AreLent (store_of self.old) view.opening.taken }
         requires past { view.opening.tick ≤ self.old.state.world.clock }
-        ensures laid { self.new ≡ record { state = laid view.opening.tick view self.old.state; layout = with_back (lent_in view.opening.taken) self.old.layout } }
+        ensures laid { self.new ≡ record { state = laid system view.opening.tick view self.old.state; layout = with_back (lent_in view.opening.taken) self.old.layout } }
         ensures out { (front rest : List (List Column)) → AreOut (store_of self.old) (front ++ (view.opening.taken ++ rest)) → AreOut (store_of self.new) (front ++ rest) }
     {
         self.world.laid();
-        view.close(&mut self.world);
+        let registers = view.close(&mut self.world);
+        keep_registers(&mut self.systems, system, registers);
     }
 }
 
@@ -155,4 +158,13 @@ fn ran_at(memories: &mut [Memory], system: usize, tick: Tick)
 {
     let memory = &mut memories[system];
     memory.ran(tick);
+}
+
+// Puts registers into the memory of a system.
+fn keep_registers(memories: &mut [Memory], system: usize, registers: [i64; 8])
+    requires { system < length memories.old }
+    ensures { memories.new ≡ update_at system (with_registers registers) memories.old }
+{
+    let memory = &mut memories[system];
+    memory.set_registers(registers);
 }

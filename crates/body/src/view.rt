@@ -1,26 +1,29 @@
 // A view: what a system is shown at its start, and its outcome so far, where the columns lie.
 
-ghost use Rattle.std.specs.Prelude.{◌≡◌, ◌<◌, ◌≤◌, [], map, length, option_map, unwrap_or, IfOk, IsTrue, OnErr};
+ghost use Rattle.std.specs.Prelude.{◌≡◌, ◌<◌, ◌≤◌, [], length, get_or, pos, option_map, unwrap_or, IfOk, IsTrue, OnErr};
 ghost use Rattle.std.specs.List.{AllByRecursion};
 ghost use Rattle.kinds.specs.Kind.{kind_number};
+ghost use Rattle.kinds.specs.Res.{res_number};
 ghost use Rattle.kinds.specs.Components.{widths};
-ghost use Rattle.model.specs.state.State.{State};
+ghost use Rattle.model.specs.Lists.{has};
+ghost use Rattle.model.specs.state.State.{State, register_count};
+ghost use Rattle.model.specs.access.Access.{no_params, names_resource};
 ghost use Rattle.model.specs.access.Query.{writes};
 ghost use Rattle.model.specs.access.SelfConflict.{ConflictWithin};
 ghost use Rattle.model.specs.shown.Input.{shown};
 ghost use Rattle.model.specs.shown.Outcome.{untouched, words_written};
-ghost use Rattle.model.specs.shown.Overlay.{slots_after};
 ghost use Rattle.query_plan.specs.Standing.{ArePickedHome};
 ghost use Rattle.archetype_store.specs.Overlays.{AreReached};
-ghost use Rattle.body.specs.Laid.{with_slots};
+ghost use Rattle.body.specs.Laid.{world_after};
 ghost use Rattle.body.specs.Lent.{AreLent, lent_in, with_away, with_back};
 ghost use Rattle.body.specs.Out.{IsWrittenBy};
-ghost use Rattle.body.specs.Seen.{query_at, rows_at, row_at, read_at, with_written};
+ghost use Rattle.body.specs.Seen.{query_at, rows_at, row_at, read_at, with_written, resource_read, with_resource, with_register};
 
 use crate::closing::put_home;
 use crate::memory::Memory;
 use crate::opening::open_queries;
 use crate::view_query::ViewQuery;
+use crate::view_values::ViewValues;
 use access_set::params::Params;
 use archetype_store::store::World;
 use change_ticks::clock::Tick;
@@ -29,6 +32,7 @@ use kinds::component::Component;
 use kinds::each_kind;
 use kinds::fields::Fields;
 use kinds::kind::Kind;
+use kinds::res::Res;
 use std::alloc::{AllocError, Global};
 use std::marker::Model;
 
@@ -38,7 +42,7 @@ use std::marker::Model;
 pub struct View {
     tick: Tick,
     queries: Vec<ViewQuery>,
-    registers: [i64; 8],
+    values: ViewValues,
 }
 
 impl Model for View {
@@ -48,7 +52,7 @@ impl Model for View {
 
     ghost use Rattle.body.specs.SeenOver.{seen_over, AreTogether};
 
-    ghost view = { λ v. seen_over v.tick v.queries.items v.registers };
+    ghost view = { λ v. seen_over v.tick v.queries.items v.values };
 
     ghost invariant = { λ v. AreTogether v.tick v.queries.items };
 }
@@ -77,19 +81,20 @@ impl View {
         ensures back { IfOk result (λ v. with_back (lent_in v.opening.taken) world.new.layout ≡ world.old.layout) }
         ensures err { OnErr result (world.new ≡ world.old) }
     {
+        let values = ViewValues::open(params, memory, world);
         let queries = open_queries(alloc, params.queries(), world, memory.last_run(), tick)?;
         Ok(View {
             tick,
             queries,
-            registers: memory.registers(),
+            values,
         })
     }
 
-    /// What holds of every view: it shows rows for each query, has queries alone and no commands, and leaves the registers.
+    /// What holds of every view: it shows rows for each query, is of a system without events and commands, and has no commands.
     pub fn law(&self)
         ensures rows { length self.now.shown.rows ≡ length self.now.params.queries }
+        ensures alone { self.now.params ≡ record no_params { queries = self.now.params.queries; res = self.now.params.res; res_mut = self.now.params.res_mut } }
         ensures commands { self.now.outcome.commands ≡ [] }
-        ensures registers { self.now.outcome.registers ≡ self.now.shown.registers }
     {
         let _tick = self.tick;
     }
@@ -101,18 +106,26 @@ impl View {
         self.tick
     }
 
-    /// Brings the columns home, and so lays what was written over the world. All else of the world stays. All that was written is written in
-    /// columns that the world lent.
-    pub fn close(self, world: &mut World)
+    /// Brings the columns home, and so lays what was written over the world, and writes its resources. All else of the world stays. All that
+    /// was written is written in columns that the world lent. The registers, as they are in the end.
+    pub fn close(self, world: &mut World) -> [i64; 8]
         requires lent { AreLent world.old self.opening.taken }
         requires past { self.opening.tick ≤ world.old.state.clock }
-        ensures home { world.new ≡ record { state = with_slots world.old.state (slots_after self.opening.tick (words_written self.params.queries self.shown.rows self.outcome.cells) world.old.state.slots); layout = with_back (lent_in self.opening.taken) world.old.layout } }
+        ensures home { world.new ≡ record { state = world_after self.opening.tick self world.old.state; layout = with_back (lent_in self.opening.taken) world.old.layout } }
         ensures reach { AreReached world.old.layout (lent_in self.opening.taken) (words_written self.params.queries self.shown.rows self.outcome.cells) }
+        ensures registers { result ≡ self.outcome.registers }
     {
         // Tell how the layout is that of the state, and that no stamp is above the clock.
         world.laid();
         let _now = world.now();
-        put_home(self.queries, world);
+        let View {
+            tick,
+            queries,
+            values,
+        } = self;
+        put_home(queries, world);
+        values.lay(tick, world);
+        values.registers()
     }
 
     /// How many rows a query has.
@@ -154,6 +167,38 @@ impl View {
     {
         let query = &mut self.queries[query];
         query.set(row, component);
+    }
+
+    /// The value of a resource that is read or written: what was written, else what is shown.
+    pub fn res(&self, resource: Res) -> i64
+        requires { IsTrue (names_resource self.now.params (res_number resource)) }
+        ensures { result ≡ resource_read self.now (res_number resource) }
+    {
+        self.values.res(resource)
+    }
+
+    /// Writes a resource that has a `ResMut`.
+    pub fn set_res(&mut self, resource: Res, value: i64)
+        requires { IsTrue (has (res_number resource) self.old.params.res_mut) }
+        ensures { self.new ≡ with_resource self.old (res_number resource) value }
+    {
+        self.values.set_res(resource, value);
+    }
+
+    /// A register: what was put there last, else what is shown.
+    pub fn reg(&self, register: usize) -> i64
+        requires { register < register_count }
+        ensures { result ≡ get_or self.now.outcome.registers register (pos 0) }
+    {
+        self.values.reg(register)
+    }
+
+    /// Puts a value into a register.
+    pub fn set_reg(&mut self, register: usize, value: i64)
+        requires { register < register_count }
+        ensures { self.new ≡ with_register self.old register value }
+    {
+        self.values.set_reg(register, value);
     }
 
     /// The fields of the component of a kind in a row of a query: what was written there, else what is shown. None where there is no

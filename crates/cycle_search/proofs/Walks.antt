@@ -7,7 +7,7 @@ use Rattle.std.proofs.lemmas.List.Sums.{sum_by-set}
 use Rattle.std.proofs.lemmas.Bool.{false≢true, or_cases, or_parts, or_from, or_left, or_right, eqb-true, eq-eqb}
 use Rattle.std.proofs.lemmas.Bool.Decides.{eqb_tells, nat_tests}
 use Rattle.model.specs.Lists.{has, head_or}
-use Rattle.model.specs.declarations.Refusals.{IsOnceEach, IsWalk}
+use Rattle.model.specs.declarations.Walks.{IsOnceEach, IsWalk}
 use Rattle.cycle_search.specs.declared.order.Order.{Order}
 use Rattle.cycle_search.specs.Orders.{IsBetween}
 use Rattle.cycle_search.specs.Cycles.{IsStep, IsRankable, height_of, IsAbove, IsRanked, PointsOn, IsStuck, GoesOn, IsRound, BeginsLeast}

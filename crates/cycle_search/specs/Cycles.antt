@@ -4,7 +4,7 @@ use Rattle.std.specs.declared.alloc.Global.{Global}
 use Rattle.std.specs.Prelude.{ℕ, ◌<◌, ◌≤◌, ◌≡◌, true, List, ◌++◌, Option, Some, None, IsSome, length, take, get_or}
 use Rattle.std.specs.List.{All, Contains}
 use Rattle.model.specs.Lists.{has, head_or}
-use Rattle.model.specs.declarations.Refusals.{IsOnceEach, IsWalk}
+use Rattle.model.specs.declarations.Walks.{IsOnceEach, IsWalk}
 use Rattle.cycle_search.specs.declared.order.Order.{Order}
 
 -- an order puts m before n

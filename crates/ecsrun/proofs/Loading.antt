@@ -20,8 +20,6 @@ use Rattle.model.specs.state.Loaded.{resource_given}
 use Rattle.archetype_store.specs.Store.{with_slot, with_slots, with_resource}
 use Rattle.kinds.specs.declared.value.Value.{Value}
 use Rattle.kinds.specs.Value.{value_number, value_words}
-use Rattle.kinds.specs.declared.res.Res.{Res}
-use Rattle.kinds.specs.Res.{res_number, every_res}
 use Rattle.ecsrun.specs.Load.{given_of, entity_given, slots_so_far, with_entities, with_resources}
 
 written-next : {A B : Type 0} (g : A → B) (f : B → B) (i : ℕ) (xs : List A) (ys : List B) (x : A) (y : B) → i < length xs → length ys ≡ length xs
@@ -217,15 +215,3 @@ pub resources-all : (k : ℕ) (values : List ℤ) (resources : List Resource) (w
 resources-all k values resources w0 w1 l e is = is ∙ ap (λ rs. (let w : World = record { slots = w0.slots; resources = rs; clock = w0.clock } in w))
     (ap (λ front. map resource_given front ++ drop k resources) (take_all k values l)
     ∙ ap (λ back. map resource_given values ++ back) (drop_all k resources (omega arith)) ∙ append-nil (map resource_given values))
-
--- the number of the resource at a place is the place
-pub res_number-at : (i : ℕ) (d : Res) → i < 8 → res_number (get_or every_res i d) ≡ i
-res_number-at zero d l = refl
-res_number-at (suc zero) d l = refl
-res_number-at (suc (suc zero)) d l = refl
-res_number-at (suc (suc (suc zero))) d l = refl
-res_number-at (suc (suc (suc (suc zero)))) d l = refl
-res_number-at (suc (suc (suc (suc (suc zero))))) d l = refl
-res_number-at (suc (suc (suc (suc (suc (suc zero)))))) d l = refl
-res_number-at (suc (suc (suc (suc (suc (suc (suc zero))))))) d l = refl
-res_number-at (suc (suc (suc (suc (suc (suc (suc (suc n)))))))) d l = absurd (omega arith)

@@ -53,7 +53,7 @@ pub record IsRunText (width times : ℕ) (text : List ℕ) : Type 0 where
 
 -- the names of declared systems, by number
 abbrev pub declared_names : Declared → List (List ℕ)
-declared_names d = map (λ (x : DeclaredSystem). x.name) d.systems
+declared_names d = map (λ (x : DeclaredSystem). x.item.name) d.systems
 
 -- the text of the report of a schedule whose systems have these names: the pairs that race, and whether it is settled
 pub record IsTextOfReport (names : List (List ℕ)) (s : Schedule) (text : List ℕ) : Type 0 where

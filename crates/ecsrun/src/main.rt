@@ -2,12 +2,18 @@
 #![tactic(auto)]
 
 #[cfg(test)]
+mod code_tests;
+#[cfg(test)]
 mod fakes;
 mod fault;
 mod file;
 mod opened;
+#[cfg(test)]
+mod programs;
 mod schedule;
 mod serve;
+#[cfg(test)]
+mod served;
 #[cfg(test)]
 mod tests;
 mod words;

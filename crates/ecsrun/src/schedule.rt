@@ -1,15 +1,16 @@
 // The schedule that a program file declares, and the scripts of its systems.
 
-ghost use Rattle.std.specs.Prelude.{◌≡◌, map, length, IfOk, OnOk};
+ghost use Rattle.std.specs.Prelude.{◌≡◌, [], map, length, IfOk, OnOk};
 ghost use Rattle.ecsrun.specs.Served.{declared_names};
 ghost use Rattle.ecsrun.specs.Setup.{AreScriptsOf, HasNoReaders};
 
 use crate::fault::Fault;
 use access_set::params::Params;
-use program_file::SystemTable;
+use kinds::res::Res;
+use program_file::{ItemTable, SystemTable};
 use query::Query;
 use schedule_builder::built::Built;
-use schedule_builder::desc::{ScheduleDesc, SystemDesc};
+use schedule_builder::desc::{ItemDesc, ScheduleDesc, SystemDesc};
 use script::fault::CheckFault;
 use script::script_body::{Block, ScriptBody};
 use std::alloc::{AllocError, Global};
@@ -23,56 +24,79 @@ pub struct Code<'a> {
     pub blocks: Vec<Block>,
 }
 
-/// The schedule that these systems declare, and what each of them does.
+/// The schedule that these sets and systems declare, and what each of the systems does.
 pub fn declare<'a>(
     alloc: Global,
+    sets: &[ItemTable<'a>],
     rows: Vec<SystemTable<'a>>,
 ) -> Result<(ScheduleDesc, Vec<Code<'a>>), AllocError>
     ensures count { IfOk result (λ declared. length declared.1.items ≡ length declared.0.systems) }
     ensures names { IfOk result (λ declared. map (λ code. code.name.now) declared.1.items ≡ declared_names declared.0) }
 {
-    let mut desc = ScheduleDesc::new(alloc);
+    let mut desc = declare_sets(alloc, sets)?;
     let mut codes = Vec::with_capacity(alloc, rows.len())?;
     for row in rows {
         let SystemTable {
-            name,
-            before,
-            after,
+            item,
             queries,
+            res,
+            res_mut,
             blocks,
         } = row;
-        desc.add_system(system_of(alloc, name, &before, &after, queries)?)?;
-        codes.push(Code { name, blocks })?;
+        let params = params_of(alloc, queries, res.as_slice(), res_mut.as_slice())?;
+        desc.add_system(SystemDesc::of_item(item_of(alloc, &item)?, params))?;
+        codes.push(Code {
+            name: item.name,
+            blocks,
+        })?;
     }
     Ok((desc, codes))
 }
 
-// A declared system.
-fn system_of(
-    alloc: Global,
-    name: &str,
-    before: &[&str],
-    after: &[&str],
-    queries: Vec<Query>,
-) -> Result<SystemDesc, AllocError>
-    ensures { IfOk result (λ system. system.name ≡ name.now) }
+// The schedule of these sets, without systems yet.
+fn declare_sets(alloc: Global, sets: &[ItemTable<'_>]) -> Result<ScheduleDesc, AllocError>
+    ensures { IfOk result (λ desc. desc.systems ≡ []) }
 {
-    let name = String::from_str(alloc, name)?;
-    let mut system = SystemDesc::new(alloc, name, params_of(alloc, queries)?);
-    for name in before {
-        system.add_before(String::from_str(alloc, name)?)?;
+    let mut desc = ScheduleDesc::new(alloc);
+    for set in sets {
+        desc.add_set(item_of(alloc, set)?)?;
     }
-    for name in after {
-        system.add_after(String::from_str(alloc, name)?)?;
-    }
-    Ok(system)
+    Ok(desc)
 }
 
-// The parameters of a system with these queries.
-fn params_of(alloc: Global, queries: Vec<Query>) -> Result<Params, AllocError> {
+// A declared item.
+fn item_of(alloc: Global, table: &ItemTable<'_>) -> Result<ItemDesc, AllocError>
+    ensures { IfOk result (λ item. item.name ≡ table.now.name.now) }
+{
+    let mut item = ItemDesc::new(alloc, String::from_str(alloc, table.name)?);
+    for name in &table.inside {
+        item.add_in(String::from_str(alloc, name)?)?;
+    }
+    for name in &table.before {
+        item.add_before(String::from_str(alloc, name)?)?;
+    }
+    for name in &table.after {
+        item.add_after(String::from_str(alloc, name)?)?;
+    }
+    Ok(item)
+}
+
+// The parameters of a system with these queries, which reads these resources and writes those.
+fn params_of(
+    alloc: Global,
+    queries: Vec<Query>,
+    res: &[Res],
+    res_mut: &[Res],
+) -> Result<Params, AllocError> {
     let mut params = Params::new(alloc);
     for query in queries {
         params.add_query(query)?;
+    }
+    for resource in res {
+        params.add_res(*resource)?;
+    }
+    for resource in res_mut {
+        params.add_res_mut(*resource)?;
     }
     Ok(params)
 }

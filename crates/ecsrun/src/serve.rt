@@ -67,9 +67,11 @@ fn answer<'s, M: Mode<'s>, F: Read>(
     let ProgramFile {
         resources,
         entities,
+        sets,
         systems,
     } = ProgramFile::read(alloc, &document)?;
-    let (desc, codes) = declare(alloc, systems)?;
+    let (desc, codes) = declare(alloc, sets.as_slice(), systems)?;
+    drop(sets);
     let built = build(alloc, desc)?;
     let names = names_of(alloc, codes.as_slice())?;
     let bodies = bodies_of(alloc, &built, codes)?;

@@ -1,27 +1,26 @@
 -- The bodies at home and the jobs out, as a system starts and as one ends.
-use Rattle.std.proofs.Common.{ℕ, zero, suc, ◌+◌, ◌<◌, ◌≤◌, Bool, true, false, ◌≡◌, ◌≢◌, ◌==◌, ◌||◌, nat_lt, ◌⊎◌, inl, inr, List, [], ◌∷◌, ◌++◌, length, map, flat_map, set, remove, get_or, slice_get, Option, Some, None, is_some, Result, Ok, Err, refl, sym, ◌∙◌, ap, ap₂, cond, subst, append-nil, arith}
+use Rattle.std.proofs.Common.{ℕ, zero, suc, ◌<◌, ◌≤◌, Bool, true, false, ◌≡◌, ◌==◌, ◌||◌, nat_lt, ◌⊎◌, inl, inr, List, [], ◌∷◌, ◌++◌, length, map, set, remove, get_or, slice_get, Option, Some, None, is_some, Ok, Err, refl, sym, ◌∙◌, ap, ap₂, cond, subst, append-nil, arith}
 use Rattle.std.specs.List.{AllByRecursion}
-use Rattle.std.proofs.lemmas.Bool.{eq-eqb, ne_eqb, eqb-true, or_cases, or_left, or_right, false≢true, false_from_ne_true, ltb-true, ltb-false}
+use Rattle.std.proofs.lemmas.Bool.{eq-eqb, ne_eqb, eqb-true, or_left, or_right, false≢true, false_from_ne_true, ltb-true, ltb-false}
 use Rattle.std.proofs.lemmas.Option.{slice_get-get_or, slice_get_past}
 use Rattle.std.proofs.lemmas.Grind.{flat_map-append}
 use Rattle.std.proofs.lemmas.List.{map-append, length-set, get_or-set_same, get_or-set_other}
 use Rattle.model.specs.declared.steps.Step.TheVariants.{Start, Finish}
-use Rattle.model.specs.Lists.{has, IsIn, update_at}
+use Rattle.model.specs.Lists.{has, IsIn}
 use Rattle.model.specs.access.Access.{Params, no_params}
-use Rattle.model.specs.access.Conflict.{Conflict}
-use Rattle.model.specs.state.State.{Memory, State, no_memory, most_indices}
-use Rattle.model.specs.shown.Input.{Shown, shown}
-use Rattle.model.specs.shown.Outcome.{Outcome, BodyMeaning}
+use Rattle.model.specs.state.State.{State, most_indices}
+use Rattle.model.specs.shown.Input.{shown}
+use Rattle.model.specs.shown.Outcome.{BodyMeaning}
 use Rattle.model.specs.steps.Schedule.{ScheduledSystem, Schedule, params_of}
-use Rattle.model.specs.runs.RunState.{RunningSystem, between, has_tick, next_tick, memory_of_system, body_of, finish}
+use Rattle.model.specs.runs.RunState.{RunningSystem, between, has_tick, next_tick, memory_of_system, with_registers, body_of}
 use Rattle.model.specs.runs.Meaning.{running_system, without_system, interleaved_step}
-use Rattle.model.specs.runs.Causes.{Cause, cause_of_answer, cause_of_running, interleaved_cause_of}
+use Rattle.model.specs.runs.Causes.{cause_of_answer, cause_of_running, interleaved_cause_of}
 use Rattle.model.specs.runs.Causes.Cause.{Refused}
 use Rattle.model.proofs.lists.Each.{each-weaker}
 use Rattle.model.specs.declared.steps.Step.{Step}
 use Rattle.model.specs.steps.Lawful.{MayStart}
 use Rattle.model.proofs.serial.Holding.{Holds, apart_start}
-use Rattle.model.proofs.lists.Lists.{length-update_at, get_or-update_at_other, get_or-update_at-view, IsIn-append, IsIn_left, IsIn_right, has-IsIn, IsIn_from_has}
+use Rattle.model.proofs.lists.Lists.{length-update_at, IsIn-append, IsIn_left, IsIn_right, IsIn_from_has}
 use Rattle.model.proofs.lists.Members.{in-map}
 use Rattle.archetype_store.specs.declared.columns.TakenColumn.{TakenColumn}
 use Rattle.archetype_store.specs.Layout.{Archetype, AreAllHome}
@@ -36,7 +35,7 @@ use Rattle.body.proofs.Gets.{same-by-get, each-in, each-from}
 use Rattle.worker_pool.specs.JobOut.{JobOut}
 use Rattle.engine.specs.Meanings.{meaning_of, meanings_of, meanings, body_at, body_fits, Suits}
 use Rattle.engine.specs.Jobs.{running_of, systems_of, held_by, woven, IsJob, IsPlaced, AreDistinct, Placed}
-use Rattle.engine.proofs.Weaving.{HasQueriesAlone, IsAnswered, start_woven, finish_woven}
+use Rattle.engine.proofs.Weaving.{HasNoEvents, IsAnswered, start_woven, finish_woven}
 
 -- ---- one of a list
 
@@ -148,18 +147,9 @@ pub record IsHanded {B : Type 0} (s : Schedule) (n : ℕ) (w : StateValue) (late
   pub held : (others : List (List Column)) → AreOut (store_of w) others → AreOut (store_of later) (others ++ job.view.opening.taken)
   pub is_later : later ≡ record { state = noted n (next_tick w.state) (at_clock (next_tick w.state) w.state); layout = with_away (lent_in job.view.opening.taken) w.layout }
 
--- what is shown of registers is what the memory holds
-shown_registers : (params : Params) (memory : Memory) (state : State) → (shown params memory state []).registers ≡ memory.registers
-unfolding shown
-shown_registers params memory state = refl
-
--- the registers of a memory stay
-registers-noted : (n m tick : ℕ) (systems : List Memory) → (get_or (update_at n (memory_ran tick) systems) m no_memory).registers ≡ (get_or systems m no_memory).registers
-registers-noted n m tick systems = get_or-update_at-view (λ (x : Memory). x.registers) n m (memory_ran tick) systems no_memory (λ x. refl)
-
 module _ {B : Type 0} (meaning : B → Params → BodyMeaning) (fits : B → Params → Bool) (there : Bool) (s : Schedule) where
   -- the interleaved step
-  pub start_there : (bodies : List BodyMeaning) (n : ℕ) (w later : StateValue) (out : List (JobOut B)) (job : JobOut B) → HasQueriesAlone (params_of s n) → length w.state.world.slots ≤ most_indices → has_tick w.state ≡ true →
+  pub start_there : (bodies : List BodyMeaning) (n : ℕ) (w later : StateValue) (out : List (JobOut B)) (job : JobOut B) → HasNoEvents (params_of s n) → length w.state.world.slots ≤ most_indices → has_tick w.state ≡ true →
       IsHanded s n w later job → interleaved_step s bodies (Start n) (woven w.state out) ≡ Some (woven later.state (out ++ job ∷ []))
   start_there bodies n w later out job alone few tick handed =
       let run : RunningSystem = record { system = n; tick = next_tick w.state; shown = shown (params_of s n) (memory_of_system w.state n) w.state [] } in
@@ -187,9 +177,6 @@ module _ {B : Type 0} (meaning : B → Params → BodyMeaning) (fits : B → Par
       later-clock : w.state.world.clock ≤ later.state.world.clock
       later-clock = let e = ap (λ (x : StateValue). x.state.world.clock) handed.is_later in omega arith
 
-      later-registers : (m : ℕ) → (memory_of_system w.state m).registers ≡ (memory_of_system later.state m).registers
-      later-registers m = sym (registers-noted n m (next_tick w.state) w.state.systems) ∙ ap (λ (x : StateValue). (memory_of_system x.state m).registers) (sym handed.is_later)
-
       later-written : (queries : _) (c : TakenColumn) → IsWrittenBy queries w.layout c → IsWrittenBy queries later.layout c
       later-written queries c h = subst (λ (layout : List Archetype). IsWrittenBy queries layout c) (ap (λ (x : StateValue). x.layout) (sym handed.is_later)) (written-away queries (lent_in job.view.opening.taken) w.layout c h)
 
@@ -201,7 +188,6 @@ module _ {B : Type 0} (meaning : B → Params → BodyMeaning) (fits : B → Par
         fit = h.fit;
         where_is = h.where_is;
         past = let a = h.past in let b = later-clock in omega arith;
-        registers = h.registers ∙ later-registers j.system;
         written = each-weaker (IsWrittenBy (params_of s j.system).queries w.layout) (IsWrittenBy (params_of s j.system).queries later.layout) (later-written (params_of s j.system).queries) (lent_in j.view.opening.taken) h.written;
       }
 
@@ -216,7 +202,6 @@ module _ {B : Type 0} (meaning : B → Params → BodyMeaning) (fits : B → Par
             fit = subst (λ m. fits job.body (params_of s m) ≡ true) n-is facts.1;
             where_is = where_is;
             past = let a = handed.tick in let e = ap (λ (x : StateValue). x.state.world.clock) handed.is_later in omega arith;
-            registers = ap (λ (x : Shown). x.registers) handed.shown_there ∙ shown_registers (params_of s n) (memory_of_system w.state n) w.state ∙ later-registers n ∙ ap (λ m. (memory_of_system later.state m).registers) n-is;
             written = subst (λ m. AllByRecursion (IsWrittenBy (params_of s m).queries later.layout) (lent_in job.view.opening.taken)) n-is
                 (each-weaker (IsWrittenBy (params_of s n).queries w.layout) (IsWrittenBy (params_of s n).queries later.layout) (later-written (params_of s n).queries) (lent_in job.view.opening.taken) handed.written);
           }
@@ -297,8 +282,7 @@ pub record IsReturned {B : Type 0} (meaning : B → Params → BodyMeaning) (fit
   pub opening : seen.opening ≡ job.view.opening
   pub answered : meaning job.body job.view.params job.view.shown ≡ Ok seen.outcome
   pub commands : seen.outcome.commands ≡ []
-  pub registers : seen.outcome.registers ≡ seen.shown.registers
-  pub is_later : later ≡ record { state = laid seen.opening.tick seen w.state; layout = with_back (lent_in seen.opening.taken) w.layout }
+  pub is_later : later ≡ record { state = laid job.system seen.opening.tick seen w.state; layout = with_back (lent_in seen.opening.taken) w.layout }
   pub held : (front rest : List (List Column)) → AreOut (store_of w) (front ++ (seen.opening.taken ++ rest)) → AreOut (store_of later) (front ++ rest)
 
 module _ {B : Type 0} (meaning : B → Params → BodyMeaning) (fits : B → Params → Bool) (there : Bool) (s : Schedule) (bodies : List BodyMeaning) (slots : List (Option B)) (front rest : List (JobOut B)) (job : JobOut B) (w : StateValue)
@@ -327,16 +311,15 @@ module _ {B : Type 0} (meaning : B → Params → BodyMeaning) (fits : B → Par
       (ap (λ (m : BodyMeaning). m job.view.shown) (sym is-job.means) ∙ ap (λ p. meaning job.body p job.view.shown) (sym is-job.params) ∙ e)
 
   module _ (later : StateValue) (body : B) (seen : Seen) (is : IsReturned meaning fits w later job body seen) where
-    answered-there : IsAnswered s bodies job.system w.state seen
+    answered-there : IsAnswered s bodies job.system seen
     answered-there = record {
       params = is.params ∙ is-job.params;
       answered = ap (body_of bodies job.system) is.shown_is ∙ ap (λ (m : BodyMeaning). m job.view.shown) (sym is-job.means) ∙ ap (λ p. meaning job.body p job.view.shown) (sym is-job.params) ∙ is.answered;
       commands = is.commands;
-      registers = is.registers ∙ ap (λ (x : Shown). x.registers) is.shown_is ∙ is-job.registers;
     }
 
     -- the interleaved step
-    pub finish_there : HasQueriesAlone (params_of s job.system) → interleaved_step s bodies (Finish job.system) (woven w.state (front ++ (job ∷ rest))) ≡ Some (woven later.state (front ++ rest))
+    pub finish_there : HasNoEvents (params_of s job.system) → interleaved_step s bodies (Finish job.system) (woven w.state (front ++ (job ∷ rest))) ≡ Some (woven later.state (front ++ rest))
     finish_there alone =
         finish_woven s bodies job.system seen.opening.tick w.state (map running_of (front ++ (job ∷ rest))) seen alone answered-there
         (running-found job.system front rest job refl once.before ∙ ap₂ (λ tick x. Some (record { system = job.system; tick = tick; shown = x })) (ap (λ (o : Opening). o.tick) (sym is.opening)) (sym is.shown_is))
@@ -350,7 +333,6 @@ module _ {B : Type 0} (meaning : B → Params → BodyMeaning) (fits : B → Par
       fit = h.fit;
       where_is = h.where_is;
       past = let a = h.past in let e = ap (λ (x : StateValue). x.state.world.clock) is.is_later in omega arith;
-      registers = h.registers ∙ ap (λ (x : StateValue). (memory_of_system x.state j.system).registers) (sym is.is_later);
       written = each-weaker (IsWrittenBy (params_of s j.system).queries w.layout) (IsWrittenBy (params_of s j.system).queries later.layout)
           (λ c k. subst (λ (layout : List Archetype). IsWrittenBy (params_of s j.system).queries layout c) (ap (λ (x : StateValue). x.layout) (sym is.is_later)) (written-back (params_of s j.system).queries (lent_in seen.opening.taken) w.layout c k))
           (lent_in j.view.opening.taken) h.written;
@@ -378,7 +360,7 @@ module _ {B : Type 0} (meaning : B → Params → BodyMeaning) (fits : B → Par
     pub placed_finish : Placed meaning fits there s bodies (set slots job.system (Some body)) (front ++ rest) later
     placed_finish = record {
       body_count = length-set slots job.system (Some body) ∙ placed.body_count;
-      memory_count = ap (λ (x : StateValue). length x.state.systems) is.is_later ∙ placed.memory_count;
+      memory_count = ap (λ (x : StateValue). length x.state.systems) is.is_later ∙ length-update_at job.system (with_registers seen.outcome.registers) w.state.systems ∙ placed.memory_count;
       home = home-back;
       jobs = λ j i. kept-job j (placed.jobs j (within j (IsIn-append j front rest i)));
       distinct = subst AreDistinct (sym systems-left) once.others;

@@ -1,31 +1,31 @@
 -- A turn of the loop: what is next, and what is known once it is done.
-use Rattle.std.proofs.Common.{ℕ, zero, suc, ◌+◌, ◌<◌, ◌≤◌, Bool, true, false, ◌≡◌, ◌⊎◌, inl, inr, List, [], ◌∷◌, length, map, Option, Some, None, refl, sym, ◌∙◌, ap, subst, arith}
+use Rattle.std.proofs.Common.{ℕ, ◌<◌, Bool, true, false, ◌≡◌, ◌⊎◌, inl, inr, List, [], ◌∷◌, length, map, Option, Some, None, refl, sym, ◌∙◌, ap, subst, arith}
 use Rattle.std.specs.List.{AllByRecursion}
 use Rattle.model.specs.declared.steps.Step.{Step}
 use Rattle.model.specs.declared.steps.Step.TheVariants.{Sync}
 use Rattle.model.specs.declared.steps.Ready.TheVariants as ready
-use Rattle.model.specs.Lists.{has, IsIn}
+use Rattle.model.specs.Lists.{has}
 use Rattle.model.specs.access.Access.{Params}
 use Rattle.model.specs.state.State.{State}
 use Rattle.model.specs.shown.Outcome.{BodyMeaning}
 use Rattle.model.specs.steps.Schedule.{Schedule, params_of}
-use Rattle.model.specs.steps.Lawful.{MayStart, MaySync, NoneRuns, IsComplete}
+use Rattle.model.specs.steps.Lawful.{MayStart, MaySync}
 use Rattle.model.specs.steps.Ready.{IsReady}
-use Rattle.model.specs.runs.RunState.{between, has_tick, next_tick}
+use Rattle.model.specs.runs.RunState.{has_tick, next_tick}
 use Rattle.model.specs.runs.Meaning.{interleaved_step}
 use Rattle.archetype_store.specs.Layout.{AreAllHome, IsLayoutOf}
 use Rattle.body.specs.Lent.{lent_in}
-use Rattle.body.specs.Out.{AreOut, IsApartFrom}
+use Rattle.body.specs.Out.{IsApartFrom}
 use Rattle.body.specs.Steps.{StateValue, at_clock, store_of}
 use Rattle.body.proofs.Outs.{out-same, all-home}
 use Rattle.executor_core.specs.Stands.{Stand, Stands}
 use Rattle.worker_pool.specs.JobOut.{JobOut}
 use Rattle.engine.specs.declared.turn.Turn.{Turn}
 use Rattle.engine.specs.declared.turn.Turn.TheVariants as turn
-use Rattle.engine.specs.Jobs.{running_of, systems_of, held_by, woven, IsJob, Placed}
+use Rattle.engine.specs.Jobs.{running_of, systems_of, held_by, woven, Placed}
 use Rattle.engine.specs.Meanings.{meanings, Suits}
 use Rattle.engine.specs.Stage.{Stage, IsTake, IsTurn}
-use Rattle.engine.proofs.Placing.{start-free, apart-held, placed_first, suits_last, means_last, meanings_count}
+use Rattle.engine.proofs.Placing.{start-free, apart-held, placed_first, suits_last, means_last}
 use Rattle.engine.proofs.Staging.{holds_there}
 use Rattle.engine.proofs.Weaving.{sync_woven}
 
@@ -83,7 +83,6 @@ module _ {B : Type 0} (meaning : B → Params → BodyMeaning) (fits : B → Par
       fit = h.fit;
       where_is = h.where_is;
       past = (let p = h.past in omega arith);
-      registers = h.registers;
       written = h.written;
     });
     distinct = placed.distinct;

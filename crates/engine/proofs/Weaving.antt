@@ -1,17 +1,17 @@
 -- What a start, a finish and a sync point do to an interleaved run with nothing commanded or granted.
-use Rattle.std.proofs.Common.{ℕ, ℤ, zero, suc, ◌≤◌, Bool, true, false, ◌≡◌, ◌↔◌, List, [], ◌∷◌, ◌++◌, length, get_or, Option, Some, None, Result, Ok, Err, refl, sym, ◌∙◌, ap, cond}
+use Rattle.std.proofs.Common.{ℕ, ℤ, ◌≤◌, Bool, true, false, ◌≡◌, ◌↔◌, List, [], ◌∷◌, ◌++◌, length, Option, Some, None, Result, Ok, refl, sym, ◌∙◌, ap}
 use Rattle.std.proofs.lemmas.Bool.{true_from_ne_false}
 use Rattle.std.specs.Option.{unwrap_or, option_and_then}
 use Rattle.model.specs.declared.steps.Step.TheVariants.{Start, Finish, Sync}
 use Rattle.model.specs.Lists.{all_index, update_at, with_at, provided}
 use Rattle.model.specs.declared.entities.Entity.{Entity}
-use Rattle.model.specs.state.State.{Slot, Resource, EventQueue, Memory, State, no_resource, empty_queue, no_memory, most_indices}
+use Rattle.model.specs.state.State.{Slot, Resource, EventQueue, Memory, State, empty_queue, most_indices}
 use Rattle.model.specs.access.Access.{Params, no_params}
 use Rattle.model.specs.state.Events.{send_all}
 use Rattle.model.specs.state.Ids.{grant, granted_ids}
 use Rattle.model.specs.shown.Input.{Shown, shown}
 use Rattle.model.specs.shown.Outcome.{Command, Outcome, BodyMeaning, words_written, value_written, events_sent}
-use Rattle.model.specs.shown.Overlay.{slots_after, resource_after, resources_after, queues_after, has_event_numbers}
+use Rattle.model.specs.shown.Overlay.{slots_after, resources_after, queues_after, has_event_numbers}
 use Rattle.model.specs.steps.Schedule.{Schedule, params_of}
 use Rattle.model.specs.runs.RunState.{RunState, RunningSystem, between, has_tick, next_tick, memory_of_system, memory_after_run, with_registers, spawns_of, ids_of_start, can_start, started_system, after_start, can_finish, overlaid, body_of, finish, finish_with, after_sync}
 use Rattle.model.specs.runs.Meaning.{Interleaved, running_system, without_system, with_running_systems, interleaved_step}
@@ -24,16 +24,14 @@ use Rattle.body.specs.Steps.{at_clock, laid, memory_ran, noted}
 abbrev pub over : State → List RunningSystem → Interleaved
 over state running = record { run = between state; running_systems = running }
 
--- what is left of the parameters of a system that has queries alone
-pub record HasQueriesAlone (params : Params) : Type 0 where
-  pub res_mut : params.res_mut ≡ []
+-- what is left of the parameters of a system without events and commands
+pub record HasNoEvents (params : Params) : Type 0 where
   pub reads : params.reads ≡ []
   pub writes : params.writes ≡ []
   pub spawns : params.spawns ≡ None
 
-pub queries_alone : (params : Params) → params ≡ record no_params { queries = params.queries } → HasQueriesAlone params
-queries_alone params e = record {
-  res_mut = ap (λ (p : Params). p.res_mut) e;
+pub no_events : (params : Params) → params ≡ record no_params { queries = params.queries; res = params.res; res_mut = params.res_mut } → HasNoEvents params
+no_events params e = record {
   reads = ap (λ (p : Params). p.reads) e;
   writes = ap (λ (p : Params). p.writes) e;
   spawns = ap (λ (p : Params). p.spawns) e;
@@ -62,7 +60,7 @@ grants-none : (n : ℕ) → with_at {A = List Entity} n [] (λ m. []) ≡ (let n
 grants-none n = with_at-same {A = List Entity} n (λ m. [])
 
 -- a start notes the run of the system at the next tick, and the system runs
-pub start_woven : (s : Schedule) (bodies : List BodyMeaning) (n : ℕ) (state : State) (running : List RunningSystem) → HasQueriesAlone (params_of s n) → length state.world.slots ≤ most_indices → has_tick state ≡ true →
+pub start_woven : (s : Schedule) (bodies : List BodyMeaning) (n : ℕ) (state : State) (running : List RunningSystem) → HasNoEvents (params_of s n) → length state.world.slots ≤ most_indices → has_tick state ≡ true →
     interleaved_step s bodies (Start n) (over state running)
     ≡ Some (over (noted n (next_tick state) (at_clock (next_tick state) state)) (running ++ record { system = n; tick = next_tick state; shown = shown (params_of s n) (memory_of_system state n) state [] } ∷ []))
 start_woven s bodies n state running alone few tick =
@@ -83,11 +81,6 @@ start_woven s bodies n state running alone few tick =
 
 -- ---- a finish
 
--- no resource is written
-resources-none : (tick : ℕ) (values : List (Option ℤ)) (resources : List Resource) → resources_after tick (value_written [] values) resources ≡ resources
-unfolding resources_after
-resources-none tick values resources = map_index-id (λ number. resource_after tick (value_written [] values number)) no_resource resources (λ i. refl)
-
 -- no event is sent
 queues-none : (events : List (List ℤ)) (queues : List EventQueue) → queues_after (events_sent [] events) queues ≡ queues
 unfolding queues_after
@@ -102,12 +95,6 @@ all_index-true (x ∷ xs) = all_index-true xs
 numbers-none : (events : List (List ℤ)) (queues : List EventQueue) → has_event_numbers (events_sent [] events) queues ≡ true
 unfolding has_event_numbers
 numbers-none events queues = all_index-true queues
-
--- a change that leaves the element
-same_at : {A : Type 0} (n : ℕ) (f : A → A) (xs : List A) (d : A) → f (get_or xs n d) ≡ get_or xs n d → update_at n f xs ≡ xs
-same_at n f [] d e = refl
-same_at zero f (x ∷ xs) d e = ap (λ y. y ∷ xs) e
-same_at (suc n) f (x ∷ xs) d e = ap (λ ys. x ∷ ys) (same_at n f xs d e)
 
 -- a state of its parts that a finish changes
 abbrev finished_with : State → List Slot → List Resource → List EventQueue → List Memory → State
@@ -137,16 +124,15 @@ unfolding overlaid can_finish
 finish-form s n tick x outcome state running = refl
 
 -- a running system that answers an outcome
-pub record IsAnswered (s : Schedule) (bodies : List BodyMeaning) (n : ℕ) (state : State) (seen : Seen) : Type 0 where
+pub record IsAnswered (s : Schedule) (bodies : List BodyMeaning) (n : ℕ) (seen : Seen) : Type 0 where
   pub params : seen.params ≡ params_of s n
   pub answered : body_of bodies n seen.shown ≡ Ok seen.outcome
   pub commands : seen.outcome.commands ≡ []
-  pub registers : seen.outcome.registers ≡ (memory_of_system state n).registers
 
 -- a finish lays the outcome over the state, and the system runs no more
-pub finish_woven : (s : Schedule) (bodies : List BodyMeaning) (n tick : ℕ) (state : State) (running : List RunningSystem) (seen : Seen) → HasQueriesAlone (params_of s n) → IsAnswered s bodies n state seen →
+pub finish_woven : (s : Schedule) (bodies : List BodyMeaning) (n tick : ℕ) (state : State) (running : List RunningSystem) (seen : Seen) → HasNoEvents (params_of s n) → IsAnswered s bodies n seen →
     running_system n running ≡ Some (record { system = n; tick = tick; shown = seen.shown }) →
-    interleaved_step s bodies (Finish n) (over state running) ≡ Some (over (laid tick seen state) (without_system n running))
+    interleaved_step s bodies (Finish n) (over state running) ≡ Some (over (laid n tick seen state) (without_system n running))
 finish_woven s bodies n tick state running seen alone is found =
     let left = without_system n running in
     let x = seen.shown in
@@ -161,15 +147,12 @@ finish_woven s bodies n tick state running seen alone is found =
     ∙ finish-form s n tick x o state left
     ∙ ap (λ (can : Bool). finish_form state left can slots resources events systems buffers)
     (ap (λ (ws : List ℕ). has_event_numbers (events_sent ws o.events) state.events) alone.writes ∙ numbers-none o.events state.events)
-    ∙ ap (λ (rs : List Resource). finish_form state left true slots rs events systems buffers)
-    (ap (λ (ns : List ℕ). resources_after tick (value_written ns o.res_mut) state.world.resources) alone.res_mut ∙ resources-none tick o.res_mut state.world.resources)
-    ∙ ap (λ (queues : List EventQueue). finish_form state left true slots state.world.resources queues systems buffers)
+    ∙ ap (λ (queues : List EventQueue). finish_form state left true slots resources queues systems buffers)
     (ap (λ (ws : List ℕ). queues_after (events_sent ws o.events) state.events) alone.writes ∙ queues-none o.events state.events)
-    ∙ ap (λ (ms : List Memory). finish_form state left true slots state.world.resources state.events ms buffers)
-    (same_at n (with_registers o.registers) state.systems no_memory (ap (λ (rs : List ℤ). with_registers rs (get_or state.systems n no_memory)) is.registers))
-    ∙ ap (λ (bs : ℕ → List Command). finish_form state left true slots state.world.resources state.events state.systems bs)
+    ∙ ap (λ (bs : ℕ → List Command). finish_form state left true slots resources state.events systems bs)
     (ap (λ (cs : List Command). with_at n cs (λ m. [])) is.commands ∙ with_at-same {A = List Command} n (λ m. []))
-    ∙ ap (λ (p : Params). Some (over (finished_with state (slots_after tick (words_written p.queries x.rows o.cells) state.world.slots) state.world.resources state.events state.systems) left)) (sym is.params)
+    ∙ ap (λ (p : Params). Some (over (finished_with state (slots_after tick (words_written p.queries x.rows o.cells) state.world.slots) (resources_after tick (value_written p.res_mut o.res_mut) state.world.resources) state.events systems) left))
+    (sym is.params)
 
 -- ---- a sync point
 

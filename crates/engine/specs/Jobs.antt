@@ -1,12 +1,12 @@
 -- What is known of the jobs that are out in a run, and of the bodies that are at home.
-use Rattle.std.specs.Prelude.{ℕ, ◌<◌, ◌≤◌, ◌≡◌, ◌≢◌, Bool, true, false, List, [], ◌∷◌, length, map, flat_map, Option, Some, None}
+use Rattle.std.specs.Prelude.{ℕ, ◌<◌, ◌≤◌, ◌≡◌, Bool, true, false, List, [], ◌∷◌, length, map, flat_map, Option, Some, None}
 use Rattle.std.specs.List.{AllByRecursion}
 use Rattle.model.specs.Lists.{has, IsIn}
 use Rattle.model.specs.access.Access.{Params}
 use Rattle.model.specs.state.State.{State}
 use Rattle.model.specs.shown.Outcome.{BodyMeaning}
 use Rattle.model.specs.steps.Schedule.{Schedule, params_of}
-use Rattle.model.specs.runs.RunState.{RunningSystem, between, memory_of_system, body_of}
+use Rattle.model.specs.runs.RunState.{RunningSystem, between, body_of}
 use Rattle.model.specs.runs.Meaning.{Interleaved}
 use Rattle.body.specs.Columns.{Column}
 use Rattle.body.specs.Lent.{lent_in}
@@ -38,7 +38,6 @@ pub record IsJob {B : Type 0} (meaning : B → Params → BodyMeaning) (fits : B
   pub fit : fits job.body (params_of s job.system) ≡ true
   pub where_is : job.there ≡ there
   pub past : job.view.opening.tick ≤ w.state.world.clock
-  pub registers : job.view.shown.registers ≡ (memory_of_system w.state job.system).registers
   pub written : AllByRecursion (IsWrittenBy (params_of s job.system).queries w.layout) (lent_in job.view.opening.taken)
 
 -- a body that is at home isn't out, means what is said of it, and fits; one that isn't at home is out

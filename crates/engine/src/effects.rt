@@ -173,15 +173,15 @@ fn settle<B: Body>(
 ) -> Result<(), RunFault>
     requires known { done.system < length built.now.systems }
     requires slot { done.system < length slots.old }
+    requires memory { done.system < length state.old.state.systems }
     requires lent { AreLent (store_of state.old) done.view.opening.taken }
     requires past { done.view.opening.tick ≤ state.old.state.world.clock }
-    ensures alone { OnOk result (params_of built.now done.system ≡ record no_params { queries = (params_of built.now done.system).queries }) }
+    ensures alone { OnOk result (params_of built.now done.system ≡ record no_params { queries = (params_of built.now done.system).queries; res = (params_of built.now done.system).res; res_mut = (params_of built.now done.system).res_mut }) }
     ensures answer { OnOk result (done.answer ≡ Ok tt) }
     ensures slots { OnOk result (slots.new ≡ set slots.old done.system (Some done.body)) }
-    ensures laid { OnOk result (state.new ≡ record { state = laid done.view.opening.tick done.view state.old.state; layout = with_back (lent_in done.view.opening.taken) state.old.layout }) }
+    ensures laid { OnOk result (state.new ≡ record { state = laid done.system done.view.opening.tick done.view state.old.state; layout = with_back (lent_in done.view.opening.taken) state.old.layout }) }
     ensures held { OnOk result ((front rest : List (List Column)) → AreOut (store_of state.old) (front ++ (done.view.opening.taken ++ rest)) → AreOut (store_of state.new) (front ++ rest)) }
     ensures commands { done.view.outcome.commands ≡ [] }
-    ensures registers { done.view.outcome.registers ≡ done.view.shown.registers }
     ensures refused { (k : ℕ) → result ≡ Err (RunFault.BodyFault k) → done.answer ≡ Err (Refused k) }
     ensures only { (f : RunFault) → result ≡ Err f → (f ≡ RunFault.Memory) ⊎ ((k : ℕ) × (f ≡ RunFault.BodyFault k)) }
 {
@@ -196,7 +196,7 @@ fn settle<B: Body>(
     slots[system as usize] = Some(body);
     match answer {
         Ok(()) => {
-            state.close(view);
+            state.close(view, system as usize);
             Ok(())
         }
         Err(BodyFault::Memory) => Err(RunFault::Memory),

@@ -1,10 +1,10 @@
 -- Numbered events: a list after another, those from a cursor on.
-use Rattle.std.proofs.Common.{◌≡◌, ℕ, zero, suc, ℤ, ◌+◌, ◌-◌, ◌≤◌, List, [], ◌∷◌, ◌++◌, length, map, filter, drop, min, nat_le, refl, sym, ap, ap₂, ◌∙◌, arith, le-leb, append_assoc, append-nil, length-append}
-use Rattle.std.proofs.lemmas.Bool.{cond-true, cond-false, lt-leb}
+use Rattle.std.proofs.Common.{◌≡◌, ℕ, zero, suc, ℤ, ◌+◌, ◌-◌, ◌≤◌, ◌<◌, Bool, true, false, ◌&&◌, nat_lt, List, [], ◌∷◌, ◌++◌, length, map, filter, drop, min, nat_le, refl, sym, ap, ap₂, ◌∙◌, arith, le-leb, append_assoc, append-nil, length-append}
+use Rattle.std.proofs.lemmas.Bool.{and_from, cond-true, cond-false, lt-leb, lt-ltb, ltb-true, leb-true, leb-false}
 use Rattle.std.proofs.lemmas.List.{map-append}
 use Rattle.std.proofs.lemmas.List.Elements.{filter-append}
-use Rattle.model.specs.state.State.{Event}
-use Rattle.model.specs.state.Events.{unread, updated_queue, send}
+use Rattle.model.specs.state.State.{Event, EventQueue, last_tick}
+use Rattle.model.specs.state.Events.{unread, updated_queue, send, send_all, can_send}
 use Rattle.event_buffers.specs.Queue.{numbered, values_from, queue_of_parts}
 
 -- values after others are numbered after them
@@ -81,3 +81,41 @@ send-parts n older newer value = λ i. record { kept = kept i; newer = n + lengt
 
     next : n + length older + length (newer ++ value ∷ []) ≡ suc (n + length older + length newer)
     next = omega (arith, length-append newer (value ∷ []))
+
+-- ---- several events
+
+-- sent one after the other they stand after the others
+pub send-all-parts : (n : ℕ) (older newer values : List ℤ) → queue_of_parts n older (newer ++ values) ≡ send_all values (queue_of_parts n older newer)
+send-all-parts n older newer [] = ap (queue_of_parts n older) (append-nil newer)
+send-all-parts n older newer (value ∷ values) =
+    ap (queue_of_parts n older) (sym (append_assoc newer (value ∷ []) values))
+    ∙ send-all-parts n older (newer ++ value ∷ []) values
+    ∙ ap (send_all values) (send-parts n older newer value)
+
+-- they get numbers where there are as many left
+pub all-numbered : (values : List ℤ) (queue : EventQueue) → queue.next + length values ≤ last_tick → can_send values queue ≡ true
+all-numbered [] queue l = refl
+all-numbered (value ∷ values) queue l = and_from (nat_lt queue.next last_tick) (can_send values (send value queue)) (lt-ltb queue.next last_tick (omega (arith, l))) (all-numbered values (send value queue) (omega (arith, l)))
+
+pub not-numbered : (values : List ℤ) (queue : EventQueue) → queue.next ≤ last_tick → last_tick < queue.next + length values → can_send values queue ≡ false
+not-numbered [] queue most l = absurd (omega (arith, most, l))
+not-numbered (value ∷ values) queue most l = go (nat_lt queue.next last_tick) refl (λ m. not-numbered values (send value queue) m (omega (arith, l)))
+  where
+    go : (b : Bool) → nat_lt queue.next last_tick ≡ b → (suc queue.next ≤ last_tick → can_send values (send value queue) ≡ false) → can_send (value ∷ values) queue ≡ false
+    go true e more = ap₂ ◌&&◌ e (more (let m = ltb-true queue.next last_tick e in omega arith))
+    go false e more = ap (λ b. b && can_send values (send value queue)) e
+
+-- so just there
+pub numbered-is : (values : List ℤ) (queue : EventQueue) → queue.next ≤ last_tick → nat_le (length values) (last_tick - queue.next) ≡ can_send values queue
+numbered-is values queue most = go (nat_le (length values) (last_tick - queue.next)) refl
+  where
+    go : (b : Bool) → nat_le (length values) (last_tick - queue.next) ≡ b → b ≡ can_send values queue
+    go true e = sym (all-numbered values queue (let l = leb-true (length values) (last_tick - queue.next) e in omega (arith, most)))
+    go false e = sym (not-numbered values queue most (let l = leb-false (length values) (last_tick - queue.next) e in omega (arith, most)))
+
+pub numbered-room : (values : List ℤ) (queue : EventQueue) → queue.next ≤ last_tick → can_send values queue ≡ true → queue.next + length values ≤ last_tick
+numbered-room values queue most can = go (nat_le (length values) (last_tick - queue.next)) refl
+  where
+    go : (b : Bool) → nat_le (length values) (last_tick - queue.next) ≡ b → queue.next + length values ≤ last_tick
+    go true e = let l = leb-true (length values) (last_tick - queue.next) e in omega (arith, most)
+    go false e = absurd (let f : false ≡ true = sym e ∙ numbered-is values queue most ∙ can in cc)

@@ -1,10 +1,10 @@
 // The kept events of every kind.
 
-ghost use Rattle.std.specs.Prelude.{◌≡◌, ◌↔◌, ◌++◌, ◌≤◌, IfOk, IsErrOf, OnOk, OnErr, map, replicate};
+ghost use Rattle.std.specs.Prelude.{◌≡◌, ◌↔◌, ◌++◌, ◌≤◌, false, IfOk, IsErrOf, OnOk, OnErr, map, replicate};
 ghost use Rattle.kinds.specs.Res.{event_number};
 ghost use Rattle.model.specs.Lists.{update_at};
 ghost use Rattle.model.specs.state.State.{event_count, empty_queue, last_tick};
-ghost use Rattle.model.specs.state.Events.{queue_of, send, unread, updated_queue};
+ghost use Rattle.model.specs.state.Events.{queue_of, send, send_all, can_send, unread, updated_queue};
 
 use crate::queue::{Queue, SendFault, Unread};
 use kinds::res::Event;
@@ -56,6 +56,23 @@ impl Events {
     {
         let queue = &mut self.queues[kind.number() as usize];
         queue.send(value)
+    }
+
+    /// Whether events of a kind with these values get numbers.
+    pub fn can_send(&self, kind: Event, values: &[i64]) -> bool
+        ensures { result ≡ can_send values.now (queue_of self.now (event_number kind)) }
+    {
+        self.queues[kind.number() as usize].can_send(values)
+    }
+
+    /// Sends events of a kind, in order. Where one gets no number, or memory is wanting, none is sent.
+    pub fn send_all(&mut self, kind: Event, values: &[i64]) -> Result<(), SendFault>
+        ensures ok { OnOk result (self.new ≡ update_at (event_number kind) (send_all values.now) self.old) }
+        ensures spent { IsErrOf result SendFault.NumbersSpent ↔ (can_send values.now (queue_of self.old (event_number kind)) ≡ false) }
+        ensures err { OnErr result (self.new ≡ self.old) }
+    {
+        let queue = &mut self.queues[kind.number() as usize];
+        queue.send_all(values)
     }
 
     /// The kept events of a kind from a cursor on. Takes no memory.

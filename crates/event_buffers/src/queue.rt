@@ -1,8 +1,8 @@
 // The kept events of one kind.
 
-ghost use Rattle.std.specs.Prelude.{◌≡◌, ◌↔◌, ◌++◌, ◌≤◌, ◌+◌, length, IsErrOf, OnOk, OnErr};
+ghost use Rattle.std.specs.Prelude.{◌≡◌, ◌↔◌, ◌++◌, ◌≤◌, ◌+◌, length, false, IsErrOf, OnOk, OnErr};
 ghost use Rattle.model.specs.state.State.{empty_queue, last_tick};
-ghost use Rattle.model.specs.state.Events.{send, unread, updated_queue};
+ghost use Rattle.model.specs.state.Events.{send, send_all, can_send, unread, updated_queue};
 ghost use Rattle.event_buffers.specs.Queue.{values_from};
 
 use std::alloc::Global;
@@ -85,6 +85,28 @@ impl Queue {
             return Err(SendFault::NumbersSpent);
         }
         match self.newer.push(value) {
+            Ok(()) => Ok(()),
+            Err(_) => Err(SendFault::Memory),
+        }
+    }
+
+    /// Whether events with these values get numbers.
+    pub fn can_send(&self, values: &[i64]) -> bool
+        ensures { result ≡ can_send values.now self.now }
+    {
+        values.len() as u64 <= NUMBER_LIMIT - self.next()
+    }
+
+    /// Sends events, in order. Where one gets no number, or memory is wanting, none is sent.
+    pub fn send_all(&mut self, values: &[i64]) -> Result<(), SendFault>
+        ensures ok { OnOk result (self.new ≡ send_all values.now self.old) }
+        ensures spent { IsErrOf result SendFault.NumbersSpent ↔ (can_send values.now self.old ≡ false) }
+        ensures err { OnErr result (self.new ≡ self.old) }
+    {
+        if !self.can_send(values) {
+            return Err(SendFault::NumbersSpent);
+        }
+        match self.newer.extend_from_slice(values) {
             Ok(()) => Ok(()),
             Err(_) => Err(SendFault::Memory),
         }

@@ -1,18 +1,20 @@
 -- From the sets of a core to what each step asks, for each history for which the core stands.
-use Rattle.std.proofs.Common.{ℕ, ◌<◌, ◌≤◌, Bool, true, false, not, ◌&&◌, nat_lt, ◌≡◌, inl, inr, List, [], length, refl, sym, ◌∙◌, ap, subst, arith, lt-ltb, ltb-true}
+use Rattle.std.proofs.Common.{ℕ, ◌<◌, ◌≤◌, Bool, true, false, not, ◌&&◌, nat_lt, ◌≡◌, inl, inr, List, [], ◌∷◌, length, refl, sym, ◌∙◌, ap, subst, arith, lt-ltb, ltb-true}
 use Rattle.std.proofs.lemmas.Bool.{both_ways, true_from_ne_false, false_from_ne_true, false≢true, cases_lt, cases_order}
 use Rattle.number_set.specs.Members.{contains}
 use Rattle.model.specs.declared.steps.Step.{Step}
 use Rattle.model.specs.declared.steps.Step.TheVariants.{Cond, Start, Skip, Finish, Sync}
-use Rattle.model.specs.declared.steps.StepFault.TheVariants.{Repeated, NotReady, ConditionTrue, NotRunning, LevelOpen}
+use Rattle.model.specs.declared.steps.StepFault.TheVariants.{Repeated, NotReady, ConditionOpen, ConditionFalse, ConditionTrue, NotRunning, LevelOpen}
+use Rattle.model.specs.declared.steps.StepFault.{StepFault}
 use Rattle.model.specs.declared.steps.StepFault.TheVariants as fault
-use Rattle.model.specs.steps.Schedule.{Schedule, params_of, level_of, covers}
-use Rattle.model.specs.steps.Lawful.{begun, ended, runs, synced, IsFree, HasOpen, HasFalse, MeetsRunning, MayStart, MayFinish, MaySync, IsComplete}
-use Rattle.model.specs.steps.Faults.{IsFirstFault}
-use Rattle.model.proofs.order.Histories.{begun_from_runs, begun_runs_or_ended, runs_not-ended, runs_known}
+use Rattle.model.specs.steps.Schedule.{params_of, access_of, level_of, covers}
+use Rattle.model.specs.steps.Built.{IsBuilt}
+use Rattle.model.specs.steps.Lawful.{begun, ended, runs, synced, was_asked, answered, IsFree, HasFreeMember, HasOpen, HasFalse, MeetsRunning, MayAsk, MayStart, MaySkip, MayFinish, MaySync}
+use Rattle.model.specs.steps.Faults.{StartFault, SkipFault, IsFirst, IsFirstFault}
+use Rattle.model.proofs.order.Histories.{begun_from_runs, begun_runs_or_ended, runs_not-ended, runs_known, asked_answered, answered_asked, one_answer}
 use Rattle.model.proofs.faults.Decisions.{decide_meets}
 use Rattle.executor_core.specs.Stands.{Stand, Stands}
-use Rattle.executor_core.specs.Judges.{NoneMeets, IsReleased, IsOpen}
+use Rattle.executor_core.specs.Judges.{NoneMeets, NoneClashes, IsReleased, IsWaiting, HasWaitingMember, HasUnasked, HasRefusing, IsOpen}
 
 -- what is told as false is refuted
 pub told_no : {P : Type 0} → (false ≡ true → P) × (P → false ≡ true) → P → ⊥
@@ -97,19 +99,59 @@ meeting core h n stands some = elim (decide_meets core.schedule h (params_of cor
   | inr none ↦ absurd (some (λ m rival b. true_from_ne_false (contains core.over m) (λ o. none (m, runs_of_sets core h stands m b o, rival.1))))
 ]
 
--- ---- no conditions
+-- ---- conditions
 
--- where there are no conditions none covers a system
-none_covers : (s : Schedule) (c n : ℕ) → s.conditions ≡ [] → covers s c n ≡ true → ⊥
-none_covers s c n none e = false≢true (rw none at e)
+-- a condition of the system that was not asked is open, and the other way round
+pub open_from : (core : Stand) (h : List Step) (n : ℕ) → Stands core h → HasUnasked core n → HasOpen core.schedule h n
+open_from core h n stands one = (one.0, one.1, stands.asks one.0 ∙ one.2)
 
-pub no_open : (s : Schedule) (h : List Step) (n : ℕ) → s.conditions ≡ [] → HasOpen s h n → ⊥
-no_open s h n none one = none_covers s one.0 n none one.1
+pub unasked_from : (core : Stand) (h : List Step) (n : ℕ) → Stands core h → HasOpen core.schedule h n → HasUnasked core n
+unasked_from core h n stands one = (one.0, one.1, sym (stands.asks one.0) ∙ one.2)
 
-pub no_false : (s : Schedule) (h : List Step) (n : ℕ) → s.conditions ≡ [] → HasFalse s h n → ⊥
-no_false s h n none one = none_covers s one.0 n none one.1
+-- one that was asked and did not answer yes answered no, and the other way round
+pub false_from : (core : Stand) (h : List Step) (n : ℕ) → Stands core h → HasRefusing core n → HasFalse core.schedule h n
+false_from core h n stands one = elim (asked_answered h one.0 (stands.asks one.0 ∙ one.2)) [
+  | inl e ↦ absurd (both_ways (contains core.yes one.0) one.3 (sym (stands.yeses one.0) ∙ e))
+  | inr e ↦ (one.0, one.1, e)
+]
 
-past_none : (n count : ℕ) → n < count → count ≤ n → ⊥
+pub refusing_from : (core : Stand) (h : List Step) (n : ℕ) → Stands core h → HasFalse core.schedule h n → HasRefusing core n
+refusing_from core h n stands one = (
+  one.0,
+  one.1,
+  sym (stands.asks one.0) ∙ answered_asked h one.0 false one.2,
+  false_from_ne_true (contains core.yes one.0) (λ e. one_answer core.schedule h one.0 stands.lawful (stands.yeses one.0 ∙ e) one.2),
+)
+
+-- where none is open and none refuses all were asked, and answered yes
+pub all_asked : (core : Stand) (h : List Step) (n : ℕ) → Stands core h → (HasUnasked core n → ⊥) → (c : ℕ) → covers core.schedule c n ≡ true → was_asked h c ≡ true
+all_asked core h n stands none c e = stands.asks c ∙ true_from_ne_false (contains core.asked c) (λ o. none (c, e, o))
+
+all_yes : (core : Stand) (h : List Step) (n : ℕ) → Stands core h → (HasUnasked core n → ⊥) → (HasRefusing core n → ⊥) → (c : ℕ) → covers core.schedule c n ≡ true → answered h c true ≡ true
+all_yes core h n stands none agreed c e = stands.yeses c ∙ true_from_ne_false (contains core.yes c) (λ o. agreed (c, e, sym (stands.asks c) ∙ all_asked core h n stands none c e, o))
+
+-- where each system that conflicts with what is asked and has begun is over no running system meets it
+pub no_clash : (core : Stand) (h : List Step) (c : ℕ) → Stands core h → NoneClashes core c → MeetsRunning core.schedule h (access_of core.schedule c) → ⊥
+no_clash core h c stands none meets =
+    let sets = sets_of_runs core h stands meets.0 meets.1 in
+    let known : meets.0 < length core.schedule.systems = runs_known core.schedule h meets.0 stands.lawful meets.1 in
+    both_ways _ sets.1 (none meets.0 (known, meets.2) sets.0)
+
+-- and the other way round
+pub clash : (core : Stand) (h : List Step) (c : ℕ) → Stands core h → (NoneClashes core c → ⊥) → MeetsRunning core.schedule h (access_of core.schedule c)
+clash core h c stands some = elim (decide_meets core.schedule h (access_of core.schedule c) stands.lawful) [
+  | inl meets ↦ meets
+  | inr none ↦ absurd (some (λ m rival b. true_from_ne_false (contains core.over m) (λ o. none (m, runs_of_sets core h stands m b o, rival.1))))
+]
+
+-- a waiting system is free, and the other way round
+pub free_waiting : (core : Stand) (h : List Step) (n : ℕ) → Stands core h → n < length core.schedule.systems → IsWaiting core n → IsFree core.schedule h n
+free_waiting core h n stands known waiting = free_from core h n stands known waiting.fresh waiting.released
+
+pub waiting_free : (core : Stand) (h : List Step) (n : ℕ) → Stands core h → IsFree core.schedule h n → IsWaiting core n
+waiting_free core h n stands free = record { fresh = sym (stands.begins n) ∙ free.waits; released = released_from core h n stands free }
+
+pub past_none : (n count : ℕ) → n < count → count ≤ n → ⊥
 past_none n count low past = omega arith
 
 -- ---- starts and skips
@@ -119,25 +161,35 @@ pub start_not-ready : (core : Stand) (h : List Step) (n : ℕ) → Stands core h
 start_not-ready core h n stands known fresh waits =
     inr (past_none n _ known, inr (both_ways _ (stands.begins n ∙ fresh), inl (refl, λ free. waits (released_from core h n stands free))))
 
-pub start_conflict : (core : Stand) (h : List Step) (n : ℕ) → Stands core h → n < length core.schedule.systems → contains core.begun n ≡ false → IsReleased core n → core.schedule.conditions ≡ [] →
-    (NoneMeets core n → ⊥) → IsFirstFault core.schedule h (Start n) fault.Conflict
-start_conflict core h n stands known fresh released none some =
+-- what is known of a system that was found released: no fault before those of its conditions
+start_passes : (core : Stand) (h : List Step) (n : ℕ) (told : StepFault) → Stands core h → n < length core.schedule.systems → contains core.begun n ≡ false → IsReleased core n →
+    IsFirst (StartFault core.schedule h n) (ConditionOpen ∷ ConditionFalse ∷ fault.Conflict ∷ []) told → IsFirstFault core.schedule h (Start n) told
+start_passes core h n told stands known fresh released rest =
     inr (
       past_none n _ known,
-      inr (
-        both_ways _ (stands.begins n ∙ fresh),
-        inr (
-          (λ not_free. not_free (free_from core h n stands known fresh released)),
-          inr (no_open core.schedule h n none, inr (no_false core.schedule h n none, inl (refl, meeting core h n stands some))),
-        ),
-      ),
+      inr (both_ways _ (stands.begins n ∙ fresh), inr ((λ not_free. not_free (free_from core h n stands known fresh released)), rest)),
     )
 
-pub start_may : (core : Stand) (h : List Step) (n : ℕ) → Stands core h → n < length core.schedule.systems → contains core.begun n ≡ false → IsReleased core n → core.schedule.conditions ≡ [] →
-    NoneMeets core n → MayStart core.schedule h n
-start_may core h n stands known fresh released none clear = record {
+pub start_open : (core : Stand) (h : List Step) (n : ℕ) → Stands core h → n < length core.schedule.systems → contains core.begun n ≡ false → IsReleased core n → HasUnasked core n →
+    IsFirstFault core.schedule h (Start n) ConditionOpen
+start_open core h n stands known fresh released one = start_passes core h n ConditionOpen stands known fresh released (inl (refl, open_from core h n stands one))
+
+pub start_false : (core : Stand) (h : List Step) (n : ℕ) → Stands core h → n < length core.schedule.systems → contains core.begun n ≡ false → IsReleased core n → (HasUnasked core n → ⊥) → HasRefusing core n →
+    IsFirstFault core.schedule h (Start n) ConditionFalse
+start_false core h n stands known fresh released none one =
+    start_passes core h n ConditionFalse stands known fresh released (inr ((λ open_one. none (unasked_from core h n stands open_one)), inl (refl, false_from core h n stands one)))
+
+pub start_conflict : (core : Stand) (h : List Step) (n : ℕ) → Stands core h → n < length core.schedule.systems → contains core.begun n ≡ false → IsReleased core n →
+    (HasUnasked core n → ⊥) → (HasRefusing core n → ⊥) → (NoneMeets core n → ⊥) → IsFirstFault core.schedule h (Start n) fault.Conflict
+start_conflict core h n stands known fresh released none agreed some =
+    start_passes core h n fault.Conflict stands known fresh released
+    (inr ((λ open_one. none (unasked_from core h n stands open_one)), inr ((λ false_one. agreed (refusing_from core h n stands false_one)), inl (refl, meeting core h n stands some))))
+
+pub start_may : (core : Stand) (h : List Step) (n : ℕ) → Stands core h → n < length core.schedule.systems → contains core.begun n ≡ false → IsReleased core n →
+    (HasUnasked core n → ⊥) → (HasRefusing core n → ⊥) → NoneMeets core n → MayStart core.schedule h n
+start_may core h n stands known fresh released none agreed clear = record {
   free = free_from core h n stands known fresh released;
-  answers = λ c e. absurd (none_covers core.schedule c n none e);
+  answers = all_yes core h n stands none agreed;
   apart = no_meeting core h n stands clear;
 }
 
@@ -146,19 +198,62 @@ pub skip_not-ready : (core : Stand) (h : List Step) (n : ℕ) → Stands core h 
 skip_not-ready core h n stands known fresh waits =
     inr (past_none n _ known, inr (both_ways _ (stands.begins n ∙ fresh), inl (refl, λ free. waits (released_from core h n stands free))))
 
-pub skip_true : (core : Stand) (h : List Step) (n : ℕ) → Stands core h → n < length core.schedule.systems → contains core.begun n ≡ false → IsReleased core n → core.schedule.conditions ≡ [] →
-    IsFirstFault core.schedule h (Skip n) ConditionTrue
-skip_true core h n stands known fresh released none =
+skip_passes : (core : Stand) (h : List Step) (n : ℕ) (told : StepFault) → Stands core h → n < length core.schedule.systems → contains core.begun n ≡ false → IsReleased core n →
+    IsFirst (SkipFault core.schedule h n) (ConditionOpen ∷ ConditionTrue ∷ []) told → IsFirstFault core.schedule h (Skip n) told
+skip_passes core h n told stands known fresh released rest =
     inr (
       past_none n _ known,
-      inr (
-        both_ways _ (stands.begins n ∙ fresh),
-        inr (
-          (λ not_free. not_free (free_from core h n stands known fresh released)),
-          inr (no_open core.schedule h n none, inl (refl, no_false core.schedule h n none)),
-        ),
-      ),
+      inr (both_ways _ (stands.begins n ∙ fresh), inr ((λ not_free. not_free (free_from core h n stands known fresh released)), rest)),
     )
+
+pub skip_open : (core : Stand) (h : List Step) (n : ℕ) → Stands core h → n < length core.schedule.systems → contains core.begun n ≡ false → IsReleased core n → HasUnasked core n →
+    IsFirstFault core.schedule h (Skip n) ConditionOpen
+skip_open core h n stands known fresh released one = skip_passes core h n ConditionOpen stands known fresh released (inl (refl, open_from core h n stands one))
+
+pub skip_true : (core : Stand) (h : List Step) (n : ℕ) → Stands core h → n < length core.schedule.systems → contains core.begun n ≡ false → IsReleased core n → (HasUnasked core n → ⊥) → (HasRefusing core n → ⊥) →
+    IsFirstFault core.schedule h (Skip n) ConditionTrue
+skip_true core h n stands known fresh released none agreed =
+    skip_passes core h n ConditionTrue stands known fresh released
+    (inr ((λ open_one. none (unasked_from core h n stands open_one)), inl (refl, λ false_one. agreed (refusing_from core h n stands false_one))))
+
+pub skip_may : (core : Stand) (h : List Step) (n : ℕ) → Stands core h → n < length core.schedule.systems → contains core.begun n ≡ false → IsReleased core n → (HasUnasked core n → ⊥) → HasRefusing core n →
+    MaySkip core.schedule h n
+skip_may core h n stands known fresh released none one = record {
+  free = free_from core h n stands known fresh released;
+  asked = all_asked core h n stands none;
+  refused = false_from core h n stands one;
+}
+
+-- ---- conditions that are asked
+
+pub ask_repeated : (core : Stand) (h : List Step) (c : ℕ) (answer : Bool) → Stands core h → c < length core.schedule.conditions → contains core.asked c ≡ true → IsFirstFault core.schedule h (Cond c answer) Repeated
+ask_repeated core h c answer stands known asked = inr (past_none c _ known, inl (refl, stands.asks c ∙ asked))
+
+pub ask_not-ready : (core : Stand) (h : List Step) (c : ℕ) (answer : Bool) → Stands core h → c < length core.schedule.conditions → contains core.asked c ≡ false → (HasWaitingMember core c → ⊥) →
+    IsFirstFault core.schedule h (Cond c answer) NotReady
+ask_not-ready core h c answer stands known fresh none =
+    inr (past_none c _ known, inr (both_ways _ (stands.asks c ∙ fresh), inl (refl, λ member. none (member.0, member.1, waiting_free core h member.0 stands member.2))))
+
+-- a waiting member is a free one
+free_member : (core : Stand) (h : List Step) (c : ℕ) → Stands core h → IsBuilt core.schedule → HasWaitingMember core c → HasFreeMember core.schedule h c
+free_member core h c stands built one = (one.0, one.1, free_waiting core h one.0 stands (built.covered c one.0 one.1) one.2)
+
+pub ask_conflict : (core : Stand) (h : List Step) (c : ℕ) (answer : Bool) → Stands core h → IsBuilt core.schedule → c < length core.schedule.conditions → contains core.asked c ≡ false → HasWaitingMember core c →
+    (NoneClashes core c → ⊥) → IsFirstFault core.schedule h (Cond c answer) fault.Conflict
+ask_conflict core h c answer stands built known fresh one some =
+    inr (
+      past_none c _ known,
+      inr (both_ways _ (stands.asks c ∙ fresh), inr ((λ no_member. no_member (free_member core h c stands built one)), inl (refl, clash core h c stands some))),
+    )
+
+pub ask_may : (core : Stand) (h : List Step) (c : ℕ) → Stands core h → IsBuilt core.schedule → c < length core.schedule.conditions → contains core.asked c ≡ false → HasWaitingMember core c → NoneClashes core c →
+    MayAsk core.schedule h c
+ask_may core h c stands built known fresh one clear = record {
+  known = known;
+  fresh = stands.asks c ∙ fresh;
+  member = free_member core h c stands built one;
+  apart = no_clash core h c stands clear;
+}
 
 -- ---- finishes
 

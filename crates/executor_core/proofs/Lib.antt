@@ -2,3 +2,4 @@ pub mod Judging
 pub mod Keeping
 pub mod Telling
 pub mod Counted
+mod Lists

@@ -2,7 +2,7 @@
 use Rattle.std.proofs.Common.{ℕ, zero, suc, ◌+◌, ◌<◌, ◌≤◌, Bool, true, false, nat_le, ◌≡◌, ◌↔◌, inl, inr, List, [], ◌∷◌, length, drop, get_or, Option, Some, None, Result, Ok, Err, IsOk, IfErr, IfSome, IfNone, refl, sym, ◌∙◌, ap, subst, arith, leb-true, le-leb, add-one}
 use Rattle.std.specs.Bool.{OnFalse}
 use Rattle.std.proofs.lemmas.List.{drop_more, drop_all}
-use Rattle.std.proofs.lemmas.Bool.{both_ways, false≢true, cases_lt}
+use Rattle.std.proofs.lemmas.Bool.{both_ways, true_from_ne_false, false≢true, cases_lt}
 use Rattle.number_set.specs.Members.{contains}
 use Rattle.model.specs.declared.steps.Step.{Step}
 use Rattle.model.specs.declared.steps.Step.TheVariants.{Start}
@@ -11,16 +11,16 @@ use Rattle.model.specs.declared.steps.Ready.{Ready}
 use Rattle.model.specs.declared.steps.Ready.TheVariants as ready
 use Rattle.model.specs.steps.Schedule.{Schedule, level_of}
 use Rattle.model.specs.steps.Built.{IsBuilt}
-use Rattle.model.specs.steps.Lawful.{ended, synced, IsFree, IsLawful, IsComplete, NoneRuns, May, MayStart}
+use Rattle.model.specs.steps.Lawful.{ended, synced, IsFree, IsLawful, IsComplete, NoneRuns, May, MayStart, MaySkip}
 use Rattle.model.specs.steps.Faults.{IsFirstFault}
-use Rattle.model.specs.steps.Ready.{IsReady, IsReadyAmong, Offers, OffersNothing, OnlyFinish, step_of}
-use Rattle.model.proofs.order.Histories.{level_ended}
+use Rattle.model.specs.steps.Ready.{IsAskable, IsReady, IsReadyAmong, Offers, OffersNothing, OnlyFinish, step_of}
+use Rattle.model.proofs.order.Histories.{level_ended, answered_asked}
 use Rattle.model.proofs.progress.Offers.{ready_is_accepted, lists_complete}
 use Rattle.model.proofs.progress.Progress.{lists_go_on}
 use Rattle.model.proofs.faults.ExactFaults.{faults_are_exact}
 use Rattle.executor_core.specs.Stands.{Stand, Stands}
-use Rattle.executor_core.specs.Judges.{Judges, TellsOffer}
-use Rattle.executor_core.proofs.Judging.{done_below, next_fresh, no_open, no_false}
+use Rattle.executor_core.specs.Judges.{Judges, NoneMeets, IsWaiting, HasUnasked, HasRefusing, CanAsk, IsLeastAskable}
+use Rattle.executor_core.proofs.Judging.{done_below, next_fresh, runs_of_sets, free_waiting, waiting_free, no_clash, meeting, unasked_from, refusing_from, skip_may, start_may}
 
 -- ---- judgements
 
@@ -40,12 +40,58 @@ tells_fault s h step (Err fault) judged = judged
 
 -- ---- what is ready
 
--- a system that may not start offers nothing, where there are no conditions
-pub nothing_offered : (s : Schedule) (h : List Step) (n : ℕ) → s.conditions ≡ [] → (MayStart s h n → ⊥) → OffersNothing s h n
-nothing_offered s h n none refuses (ready.Ask c) offers = no_open s h n none (c, offers.1.0.0, offers.1.0.1)
-nothing_offered s h n none refuses (ready.Skip m) offers = no_false s h n none offers.1.1.refused
-nothing_offered s h n none refuses (ready.Start m) offers = refuses offers.1.1
-nothing_offered s h n none refuses (ready.Sync k) offers = offers.1
+-- a system that isn't one of the schedule offers nothing
+pub unknown_offers-nothing : (s : Schedule) (h : List Step) (n : ℕ) → length s.systems ≤ n → OffersNothing s h n
+unknown_offers-nothing s h n past r offers = let free : IsFree s h n = offers.0 in omega (arith, free.known)
+
+-- nor does one that doesn't wait
+pub busy_offers-nothing : (core : Stand) (h : List Step) (n : ℕ) → Stands core h → (IsWaiting core n → ⊥) → OffersNothing core.schedule h n
+busy_offers-nothing core h n stands none r offers = none (waiting_free core h n stands offers.0)
+
+-- what can be asked of the core can be asked after the history, and the other way round
+askable_from : (core : Stand) (h : List Step) (n c : ℕ) → Stands core h → CanAsk core n c → IsAskable core.schedule h n c
+askable_from core h n c stands can = (can.0, stands.asks c ∙ can.1.fresh, no_clash core h c stands can.1.clear)
+
+can_from : (core : Stand) (h : List Step) (n c : ℕ) → Stands core h → IsAskable core.schedule h n c → CanAsk core n c
+can_from core h n c stands askable = (
+  askable.0,
+  record {
+    fresh = sym (stands.asks c) ∙ askable.1;
+    clear = λ m clash b. true_from_ne_false (contains core.over m) (λ o. askable.2 (m, runs_of_sets core h stands m b o, clash.1));
+  },
+)
+
+-- a waiting system offers to ask its least condition that can be asked
+pub offers_ask : (core : Stand) (h : List Step) (n c : ℕ) → Stands core h → n < length core.schedule.systems → IsWaiting core n → IsLeastAskable core n c → Offers core.schedule h n (ready.Ask c)
+offers_ask core h n c stands known waiting least =
+    (free_waiting core h n stands known waiting, (askable_from core h n c stands least.0, λ j below askable. least.1 j below (can_from core h n j stands askable)))
+
+-- one with an open condition of which none can be asked offers nothing
+pub open_offers-nothing : (core : Stand) (h : List Step) (n : ℕ) → Stands core h → ((c : ℕ) → CanAsk core n c → ⊥) → HasUnasked core n → OffersNothing core.schedule h n
+open_offers-nothing core h n stands none one (ready.Ask c) offers = none c (can_from core h n c stands offers.1.0)
+open_offers-nothing core h n stands none one (ready.Skip m) offers = let may : MaySkip core.schedule h n = offers.1.1 in
+    both_ways _ (stands.asks one.0 ∙ one.2) (may.asked one.0 one.1)
+open_offers-nothing core h n stands none one (ready.Start m) offers = let may : MayStart core.schedule h n = offers.1.1 in
+    both_ways _ (stands.asks one.0 ∙ one.2) (answered_asked h one.0 true (may.answers one.0 one.1))
+open_offers-nothing core h n stands none one (ready.Sync k) offers = offers.1
+
+-- one of which a condition refuses offers to be skipped
+pub offers_skip : (core : Stand) (h : List Step) (n : ℕ) → Stands core h → n < length core.schedule.systems → IsWaiting core n → (HasUnasked core n → ⊥) → HasRefusing core n → Offers core.schedule h n (ready.Skip n)
+offers_skip core h n stands known waiting none one =
+    (free_waiting core h n stands known waiting, (refl, skip_may core h n stands known waiting.fresh waiting.released none one))
+
+-- else one that meets no running system offers to start
+pub offers_start : (core : Stand) (h : List Step) (n : ℕ) → Stands core h → n < length core.schedule.systems → IsWaiting core n → (HasUnasked core n → ⊥) → (HasRefusing core n → ⊥) → NoneMeets core n →
+    Offers core.schedule h n (ready.Start n)
+offers_start core h n stands known waiting none agreed clear =
+    (free_waiting core h n stands known waiting, (refl, start_may core h n stands known waiting.fresh waiting.released none agreed clear))
+
+-- and one that meets one offers nothing
+pub meeting_offers-nothing : (core : Stand) (h : List Step) (n : ℕ) → Stands core h → (HasUnasked core n → ⊥) → (HasRefusing core n → ⊥) → (NoneMeets core n → ⊥) → OffersNothing core.schedule h n
+meeting_offers-nothing core h n stands none agreed some (ready.Ask c) offers = none (unasked_from core h n stands (c, offers.1.0.0, offers.1.0.1))
+meeting_offers-nothing core h n stands none agreed some (ready.Skip m) offers = let may : MaySkip core.schedule h n = offers.1.1 in agreed (refusing_from core h n stands may.refused)
+meeting_offers-nothing core h n stands none agreed some (ready.Start m) offers = let may : MayStart core.schedule h n = offers.1.1 in may.apart (meeting core h n stands some)
+meeting_offers-nothing core h n stands none agreed some (ready.Sync k) offers = offers.1
 
 -- a system that has begun offers nothing
 pub begun_offers-nothing : (core : Stand) (h : List Step) (n : ℕ) → Stands core h → contains core.begun n ≡ true → OffersNothing core.schedule h n

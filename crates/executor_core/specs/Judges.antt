@@ -5,11 +5,12 @@ use Rattle.model.specs.declared.steps.Step.{Step}
 use Rattle.model.specs.declared.steps.Step.TheVariants.{Cond, Start, Skip, Finish, Sync}
 use Rattle.model.specs.declared.steps.StepFault.{StepFault}
 use Rattle.model.specs.declared.steps.Ready.{Ready}
-use Rattle.model.specs.steps.Schedule.{Schedule, ScheduledSystem, has_edge, level_of}
+use Rattle.model.specs.steps.Schedule.{Schedule, ScheduledSystem, covers, has_edge, level_of}
 use Rattle.model.specs.steps.Lawful.{May}
 use Rattle.model.specs.steps.Faults.{IsFirstFault}
 use Rattle.model.specs.steps.Ready.{Offers, OffersNothing}
 use Rattle.schedule_builder.specs.Rows.{IsRival}
+use Rattle.schedule_builder.specs.Conditions.{IsClash}
 use Rattle.model.specs.Counts.{count_below}
 use Rattle.schedule_builder.specs.Counts.{waits_for, is_at}
 use Rattle.executor_core.specs.Stands.{Stand}
@@ -18,6 +19,11 @@ use Rattle.executor_core.specs.Stands.{Stand}
 pub record IsRoomy (count : ℕ) (begun_set over_set : List ℕ) : Type 0 where
   pub begun : length begun_set ≡ count / 64 + 1
   pub over : length over_set ≡ count / 64 + 1
+
+-- both sets have room for all conditions
+pub record IsAskRoomy (count : ℕ) (asked_set yes_set : List ℕ) : Type 0 where
+  pub asked : length asked_set ≡ count / 64 + 1
+  pub yes : length yes_set ≡ count / 64 + 1
 
 -- whether a system has an edge to this one and isn't over, and whether it is of the level and isn't over
 abbrev pub holds_up : List ScheduledSystem → List ℕ → ℕ → ℕ → Bool
@@ -47,6 +53,40 @@ NoneMeets core n = (m : ℕ) → IsRival core.schedule.systems n m → contains 
 pub record IsReleased (core : Stand) (n : ℕ) : Type 0 where
   pub after : AllOver core n
   pub level : level_of core.schedule n ≤ core.done
+
+-- a system that hasn't begun is released
+pub record IsWaiting (core : Stand) (n : ℕ) : Type 0 where
+  pub fresh : contains core.begun n ≡ false
+  pub released : IsReleased core n
+
+-- such a system is covered by the condition
+abbrev pub HasWaitingMember : Stand → ℕ → Type 0
+HasWaitingMember core c = (n : ℕ) × (covers core.schedule c n ≡ true) × IsWaiting core n
+
+-- a condition of the system was not asked
+abbrev pub HasUnasked : Stand → ℕ → Type 0
+HasUnasked core n = (c : ℕ) × (covers core.schedule c n ≡ true) × (contains core.asked c ≡ false)
+
+-- a condition of the system was asked and did not answer yes
+abbrev pub HasRefusing : Stand → ℕ → Type 0
+HasRefusing core n = (c : ℕ) × (covers core.schedule c n ≡ true) × (contains core.asked c ≡ true) × (contains core.yes c ≡ false)
+
+-- each system that conflicts with what a condition asks about and has begun is over
+abbrev pub NoneClashes : Stand → ℕ → Type 0
+NoneClashes core c = (m : ℕ) → IsClash core.schedule.systems core.schedule.conditions c m → contains core.begun m ≡ true → contains core.over m ≡ true
+
+-- a condition was not asked, and can be
+pub record IsAskableNow (core : Stand) (c : ℕ) : Type 0 where
+  pub fresh : contains core.asked c ≡ false
+  pub clear : NoneClashes core c
+
+-- it is one of the system
+abbrev pub CanAsk : Stand → ℕ → ℕ → Type 0
+CanAsk core n c = (covers core.schedule c n ≡ true) × IsAskableNow core c
+
+-- it is the least of the system
+abbrev pub IsLeastAskable : Stand → ℕ → ℕ → Type 0
+IsLeastAskable core n c = CanAsk core n c × ((j : ℕ) → j < c → CanAsk core n j → ⊥)
 
 -- some system of the level isn't over
 abbrev pub IsOpen : Stand → ℕ → Type 0

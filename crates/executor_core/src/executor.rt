@@ -4,13 +4,14 @@ ghost use Rattle.std.specs.Prelude.{ℕ, ◌≡◌, ◌+◌, ◌<◌, ◌≤◌,
 ghost use Rattle.std.specs.Bool.{OnFalse};
 ghost use Rattle.number_set.specs.Members.{contains};
 ghost use Rattle.model.specs.declared.steps.Step.{Step};
-ghost use Rattle.model.specs.steps.Schedule.{level_of};
+ghost use Rattle.model.specs.steps.Schedule.{condition_at, level_of};
 ghost use Rattle.model.specs.steps.Built.{IsBuilt};
 ghost use Rattle.model.specs.steps.Lawful.{IsLawful, IsComplete, NoneRuns, May};
 ghost use Rattle.model.specs.steps.Faults.{IsFirstFault};
 ghost use Rattle.model.specs.steps.Ready.{IsReady, OnlyFinish, step_of};
 ghost use Rattle.executor_core.specs.Stands.{Stands, IsPassed, room};
-ghost use Rattle.executor_core.specs.Judges.{AllOver, NoneMeets, IsReleased, IsOpen, IsKnown};
+ghost use Rattle.executor_core.specs.Judges.{AllOver, NoneMeets, NoneClashes, IsReleased, IsOpen, IsKnown};
+ghost use Rattle.schedule_builder.specs.Conditions.{IsCovering, IsRisingListing};
 
 use crate::counts::Counts;
 use model::steps::{Ready, Step, StepFault};
@@ -26,6 +27,8 @@ pub struct Core<'a> {
     built: &'a Built,
     begun: NumberSet,
     over: NumberSet,
+    asked: NumberSet,
+    yes: NumberSet,
     done: u32,
     from: usize,
     waits: Counts,
@@ -35,15 +38,15 @@ pub struct Core<'a> {
 impl<'a> Model for Core<'a> {
     ghost use Rattle.std.specs.Prelude.{length};
     ghost use Rattle.executor_core.specs.Stands.{Stand, stand_code};
-    ghost use Rattle.executor_core.specs.Judges.{IsRoomy, HasCounts};
+    ghost use Rattle.executor_core.specs.Judges.{IsRoomy, IsAskRoomy, HasCounts};
 
     ghost Value = { Stand };
 
     ghost coded = { stand_code };
 
-    ghost view = { λ c. record { schedule = c.built.now; begun = c.begun; over = c.over; done = c.done; from = c.from } };
+    ghost view = { λ c. record { schedule = c.built.now; begun = c.begun; over = c.over; asked = c.asked; yes = c.yes; done = c.done; from = c.from } };
 
-    ghost invariant = { λ c. IsRoomy (length c.built.now.systems) c.begun c.over × HasCounts c.built.now.systems c.over c.waits c.left };
+    ghost invariant = { λ c. IsRoomy (length c.built.now.systems) c.begun c.over × HasCounts c.built.now.systems c.over c.waits c.left × IsAskRoomy (length c.built.now.conditions) c.asked c.yes };
 }
 
 impl<'a> Core<'a> {
@@ -54,12 +57,16 @@ impl<'a> Core<'a> {
     {
         let begun = NumberSet::new(alloc, built.count())?;
         let over = NumberSet::new(alloc, built.count())?;
+        let asked = NumberSet::new(alloc, built.condition_count())?;
+        let yes = NumberSet::new(alloc, built.condition_count())?;
         let waits = Counts::new(alloc, built.waits())?;
         let left = Counts::new(alloc, built.sizes())?;
         Ok(Core {
             built,
             begun,
             over,
+            asked,
+            yes,
             done: 0,
             from: 0,
             waits,
@@ -122,13 +129,6 @@ impl<'a> Core<'a> {
         ensures { IsBuilt self.now.schedule }
     {
         self.built.law();
-    }
-
-    // There are no conditions yet.
-    pub(crate) fn no_conditions(&self)
-        ensures { self.now.schedule.conditions ≡ [] }
-    {
-        self.built.no_conditions();
     }
 
     // How many systems there are.
@@ -213,6 +213,53 @@ impl<'a> Core<'a> {
             .shares_only(&self.begun, &self.over)
     }
 
+    // How many conditions there are.
+    pub(crate) fn condition_count(&self) -> u32
+        ensures { result ≡ length self.now.schedule.conditions }
+    {
+        self.built.condition_count()
+    }
+
+    // The systems that a condition covers.
+    pub(crate) fn covered(&self, condition: u32) -> &[u32]
+        requires { condition < length self.now.schedule.conditions }
+        ensures { result.now ≡ (condition_at self.now.schedule condition).covers }
+    {
+        self.built.condition(condition).covers()
+    }
+
+    // The conditions that cover a system, in rising order.
+    pub(crate) fn asked_by(&self, system: u32) -> &[u32]
+        requires { system < length self.now.schedule.systems }
+        ensures { IsRisingListing (IsCovering self.now.schedule.conditions system) result.now }
+    {
+        self.built.asked_by(system)
+    }
+
+    // Whether the condition was asked.
+    pub(crate) fn was_asked(&self, condition: u32) -> bool
+        ensures { result ≡ contains self.now.asked condition }
+    {
+        self.asked.contains(condition)
+    }
+
+    // Whether the condition answered yes.
+    pub(crate) fn said_yes(&self, condition: u32) -> bool
+        ensures { result ≡ contains self.now.yes condition }
+    {
+        self.yes.contains(condition)
+    }
+
+    // Whether no system that conflicts with what the condition asks about runs.
+    pub(crate) fn is_clear_of(&self, condition: u32) -> bool
+        requires { condition < length self.now.schedule.conditions }
+        ensures { IsTrue result ↔ NoneClashes self.now condition }
+    {
+        self.built
+            .clashes(condition)
+            .shares_only(&self.begun, &self.over)
+    }
+
     // Notes an accepted step.
     fn take(&mut self, step: Step)
         requires { IsKnown self.old.schedule step }
@@ -220,7 +267,7 @@ impl<'a> Core<'a> {
         ensures stands { (h : List Step) → Stands self.old h → May self.old.schedule h step → Stands self.new (step ∷ h) }
     {
         match step {
-            Step::Cond(_, _) => {}
+            Step::Cond(condition, answer) => self.note(condition, answer),
             Step::Start(system) => self.begin(system),
             Step::Skip(system) => {
                 self.begin(system);
@@ -228,6 +275,19 @@ impl<'a> Core<'a> {
             }
             Step::Finish(system) => self.end(system),
             Step::Sync(sync) => self.pass_sync(sync),
+        }
+    }
+
+    // Notes what the condition answered.
+    fn note(&mut self, condition: u32, answer: bool)
+        requires { condition < length self.old.schedule.conditions }
+        ensures rest { self.new ≡ record self.old { asked = self.new.asked; yes = self.new.yes } }
+        ensures asked { (c : ℕ) → contains self.new.asked c ≡ ((condition == c) || contains self.old.asked c) }
+        ensures yes { (c : ℕ) → contains self.new.yes c ≡ (((condition == c) && answer) || contains self.old.yes c) }
+    {
+        self.asked.insert(condition);
+        if answer {
+            self.yes.insert(condition);
         }
     }
 

@@ -5,7 +5,7 @@ ghost use Rattle.number_set.specs.Members.{contains};
 ghost use Rattle.model.specs.declared.steps.Step.{Step};
 ghost use Rattle.model.specs.declared.steps.Step.TheVariants.{Cond, Start, Skip, Finish, Sync};
 ghost use Rattle.executor_core.specs.Stands.{Stands};
-ghost use Rattle.executor_core.specs.Judges.{Judges, IsKnown, IsReleased};
+ghost use Rattle.executor_core.specs.Judges.{Judges, IsKnown, IsReleased, IsWaiting, HasWaitingMember, HasUnasked, HasRefusing};
 
 use crate::executor::Core;
 use model::steps::{Step, StepFault};
@@ -25,21 +25,32 @@ impl<'a> Core<'a> {
         }
     }
 
-    // Whether the condition may be asked. There are no conditions yet.
+    // Whether the condition may be asked.
     fn may_ask(&self, condition: u32, answer: bool) -> Result<(), StepFault>
         ensures judged { (h : List Step) → Stands self.now h → Judges self.now.schedule h (Cond condition answer) result }
         ensures known { OnOk result (condition < length self.now.schedule.conditions) }
     {
-        self.no_conditions();
-        Err(StepFault::Unknown)
+        self.built_law();
+        if self.condition_count() <= condition {
+            return Err(StepFault::Unknown);
+        }
+        if self.was_asked(condition) {
+            return Err(StepFault::Repeated);
+        }
+        if !self.has_waiting_member(condition) {
+            return Err(StepFault::NotReady);
+        }
+        if !self.is_clear_of(condition) {
+            return Err(StepFault::Conflict);
+        }
+        Ok(())
     }
 
-    // Whether the system may start. There are no conditions to wait for yet.
+    // Whether the system may start.
     pub(crate) fn may_start(&self, system: u32) -> Result<(), StepFault>
         ensures judged { (h : List Step) → Stands self.now h → Judges self.now.schedule h (Start system) result }
         ensures known { OnOk result (system < length self.now.schedule.systems) }
     {
-        self.no_conditions();
         if self.count() <= system {
             return Err(StepFault::Unknown);
         }
@@ -48,6 +59,12 @@ impl<'a> Core<'a> {
         }
         if !self.is_released(system) {
             return Err(StepFault::NotReady);
+        }
+        if self.has_unasked(system) {
+            return Err(StepFault::ConditionOpen);
+        }
+        if self.has_refusing(system) {
+            return Err(StepFault::ConditionFalse);
         }
         if !self.is_clear(system) {
             return Err(StepFault::Conflict);
@@ -55,12 +72,11 @@ impl<'a> Core<'a> {
         Ok(())
     }
 
-    // Whether the system may be skipped. There are no conditions that answer no yet.
+    // Whether the system may be skipped.
     fn may_skip(&self, system: u32) -> Result<(), StepFault>
         ensures judged { (h : List Step) → Stands self.now h → Judges self.now.schedule h (Skip system) result }
         ensures known { OnOk result (system < length self.now.schedule.systems) }
     {
-        self.no_conditions();
         if self.count() <= system {
             return Err(StepFault::Unknown);
         }
@@ -70,7 +86,13 @@ impl<'a> Core<'a> {
         if !self.is_released(system) {
             return Err(StepFault::NotReady);
         }
-        Err(StepFault::ConditionTrue)
+        if self.has_unasked(system) {
+            return Err(StepFault::ConditionOpen);
+        }
+        if !self.has_refusing(system) {
+            return Err(StepFault::ConditionTrue);
+        }
+        Ok(())
     }
 
     // Whether the system may finish.
@@ -116,6 +138,64 @@ impl<'a> Core<'a> {
             return false;
         }
         self.is_after(system)
+    }
+
+    // Whether the system hasn't begun, and nothing that it waits for is missing.
+    pub(crate) fn is_waiting(&self, system: u32) -> bool
+        requires { system < length self.now.schedule.systems }
+        ensures { IsTrue result ↔ IsWaiting self.now system }
+    {
+        if self.has_begun(system) {
+            return false;
+        }
+        self.is_released(system)
+    }
+
+    // Whether the condition covers such a system.
+    fn has_waiting_member(&self, condition: u32) -> bool
+        requires { condition < length self.now.schedule.conditions }
+        ensures { IsTrue result ↔ HasWaitingMember self.now condition }
+    {
+        self.built_law();
+        for system in self.covered(condition) {
+            if self.is_waiting(*system) {
+                return true;
+            }
+        }
+        false
+    }
+
+    // Whether some condition of the system was not asked.
+    pub(crate) fn has_unasked(&self, system: u32) -> bool
+        requires { system < length self.now.schedule.systems }
+        ensures { IsTrue result ↔ HasUnasked self.now system }
+    {
+        for condition in self.asked_by(system) {
+            if !self.was_asked(*condition) {
+                return true;
+            }
+        }
+        false
+    }
+
+    // Whether some condition of the system was asked and did not answer yes.
+    pub(crate) fn has_refusing(&self, system: u32) -> bool
+        requires { system < length self.now.schedule.systems }
+        ensures { IsTrue result ↔ HasRefusing self.now system }
+    {
+        for condition in self.asked_by(system) {
+            if self.is_refusing(*condition) {
+                return true;
+            }
+        }
+        false
+    }
+
+    // Whether the condition was asked and did not answer yes.
+    fn is_refusing(&self, condition: u32) -> bool
+        ensures { result ≡ (contains self.now.asked condition && not (contains self.now.yes condition)) }
+    {
+        self.was_asked(condition) && !self.said_yes(condition)
     }
 
     // Whether the system runs.

@@ -1,10 +1,10 @@
 // What a core offers to be done next.
 
-ghost use Rattle.std.specs.Prelude.{List};
+ghost use Rattle.std.specs.Prelude.{ℕ, ◌<◌, ◌↔◌, List, length, IsTrue, IfSome, IfNone};
 ghost use Rattle.model.specs.declared.steps.Step.{Step};
 ghost use Rattle.model.specs.steps.Ready.{IsReady, IsReadySync};
 ghost use Rattle.executor_core.specs.Stands.{Stands};
-ghost use Rattle.executor_core.specs.Judges.{TellsOffer};
+ghost use Rattle.executor_core.specs.Judges.{TellsOffer, IsAskableNow, CanAsk, IsLeastAskable};
 
 use crate::executor::Core;
 use model::steps::Ready;
@@ -24,15 +24,56 @@ impl<'a> Core<'a> {
         self.ready_sync()
     }
 
-    // What the system offers: to start, since there are no conditions to ask or to skip it for yet.
+    // What the system offers: to ask its least condition that can be asked, or with all answered to skip or to start it.
     fn offer(&self, system: u32) -> Option<Ready>
         ensures { (h : List Step) → Stands self.now h → TellsOffer self.now.schedule h system result }
     {
-        self.no_conditions();
-        match self.may_start(system) {
-            Ok(()) => Some(Ready::Start(system)),
-            Err(_) => None,
+        if self.count() <= system {
+            return None;
         }
+        if !self.is_waiting(system) {
+            return None;
+        }
+        if let Some(condition) = self.least_askable(system) {
+            return Some(Ready::Ask(condition));
+        }
+        if self.has_unasked(system) {
+            return None;
+        }
+        if self.has_refusing(system) {
+            return Some(Ready::Skip(system));
+        }
+        if self.is_clear(system) {
+            return Some(Ready::Start(system));
+        }
+        None
+    }
+
+    // The least condition of the system that can be asked.
+    fn least_askable(&self, system: u32) -> Option<u32>
+        requires { system < length self.now.schedule.systems }
+        ensures found { IfSome result (λ c. IsLeastAskable self.now system c) }
+        ensures none { IfNone result ((c : ℕ) → CanAsk self.now system c → ⊥) }
+    {
+        for condition in self.asked_by(system) {
+            if self.is_askable(*condition) {
+                return Some(*condition);
+            }
+        }
+        None
+    }
+
+    // Whether the condition was not asked, and can be.
+    fn is_askable(&self, condition: u32) -> bool
+        ensures { IsTrue result ↔ (IsAskableNow self.now condition × (condition < length self.now.schedule.conditions)) }
+    {
+        if self.condition_count() <= condition {
+            return false;
+        }
+        if self.was_asked(condition) {
+            return false;
+        }
+        self.is_clear_of(condition)
     }
 
     // The sync point that is accepted.

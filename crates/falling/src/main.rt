@@ -21,7 +21,7 @@ use schedule_builder::builder::build;
 use schedule_builder::built::Built;
 use schedule_builder::desc::{ScheduleDesc, SystemDesc};
 use script::instruction::Instruction;
-use script::script_body::{Block, ScriptBody};
+use script::script_body::{Block, Rounds, ScriptBody};
 use std::alloc::Global;
 use std::process::ExitCode;
 use streams::writing::write_whole;
@@ -54,7 +54,12 @@ fn script(alloc: Global) -> Option<ScriptBody> {
         code.push(Instruction::read(alloc, text).ok()?).ok()?;
     }
     let mut blocks = Vec::new(alloc);
-    blocks.push(Block { query: 0, code }).ok()?;
+    blocks
+        .push(Block {
+            rounds: Rounds::EachRow(0),
+            code,
+        })
+        .ok()?;
     ScriptBody::check(alloc, &params(alloc)?, blocks).ok()
 }
 

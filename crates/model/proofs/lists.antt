@@ -2,3 +2,4 @@ pub mod Lists
 pub mod Members
 pub mod Searches
 pub mod Each
+pub mod Firsts

@@ -1,4 +1,6 @@
+pub mod Walks
+pub mod Hierarchy
+pub mod Edges
 pub mod Declarations
 pub mod Refusals
-pub mod Hierarchy
 pub mod ScheduleOrder

@@ -6,6 +6,7 @@ ghost use Rattle.program_file.specs.Name.{IsName, IsAmong};
 
 use crate::name::is_name;
 use crate::place_fault::PlaceFault;
+use kinds::res::Res;
 use std::alloc::Global;
 use toml::{Table, Value};
 
@@ -83,6 +84,17 @@ fn are_names(texts: &[&str]) -> bool
     ensures { IsTrue result ↔ All (λ text. IsName text.now) texts.now }
 {
     texts.iter().all(|text| is_name(text))
+}
+
+/// The resources of the array at a key, by their names.
+pub fn resources_at(alloc: Global, table: &Table, key: &str) -> Result<Vec<Res>, PlaceFault>
+    ensures { IfErr result IsNoText }
+{
+    let mut resources = Vec::new(alloc);
+    for name in texts_at(alloc, table, key)? {
+        resources.push(Res::named(name).ok_or(PlaceFault::Value)?)?;
+    }
+    Ok(resources)
 }
 
 /// The name at a key that has to be there.

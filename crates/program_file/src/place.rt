@@ -2,7 +2,7 @@
 
 use std::fmt;
 
-/// A place of a program file, by which a refusal is told. Entities and systems are numbered from 0 in the order of the file.
+/// A place of a program file, by which a refusal is told. Entities, sets and systems are numbered from 0 in the order of the file.
 #[derive(Clone, Copy, PartialEq, Eq, Debug)]
 pub enum Place {
     /// The keys at the top.
@@ -11,6 +11,8 @@ pub enum Place {
     Resources,
     /// An entity.
     Entity(usize),
+    /// A set.
+    Set(usize),
     /// A system, with its blocks.
     System(usize),
 }
@@ -21,6 +23,7 @@ impl fmt::Display for Place {
             Place::Top => write!(f, "top"),
             Place::Resources => write!(f, "resources"),
             Place::Entity(number) => write!(f, "entity {number}"),
+            Place::Set(number) => write!(f, "set {number}"),
             Place::System(number) => write!(f, "system {number}"),
         }
     }

@@ -5,7 +5,9 @@ ghost use Rattle.program_file.specs.PlaceFault.{IsOfPlace};
 ghost use Rattle.program_file.specs.Name.{IsName};
 
 use crate::fault::FileFault;
-use crate::keys::{integers_of, name_at, names_at, number_at, refuse_unknown, tables_at, texts_at};
+use crate::keys::{
+    integers_of, name_at, names_at, number_at, refuse_unknown, resources_at, tables_at, texts_at,
+};
 use crate::place::Place;
 use crate::place_fault::PlaceFault;
 use crate::readings::{instructions_of, queries_of};
@@ -13,32 +15,47 @@ use kinds::kind::Kind;
 use kinds::res::Res;
 use kinds::value::Value;
 use query::Query;
-use script::script_body::Block;
+use script::script_body::{Block, Rounds};
 use std::alloc::Global;
 use toml::Table;
 
-/// A program file: the values of its resources, its entities and its systems, in the order of the file.
+/// A program file: the values of its resources, its entities, its sets and its systems, in the order of the file.
 #[derive(Drop)]
 pub struct ProgramFile<'a> {
     /// The value of each resource, by its number, 0 where the file gives none.
     pub resources: [i64; 8],
     /// The components of each entity.
     pub entities: Vec<Vec<Value>>,
+    /// The sets.
+    pub sets: Vec<ItemTable<'a>>,
     /// The systems.
     pub systems: Vec<SystemTable<'a>>,
+}
+
+/// A set of a program file, or what a system has besides its queries and blocks.
+#[derive(Drop)]
+pub struct ItemTable<'a> {
+    /// Its name.
+    pub name: &'a str,
+    /// The names of the sets that it is in.
+    pub inside: Vec<&'a str>,
+    /// The names of the items that it runs before.
+    pub before: Vec<&'a str>,
+    /// The names of the items that it runs after.
+    pub after: Vec<&'a str>,
 }
 
 /// A system of a program file.
 #[derive(Drop)]
 pub struct SystemTable<'a> {
-    /// Its name.
-    pub name: &'a str,
-    /// The names of the items that it runs before.
-    pub before: Vec<&'a str>,
-    /// The names of the items that it runs after.
-    pub after: Vec<&'a str>,
+    /// Its name, the sets that it is in, and what it runs before and after.
+    pub item: ItemTable<'a>,
     /// Its queries, in order.
     pub queries: Vec<Query>,
+    /// The resources that it reads, in order.
+    pub res: Vec<Res>,
+    /// The resources that it writes, in order.
+    pub res_mut: Vec<Res>,
     /// Its blocks.
     pub blocks: Vec<Block>,
 }
@@ -46,42 +63,97 @@ pub struct SystemTable<'a> {
 // A block whose instructions are texts.
 #[derive(Drop)]
 struct BlockTexts<'a> {
-    each: u32,
+    rounds: Rounds,
     code: Vec<&'a str>,
 }
 
-const TOP_KEYS: [&str; 3] = ["resources", "entity", "system"];
+const TOP_KEYS: [&str; 4] = ["resources", "entity", "set", "system"];
 
-const SYSTEM_KEYS: [&str; 5] = ["name", "before", "after", "query", "do"];
+const SET_KEYS: [&str; 4] = ["name", "in", "before", "after"];
+
+const SYSTEM_KEYS: [&str; 8] = [
+    "name", "in", "before", "after", "query", "res", "res_mut", "do",
+];
 
 const BLOCK_KEYS: [&str; 2] = ["each", "code"];
 
 impl<'a> ProgramFile<'a> {
-    /// Reads a document. The places are looked at in this order: the top, the resources, each entity, each system. A fault is told
-    /// with its place.
+    /// Reads a document. The places are looked at in this order: the top, the resources, each entity, each set, each system. A
+    /// fault is told with its place.
     pub fn read(alloc: Global, document: &'a Table) -> Result<ProgramFile<'a>, FileFault>
         ensures { IfErr result IsOfPlace }
     {
         let top = Top::read(alloc, document).map_err(|fault| fault.at(Place::Top))?;
         let resources = resources_of(top.resources).map_err(|fault| fault.at(Place::Resources))?;
-        let mut entities = Vec::new(alloc);
-        for (number, table) in top.entities.iter().enumerate() {
-            let entity = components_of(alloc, table).map_err(|fault| fault.at(Place::Entity(
-                number,
-            )))?;
-            entities.push(entity)?;
-        }
-        let mut systems = Vec::new(alloc);
-        for (number, table) in top.systems.iter().enumerate() {
-            let system = SystemTable::read(alloc, table).map_err(|fault| fault.at(Place::System(
-                number,
-            )))?;
-            systems.push(system)?;
-        }
+        let entities = entities_of(alloc, top.entities.as_slice())?;
+        let sets = sets_of(alloc, top.sets.as_slice())?;
+        let systems = systems_of(alloc, top.systems.as_slice())?;
         Ok(ProgramFile {
             resources,
             entities,
+            sets,
             systems,
+        })
+    }
+}
+
+// The components of each entity.
+fn entities_of(alloc: Global, tables: &[&Table]) -> Result<Vec<Vec<Value>>, FileFault>
+    ensures { IfErr result IsOfPlace }
+{
+    let mut entities = Vec::new(alloc);
+    for (number, table) in tables.iter().enumerate() {
+        let entity = components_of(alloc, table).map_err(|fault| fault.at(Place::Entity(number)))?;
+        entities.push(entity)?;
+    }
+    Ok(entities)
+}
+
+// The sets.
+fn sets_of<'a>(alloc: Global, tables: &[&'a Table]) -> Result<Vec<ItemTable<'a>>, FileFault>
+    ensures { IfErr result IsOfPlace }
+{
+    let mut sets = Vec::new(alloc);
+    for (number, table) in tables.iter().enumerate() {
+        let set = set_of(alloc, table).map_err(|fault| fault.at(Place::Set(number)))?;
+        sets.push(set)?;
+    }
+    Ok(sets)
+}
+
+// The systems.
+fn systems_of<'a>(alloc: Global, tables: &[&'a Table]) -> Result<Vec<SystemTable<'a>>, FileFault>
+    ensures { IfErr result IsOfPlace }
+{
+    let mut systems = Vec::new(alloc);
+    for (number, table) in tables.iter().enumerate() {
+        let system = SystemTable::read(alloc, table).map_err(|fault| fault.at(Place::System(
+            number,
+        )))?;
+        systems.push(system)?;
+    }
+    Ok(systems)
+}
+
+// Reads the table of a set.
+fn set_of<'a>(alloc: Global, table: &'a Table) -> Result<ItemTable<'a>, PlaceFault> {
+    refuse_unknown(table, SET_KEYS.as_slice())?;
+    ItemTable::read(alloc, table)
+}
+
+impl<'a> ItemTable<'a> {
+    /// Reads what a set and a system both have in their tables.
+    pub fn read(alloc: Global, table: &'a Table) -> Result<ItemTable<'a>, PlaceFault>
+        ensures named { IfOk result (λ item. IsName item.name.now) }
+        ensures inside { IfOk result (λ item. All (λ name. IsName name.now) item.inside.items) }
+        ensures before { IfOk result (λ item. All (λ name. IsName name.now) item.before.items) }
+        ensures after { IfOk result (λ item. All (λ name. IsName name.now) item.after.items) }
+    {
+        Ok(ItemTable {
+            name: name_at(table, "name")?,
+            inside: names_at(alloc, table, "in")?,
+            before: names_at(alloc, table, "before")?,
+            after: names_at(alloc, table, "after")?,
         })
     }
 }
@@ -89,21 +161,22 @@ impl<'a> ProgramFile<'a> {
 impl<'a> SystemTable<'a> {
     /// Reads the table of a system: all its keys, then its texts.
     pub fn read(alloc: Global, table: &'a Table) -> Result<SystemTable<'a>, PlaceFault>
-        ensures named { IfOk result (λ system. IsName system.name.now) }
-        ensures before { IfOk result (λ system. All (λ name. IsName name.now) system.before.items) }
-        ensures after { IfOk result (λ system. All (λ name. IsName name.now) system.after.items) }
+        ensures named { IfOk result (λ system. IsName system.item.name.now) }
+        ensures inside { IfOk result (λ system. All (λ name. IsName name.now) system.item.inside.items) }
+        ensures before { IfOk result (λ system. All (λ name. IsName name.now) system.item.before.items) }
+        ensures after { IfOk result (λ system. All (λ name. IsName name.now) system.item.after.items) }
     {
         refuse_unknown(table, SYSTEM_KEYS.as_slice())?;
-        let name = name_at(table, "name")?;
-        let before = names_at(alloc, table, "before")?;
-        let after = names_at(alloc, table, "after")?;
+        let item = ItemTable::read(alloc, table)?;
         let queries = texts_at(alloc, table, "query")?;
+        let res = resources_at(alloc, table, "res")?;
+        let res_mut = resources_at(alloc, table, "res_mut")?;
         let blocks = blocks_of(alloc, table)?;
         Ok(SystemTable {
-            name,
-            before,
-            after,
+            item,
             queries: queries_of(alloc, queries.as_slice())?,
+            res,
+            res_mut,
             blocks: read_blocks(alloc, blocks.as_slice())?,
         })
     }
@@ -114,6 +187,7 @@ impl<'a> SystemTable<'a> {
 struct Top<'a> {
     resources: Option<&'a Table>,
     entities: Vec<&'a Table>,
+    sets: Vec<&'a Table>,
     systems: Vec<&'a Table>,
 }
 
@@ -127,6 +201,7 @@ impl<'a> Top<'a> {
         Ok(Top {
             resources,
             entities: tables_at(alloc, document, "entity")?,
+            sets: tables_at(alloc, document, "set")?,
             systems: tables_at(alloc, document, "system")?,
         })
     }
@@ -158,6 +233,14 @@ fn components_of(alloc: Global, table: &Table) -> Result<Vec<Value>, PlaceFault>
     Ok(components)
 }
 
+// How often a block runs: once, unless it names a query.
+fn rounds_of(block: &Table) -> Result<Rounds, PlaceFault> {
+    if block.contains_key("each") {
+        return Ok(Rounds::EachRow(number_at(block, "each")?));
+    }
+    Ok(Rounds::Once)
+}
+
 // The blocks of a system, with their texts.
 fn blocks_of<'a>(alloc: Global, table: &'a Table) -> Result<Vec<BlockTexts<'a>>, PlaceFault> {
     let mut blocks = Vec::new(alloc);
@@ -167,7 +250,7 @@ fn blocks_of<'a>(alloc: Global, table: &'a Table) -> Result<Vec<BlockTexts<'a>>,
             return Err(PlaceFault::Value);
         }
         let texts = BlockTexts {
-            each: number_at(block, "each")?,
+            rounds: rounds_of(block)?,
             code: texts_at(alloc, block, "code")?,
         };
         blocks.push(texts)?;
@@ -180,7 +263,7 @@ fn read_blocks(alloc: Global, blocks: &[BlockTexts<'_>]) -> Result<Vec<Block>, P
     let mut rows = Vec::new(alloc);
     for block in blocks {
         let row = Block {
-            query: block.each,
+            rounds: block.rounds,
             code: instructions_of(alloc, block.code.as_slice())?,
         };
         rows.push(row)?;
@@ -211,7 +294,7 @@ mod tests {
     #[test]
     fn files_are_read(rt: HostRuntime) -> Result<(), Fail> {
         let text =
-            "resources = { Total = -3 }\n[[entity]]\nPosition = [0, 0]\nVelocity = [1, -2]\n[[entity]]\n[[system]]\nname = \"move\"\nbefore = [\"b\", \"c\"]\nquery = [\"mut Position, read Velocity\"]\n[[system.do]]\neach = 0\ncode = [\"add Position.x Velocity.x\"]\n";
+            "resources = { Total = -3 }\n[[entity]]\nPosition = [0, 0]\nVelocity = [1, -2]\n[[entity]]\n[[system]]\nname = \"move\"\nin = [\"g\"]\nbefore = [\"b\", \"c\"]\nquery = [\"mut Position, read Velocity\"]\n[[system.do]]\neach = 0\ncode = [\"add Position.x Velocity.x\"]\n[[set]]\nname = \"g\"\nafter = [\"b\"]\n";
         let document = document_of(rt.alloc(), text.as_bytes())?;
         let tree = ProgramFile::read(rt.alloc(), &document)?;
         assert_eq!(rt; tree.resources, [0, 0, -3, 0, 0, 0, 0, 0]);
@@ -227,9 +310,13 @@ mod tests {
         assert_eq!(rt; tree.entities[1].len(), 0);
         assert_eq!(rt; tree.systems.len(), 1);
         let system = &tree.systems[0];
-        assert_eq!(rt; system.name, "move");
-        assert_eq!(rt; system.before.as_slice(), ["b", "c"].as_slice());
-        assert_eq!(rt; system.after.len(), 0);
+        assert_eq!(rt; system.item.name, "move");
+        assert_eq!(rt; system.item.inside.as_slice(), ["g"].as_slice());
+        assert_eq!(rt; system.item.before.as_slice(), ["b", "c"].as_slice());
+        assert_eq!(rt; system.item.after.len(), 0);
+        assert_eq!(rt; tree.sets.len(), 1);
+        assert_eq!(rt; tree.sets[0].name, "g");
+        assert_eq!(rt; tree.sets[0].after.as_slice(), ["b"].as_slice());
         assert_eq!(rt; system.queries.len(), 1);
         assert_eq!(rt;
             system.queries[0].terms(),
@@ -237,7 +324,7 @@ mod tests {
         );
         assert_eq!(rt; system.blocks.len(), 1);
         let block = &system.blocks[0];
-        assert_eq!(rt; block.query, 0);
+        assert_eq!(rt; block.rounds, Rounds::EachRow(0));
         assert_eq!(rt;
             block.code.as_slice(),
             [Instruction::read(rt.alloc(), "add Position.x Velocity.x")?].as_slice()
@@ -271,6 +358,14 @@ mod tests {
                 "entity = [{ Position = [1, \"2\"] }]",
                 "refused P2 entity 0",
             ),
+            (
+                "set = [{ name = \"a\" }, { name = \"b\", in = [\"a\"] }]",
+                "",
+            ),
+            ("set = [{ name = \"a\" }, {}]", "refused P2 set 1"),
+            ("set = [{ name = \"a\", query = [] }]", "refused P2 set 0"),
+            ("set = [{ name = \"a\", in = \"b\" }]", "refused P2 set 0"),
+            ("system = [{}]\n[[set]]\nname = \"A\"", "refused P2 set 0"),
             ("system = [{ name = \"a\" }]", ""),
             ("system = [{ name = \"A\" }]", "refused P2 system 0"),
             ("system = [{}]", "refused P2 system 0"),
@@ -286,9 +381,22 @@ mod tests {
                 "system = [{ name = \"a\", if = [] }]",
                 "refused P2 system 0",
             ),
+            ("system = [{ name = \"a\", do = [{ code = [] }] }]", ""),
             (
-                "system = [{ name = \"a\", do = [{ code = [] }] }]",
+                "system = [{ name = \"a\", res = [\"Total\"], res_mut = [\"Round\", \"Round\"] }]",
+                "",
+            ),
+            (
+                "system = [{ name = \"a\", res = [\"total\"] }]",
                 "refused P2 system 0",
+            ),
+            (
+                "system = [{ name = \"a\", res_mut = \"Total\" }]",
+                "refused P2 system 0",
+            ),
+            (
+                "system = [{ name = \"a\", do = [{ code = [\"less r0 1 0\"] }] }]",
+                "refused P3 system 0",
             ),
             (
                 "system = [{ name = \"a\", do = [{ each = 0 }] }]",

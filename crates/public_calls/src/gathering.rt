@@ -1,4 +1,4 @@
-// A body that touches nothing, and a gate at which starts gather: what tests of threads stand on.
+// Bodies that touch nothing, and a gate at which starts gather: what tests of threads stand on.
 
 ghost use Rattle.std.specs.Prelude.{Ok, Err, None, Some, true};
 ghost use Rattle.model.specs.shown.Outcome.{untouched};
@@ -6,7 +6,8 @@ ghost use Rattle.model.specs.shown.Outcome.{untouched};
 use access_set::params::Params;
 use body::system_body::{Body, BodyFault};
 use body::view::View;
-use std::sync::{Condvar, Mutex, Wait};
+use std::alloc::Global;
+use std::sync::{Arc, Condvar, Mutex, Wait};
 use std::time::{Clock, Duration};
 use worker_pool::Gate;
 
@@ -37,9 +38,6 @@ impl Body for Answering {
     }
 }
 
-// How long a start waits for the others, in milliseconds.
-const PATIENCE: u64 = 20_000;
-
 /// How many starts are past the gate and not yet back, and how many there were at most.
 #[derive(Drop)]
 struct Crowd {
@@ -52,16 +50,18 @@ struct Crowd {
 pub struct Gathering<R> {
     runtime: R,
     wanted: u64,
+    patience: Duration,
     crowd: Mutex<Crowd>,
     changed: Condvar,
 }
 
 impl<R> Gathering<R> {
-    /// A gate that waits for so many.
-    pub fn new(runtime: R, wanted: u64) -> Self {
+    /// A gate that waits so long for so many.
+    pub fn new(runtime: R, wanted: u64, patience: Duration) -> Self {
         Gathering {
             runtime,
             wanted,
+            patience,
             crowd: Mutex::new(Crowd { inside: 0, most: 0 }),
             changed: Condvar::new(),
         }
@@ -78,7 +78,7 @@ impl<R: Wait> Gathering<R> {
 impl<R: Wait + Clock + Send + Sync + Drop> Gate for Gathering<R> {
     fn enter(&self, _number: u64) {
         let wanted = self.wanted;
-        let patience = Duration::from_millis(PATIENCE);
+        let patience = self.patience;
         let mut crowd = self.crowd.lock(&self.runtime);
         crowd.inside = crowd.inside.saturating_add(1);
         crowd.most = crowd.most.max(crowd.inside);
@@ -94,5 +94,28 @@ impl<R: Wait + Clock + Send + Sync + Drop> Gate for Gathering<R> {
     fn leave(&self, _number: u64) {
         let mut crowd = self.crowd.lock(&self.runtime);
         crowd.inside = crowd.inside.saturating_sub(1);
+    }
+}
+
+/// A body that waits for others to run beside it, at a gate of its own.
+#[derive(Drop)]
+pub struct Meeting<R> {
+    /// Where the bodies gather.
+    pub place: Arc<Gathering<R>, Global>,
+}
+
+impl<R: Wait + Clock + Send + Sync + Drop> Body for Meeting<R> {
+    ghost meaning = { λ _ params shown. Ok (untouched params shown) };
+
+    ghost fits = { λ _ _. true };
+
+    fn fits(&self, _params: &Params) -> bool {
+        true
+    }
+
+    fn run(&mut self, _view: &mut View) -> Result<(), BodyFault> {
+        self.place.enter(0);
+        self.place.leave(0);
+        Ok(())
     }
 }

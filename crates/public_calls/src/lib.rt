@@ -12,6 +12,8 @@ mod plans;
 #[cfg(test)]
 mod queries;
 #[cfg(test)]
+mod resources;
+#[cfg(test)]
 mod runs;
 #[cfg(test)]
 mod schedules;

@@ -14,7 +14,7 @@ use schedule_builder::builder::build;
 use schedule_builder::built::Built;
 use schedule_builder::desc::{ScheduleDesc, SystemDesc};
 use script::instruction::Instruction;
-use script::script_body::{Block, ScriptBody};
+use script::script_body::{Block, Rounds, ScriptBody};
 use std::alloc::{AllocError, Global};
 use std::test::Fail;
 use worker_pool::Single;
@@ -54,7 +54,10 @@ fn script(alloc: Global, params: &Params, texts: &[&str]) -> Result<Vec<ScriptBo
         code.push(Instruction::read(alloc, *text)?)?;
     }
     let mut blocks = Vec::new(alloc);
-    blocks.push(Block { query: 0, code })?;
+    blocks.push(Block {
+        rounds: Rounds::EachRow(0),
+        code,
+    })?;
     let mut bodies = Vec::new(alloc);
     bodies.push(ScriptBody::check(alloc, params, blocks)?)?;
     Ok(bodies)

@@ -4,7 +4,7 @@ use access_set::params::Params;
 use kinds::kind::Kind;
 use query::{Query, Term};
 use schedule_builder::builder::build;
-use schedule_builder::desc::{ScheduleDesc, SystemDesc};
+use schedule_builder::desc::{ItemDesc, ScheduleDesc, SystemDesc};
 use schedule_builder::fault::BuildFault;
 use std::alloc::{AllocError, Global};
 use std::test::Fail;
@@ -187,6 +187,83 @@ fn tells_a_self_conflict_before_a_bad_query(rt: HostRuntime) -> Result<(), Fail>
     desc.add_system(with_two_queries(alloc, "b", &writing, &writing)?)?;
     desc.add_system(with_two_queries(alloc, "c", &writing, &writing)?)?;
     assert_eq!(rt; answer(alloc, desc)?.as_str(), "refused B9 b");
+    Ok(())
+}
+
+/// A set of this name in one and before one, where these are named.
+fn set(alloc: Global, name: &str, inside: &str, before: &str) -> Result<ItemDesc, AllocError> {
+    let mut set = ItemDesc::new(alloc, String::from_str(alloc, name)?);
+    if !inside.is_empty() {
+        set.add_in(String::from_str(alloc, inside)?)?;
+    }
+    if !before.is_empty() {
+        set.add_before(String::from_str(alloc, before)?)?;
+    }
+    Ok(set)
+}
+
+/// A system of this name in a set.
+fn member(alloc: Global, name: &str, inside: &str) -> Result<SystemDesc, AllocError> {
+    let mut system = system(alloc, name, "", "")?;
+    system.add_in(String::from_str(alloc, inside)?)?;
+    Ok(system)
+}
+
+#[test]
+fn sets_order_their_members(rt: HostRuntime) -> Result<(), Fail> {
+    let alloc = rt.alloc();
+    let mut desc = ScheduleDesc::new(alloc);
+    desc.add_system(member(alloc, "a", "late")?)?;
+    desc.add_system(member(alloc, "b", "inner")?)?;
+    desc.add_system(system(alloc, "c", "late", "")?)?;
+    desc.add_set(set(alloc, "early", "", "late")?)?;
+    desc.add_set(set(alloc, "late", "", "")?)?;
+    desc.add_set(set(alloc, "inner", "early", "c")?)?;
+    let built = build(alloc, desc)?;
+    assert_eq!(rt; built.order(), [1, 2, 0].as_slice());
+    assert_eq!(rt; built.predecessors(0), [1, 2].as_slice());
+    assert_eq!(rt; built.predecessors(1).len(), 0);
+    assert_eq!(rt; built.predecessors(2), [1].as_slice());
+    Ok(())
+}
+
+#[test]
+fn tells_refusals_of_sets(rt: HostRuntime) -> Result<(), Fail> {
+    let alloc = rt.alloc();
+    let mut crossing = ScheduleDesc::new(alloc);
+    crossing.add_set(set(alloc, "x", "y", "")?)?;
+    crossing.add_set(set(alloc, "y", "", "s")?)?;
+    crossing.add_system(member(alloc, "s", "x")?)?;
+    assert_eq!(rt; answer(alloc, crossing)?.as_str(), "refused B7 s y");
+    let mut sharing = ScheduleDesc::new(alloc);
+    sharing.add_set(set(alloc, "x", "", "y")?)?;
+    sharing.add_set(set(alloc, "y", "", "")?)?;
+    sharing.add_set(set(alloc, "z", "x", "")?)?;
+    let mut shared = member(alloc, "s", "y")?;
+    shared.add_in(String::from_str(alloc, "z")?)?;
+    sharing.add_system(shared)?;
+    assert_eq!(rt; answer(alloc, sharing)?.as_str(), "refused B8 x y s");
+    let mut circle = ScheduleDesc::new(alloc);
+    circle.add_set(set(alloc, "x", "y", "")?)?;
+    circle.add_set(set(alloc, "y", "x", "")?)?;
+    assert_eq!(rt; answer(alloc, circle)?.as_str(), "refused B4 x y x");
+    Ok(())
+}
+
+/// What is told of so many sets.
+fn told_of_sets(alloc: Global, count: u32) -> Result<String, AllocError> {
+    let mut desc = ScheduleDesc::new(alloc);
+    for number in 0..count {
+        let name = format!(in alloc; "s{number}")?;
+        desc.add_set(ItemDesc::new(alloc, name))?;
+    }
+    answer(alloc, desc)
+}
+
+#[test]
+fn refuses_more_than_64_sets(rt: HostRuntime) -> Result<(), Fail> {
+    assert_eq!(rt; told_of_sets(rt.alloc(), 64)?.as_str(), "[]");
+    assert_eq!(rt; told_of_sets(rt.alloc(), 65)?.as_str(), "refused B12 2");
     Ok(())
 }
 

@@ -9,12 +9,14 @@ use change_ticks::clock::Clock;
 use engine::Engine;
 use kinds::component::{Health, Position, Velocity};
 use kinds::kind::Kind;
+use kinds::res::Res;
 use query::{Query, Term};
 use schedule_builder::builder::build;
 use schedule_builder::desc::{ScheduleDesc, SystemDesc};
 use script::fault::{Cause, CheckFault, ScriptFault};
-use script::instruction::{Axis, Field, Instruction, Operation, Source};
-use script::script_body::{Block, ScriptBody};
+use script::instruction::{Instruction, Operation, Relation};
+use script::operands::{Axis, Field, Source, Target};
+use script::script_body::{Block, Rounds, ScriptBody};
 use std::alloc::{AllocError, Global};
 use std::test::Fail;
 use texts::read_error::ReadError;
@@ -35,7 +37,7 @@ fn instructions(rt: HostRuntime) -> Result<(), Fail> {
         add,
         Instruction::Change {
             operation: Operation::Add,
-            target: x,
+            target: Target::Field(x),
             source: Source::Field(velocity)
         }
     );
@@ -44,8 +46,40 @@ fn instructions(rt: HostRuntime) -> Result<(), Fail> {
         set,
         Instruction::Change {
             operation: Operation::Set,
-            target: x,
+            target: Target::Field(x),
             source: Source::Integer(-7)
+        }
+    );
+    Ok(())
+}
+
+#[test]
+fn instructions_that_pass_over_others(rt: HostRuntime) -> Result<(), Fail> {
+    let less = Instruction::read(rt.alloc(), "less r07 Total 002")?;
+    assert_eq!(rt;
+        less,
+        Instruction::Compare {
+            relation: Relation::Less,
+            left: Source::Register(7),
+            right: Source::Resource(Res::Total),
+            passed: 2
+        }
+    );
+    let has = Instruction::read(rt.alloc(), " has Frozen 4294967295")?;
+    assert_eq!(rt;
+        has,
+        Instruction::Has {
+            kind: Kind::Frozen,
+            passed: u32::MAX
+        }
+    );
+    let set = Instruction::read(rt.alloc(), "set Mode r4294967295")?;
+    assert_eq!(rt;
+        set,
+        Instruction::Change {
+            operation: Operation::Set,
+            target: Target::Resource(Res::Mode),
+            source: Source::Register(u32::MAX)
         }
     );
     Ok(())
@@ -60,6 +94,15 @@ fn other_texts_are_no_instruction(rt: HostRuntime) {
         "set Position .x 1",
         "set Position.x",
         "set Position.x 1 2",
+        "set r 1",
+        "set r+1 1",
+        "set r4294967296 1",
+        "set 1 r0",
+        "less 1 2 0",
+        "less 1 2 4294967296",
+        "less 1 2",
+        "has Total 1",
+        "has Frozen r0",
         "",
     ] {
         assert_eq!(rt;
@@ -84,10 +127,10 @@ fn moving(alloc: Global) -> Result<Params, AllocError> {
 fn add(axis: Axis) -> Instruction {
     Instruction::Change {
         operation: Operation::Add,
-        target: Field {
+        target: Target::Field(Field {
             kind: Kind::Position,
             axis,
-        },
+        }),
         source: Source::Field(Field {
             kind: Kind::Velocity,
             axis,
@@ -101,7 +144,10 @@ fn adding(alloc: Global, second: Axis) -> Result<Vec<Block>, AllocError> {
     code.push(add(Axis::X))?;
     code.push(add(second))?;
     let mut blocks = Vec::new(alloc);
-    blocks.push(Block { query: 0, code })?;
+    blocks.push(Block {
+        rounds: Rounds::EachRow(0),
+        code,
+    })?;
     Ok(blocks)
 }
 
@@ -166,7 +212,10 @@ fn healed(alloc: Global, health: Health, text: &str) -> Result<Option<Health>, F
     let mut code = Vec::new(alloc);
     code.push(Instruction::read(alloc, text)?)?;
     let mut blocks = Vec::new(alloc);
-    blocks.push(Block { query: 0, code })?;
+    blocks.push(Block {
+        rounds: Rounds::EachRow(0),
+        code,
+    })?;
     let mut world = World::new(alloc, Clock::at(2))?;
     let granted = world.grant(alloc, 1)?;
     let entity = *granted.first().ok_or("no id")?;

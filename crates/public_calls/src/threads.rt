@@ -2,7 +2,7 @@
 
 ghost use Rattle.std.specs.Prelude.{◌≤◌};
 
-use crate::gathering::{Answering, Gathering};
+use crate::gathering::{Answering, Gathering, Meeting};
 use access_set::params::Params;
 use archetype_store::store::World;
 use body::state::State;
@@ -13,11 +13,11 @@ use executor_core::Trace;
 use schedule_builder::builder::build;
 use schedule_builder::desc::{ScheduleDesc, SystemDesc};
 use std::alloc::Global;
-use std::sync::Wait;
+use std::sync::{Arc, Wait};
 use std::test::Fail;
 use std::thread;
 use std::thread::{Scope, Threads};
-use std::time::Clock as Watch;
+use std::time::{Clock as Watch, Duration};
 use worker_pool::single::NoGate;
 use worker_pool::{Gate, Single, Workers};
 
@@ -64,18 +64,57 @@ pub fn run_on_threads<
     )
 }
 
-// An engine of systems that touch nothing, each with one of these bodies.
-fn answering(alloc: Global, refusals: &[Option<u32>]) -> Result<Engine<Answering>, Fail> {
+// An engine of systems that touch nothing, with these bodies.
+fn engine_of<B: Body>(alloc: Global, bodies: Vec<B>) -> Result<Engine<B>, Fail> {
     let mut desc = ScheduleDesc::new(alloc);
-    let mut bodies = Vec::new(alloc);
-    for refusal in refusals {
-        let name = format!(in alloc; "s{}", bodies.len())?;
+    for number in 0..bodies.len() {
+        let name = format!(in alloc; "s{number}")?;
         desc.add_system(SystemDesc::new(alloc, name, Params::new(alloc)))?;
-        bodies.push(Answering { refusal: *refusal })?;
     }
     let world = World::empty(alloc, Clock::at(1));
-    let state = State::new(alloc, world, refusals.len())?;
+    let state = State::new(alloc, world, bodies.len())?;
     Ok(Engine::new(alloc, build(alloc, desc)?, bodies, state)?)
+}
+
+// An engine of systems that touch nothing, each with one of these bodies.
+fn answering(alloc: Global, refusals: &[Option<u32>]) -> Result<Engine<Answering>, Fail> {
+    let mut bodies = Vec::new(alloc);
+    for refusal in refusals {
+        bodies.push(Answering { refusal: *refusal })?;
+    }
+    engine_of(alloc, bodies)
+}
+
+// How long starts and bodies wait for others that come, in milliseconds.
+const PATIENCE: u64 = 20_000;
+
+// How long bodies wait for others that can't come, in milliseconds.
+const HASTE: u64 = 20;
+
+// How many of so many bodies ran at once, that wait so many milliseconds for each other, on so many threads, or where there are none on one.
+fn met<R: Threads + Wait + Watch + Copy + Send + Sync + Drop + 'static>(
+    runtime: R,
+    alloc: Global,
+    systems: u64,
+    workers: usize,
+    patience: u64,
+) -> Result<u64, Fail>
+    requires few { workers ≤ 64 }
+{
+    let patience = Duration::from_millis(patience);
+    let place = Arc::new(alloc, Gathering::new(runtime, systems, patience))?;
+    let mut bodies = Vec::new(alloc);
+    for _system in 0..systems {
+        let place = Arc::try_clone(&place)?;
+        bodies.push(Meeting { place })?;
+    }
+    let mut engine = engine_of(alloc, bodies)?;
+    if workers == 0 {
+        engine.run(alloc, 1, &Single)?;
+    } else {
+        run_on_threads(runtime, &NoGate, alloc, workers, 1, &mut engine)?;
+    }
+    Ok(place.most())
 }
 
 // How many of these systems were past a gate at once, that waits for so many, where so many threads run them.
@@ -88,7 +127,8 @@ fn gathered<R: Threads + Wait + Watch + Copy + Send + Sync + Drop + 'static>(
     requires some { 1 ≤ workers }
     requires few { workers ≤ 64 }
 {
-    let gate = Gathering::new(runtime, workers as u64);
+    let patience = Duration::from_millis(PATIENCE);
+    let gate = Gathering::new(runtime, workers as u64, patience);
     let mut engine = answering(alloc, systems)?;
     run_on_threads(runtime, &gate, alloc, workers, 1, &mut engine)?;
     Ok(gate.most())
@@ -100,6 +140,22 @@ fn starts_meet(rt: HostRuntime) -> Result<(), Fail> {
         assert_eq!(rt; gathered(rt, rt.alloc(), &[None; 2], 2)?, 2);
         assert_eq!(rt; gathered(rt, rt.alloc(), &[None; 3], 3)?, 3);
     }
+    Ok(())
+}
+
+#[test]
+fn bodies_meet(rt: HostRuntime) -> Result<(), Fail> {
+    for _trial in 0..3 {
+        assert_eq!(rt; met(rt, rt.alloc(), 2, 2, PATIENCE)?, 2);
+        assert_eq!(rt; met(rt, rt.alloc(), 3, 3, PATIENCE)?, 3);
+    }
+    Ok(())
+}
+
+#[test]
+fn bodies_do_not_meet_on_one_thread(rt: HostRuntime) -> Result<(), Fail> {
+    assert_eq!(rt; met(rt, rt.alloc(), 2, 0, HASTE)?, 1);
+    assert_eq!(rt; met(rt, rt.alloc(), 2, 1, HASTE)?, 1);
     Ok(())
 }
 
@@ -117,7 +173,7 @@ fn a_refusal_spoils(rt: HostRuntime) -> Result<(), Fail> {
     assert_eq!(rt; single, Some(RunFault::BodyFault(7)));
     let again = engine.run(alloc, 1, &Single).err();
     assert_eq!(rt; again, Some(RunFault::Spoiled));
-    let gate = Gathering::new(rt, 2);
+    let gate = Gathering::new(rt, 2, Duration::from_millis(PATIENCE));
     let mut engine = answering(alloc, &[None, Some(7)])?;
     let wide = run_on_threads(rt, &gate, alloc, 2, 1, &mut engine).err();
     assert_eq!(rt; wide, Some(RunFault::BodyFault(7)));
@@ -129,8 +185,8 @@ fn a_refusal_spoils(rt: HostRuntime) -> Result<(), Fail> {
 
 #[test]
 fn runs_many_times(rt: HostRuntime) -> Result<(), Fail> {
-    let mut engine = answering(rt.alloc(), &[None; 4])?;
-    let traces = run_on_threads(rt, &NoGate, rt.alloc(), 4, 1_000, &mut engine)?;
-    assert_eq!(rt; traces.len(), 1_000);
+    let mut engine = answering(rt.alloc(), &[None; 2])?;
+    let traces = run_on_threads(rt, &NoGate, rt.alloc(), 4, 10_000, &mut engine)?;
+    assert_eq!(rt; traces.len(), 10_000);
     Ok(())
 }

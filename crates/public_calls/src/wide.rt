@@ -19,7 +19,7 @@ use schedule_builder::builder::build;
 use schedule_builder::built::Built;
 use schedule_builder::desc::{ScheduleDesc, SystemDesc};
 use script::instruction::Instruction;
-use script::script_body::{Block, ScriptBody};
+use script::script_body::{Block, Rounds, ScriptBody};
 use std::alloc::Global;
 use std::sync::Wait;
 use std::test::Fail;
@@ -86,7 +86,10 @@ fn script(alloc: Global, query: &str, first: &str, second: &str) -> Result<Scrip
         code.push(Instruction::read(alloc, second)?)?;
     }
     let mut blocks = Vec::new(alloc);
-    blocks.push(Block { query: 0, code })?;
+    blocks.push(Block {
+        rounds: Rounds::EachRow(0),
+        code,
+    })?;
     Ok(ScriptBody::check(alloc, &params(alloc, query)?, blocks)?)
 }
 

@@ -17,26 +17,26 @@ pub struct Cond {
     tree: Tree,
 }
 
-// A condition and its parts.
+/// A condition and its parts.
 #[derive(Drop)]
-pub(crate) enum Tree {
-    // It was never asked.
+pub enum Tree {
+    /// It was never asked.
     RunOnce,
-    // The value of the resource is the number.
+    /// The value of the resource is the number.
     ResourceEquals(Res, i64),
-    // The value of the resource is the number or greater.
+    /// The value of the resource is the number or greater.
     ResourceAtLeast(Res, i64),
-    // The resource was changed since the last run.
+    /// The resource was changed since the last run.
     ResourceChanged(Res),
-    // The query has a row.
+    /// The query has a row.
     AnyWith(Query),
-    // An event is there that was not read.
+    /// An event is there that was not read.
     OnEvent(Event),
-    // The condition does not hold.
+    /// The condition does not hold.
     Not(Box<Tree>),
-    // Both hold.
+    /// Both hold.
     And(Box<Tree>, Box<Tree>),
-    // One or the other holds.
+    /// One or the other holds.
     Or(Box<Tree>, Box<Tree>),
 }
 
@@ -132,6 +132,13 @@ impl Cond {
         Ok(Cond {
             tree: Tree::Or(Box::new(alloc, left.tree)?, Box::new(alloc, right.tree)?),
         })
+    }
+
+    /// Its parts.
+    pub fn tree(&self) -> &Tree
+        ensures { condition_of result.now ≡ self.now }
+    {
+        &self.tree
     }
 
     /// The queries of the condition, in order.

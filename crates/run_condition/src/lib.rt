@@ -6,4 +6,4 @@ mod fronts;
 mod reading;
 mod word;
 
-pub use cond::Cond;
+pub use cond::{Cond, Tree};

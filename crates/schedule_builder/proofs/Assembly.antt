@@ -1,25 +1,29 @@
 -- The systems of a schedule with their predecessors, and what is lawful of a built schedule.
-use Rattle.std.proofs.Common.{◌≡◌, ℕ, zero, suc, ◌<◌, ◌≤◌, ◌+◌, inl, inr, Bool, true, false, cond, eqb, List, [], ◌∷◌, ◌++◌, length, map, get_or, arith, subst, sym, ap, ◌∙◌}
+use Rattle.std.proofs.Common.{◌≡◌, ℕ, zero, suc, ◌<◌, ◌≤◌, ◌+◌, ◌^◌, inl, inr, Bool, true, false, cond, eqb, List, [], ◌∷◌, ◌++◌, length, map, get_or, arith, subst, sym, ap, ◌∙◌}
 use Rattle.std.specs.List.{filter}
 use Rattle.std.proofs.lemmas.Bool.{false≢true, or_cases, or_left, or_right, eqb-true, eq-eqb, cases_lt}
 use Rattle.std.proofs.lemmas.Bool.Decides.{eqb_tells}
-use Rattle.std.proofs.lemmas.List.{same_lists, get_or-map, length-map, get_or_push, get_or_append_left, length_push, get_or_past}
+use Rattle.std.proofs.lemmas.List.{same_lists, get_or-map, length-map, get_or_push, get_or_append_left, length_push, get_or_past, get_or_default, length-append}
 use Rattle.model.specs.Lists.{has}
 use Rattle.model.specs.access.Access.{Params, no_params}
 use Rattle.model.specs.access.SelfConflict.{ConflictWithin}
-use Rattle.model.specs.declarations.Declarations.{DeclaredSystem}
-use Rattle.model.specs.declarations.Refusals.{HasDistinctNames, HasNoSelfConflict}
+use Rattle.model.specs.declarations.Hierarchy.{Hierarchy}
+use Rattle.model.specs.declarations.Declarations.{Declared, DeclaredSystem, items_of, hierarchy_of, declared_orders}
+use Rattle.model.specs.declarations.Edges.{IsMemberOf, IsFollowed}
+use Rattle.model.specs.declarations.Refusals.{HasNoSelfConflict}
 use Rattle.model.specs.steps.Schedule.{ScheduledSystem, has_edge, level_of}
 use Rattle.model.specs.steps.Ambiguity.{Reaches, Before}
-use Rattle.model.specs.declarations.ScheduleOrder.{IsScheduleOrder, HasDeclaredEdges, HasDeclaredSystems}
+use Rattle.model.specs.declarations.ScheduleOrder.{IsScheduleOrder, IsDeclaredEdge, HasDeclaredEdges, HasDeclaredSystems}
 use Rattle.schedule_builder.proofs.ScheduleOrders.{split_at}
 use Rattle.model.specs.steps.Built.{IsBuilt}
 use Rattle.cycle_search.specs.declared.order.Order.{Order}
-use Rattle.schedule_builder.specs.Orders.{items_of, AreDeclared}
+use Rattle.cycle_search.specs.Orders.{IsBetween}
+use Rattle.system_set.specs.Edges.{AreEdges}
+use Rattle.system_set.proofs.Reaching.{held_of_step, step_of_held}
+use Rattle.system_set.proofs.EdgeLists.{member_known}
 use Rattle.cycle_search.specs.Cycles.{IsStep, IsRankable}
 use Rattle.schedule_builder.specs.Rows.{AreApart}
 use Rattle.schedule_builder.specs.ScheduleOrder.{schedule_of, items_before, scheduled, IsEdge, HasSourcesBelow, AreScheduled}
-use Rattle.schedule_builder.proofs.Transfer.{ordered_of_step, step_of_ordered}
 
 -- ---- predecessors
 
@@ -74,60 +78,93 @@ step_of_edge orders systems built a m n e = elim (cases_lt n (length systems)) [
   | inr l ↦ absurd (false≢true (sym (edge_outside built m n (omega (arith, a.long))) ∙ e))
 ]
 
-pub declared_edges : (orders : List Order) (systems : List DeclaredSystem) (built : List ScheduledSystem) (order : List ℕ) → AreDeclared systems orders → HasDistinctNames (items_of systems) → AreScheduled orders systems built → HasDeclaredEdges (items_of systems) (schedule_of built order)
-declared_edges orders systems built order d distinct a m n = (
-  (λ e. ordered_of_step systems orders d m n (step_of_edge orders systems built a m n e)),
-  (λ h. let s = step_of_ordered systems orders d distinct m n h in edge_inside orders systems built a m n h.1 ∙ has_of_place orders m n s.0 s.1 s.2),
+-- what was read stands there
+read_again : (orders : List Order) (k : ℕ) (o : Order) → k < length orders → get_or orders k (get_or orders k o) ≡ get_or orders k o
+read_again orders k o low = sym (get_or_default orders k o (get_or orders k o) low)
+
+-- how many items there are
+items_count : (d : Declared) → length (items_of d) ≡ length d.sets + length d.systems
+items_count d = length-append d.sets (map (λ (s : DeclaredSystem). s.item) d.systems) ∙ ap (λ (k : ℕ). length d.sets + k) (length-map d.systems (λ (s : DeclaredSystem). s.item))
+
+-- an edge is of two systems
+edge_known : (d : Declared) (m n : ℕ) → IsDeclaredEdge d m n → (m < length d.systems) × (n < length d.systems)
+edge_known d m n e =
+    let count = items_count d in
+    let first : length d.sets + m < length (items_of d) = member_known (hierarchy_of d) e.first (length d.sets + m) e.from in
+    let second : length d.sets + n < length (items_of d) = member_known (hierarchy_of d) e.second (length d.sets + n) e.to in
+    (omega (arith, count, first), omega (arith, count, second))
+
+edge_of_step : (d : Declared) (edges : List Order) → AreEdges (hierarchy_of d) (declared_orders d) edges → (m n : ℕ) → IsStep edges m n → IsDeclaredEdge d m n
+edge_of_step d edges are m n s = (are.tells m n).0 (held_of_step edges m n s)
+
+pub declared_edges : (edges : List Order) (d : Declared) (built : List ScheduledSystem) (order : List ℕ) → AreEdges (hierarchy_of d) (declared_orders d) edges → AreScheduled edges d.systems built → HasDeclaredEdges d (schedule_of built order)
+declared_edges edges d built order are a m n = (
+  (λ e. edge_of_step d edges are m n (step_of_edge edges d.systems built a m n e)),
+  (λ h. let s = step_of_held edges m n ((are.tells m n).1 h) in edge_inside edges d.systems built a m n (edge_known d m n h).1 ∙ has_of_place edges m n s.0 s.1 s.2),
 )
 
-pub edges_rankable : (orders : List Order) (systems : List DeclaredSystem) (built : List ScheduledSystem) → AreScheduled orders systems built → IsRankable (IsStep orders) → IsRankable (IsEdge built)
-edges_rankable orders systems built a r = record { rank = r.rank; bound = r.bound; bounded = r.bounded; falls = λ m n e. r.falls m n (step_of_edge orders systems built a m n e) }
+pub edges_rankable : (edges : List Order) (d : Declared) (built : List ScheduledSystem) → AreEdges (hierarchy_of d) (declared_orders d) edges → AreScheduled edges d.systems built →
+    IsRankable (IsFollowed (hierarchy_of d) (declared_orders d)) → IsRankable (IsEdge built)
+edges_rankable edges d built are a r = record {
+  rank = λ n. r.rank (length d.sets + n);
+  bound = r.bound;
+  bounded = λ n. r.bounded (length d.sets + n);
+  falls = λ m n e. r.falls (length d.sets + m) (length d.sets + n) (inr (edge_of_step d edges are m n (step_of_edge edges d.systems built a m n e)));
+}
 
-pub edges_from : (orders : List Order) (systems : List DeclaredSystem) (built : List ScheduledSystem) → AreDeclared systems orders → AreScheduled orders systems built → HasSourcesBelow built
-edges_from orders systems built d a m n e =
-    let o = ordered_of_step systems orders d m n (step_of_edge orders systems built a m n e) in
+pub edges_from : (edges : List Order) (d : Declared) (built : List ScheduledSystem) → AreEdges (hierarchy_of d) (declared_orders d) edges → AreScheduled edges d.systems built → HasSourcesBelow built
+edges_from edges d built are a m n e =
+    let o = edge_known d m n (edge_of_step d edges are m n (step_of_edge edges d.systems built a m n e)) in
     omega (arith, o.0, a.long)
 
-pub declared_systems : (orders : List Order) (systems : List DeclaredSystem) (built : List ScheduledSystem) (order : List ℕ) → AreScheduled orders systems built → HasDeclaredSystems (items_of systems) (schedule_of built order)
-declared_systems orders systems built order a =
+pub edges_small : (edges : List Order) (d : Declared) → AreEdges (hierarchy_of d) (declared_orders d) edges → length d.systems ≤ 256 → (k : ℕ) (o : Order) → k < length edges → IsBetween (2 ^ 32) (get_or edges k o)
+edges_small edges d are few k o low =
+    let here : Order = get_or edges k o in
+    let step : IsStep edges here.first here.second = (k, low, read_again edges k o low) in
+    let known = edge_known d here.first here.second (edge_of_step d edges are here.first here.second step) in
+    record { first = omega (arith, known.0); second = omega (arith, known.1) }
+
+pub declared_systems : (edges : List Order) (d : Declared) (built : List ScheduledSystem) (order : List ℕ) → AreScheduled edges d.systems built → HasDeclaredSystems d (schedule_of built order)
+declared_systems edges d built order a =
+    let systems = d.systems in
     let f : ScheduledSystem → Params = λ s. s.params in
     let g : DeclaredSystem → Params = λ s. s.params in
-    let none : DeclaredSystem = record { name = []; before = []; after = []; params = no_params } in
+    let none : DeclaredSystem = record { item = record { name = []; inside = []; before = []; after = [] }; params = no_params } in
     let nothing : ScheduledSystem = record { params = no_params; predecessors = []; level = 0 } in
-    same_lists (map f built) (map g systems) (length-map built f ∙ (a.long ∙ sym (length-map systems g))) (λ k d l.
+    same_lists (map f built) (map g systems) (length-map built f ∙ (a.long ∙ sym (length-map systems g))) (λ k x l.
     let low : k < length built = omega (arith, length-map built f) in
     let inside : k < length systems = omega (arith, a.long) in
-    get_or-map f built k nothing d low ∙ (ap f (a.each k inside) ∙ sym (get_or-map g systems k none d inside)))
+    get_or-map f built k nothing x low ∙ (ap f (a.each k inside) ∙ sym (get_or-map g systems k none x inside)))
 
-pub no_levels : (orders : List Order) (systems : List DeclaredSystem) (built : List ScheduledSystem) (order : List ℕ) → AreScheduled orders systems built → (n : ℕ) → level_of (schedule_of built order) n ≡ 0
-no_levels orders systems built order a n = elim (cases_lt n (length systems)) [
+pub no_levels : (edges : List Order) (systems : List DeclaredSystem) (built : List ScheduledSystem) (order : List ℕ) → AreScheduled edges systems built → (n : ℕ) → level_of (schedule_of built order) n ≡ 0
+no_levels edges systems built order a n = elim (cases_lt n (length systems)) [
   | inl l ↦ ap (λ (s : ScheduledSystem). s.level) (a.each n l)
   | inr l ↦ ap (λ (s : ScheduledSystem). s.level) (get_or_past built n (record { params = no_params; predecessors = []; level = 0 }) (omega (arith, a.long)))
 ]
 
 -- ---- a built schedule
 
-pub is_built : (orders : List Order) (systems : List DeclaredSystem) (built : List ScheduledSystem) (order : List ℕ) → AreDeclared systems orders → AreScheduled orders systems built → length systems ≤ 256 → IsScheduleOrder (schedule_of built order) → IsBuilt (schedule_of built order)
-is_built orders systems built order d a few s = record {
+pub is_built : (edges : List Order) (d : Declared) (built : List ScheduledSystem) (order : List ℕ) → AreEdges (hierarchy_of d) (declared_orders d) edges → AreScheduled edges d.systems built → length d.systems ≤ 256 → IsScheduleOrder (schedule_of built order) → IsBuilt (schedule_of built order)
+is_built edges d built order are a few s = record {
   few_systems = omega (arith, a.long);
   few_conditions = omega arith;
   few_syncs = omega arith;
-  sources = edges_from orders systems built d a;
-  rising = λ m n e. omega (arith, no_levels orders systems built order a m, no_levels orders systems built order a n);
-  levels = λ n l. omega (arith, no_levels orders systems built order a n);
+  sources = edges_from edges d built are a;
+  rising = λ m n e. omega (arith, no_levels edges d.systems built order a m, no_levels edges d.systems built order a n);
+  levels = λ n l. omega (arith, no_levels edges d.systems built order a n);
   listed = s.whole;
   known = λ n h. let p = split_at n order h in (s.next p.0 p.1 n p.2).placeable.known;
   once = λ front rest n e. (s.next front rest n e).placeable.open_yet;
-  after = λ front rest n e m edge. (s.next front rest n e).placeable.after m (edges_from orders systems built d a m n edge) (Before.ByPath (Reaches.Edge m n edge));
+  after = λ front rest n e m edge. (s.next front rest n e).placeable.after m (edges_from edges d built are a m n edge) (Before.ByPath (Reaches.Edge m n edge));
   covered = λ c n h. absurd (false≢true h);
   reading = λ c query i kind. absurd i;
 }
 
 -- systems whose parameters don't conflict among themselves as declared don't in the schedule
-pub are_apart : (orders : List Order) (systems : List DeclaredSystem) (built : List ScheduledSystem) → AreScheduled orders systems built → HasNoSelfConflict (items_of systems) → AreApart built
-are_apart orders systems built a none = record {
+pub are_apart : (edges : List Order) (d : Declared) (built : List ScheduledSystem) → AreScheduled edges d.systems built → HasNoSelfConflict d → AreApart built
+are_apart edges d built a none = record {
   apart = λ n l h.
-      let low : n < length systems = omega (arith, a.long) in
+      let low : n < length d.systems = omega (arith, a.long) in
       none n low (subst (λ (p : Params). ConflictWithin p) (ap (λ (s : ScheduledSystem). s.params) (a.each n low)) h);
 }
 
@@ -135,7 +172,7 @@ are_apart orders systems built a none = record {
 
 pub scheduled_more : (orders : List Order) (systems : List DeclaredSystem) (built : List ScheduledSystem) (s : DeclaredSystem) → AreScheduled orders systems built → AreScheduled orders (systems ++ s ∷ []) (built ++ scheduled orders (length built) s.params ∷ [])
 scheduled_more orders systems built s a =
-    let none : DeclaredSystem = record { name = []; before = []; after = []; params = no_params } in
+    let none : DeclaredSystem = record { item = record { name = []; inside = []; before = []; after = [] }; params = no_params } in
     let nothing : ScheduledSystem = record { params = no_params; predecessors = []; level = 0 } in
     let new : ScheduledSystem = scheduled orders (length built) s.params in
     record {

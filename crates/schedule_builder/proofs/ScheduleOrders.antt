@@ -5,7 +5,7 @@ use Rattle.std.proofs.lemmas.Bool.{false≢true, or_cases, or_left, or_right, eq
 use Rattle.model.specs.Lists.{has}
 use Rattle.model.specs.steps.Schedule.{ScheduledSystem, system_at, level_of}
 use Rattle.model.specs.steps.Ambiguity.{Reaches, Before}
-use Rattle.model.specs.declarations.ScheduleOrder.{IsPlaceable, IsNextPlaced, IsScheduleOrder}
+use Rattle.model.specs.declarations.ScheduleOrder.{IsNextPlaced, IsScheduleOrder}
 use Rattle.cycle_search.specs.Cycles.{IsRankable}
 use Rattle.schedule_builder.specs.ScheduleOrder.{schedule_of, can_place, IsEdge, HasSourcesBelow, IsOpen, IsNextOpen, IsSequence, HasNoLevels}
 

@@ -7,7 +7,7 @@ use Rattle.model.specs.Lists.{has}
 use Rattle.model.specs.access.Access.{Params, no_params}
 use Rattle.model.specs.access.Conflict.{Conflict}
 use Rattle.model.specs.steps.Schedule.{ScheduledSystem}
-use Rattle.schedule_builder.specs.Rows.{system_in, IsRow, IsBefore, IsRival, AreRows}
+use Rattle.schedule_builder.specs.Rows.{system_in, IsRow, IsBefore, AreRows}
 use Rattle.cycle_search.proofs.Walks.{has-append}
 
 or_turned : (a b : Bool) → (a || b) ≡ (b || (a || false))
@@ -26,18 +26,18 @@ list_more row longer xs i low inserted same n =
     ∙ (sym (has-append n (take i xs) (get_or xs i 0 ∷ []))
     ∙ ap (λ (ys : List ℕ). has n ys) (sym (take_more xs i 0 low)))))
 
--- the rivals among the first systems, with one more
-pub rival_more : (systems : List ScheduledSystem) (row longer : List ℕ) (number other : ℕ) (test : Bool) →
-    (test ≡ true) ↔ Conflict (system_in systems other).params (system_in systems number).params →
+-- the systems among the first that conflict with an access, with one more
+pub clash_more : (systems : List ScheduledSystem) (row longer : List ℕ) (access : Params) (other : ℕ) (test : Bool) →
+    (test ≡ true) ↔ Conflict (system_in systems other).params access →
     ((n : ℕ) → contains longer n ≡ ((test && eqb other n) || contains row n)) →
-    ((n : ℕ) → (contains row n ≡ true) ↔ ((n < other) × Conflict (system_in systems n).params (system_in systems number).params)) →
-    (n : ℕ) → (contains longer n ≡ true) ↔ ((n < other + 1) × Conflict (system_in systems n).params (system_in systems number).params)
-rival_more systems row longer number other test tells inserted same n = (
+    ((n : ℕ) → (contains row n ≡ true) ↔ ((n < other) × Conflict (system_in systems n).params access)) →
+    (n : ℕ) → (contains longer n ≡ true) ↔ ((n < other + 1) × Conflict (system_in systems n).params access)
+clash_more systems row longer access other test tells inserted same n = (
   (λ e. elim (or_cases (test && eqb other n) (contains row n) (sym (inserted n) ∙ e)) [
     | inl new ↦
         let both = and_parts test (eqb other n) new in
         let here : other ≡ n = eqb-true other n both.1 in
-        (omega arith, subst (λ (m : ℕ). Conflict (system_in systems m).params (system_in systems number).params) here (tells.0 both.0))
+        (omega arith, subst (λ (m : ℕ). Conflict (system_in systems m).params access) here (tells.0 both.0))
     | inr old ↦ let found = (same n).0 old in let low : n < other = found.0 in (omega arith, found.1)
   ]),
   (λ (low, conflict). inserted n ∙ elim (cases_lt n other) [
@@ -45,7 +45,7 @@ rival_more systems row longer number other test tells inserted same n = (
     | inr above ↦
         let here : n ≡ other = omega arith in
         or_left (test && eqb other n) (contains row n)
-        (and_from test (eqb other n) (tells.1 (subst (λ (m : ℕ). Conflict (system_in systems m).params (system_in systems number).params) here conflict)) (eq-eqb other n (sym here)))
+        (and_from test (eqb other n) (tells.1 (subst (λ (m : ℕ). Conflict (system_in systems m).params access) here conflict)) (eq-eqb other n (sym here)))
   ]),
 )
 
@@ -66,10 +66,15 @@ rows_more count made P rows row are new = record {
 pub read_system : (systems : List ScheduledSystem) (n : ℕ) (s : ScheduledSystem) → n < length systems → s ≡ get_or systems n s → system_in systems n ≡ s
 read_system systems n s low is = get_or_default systems n (record { params = no_params; predecessors = []; level = 0 }) s low ∙ sym is
 
--- a test of a conflict tells of the systems whose parameters were read
-pub tells_rivals : (a b p q : Params) (test : Bool) → a ≡ p → b ≡ q → (test ≡ true) ↔ Conflict p q → (test ≡ true) ↔ Conflict a b
-tells_rivals a b p q test first second tells =
-    subst (λ (x : Params). (test ≡ true) ↔ Conflict x b) (sym first) (subst (λ (x : Params). (test ≡ true) ↔ Conflict p x) (sym second) tells)
+-- a test of a conflict tells of the system whose parameters were read
+pub tells_conflict : (a p access : Params) (test : Bool) → a ≡ p → (test ≡ true) ↔ Conflict p access → (test ≡ true) ↔ Conflict a access
+tells_conflict a p access test first tells = subst (λ (x : Params). (test ≡ true) ↔ Conflict x access) (sym first) tells
+
+-- the systems that conflict with an access that was read
+pub clashes_read : (count : ℕ) (systems : List ScheduledSystem) (a p : Params) (row : List ℕ) → a ≡ p →
+    IsRow count (λ m. (m < length systems) × Conflict (system_in systems m).params p) row →
+    IsRow count (λ m. (m < length systems) × Conflict (system_in systems m).params a) row
+clashes_read count systems a p row same is = subst (λ (x : Params). IsRow count (λ m. (m < length systems) × Conflict (system_in systems m).params x) row) (sym same) is
 
 -- a set of listed systems is one of the system that has the list
 pub listed_row : (count : ℕ) (systems : List ScheduledSystem) (n : ℕ) (listed row : List ℕ) → listed ≡ (system_in systems n).predecessors →

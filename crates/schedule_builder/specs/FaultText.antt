@@ -3,7 +3,7 @@ use Rattle.std.specs.Prelude.{ℕ, List, ◌∷◌, ◌++◌, take, flat_map, co
 use Rattle.std.specs.declared.string.String.{String}
 use Rattle.std.specs.declared.alloc.Global.{Global}
 use Rattle.schedule_builder.specs.declared.fault.BuildFault.{BuildFault}
-use Rattle.schedule_builder.specs.declared.fault.BuildFault.TheVariants.{UnknownName, DuplicateName, DependencyLoop, DependencyCycle, SelfConflict, BadQuery, OverLimit, Memory}
+use Rattle.schedule_builder.specs.declared.fault.BuildFault.TheVariants.{UnknownName, DuplicateName, HierarchyLoop, HierarchyCycle, DependencyLoop, CrossDependency, SetsIntersect, DependencyCycle, SelfConflict, BadQuery, OverLimit, Memory}
 
 -- a name with a space before it
 abbrev pub spaced_name : String Global → List ℕ
@@ -17,8 +17,12 @@ cycle_text names = flat_map spaced_name (names ++ take 1 names)
 abbrev pub build_fault_text : BuildFault → List ℕ
 build_fault_text (UnknownName name) = codes "refused B1" ++ spaced_name name
 build_fault_text (DuplicateName name) = codes "refused B2" ++ spaced_name name
+build_fault_text (HierarchyLoop name) = codes "refused B3" ++ spaced_name name
+build_fault_text (HierarchyCycle names) = codes "refused B4" ++ cycle_text names.items
 build_fault_text (DependencyLoop name) = codes "refused B5" ++ spaced_name name
 build_fault_text (DependencyCycle names) = codes "refused B6" ++ cycle_text names.items
+build_fault_text (CrossDependency item holder) = codes "refused B7" ++ spaced_name item ++ spaced_name holder
+build_fault_text (SetsIntersect first second system) = codes "refused B8" ++ spaced_name first ++ spaced_name second ++ spaced_name system
 build_fault_text (SelfConflict name) = codes "refused B9" ++ spaced_name name
 build_fault_text (BadQuery owner query fault) = codes "refused B10" ++ spaced_name owner ++ (32 ∷ decimal query) ++ (32 ∷ decimal fault)
 build_fault_text (OverLimit limit) = codes "refused B12" ++ (32 ∷ decimal limit)

@@ -5,3 +5,4 @@ pub mod ScheduleOrder
 pub mod Queries
 pub mod Rows
 pub mod Counts
+pub mod Conditions

@@ -1,8 +1,8 @@
 -- A schedule under construction, and which systems can be placed next.
 use Rattle.std.specs.Prelude.{ℕ, ◌<◌, ◌≡◌, ◌++◌, ◌∷◌, Bool, true, false, not, ◌&&◌, ◌==◌, List, [], length, map, get_or}
 use Rattle.std.specs.List.{list_all, filter}
-use Rattle.model.specs.access.Access.{Params}
-use Rattle.model.specs.declarations.Declarations.{DeclaredSystem, declared_at}
+use Rattle.model.specs.access.Access.{Params, no_params}
+use Rattle.model.specs.declarations.Declarations.{DeclaredSystem}
 use Rattle.model.specs.steps.Schedule.{Schedule, ScheduledSystem, system_at, has_edge, level_of}
 use Rattle.model.specs.Lists.{has}
 use Rattle.cycle_search.specs.declared.order.Order.{Order}
@@ -50,7 +50,11 @@ IsSequence systems order = (front rest : List ℕ) (n : ℕ) → order ≡ front
 abbrev pub HasNoLevels : List ScheduledSystem → Type 0
 HasNoLevels systems = (n : ℕ) → level_of (schedule_of systems []) n ≡ 0
 
+-- the declared system of a number
+abbrev pub declared_in : List DeclaredSystem → ℕ → DeclaredSystem
+declared_in systems n = get_or systems n (record { item = record { name = []; inside = []; before = []; after = [] }; params = no_params })
+
 -- the systems, each with its parameters and the predecessors that orders give it
 pub record AreScheduled (orders : List Order) (systems : List DeclaredSystem) (built : List ScheduledSystem) : Type 0 where
   pub long : length built ≡ length systems
-  pub each : (n : ℕ) → n < length systems → system_at (schedule_of built []) n ≡ scheduled orders n (declared_at (record { systems = systems }) n).params
+  pub each : (n : ℕ) → n < length systems → system_at (schedule_of built []) n ≡ scheduled orders n (declared_in systems n).params

@@ -3,213 +3,337 @@
 ghost use Rattle.std.specs.Prelude.{◌≡◌, ℕ, ◌<◌, ◌≤◌, ◌^◌, length, map, get_or, string_bytes, [], IfOk, IfErr, OnOk};
 ghost use Rattle.std.specs.Bool.{MatchBool};
 ghost use Rattle.std.specs.List.{All};
-ghost use Rattle.model.specs.declarations.Declarations.{declared_at, name_of};
-ghost use Rattle.model.specs.declarations.Refusals.{KnowsNames, HasDistinctNames, HasNoLoop, HasNoCycle, HasNoSelfConflict, HasGoodQueries, IsWithinLimits, IsBuildable};
+ghost use Rattle.model.specs.declarations.Hierarchy.{IsHeld};
+ghost use Rattle.model.specs.declarations.Edges.{HasNoLoop, HasNoCrossing, IsFollowed};
+ghost use Rattle.model.specs.declarations.Declarations.{items_of, name_of, system_name, declared_at, hierarchy_of, declared_orders};
+ghost use Rattle.model.specs.declarations.Refusals.{IsNamed, IsNested, IsApart, IsOrdered, HasNoSelfConflict, HasGoodQueries, IsWithinLimits, HasManyQueries, IsBuildable, names_of};
 ghost use Rattle.model.specs.declarations.ScheduleOrder.{HasDeclaredSystems, HasDeclaredEdges, IsOneLevel, IsScheduleOrder};
-ghost use Rattle.schedule_builder.specs.Answers.{IsAnswered};
-ghost use Rattle.cycle_search.specs.Cycles.{IsRankable, IsStep};
+ghost use Rattle.cycle_search.specs.Cycles.{IsStep, IsRankable};
 ghost use Rattle.cycle_search.specs.Orders.{IsBetween};
-ghost use Rattle.schedule_builder.specs.Orders.{items_of, AreDeclared, IsLoopAt};
+ghost use Rattle.system_set.specs.Pairs.{pairs_of};
+ghost use Rattle.system_set.specs.Edges.{AreEdges};
+ghost use Rattle.schedule_builder.specs.Answers.{IsAnswered};
+ghost use Rattle.schedule_builder.specs.Orders.{AreDeclared, AreOrders, IsWhole};
 ghost use Rattle.schedule_builder.specs.ScheduleOrder.{AreScheduled};
 
 use crate::built::{Built, System};
 use crate::desc::{ScheduleDesc, SystemDesc};
 use crate::fault::BuildFault;
 use crate::names::{first_repeated, places_of};
-use crate::orders::{first_loop, resolve};
+use crate::orders::{Resolved, first_loop, hierarchy_from, resolve};
 use crate::query_faults::first_bad;
 use crate::schedule_order::{order_of, predecessors_of};
 use crate::self_conflicts::first_conflicting;
-use cycle_search::{Order, find_cycle};
+use cycle_search::Order;
 use std::alloc::{AllocError, Global};
+use system_set::{HierarchyFault, SetHierarchy};
 
 /// The most systems that a schedule has.
 const SYSTEMS: usize = 256;
 
+// How many sets it has at most.
+const SETS: usize = 64;
+
 // How many queries a system may have.
 const QUERIES: usize = 8;
 
-/// The name of a system.
-fn name_at(alloc: Global, systems: &[SystemDesc], number: usize) -> Result<String, AllocError>
-    requires { number < length systems.now }
-    ensures { IfOk result (λ name. string_bytes name ≡ name_of (items_of systems.now) number) }
+/// The name of an item.
+fn name_at(alloc: Global, desc: &ScheduleDesc, number: usize) -> Result<String, AllocError>
+    requires { number < length (items_of desc.now) }
+    ensures { IfOk result (λ name. string_bytes name ≡ name_of desc.now number) }
 {
-    String::from_str(alloc, systems[number].name())
+    String::from_str(alloc, desc.item(number).name())
 }
 
-/// The names of these systems.
+/// The name of a system.
+fn system_name_at(alloc: Global, desc: &ScheduleDesc, number: usize) -> Result<String, AllocError>
+    requires { number < length desc.now.systems }
+    ensures { IfOk result (λ name. string_bytes name ≡ system_name desc.now number) }
+{
+    String::from_str(alloc, desc.system(number).item().name())
+}
+
+/// The names of these items.
 fn names_at(
     alloc: Global,
-    systems: &[SystemDesc],
+    desc: &ScheduleDesc,
     numbers: &[usize],
 ) -> Result<Vec<String>, AllocError>
-    requires { All (λ n. n < length systems.now) numbers.now }
-    ensures { IfOk result (λ names. map string_bytes names.items ≡ map (name_of (items_of systems.now)) numbers.now) }
+    requires { All (λ n. n < length (items_of desc.now)) numbers.now }
+    ensures { IfOk result (λ names. map string_bytes names.items ≡ names_of desc.now numbers.now) }
 {
     let mut names = Vec::new(alloc);
     for number in numbers {
-        names.push(name_at(alloc, systems, *number)?)?;
+        names.push(name_at(alloc, desc, *number)?)?;
     }
     Ok(names)
 }
 
-/// The declared orders by number, where every name is that of one item.
-fn resolved(alloc: Global, systems: &[SystemDesc]) -> Result<Vec<Order>, BuildFault>
-    ensures declared { IfOk result (λ orders. AreDeclared systems.now orders.items) }
-    ensures known { OnOk result (KnowsNames (items_of systems.now)) }
-    ensures distinct { OnOk result (HasDistinctNames (items_of systems.now)) }
-    ensures refused { IfErr result (IsAnswered (items_of systems.now)) }
+/// What is declared by number, where every name is that of one item.
+fn resolved(alloc: Global, desc: &ScheduleDesc) -> Result<Resolved, BuildFault>
+    ensures declared { IfOk result (λ r. AreDeclared desc.now r.inside.items r.orders.items) }
+    ensures named { OnOk result (IsNamed desc.now) }
+    ensures refused { IfErr result (IsAnswered desc.now) }
 {
-    let places = places_of(alloc, systems)?;
-    let orders = resolve(alloc, systems, &places)?;
-    match first_repeated(systems, &places) {
-        None => Ok(orders),
-        Some(number) => Err(BuildFault::DuplicateName(name_at(alloc, systems, number)?)),
+    let places = places_of(alloc, desc)?;
+    let resolved = resolve(alloc, desc, &places)?;
+    match first_repeated(desc, &places) {
+        None => Ok(resolved),
+        Some(number) => Err(BuildFault::DuplicateName(name_at(alloc, desc, number)?)),
     }
 }
 
-/// Refuses a cycle of orders.
-fn check_cycles(alloc: Global, systems: &[SystemDesc], orders: &[Order]) -> Result<(), BuildFault>
-    requires declared { AreDeclared systems.now orders.now }
-    requires known { KnowsNames (items_of systems.now) }
-    requires distinct { HasDistinctNames (items_of systems.now) }
-    requires no_loop { (k : ℕ) → k < length orders.now → IsLoopAt orders.now k → ⊥ }
-    ensures no_loop { OnOk result (HasNoLoop (items_of systems.now)) }
-    ensures no_cycle { OnOk result (HasNoCycle (items_of systems.now)) }
-    ensures rankable { OnOk result (IsRankable (IsStep orders.now)) }
-    ensures refused { IfErr result (IsAnswered (items_of systems.now)) }
+/// Refuses a set that is in itself, and sets that hold one another in a circle.
+fn check_hierarchy(
+    alloc: Global,
+    desc: &ScheduleDesc,
+    hierarchy: &SetHierarchy,
+) -> Result<(), BuildFault>
+    requires declared { hierarchy.now ≡ hierarchy_of desc.now }
+    requires named { IsNamed desc.now }
+    requires whole { IsWhole desc.now }
+    ensures nested { OnOk result (IsNested desc.now) }
+    ensures ranked { OnOk result (IsRankable (IsHeld hierarchy.now)) }
+    ensures refused { IfErr result (IsAnswered desc.now) }
 {
-    match find_cycle(alloc, systems.len(), orders)? {
-        None => Ok(()),
-        Some(items) => Err(BuildFault::DependencyCycle(names_at(
+    match hierarchy.check(alloc) {
+        Ok(()) => Ok(()),
+        Err(HierarchyFault::Loop(set)) => {
+            Err(BuildFault::HierarchyLoop(name_at(alloc, desc, set)?))
+        }
+        Err(HierarchyFault::Cycle(sets)) => Err(BuildFault::HierarchyCycle(names_at(
             alloc,
-            systems,
-            items.as_slice(),
+            desc,
+            sets.as_slice(),
         )?)),
+        Err(HierarchyFault::Memory) => Err(BuildFault::Memory),
     }
 }
 
-/// Refuses an order of an item with itself, and a cycle of orders.
-fn check_orders(alloc: Global, systems: &[SystemDesc], orders: &[Order]) -> Result<(), BuildFault>
-    requires declared { AreDeclared systems.now orders.now }
-    requires known { KnowsNames (items_of systems.now) }
-    requires distinct { HasDistinctNames (items_of systems.now) }
-    ensures no_loop { OnOk result (HasNoLoop (items_of systems.now)) }
-    ensures no_cycle { OnOk result (HasNoCycle (items_of systems.now)) }
-    ensures rankable { OnOk result (IsRankable (IsStep orders.now)) }
-    ensures refused { IfErr result (IsAnswered (items_of systems.now)) }
+/// Refuses an order of an item with itself.
+fn check_loops(alloc: Global, desc: &ScheduleDesc, orders: &[Order]) -> Result<(), BuildFault>
+    requires orders { AreOrders desc.now orders.now }
+    requires whole { IsWhole desc.now }
+    requires nested { IsNested desc.now }
+    ensures no_loop { OnOk result (HasNoLoop (pairs_of orders.now)) }
+    ensures refused { IfErr result (IsAnswered desc.now) }
 {
     match first_loop(orders) {
-        None => check_cycles(alloc, systems, orders),
-        Some(place) => {
-            let name = name_at(alloc, systems, orders[place].first)?;
-            Err(BuildFault::DependencyLoop(name))
+        None => Ok(()),
+        Some(item) => Err(BuildFault::DependencyLoop(name_at(alloc, desc, item)?)),
+    }
+}
+
+/// Refuses an order between an item and a set that holds it.
+fn check_crossings(
+    alloc: Global,
+    desc: &ScheduleDesc,
+    hierarchy: &SetHierarchy,
+    orders: &[Order],
+) -> Result<(), BuildFault>
+    requires declared { hierarchy.now ≡ hierarchy_of desc.now }
+    requires orders { AreOrders desc.now orders.now }
+    requires whole { IsWhole desc.now }
+    requires nested { IsNested desc.now }
+    requires no_loop { HasNoLoop (pairs_of orders.now) }
+    ensures no_crossing { OnOk result (HasNoCrossing hierarchy.now (pairs_of orders.now)) }
+    ensures refused { IfErr result (IsAnswered desc.now) }
+{
+    match hierarchy.crossing(alloc, orders)? {
+        None => Ok(()),
+        Some(crossing) => {
+            let item = name_at(alloc, desc, crossing.first)?;
+            let set = name_at(alloc, desc, crossing.second)?;
+            Err(BuildFault::CrossDependency { item, set })
         }
     }
 }
 
-/// Refuses a system whose parameters conflict among themselves.
-fn check_self_conflicts(alloc: Global, systems: &[SystemDesc]) -> Result<(), BuildFault>
-    requires known { KnowsNames (items_of systems.now) }
-    requires distinct { HasDistinctNames (items_of systems.now) }
-    requires no_loop { HasNoLoop (items_of systems.now) }
-    requires no_cycle { HasNoCycle (items_of systems.now) }
-    ensures apart { OnOk result (HasNoSelfConflict (items_of systems.now)) }
-    ensures refused { IfErr result (IsAnswered (items_of systems.now)) }
+/// Refuses two ordered sets that share a system.
+fn check_sharing(
+    alloc: Global,
+    desc: &ScheduleDesc,
+    hierarchy: &SetHierarchy,
+    orders: &[Order],
+) -> Result<(), BuildFault>
+    requires declared { hierarchy.now ≡ hierarchy_of desc.now }
+    requires orders { AreOrders desc.now orders.now }
+    requires whole { IsWhole desc.now }
+    requires nested { IsNested desc.now }
+    requires no_loop { HasNoLoop (pairs_of orders.now) }
+    requires no_crossing { HasNoCrossing hierarchy.now (pairs_of orders.now) }
+    ensures apart { OnOk result (IsApart desc.now) }
+    ensures refused { IfErr result (IsAnswered desc.now) }
 {
-    match first_conflicting(systems) {
+    match hierarchy.sharing(alloc, orders)? {
         None => Ok(()),
-        Some(number) => Err(BuildFault::SelfConflict(name_at(alloc, systems, number)?)),
+        Some(sharing) => {
+            let first = name_at(alloc, desc, sharing.first)?;
+            let second = name_at(alloc, desc, sharing.second)?;
+            let system = name_at(alloc, desc, sharing.system)?;
+            Err(BuildFault::SetsIntersect {
+                first,
+                second,
+                system,
+            })
+        }
+    }
+}
+
+/// Refuses a cycle of items.
+fn check_cycles(
+    alloc: Global,
+    desc: &ScheduleDesc,
+    hierarchy: &SetHierarchy,
+    orders: &[Order],
+) -> Result<(), BuildFault>
+    requires declared { hierarchy.now ≡ hierarchy_of desc.now }
+    requires orders { AreOrders desc.now orders.now }
+    requires whole { IsWhole desc.now }
+    requires ranked { IsRankable (IsHeld hierarchy.now) }
+    requires apart { IsApart desc.now }
+    ensures ordered { OnOk result (IsOrdered desc.now) }
+    ensures rankable { OnOk result (IsRankable (IsFollowed hierarchy.now (pairs_of orders.now))) }
+    ensures refused { IfErr result (IsAnswered desc.now) }
+{
+    match hierarchy.cycle(alloc, orders)? {
+        None => Ok(()),
+        Some(items) => Err(BuildFault::DependencyCycle(names_at(alloc, desc, items.as_slice())?)),
+    }
+}
+
+/// Refuses orders that are at fault: an order of an item with itself, one between an item and a set that holds it, one of two sets that
+/// share a system, and a cycle of items.
+fn check_orders(
+    alloc: Global,
+    desc: &ScheduleDesc,
+    hierarchy: &SetHierarchy,
+    orders: &[Order],
+) -> Result<(), BuildFault>
+    requires declared { hierarchy.now ≡ hierarchy_of desc.now }
+    requires orders { AreOrders desc.now orders.now }
+    requires whole { IsWhole desc.now }
+    requires ranked { IsRankable (IsHeld hierarchy.now) }
+    requires nested { IsNested desc.now }
+    ensures ordered { OnOk result (IsOrdered desc.now) }
+    ensures rankable { OnOk result (IsRankable (IsFollowed hierarchy.now (pairs_of orders.now))) }
+    ensures refused { IfErr result (IsAnswered desc.now) }
+{
+    check_loops(alloc, desc, orders)?;
+    check_crossings(alloc, desc, hierarchy, orders)?;
+    check_sharing(alloc, desc, hierarchy, orders)?;
+    check_cycles(alloc, desc, hierarchy, orders)
+}
+
+/// Refuses a system whose parameters conflict among themselves.
+fn check_self_conflicts(alloc: Global, desc: &ScheduleDesc) -> Result<(), BuildFault>
+    requires { IsOrdered desc.now }
+    ensures apart { OnOk result (HasNoSelfConflict desc.now) }
+    ensures refused { IfErr result (IsAnswered desc.now) }
+{
+    match first_conflicting(desc) {
+        None => Ok(()),
+        Some(number) => Err(BuildFault::SelfConflict(system_name_at(alloc, desc, number)?)),
     }
 }
 
 /// Refuses a query at fault.
-fn check_queries(alloc: Global, systems: &[SystemDesc]) -> Result<(), BuildFault>
-    requires known { KnowsNames (items_of systems.now) }
-    requires distinct { HasDistinctNames (items_of systems.now) }
-    requires no_loop { HasNoLoop (items_of systems.now) }
-    requires no_cycle { HasNoCycle (items_of systems.now) }
-    requires apart { HasNoSelfConflict (items_of systems.now) }
-    ensures good { OnOk result (HasGoodQueries (items_of systems.now)) }
-    ensures refused { IfErr result (IsAnswered (items_of systems.now)) }
+fn check_queries(alloc: Global, desc: &ScheduleDesc) -> Result<(), BuildFault>
+    requires ordered { IsOrdered desc.now }
+    requires apart { HasNoSelfConflict desc.now }
+    ensures good { OnOk result (HasGoodQueries desc.now) }
+    ensures refused { IfErr result (IsAnswered desc.now) }
 {
-    match first_bad(systems) {
+    match first_bad(desc) {
         None => Ok(()),
-        Some((item, query, case)) => {
-            let owner = name_at(alloc, systems, item)?;
+        Some((system, query, case)) => {
+            let owner = system_name_at(alloc, desc, system)?;
             Err(BuildFault::BadQuery { owner, query, case })
         }
     }
 }
 
 /// Refuses a limit that is passed.
-fn check_limits(systems: &[SystemDesc]) -> Result<(), BuildFault>
-    requires known { KnowsNames (items_of systems.now) }
-    requires distinct { HasDistinctNames (items_of systems.now) }
-    requires no_loop { HasNoLoop (items_of systems.now) }
-    requires no_cycle { HasNoCycle (items_of systems.now) }
-    requires apart { HasNoSelfConflict (items_of systems.now) }
-    requires good { HasGoodQueries (items_of systems.now) }
-    ensures within { OnOk result (IsWithinLimits (items_of systems.now)) }
-    ensures refused { IfErr result (IsAnswered (items_of systems.now)) }
+fn check_limits(desc: &ScheduleDesc) -> Result<(), BuildFault>
+    requires ordered { IsOrdered desc.now }
+    requires apart { HasNoSelfConflict desc.now }
+    requires good { HasGoodQueries desc.now }
+    ensures within { OnOk result (IsWithinLimits desc.now) }
+    ensures refused { IfErr result (IsAnswered desc.now) }
 {
-    if systems.len() > SYSTEMS {
+    if desc.systems().len() > SYSTEMS {
         return Err(BuildFault::OverLimit(1));
     }
-    if has_too_many_queries(systems) {
+    if desc.sets().len() > SETS {
+        return Err(BuildFault::OverLimit(2));
+    }
+    if has_too_many_queries(desc) {
         return Err(BuildFault::OverLimit(4));
     }
     Ok(())
 }
 
 // Whether a system has more queries than it may.
-fn has_too_many_queries(systems: &[SystemDesc]) -> bool
-    ensures { MatchBool result ((n : ℕ) × (8 < length (declared_at (items_of systems.now) n).params.queries)) ((n : ℕ) → length (declared_at (items_of systems.now) n).params.queries ≤ 8) }
+fn has_too_many_queries(desc: &ScheduleDesc) -> bool
+    ensures { MatchBool result (HasManyQueries desc.now) ((n : ℕ) → length (declared_at desc.now n).params.queries ≤ 8) }
 {
-    for system in systems {
-        if system.params().queries().len() > QUERIES {
+    for number in 0..desc.systems().len() {
+        if desc.system(number).params().queries().len() > QUERIES {
             return true;
         }
     }
     false
 }
 
-/// The declared orders by number, where nothing is at fault.
-fn checked(alloc: Global, systems: &[SystemDesc]) -> Result<Vec<Order>, BuildFault>
-    ensures declared { IfOk result (λ orders. AreDeclared systems.now orders.items) }
-    ensures rankable { IfOk result (λ orders. IsRankable (IsStep orders.items)) }
-    ensures buildable { OnOk result (IsBuildable (items_of systems.now)) }
-    ensures refused { IfErr result (IsAnswered (items_of systems.now)) }
+/// Refuses what is at fault in systems and in how many there are of anything.
+fn check_systems(alloc: Global, desc: &ScheduleDesc) -> Result<(), BuildFault>
+    requires { IsOrdered desc.now }
+    ensures buildable { OnOk result (IsBuildable desc.now) }
+    ensures refused { IfErr result (IsAnswered desc.now) }
 {
-    let orders = resolved(alloc, systems)?;
-    check_orders(alloc, systems, orders.as_slice())?;
-    check_self_conflicts(alloc, systems)?;
-    check_queries(alloc, systems)?;
-    check_limits(systems)?;
-    Ok(orders)
+    check_self_conflicts(alloc, desc)?;
+    check_queries(alloc, desc)?;
+    check_limits(desc)
 }
 
-/// The systems with the predecessors that the orders give them.
+/// The edges between systems, where nothing is at fault.
+fn checked(alloc: Global, desc: &ScheduleDesc) -> Result<Vec<Order>, BuildFault>
+    ensures edges { IfOk result (λ edges. AreEdges (hierarchy_of desc.now) (declared_orders desc.now) edges.items) }
+    ensures rankable { OnOk result (IsRankable (IsFollowed (hierarchy_of desc.now) (declared_orders desc.now))) }
+    ensures buildable { OnOk result (IsBuildable desc.now) }
+    ensures refused { IfErr result (IsAnswered desc.now) }
+{
+    let resolved = resolved(alloc, desc)?;
+    let orders = resolved.orders.as_slice();
+    let hierarchy = hierarchy_from(alloc, desc, resolved.inside.as_slice())?;
+    check_hierarchy(alloc, desc, &hierarchy)?;
+    check_orders(alloc, desc, &hierarchy, orders)?;
+    check_systems(alloc, desc)?;
+    Ok(hierarchy.edges(alloc, orders)?)
+}
+
+/// The systems with the predecessors that edges give them.
 fn scheduled(
     alloc: Global,
     systems: Vec<SystemDesc>,
-    orders: &[Order],
+    edges: &[Order],
 ) -> Result<Vec<System>, AllocError>
-    requires { All (IsBetween (2 ^ 32)) orders.now }
-    ensures { IfOk result (λ built. AreScheduled orders.now systems.items built.items) }
+    requires { All (IsBetween (2 ^ 32)) edges.now }
+    ensures { IfOk result (λ built. AreScheduled edges.now systems.items built.items) }
 {
     let mut built = Vec::new(alloc);
     for system in systems {
-        let predecessors = predecessors_of(alloc, orders, built.len())?;
+        let predecessors = predecessors_of(alloc, edges, built.len())?;
         built.push(System::new(system.into_params(), predecessors, 0))?;
     }
     Ok(built)
 }
 
-/// The schedule of declared systems: an edge for each declared order, one level with one sync point, and the schedule order.
-/// Nothing is built where something is at fault; the first fault is told: a name that no item has, an item with an earlier
-/// item's name, an item ordered with itself, a cycle of orders, a system of which two parameters conflict, a query at fault, more
-/// than 256 systems, a system with more than 8 queries.
+/// The schedule of declared sets and systems: an edge from each member of the first item of a declared order to each member of the
+/// second, one level with one sync point, and the schedule order. Nothing is built where something is at fault; the first fault is told:
+/// a name that no item has, or no set to be in; an item with an earlier item's name; a set in itself; sets in a circle; an item ordered
+/// with itself; an order between an item and a set that holds it; two ordered sets that share a system; a cycle of items; a system of
+/// which two parameters conflict; a query at fault; more than 256 systems; more than 64 sets; a system with more than 8 queries.
 pub fn build(alloc: Global, desc: ScheduleDesc) -> Result<Built, BuildFault>
     ensures buildable { OnOk result (IsBuildable desc) }
     ensures systems { IfOk result (HasDeclaredSystems desc) }
@@ -218,11 +342,11 @@ pub fn build(alloc: Global, desc: ScheduleDesc) -> Result<Built, BuildFault>
     ensures order { IfOk result IsScheduleOrder }
     ensures conditions { IfOk result (λ built. built.conditions ≡ []) }
 
-    // Want of memory tells nothing of the systems.
+    // Want of memory tells nothing of what is declared.
     ensures refused { IfErr result (IsAnswered desc) }
 {
-    let orders = checked(alloc, desc.systems())?;
-    let systems = scheduled(alloc, desc.into_systems(), orders.as_slice())?;
+    let edges = checked(alloc, &desc)?;
+    let systems = scheduled(alloc, desc.into_systems(), edges.as_slice())?;
     let order = order_of(alloc, systems.as_slice())?;
     let built = Built::of_parts(alloc, systems, 1, order)?;
     Ok(built)

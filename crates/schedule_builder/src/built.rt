@@ -2,13 +2,17 @@
 
 ghost use Rattle.std.specs.Prelude.{◌≡◌, ◌<◌, ℕ, [], length, get_or, IfOk};
 ghost use Rattle.model.specs.access.SelfConflict.{ConflictWithin};
-ghost use Rattle.model.specs.steps.Schedule.{system_at, params_of, level_of};
+ghost use Rattle.model.specs.steps.Schedule.{system_at, condition_at, params_of, level_of};
 ghost use Rattle.model.specs.steps.Built.{IsBuilt};
 ghost use Rattle.schedule_builder.specs.Rows.{IsRow, IsBefore, IsRival, AreApart};
 ghost use Rattle.model.specs.Counts.{count_below};
 ghost use Rattle.schedule_builder.specs.Counts.{IsListing, IsAfter, waits_for, is_at};
+ghost use Rattle.schedule_builder.specs.Conditions.{IsRisingListing, IsCovering, IsClash};
 
+pub use crate::condition::Condition;
+use crate::condition_rows::{lists_of_conditions, rows_of_clashes};
 use crate::counts::{counts_at, counts_before, lists_after};
+use crate::listing::Listing;
 use crate::rows::{rows_before, rows_of_rivals};
 use crate::successors::Successors;
 pub use crate::system::System;
@@ -22,8 +26,11 @@ use std::marker::Model;
 #[derive(Drop)]
 pub struct Built {
     systems: Vec<System>,
+    conditions: Vec<Condition>,
     syncs: u32,
     order: Vec<u32>,
+    asked_by: Vec<Listing>,
+    clashes: Vec<NumberSet>,
     before: Vec<NumberSet>,
     rivals: Vec<NumberSet>,
     after: Vec<Successors>,
@@ -32,26 +39,25 @@ pub struct Built {
 }
 
 impl Model for Built {
-    ghost use Rattle.std.specs.Prelude.{[]};
+    ghost use Rattle.std.specs.Prelude.{[], ◌≡◌};
     ghost use Rattle.model.specs.steps.Schedule.{Schedule};
     ghost use Rattle.model.specs.steps.Built.{IsBuilt};
     ghost use Rattle.model.specs.steps.Codes.{schedule_code};
     ghost use Rattle.schedule_builder.specs.Rows.{HasRows, AreApart};
     ghost use Rattle.schedule_builder.specs.Counts.{HasCounts};
+    ghost use Rattle.schedule_builder.specs.Conditions.{HasConditionRows};
 
     ghost Value = { Schedule };
 
     ghost coded = { schedule_code };
 
-    ghost view = { λ b. record { systems = b.systems.items; conditions = []; syncs = b.syncs; order = b.order.items } };
+    ghost view = { λ b. record { systems = b.systems.items; conditions = b.conditions.items; syncs = b.syncs; order = b.order.items } };
 
-    ghost invariant = { λ b. IsBuilt (record { systems = b.systems.items; conditions = []; syncs = b.syncs; order = b.order.items }) × HasRows b.systems.items b.before.items b.rivals.items × AreApart b.systems.items × HasCounts b.systems.items b.after.items b.waits.items b.sizes.items };
+    ghost invariant = { λ b. (b.conditions.items ≡ []) × IsBuilt (record { systems = b.systems.items; conditions = b.conditions.items; syncs = b.syncs; order = b.order.items }) × HasConditionRows b.systems.items b.conditions.items b.asked_by.items b.clashes.items × HasRows b.systems.items b.before.items b.rivals.items × AreApart b.systems.items × HasCounts b.systems.items b.after.items b.waits.items b.sizes.items };
 }
 
 impl Built {
-    /// A schedule of its parts: the systems in declared order, how many sync points there are, and the schedule order. Asks
-    /// that the parts meet `IsBuilt` and that no system's parameters conflict among themselves. What each system waits for, what
-    /// waits for it, which ones it conflicts with and how many are on each level is found out here, once.
+    /// A schedule of its parts, without conditions, as `with_conditions` makes it.
     pub(crate) fn of_parts(
         alloc: Global,
         systems: Vec<System>,
@@ -62,15 +68,38 @@ impl Built {
         requires apart { AreApart systems.items }
         ensures { IfOk result (λ built. built ≡ record { systems = systems.items; conditions = []; syncs = syncs; order = order.items }) }
     {
+        Built::with_conditions(alloc, systems, Vec::new(alloc), syncs, order)
+    }
+
+    /// A schedule of its parts: the systems in declared order, the conditions by number, how many sync points there are, and the schedule order. Asks
+    /// that the parts meet `IsBuilt` and that no system's parameters conflict among themselves. What each system waits for, what
+    /// waits for it, which ones it conflicts with and how many are on each level is found out here, once.
+    pub(crate) fn with_conditions(
+        alloc: Global,
+        systems: Vec<System>,
+        conditions: Vec<Condition>,
+        syncs: u32,
+        order: Vec<u32>,
+    ) -> Result<Self, AllocError>
+        requires built { IsBuilt (record { systems = systems.items; conditions = conditions.items; syncs = syncs; order = order.items }) }
+        requires apart { AreApart systems.items }
+        requires none { conditions.items ≡ [] }
+        ensures { IfOk result (λ built. built ≡ record { systems = systems.items; conditions = conditions.items; syncs = syncs; order = order.items }) }
+    {
         let before = rows_before(alloc, systems.as_slice())?;
         let rivals = rows_of_rivals(alloc, systems.as_slice())?;
         let after = lists_after(alloc, before.as_slice())?;
         let waits = counts_before(alloc, before.as_slice())?;
         let sizes = counts_at(alloc, systems.as_slice(), syncs)?;
+        let asked_by = lists_of_conditions(alloc, systems.as_slice(), conditions.as_slice())?;
+        let clashes = rows_of_clashes(alloc, systems.as_slice(), conditions.as_slice())?;
         Ok(Built {
             systems,
+            conditions,
             syncs,
             order,
+            asked_by,
+            clashes,
             before,
             rivals,
             after,
@@ -80,14 +109,17 @@ impl Built {
     }
 
     /// The schedule with no system and one sync point.
-    #[tactic(auto, unfolding(crate::specs::Counts::HasCounts))]
+    #[tactic(auto, unfolding(crate::specs::Counts::HasCounts, crate::specs::Conditions::HasConditionRows))]
     pub fn empty(alloc: Global) -> Self
         ensures { result ≡ record { systems = []; conditions = []; syncs = 1; order = [] } }
     {
         Built {
             systems: Vec::new(alloc),
+            conditions: Vec::new(alloc),
             syncs: 1,
             order: Vec::new(alloc),
+            asked_by: Vec::new(alloc),
+            clashes: Vec::new(alloc),
             before: Vec::new(alloc),
             rivals: Vec::new(alloc),
             after: Vec::new(alloc),
@@ -116,6 +148,46 @@ impl Built {
         ensures { self.now.conditions ≡ [] }
     {
         let _ = &self.syncs;
+    }
+
+    /// The run conditions, by number.
+    pub fn conditions(&self) -> &[Condition]
+        ensures { result.now ≡ self.now.conditions }
+    {
+        self.conditions.as_slice()
+    }
+
+    /// How many run conditions there are. They are numbered from 0 on.
+    pub fn condition_count(&self) -> u32
+        ensures { result ≡ length self.now.conditions }
+    {
+        self.conditions.len() as u32
+    }
+
+    /// The condition of a number.
+    pub fn condition(&self, number: u32) -> &Condition
+        requires { number < length self.now.conditions }
+        ensures { result.now ≡ condition_at self.now number }
+    {
+        &self.conditions[number as usize]
+    }
+
+    /// The conditions that cover a system, in rising order.
+    #[tactic(auto, unfolding(crate::specs::Conditions::HasConditionRows))]
+    pub fn asked_by(&self, number: u32) -> &[u32]
+        requires { number < length self.now.systems }
+        ensures { IsRisingListing (IsCovering self.now.conditions number) result.now }
+    {
+        self.asked_by[number as usize].numbers()
+    }
+
+    /// The systems that conflict with what a condition asks about, as a set.
+    #[tactic(auto, unfolding(crate::specs::Conditions::HasConditionRows))]
+    pub fn clashes(&self, condition: u32) -> &NumberSet
+        requires { condition < length self.now.conditions }
+        ensures { IsRow (length self.now.systems) (IsClash self.now.systems self.now.conditions condition) result.now }
+    {
+        &self.clashes[condition as usize]
     }
 
     /// The systems, in declared order.

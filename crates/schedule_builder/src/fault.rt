@@ -16,9 +16,24 @@ pub enum BuildFault {
     UnknownName(String),
     /// B2: the first item with an earlier item's name has this name.
     DuplicateName(String),
+    /// B3: the first set that is in itself.
+    HierarchyLoop(String),
+    /// B4: sets that hold one another in a circle, each in the next, from the least declared one, each once.
+    HierarchyCycle(Vec<String>),
     /// B5: the first item that is ordered with itself.
     DependencyLoop(String),
-    /// B6: a cycle of orders, from its least declared item, each item once.
+    /// B7: the item and the set of the first order between an item and a set that holds it, at any depth.
+    CrossDependency {
+        item: String,
+        set: String,
+    },
+    /// B8: the first order of two sets that share a system, with the least declared system that they share.
+    SetsIntersect {
+        first: String,
+        second: String,
+        system: String,
+    },
+    /// B6: a cycle of items, by orders and by the edges that they give between members, from its least declared item, each item once.
     DependencyCycle(Vec<String>),
     /// B9: the first system of which two parameters conflict.
     SelfConflict(String),
@@ -29,7 +44,8 @@ pub enum BuildFault {
         query: usize,
         case: u32,
     },
-    /// B12: the number of the least limit that is passed (1: at most 256 systems, 4: at most 8 queries in a system).
+    /// B12: the number of the least limit that is passed (1: at most 256 systems, 2: at most 64 sets, 4: at most 8
+    /// queries in a system).
     OverLimit(u32),
     /// Memory is wanting.
     Memory,
@@ -42,7 +58,18 @@ impl fmt::Display for BuildFault {
         match self {
             BuildFault::UnknownName(name) => write!(f, "refused B1 {name}"),
             BuildFault::DuplicateName(name) => write!(f, "refused B2 {name}"),
+            BuildFault::HierarchyLoop(name) => write!(f, "refused B3 {name}"),
+            BuildFault::HierarchyCycle(names) => {
+                write!(f, "refused B4")?;
+                write_cycle(f, names)
+            }
             BuildFault::DependencyLoop(name) => write!(f, "refused B5 {name}"),
+            BuildFault::CrossDependency { item, set } => write!(f, "refused B7 {item} {set}"),
+            BuildFault::SetsIntersect {
+                first,
+                second,
+                system,
+            } => write!(f, "refused B8 {first} {second} {system}"),
             BuildFault::DependencyCycle(names) => {
                 write!(f, "refused B6")?;
                 write_cycle(f, names)

@@ -3,9 +3,12 @@
 
 pub mod builder;
 pub mod built;
+pub mod condition;
+mod condition_rows;
 mod counts;
 pub mod desc;
 pub mod fault;
+mod listing;
 mod names;
 mod orders;
 mod query_faults;

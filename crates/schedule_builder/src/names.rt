@@ -3,10 +3,11 @@
 ghost use Rattle.std.specs.Prelude.{◌≡◌, ℕ, ◌<◌, Some, unwrap_or, length, IfOk, IfSome, IfNone, OnOk, List, if◌then◌else◌};
 ghost use Rattle.std.specs.Str.{bytes_eq};
 ghost use Rattle.std.specs.BTreeMap.{get_by_text};
+ghost use Rattle.model.specs.declarations.Declarations.{items_of};
 ghost use Rattle.model.specs.declarations.Refusals.{RepeatsName, HasDistinctNames};
-ghost use Rattle.schedule_builder.specs.Orders.{items_of, TellsPlaces};
+ghost use Rattle.schedule_builder.specs.Orders.{TellsPlaces};
 
-use crate::desc::SystemDesc;
+use crate::desc::ScheduleDesc;
 use std::alloc::{AllocError, Global};
 use std::collections::BTreeMap;
 
@@ -28,28 +29,25 @@ fn note(
 /// The number of the least item with each name.
 pub(crate) fn places_of(
     alloc: Global,
-    systems: &[SystemDesc],
+    desc: &ScheduleDesc,
 ) -> Result<BTreeMap<String, usize>, AllocError>
-    ensures { IfOk result (TellsPlaces systems.now) }
+    ensures { IfOk result (TellsPlaces desc.now) }
 {
     let mut places = BTreeMap::new(alloc);
-    for (number, system) in systems.iter().enumerate() {
-        note(alloc, &mut places, system.name(), number)?;
+    for number in 0..desc.count() {
+        note(alloc, &mut places, desc.item(number).name(), number)?;
     }
     Ok(places)
 }
 
 /// The first item with an earlier item's name.
-pub(crate) fn first_repeated(
-    systems: &[SystemDesc],
-    places: &BTreeMap<String, usize>,
-) -> Option<usize>
-    requires { TellsPlaces systems.now places.now }
-    ensures found { IfSome result (λ n. (n < length systems.now) × RepeatsName (items_of systems.now) n × ((m : ℕ) → m < n → RepeatsName (items_of systems.now) m → ⊥)) }
-    ensures none { IfNone result (HasDistinctNames (items_of systems.now)) }
+pub(crate) fn first_repeated(desc: &ScheduleDesc, places: &BTreeMap<String, usize>) -> Option<usize>
+    requires { TellsPlaces desc.now places.now }
+    ensures found { IfSome result (λ n. (n < length (items_of desc.now)) × RepeatsName desc.now n × ((m : ℕ) → m < n → RepeatsName desc.now m → ⊥)) }
+    ensures none { IfNone result (HasDistinctNames desc.now) }
 {
-    for (number, system) in systems.iter().enumerate() {
-        if let Some(first) = places.get(system.name()) {
+    for number in 0..desc.count() {
+        if let Some(first) = places.get(desc.item(number).name()) {
             if *first < number {
                 return Some(number);
             }

@@ -1,42 +1,59 @@
-// Declared orders by the numbers of their items.
+// What is in which sets, and the declared orders, by the numbers of items.
 
-ghost use Rattle.std.specs.Prelude.{◌≡◌, ℕ, ◌<◌, ◌++◌, map, IsSome, IsNone, IfOk, IfErr, IfSome, IfNone, OnOk, string_bytes, get_or, length};
-ghost use Rattle.std.specs.List.{All};
+ghost use Rattle.std.specs.Prelude.{◌≡◌, ◌<◌, ◌++◌, Some, map, IfOk, IfErr, IfSome, IfNone, OnOk, string_bytes, get_or, length};
 ghost use Rattle.std.specs.BTreeMap.{get_by_text};
-ghost use Rattle.model.specs.declarations.Refusals.{EachIs, IsFirstBad, KnowsNames, IsUnknownName};
+ghost use Rattle.model.specs.declarations.Walks.{EachIs};
+ghost use Rattle.model.specs.declarations.Declarations.{items_of, hierarchy_of};
+ghost use Rattle.model.specs.declarations.Refusals.{KnowsNames};
+ghost use Rattle.system_set.specs.Pairs.{ArePlaced, pairs_of};
 ghost use Rattle.schedule_builder.specs.Answers.{IsAnswered};
-ghost use Rattle.schedule_builder.specs.Orders.{items_of, TellsPlaces, TellsLacking, orders_before, orders_after, TellsMissing, IsLoopAt, AreDeclared};
+ghost use Rattle.schedule_builder.specs.Orders.{TellsPlaces, TellsLacking, IsBelow, orders_before, orders_after, TellsMissing, TellsLoop, AreDeclared};
 
-use crate::desc::SystemDesc;
+use crate::desc::ScheduleDesc;
 use crate::fault::BuildFault;
 use cycle_search::Order;
-use std::alloc::Global;
+use std::alloc::{AllocError, Global};
 use std::collections::BTreeMap;
+use system_set::SetHierarchy;
 
-/// The number of the item with a name.
-fn place_of(places: &BTreeMap<String, usize>, name: &String) -> Result<usize, BuildFault>
-    ensures found { IfOk result (λ place. get_by_text places.now (string_bytes name.now) ≡ Some place) }
-    ensures lacking { IfErr result (TellsMissing places.now (string_bytes name.now)) }
+/// What is declared, by the numbers of items: each item with each set that it is in, and the orders.
+#[derive(Drop)]
+pub(crate) struct Resolved {
+    /// The items and their sets.
+    pub(crate) inside: Vec<Order>,
+    /// The orders.
+    pub(crate) orders: Vec<Order>,
+}
+
+/// The number of the item with a name, which is one of the first so many.
+fn place_of(
+    places: &BTreeMap<String, usize>,
+    bound: usize,
+    name: &String,
+) -> Result<usize, BuildFault>
+    ensures found { IfOk result (λ place. (get_by_text places.now (string_bytes name.now) ≡ Some place) × (place < bound)) }
+    ensures lacking { IfErr result (TellsMissing places.now bound (string_bytes name.now)) }
 {
     match places.get(name.as_str()) {
-        Some(place) => Ok(*place),
-        None => Err(BuildFault::UnknownName(name.clone()?)),
+        Some(place) if *place < bound => Ok(*place),
+        _ => Err(BuildFault::UnknownName(name.clone()?)),
     }
 }
 
-/// Adds the orders of an item before the items of these names.
+/// Adds the orders of an item before those of these names, which are among the first so many.
 fn add_before(
     places: &BTreeMap<String, usize>,
+    bound: usize,
     number: usize,
     names: &[String],
     orders: &mut Vec<Order>,
 ) -> Result<(), BuildFault>
     ensures added { OnOk result (orders.new.items ≡ orders.old.items ++ orders_before places.now number (map string_bytes names.now)) }
-    ensures known { OnOk result (EachIs (λ x. IsSome (get_by_text places.now x)) (map string_bytes names.now)) }
-    ensures lacking { IfErr result (TellsLacking places.now (map string_bytes names.now)) }
+    ensures known { OnOk result (EachIs (λ x. IsBelow bound (get_by_text places.now x)) (map string_bytes names.now)) }
+    ensures lacking { IfErr result (TellsLacking places.now bound (map string_bytes names.now)) }
 {
     for name in names {
-        let second = place_of(places, name)?;
+        let second = place_of(places, bound, name)?;
         orders.push(Order {
             first: number,
             second,
@@ -45,19 +62,20 @@ fn add_before(
     Ok(())
 }
 
-/// Adds the orders of an item after the items of these names.
+/// Adds the orders of an item after those of these names, which are among the first so many.
 fn add_after(
     places: &BTreeMap<String, usize>,
+    bound: usize,
     number: usize,
     names: &[String],
     orders: &mut Vec<Order>,
 ) -> Result<(), BuildFault>
     ensures added { OnOk result (orders.new.items ≡ orders.old.items ++ orders_after places.now number (map string_bytes names.now)) }
-    ensures known { OnOk result (EachIs (λ x. IsSome (get_by_text places.now x)) (map string_bytes names.now)) }
-    ensures lacking { IfErr result (TellsLacking places.now (map string_bytes names.now)) }
+    ensures known { OnOk result (EachIs (λ x. IsBelow bound (get_by_text places.now x)) (map string_bytes names.now)) }
+    ensures lacking { IfErr result (TellsLacking places.now bound (map string_bytes names.now)) }
 {
     for name in names {
-        let first = place_of(places, name)?;
+        let first = place_of(places, bound, name)?;
         orders.push(Order {
             first,
             second: number,
@@ -66,33 +84,55 @@ fn add_after(
     Ok(())
 }
 
-/// The declared orders, in order, by number. The error tells the first name looked up that no item has.
+/// What is in which sets, and the declared orders, in order. The error tells the first name looked up that no item has, or no set where
+/// it is that of a set to be in.
 pub(crate) fn resolve(
     alloc: Global,
-    systems: &[SystemDesc],
+    desc: &ScheduleDesc,
     places: &BTreeMap<String, usize>,
-) -> Result<Vec<Order>, BuildFault>
-    requires { TellsPlaces systems.now places.now }
-    ensures declared { IfOk result (λ orders. AreDeclared systems.now orders.items) }
-    ensures known { OnOk result (KnowsNames (items_of systems.now)) }
-    ensures refused { IfErr result (IsAnswered (items_of systems.now)) }
+) -> Result<Resolved, BuildFault>
+    requires { TellsPlaces desc.now places.now }
+    ensures declared { IfOk result (λ r. AreDeclared desc.now r.inside.items r.orders.items) }
+    ensures known { OnOk result (KnowsNames desc.now) }
+    ensures refused { IfErr result (IsAnswered desc.now) }
 {
+    let sets = desc.sets().len();
+    let count = desc.count();
+    let mut inside = Vec::new(alloc);
     let mut orders = Vec::new(alloc);
-    for (number, system) in systems.iter().enumerate() {
-        add_before(places, number, system.before(), &mut orders)?;
-        add_after(places, number, system.after(), &mut orders)?;
+    for number in 0..count {
+        let item = desc.item(number);
+        add_before(places, sets, number, item.inside(), &mut inside)?;
+        add_before(places, count, number, item.before(), &mut orders)?;
+        add_after(places, count, number, item.after(), &mut orders)?;
     }
-    Ok(orders)
+    Ok(Resolved { inside, orders })
 }
 
-/// The first order of an item with itself, by its place among the orders.
-pub(crate) fn first_loop(orders: &[Order]) -> Option<usize>
-    ensures found { IfSome result (λ place. (place < length orders.now) × IsLoopAt orders.now place × ((k : ℕ) → k < place → IsLoopAt orders.now k → ⊥)) }
-    ensures none { IfNone result ((k : ℕ) → k < length orders.now → IsLoopAt orders.now k → ⊥) }
+/// The hierarchy of these pairs of an item and a set that it is in.
+pub(crate) fn hierarchy_from(
+    alloc: Global,
+    desc: &ScheduleDesc,
+    inside: &[Order],
+) -> Result<SetHierarchy, AllocError>
+    requires placed { ArePlaced (length desc.now.sets) (length (items_of desc.now)) inside.now }
+    requires declared { pairs_of inside.now ≡ (hierarchy_of desc.now).inside }
+    ensures { IfOk result (λ h. h ≡ hierarchy_of desc.now) }
 {
-    for (place, order) in orders.iter().enumerate() {
+    let mut hierarchy = SetHierarchy::new(alloc, desc.sets().len(), desc.systems().len());
+    for pair in inside {
+        hierarchy.put(pair.first, pair.second)?;
+    }
+    Ok(hierarchy)
+}
+
+/// The item of the first order of an item with itself.
+pub(crate) fn first_loop(orders: &[Order]) -> Option<usize>
+    ensures { TellsLoop (pairs_of orders.now) result }
+{
+    for order in orders {
         if order.first == order.second {
-            return Some(place);
+            return Some(order.first);
         }
     }
     None

@@ -4,7 +4,7 @@ ghost use Rattle.std.specs.Prelude.{◌≡◌};
 ghost use Rattle.model.specs.access.QueryFaults.{query_fault};
 ghost use Rattle.schedule_builder.specs.Queries.{TellsFault, TellsFirstFault};
 
-use crate::desc::SystemDesc;
+use crate::desc::ScheduleDesc;
 use query::Query;
 
 /// The number of the least fault of a query.
@@ -30,13 +30,13 @@ fn first_at_fault(queries: &[Query]) -> Option<(usize, u32)>
 }
 
 /// The first system with a query at fault and its first such query, by their numbers, with the least fault of that query.
-pub(crate) fn first_bad(systems: &[SystemDesc]) -> Option<(usize, usize, u32)>
-    ensures { TellsFirstFault systems.now result }
+pub(crate) fn first_bad(desc: &ScheduleDesc) -> Option<(usize, usize, u32)>
+    ensures { TellsFirstFault desc.now result }
 {
-    for (item, system) in systems.iter().enumerate() {
-        match first_at_fault(system.params().queries()) {
+    for system in 0..desc.systems().len() {
+        match first_at_fault(desc.system(system).params().queries()) {
             None => {}
-            Some((number, case)) => return Some((item, number, case)),
+            Some((number, case)) => return Some((system, number, case)),
         }
     }
     None

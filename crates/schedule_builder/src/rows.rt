@@ -3,11 +3,13 @@
 ghost use Rattle.std.specs.Prelude.{◌≡◌, ◌<◌, ◌≤◌, ◌+◌, ◌/◌, ◌||◌, ◌&&◌, ◌==◌, ℕ, true, length, IfOk};
 ghost use Rattle.model.specs.Lists.{has};
 ghost use Rattle.number_set.specs.Members.{contains};
-ghost use Rattle.schedule_builder.specs.Rows.{IsRow, IsRival, IsBefore, AreRows};
+ghost use Rattle.model.specs.access.Conflict.{Conflict};
+ghost use Rattle.schedule_builder.specs.Rows.{IsRow, IsRival, IsBefore, AreRows, system_in};
 ghost use Rattle.schedule_builder.specs.ScheduleOrder.{HasSourcesBelow};
 
 use crate::system::System;
 use access_set::conflict::conflicts;
+use access_set::params::Params;
 use number_set::NumberSet;
 use std::alloc::{AllocError, Global};
 
@@ -46,24 +48,26 @@ pub(crate) fn rows_of_rivals(
 {
     let mut rows = Vec::new(alloc);
     for number in 0..systems.len() {
-        rows.push(row_of_rivals(alloc, systems, number)?)?;
+        rows.push(row_of_clashes(alloc, systems, systems[number].params())?)?;
     }
     Ok(rows)
 }
 
-// The systems that conflict with one.
-fn row_of_rivals(alloc: Global, systems: &[System], number: usize) -> Result<NumberSet, AllocError>
-    requires few { length systems.now ≤ 256 }
-    requires known { number < length systems.now }
-    ensures { IfOk result (IsRow (length systems.now) (IsRival systems.now number)) }
+/// The systems that conflict with an access.
+pub(crate) fn row_of_clashes(
+    alloc: Global,
+    systems: &[System],
+    access: &Params,
+) -> Result<NumberSet, AllocError>
+    requires { length systems.now ≤ 256 }
+    ensures { IfOk result (IsRow (length systems.now) (λ m. (m < length systems.now) × Conflict (system_in systems.now m).params access.now)) }
 {
-    let params = systems[number].params();
     let mut row = NumberSet::new(alloc, systems.len() as u32)?;
     for other in 0..systems.len() {
         insert_if(
             &mut row,
             other as u32,
-            conflicts(systems[other].params(), params),
+            conflicts(systems[other].params(), access),
         );
     }
     Ok(row)

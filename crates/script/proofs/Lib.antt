@@ -7,3 +7,6 @@ pub mod Words
 pub mod Cells
 pub mod Frames
 pub mod Plans
+pub mod Steps
+pub mod Stores
+pub mod Follows

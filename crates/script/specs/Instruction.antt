@@ -1,17 +1,15 @@
 -- The text of an instruction: words with spaces between.
-use Rattle.std.specs.Prelude.{◌≡◌, ℕ, List, [], ◌∷◌, ◌++◌, codes}
-use Rattle.kinds.specs.Kind.{kind_name}
-use Rattle.texts.specs.Integer.{IsInteger}
+use Rattle.std.specs.Prelude.{◌≡◌, ℕ, ◌<◌, List, [], ◌∷◌, codes}
+use Rattle.kinds.specs.Kind.{IsKind}
+use Rattle.texts.specs.Integer.{IsNumber}
 use Rattle.texts.specs.Words.{ByWords}
 use Rattle.script.specs.declared.instruction.Operation.{Operation}
 use Rattle.script.specs.declared.instruction.Operation.TheVariants.{Set, Add, Sub, Mul, Min, Max}
-use Rattle.script.specs.declared.instruction.Axis.{Axis}
-use Rattle.script.specs.declared.instruction.Axis.TheVariants.{X, Y, V}
-use Rattle.script.specs.declared.instruction.Field.{Field}
-use Rattle.script.specs.declared.instruction.Source.{Source}
-use Rattle.script.specs.declared.instruction.Source.TheVariants as source
+use Rattle.script.specs.declared.instruction.Relation.{Relation}
+use Rattle.script.specs.declared.instruction.Relation.TheVariants.{Less, Equal, Greater}
 use Rattle.script.specs.declared.instruction.Instruction.{Instruction}
-use Rattle.script.specs.declared.instruction.Instruction.TheVariants.{Change}
+use Rattle.script.specs.declared.instruction.Instruction.TheVariants.{Change, Compare, Has}
+use Rattle.script.specs.Operands.{IsTarget, IsSource}
 
 -- the word of an operation
 abbrev pub operation_name : Operation → List ℕ
@@ -25,27 +23,24 @@ operation_name Max = codes "max"
 abbrev pub IsOperation : Operation → List ℕ → Type 0
 IsOperation operation word = word ≡ operation_name operation
 
--- the letter of a field within its kind
-abbrev pub axis_name : Axis → List ℕ
-axis_name X = codes "x"
-axis_name Y = codes "y"
-axis_name V = codes "v"
+-- the word of a relation
+abbrev pub relation_name : Relation → List ℕ
+relation_name Less = codes "less"
+relation_name Equal = codes "equal"
+relation_name Greater = codes "greater"
 
-abbrev pub IsAxis : Axis → List ℕ → Type 0
-IsAxis axis word = word ≡ axis_name axis
+abbrev pub IsRelation : Relation → List ℕ → Type 0
+IsRelation relation word = word ≡ relation_name relation
 
--- a field: the name of its kind, a point, its letter
-abbrev pub IsField : Field → List ℕ → Type 0
-IsField field word = word ≡ kind_name field.kind ++ (46 ∷ axis_name field.axis)
+-- how many instructions are passed over: one at the least
+abbrev pub IsCount : ℕ → List ℕ → Type 0
+IsCount n word = IsNumber n word × (0 < n)
 
--- a source: an integer or a field
-abbrev pub IsSource : Source → List ℕ → Type 0
-IsSource (source.Integer z) word = IsInteger z word
-IsSource (source.Field field) word = IsField field word
-
--- the words of an instruction: operation, target, source
+-- the words of an instruction: operation, target, source; relation, two sources, a count; `has`, a kind, a count
 abbrev pub AreInstruction : Instruction → List (List ℕ) → Type 0
-AreInstruction (Change operation target source) (first ∷ second ∷ third ∷ []) = IsOperation operation first × IsField target second × IsSource source third
+AreInstruction (Change operation target source) (first ∷ second ∷ third ∷ []) = IsOperation operation first × IsTarget target second × IsSource source third
+AreInstruction (Compare relation left right passed) (first ∷ second ∷ third ∷ fourth ∷ []) = IsRelation relation first × IsSource left second × IsSource right third × IsCount passed fourth
+AreInstruction (Has kind passed) (first ∷ second ∷ third ∷ []) = (first ≡ codes "has") × IsKind kind second × IsCount passed third
 AreInstruction i _ = ⊥
 
 -- the text is that of an instruction

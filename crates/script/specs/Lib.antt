@@ -1,8 +1,10 @@
+pub mod Operands
 pub mod Instruction
 pub mod Script
 pub mod Faults
 pub mod Checked
 pub mod Block
 pub mod Frame
+pub mod Machine
 pub mod RowPlan
 pub mod Within

@@ -9,12 +9,17 @@ ghost use Rattle.body.specs.Seen.{fetched, fetches as query_fetches};
 ghost use Rattle.kinds.specs.Kind.{kind_number};
 ghost use Rattle.query.specs.Term.{term_of};
 ghost use Rattle.script.specs.Script.{place_in};
-ghost use Rattle.script.specs.Faults.{has_field, fetches_source, has_source, change_cause, instruction_cause, code_fault};
+ghost use Rattle.script.specs.Faults.{has_field, source_cause, target_cause, count_cause, instruction_cause, code_fault};
 
 use crate::fault::{Cause, ScriptFault};
-use crate::instruction::{Axis, Field, Instruction, Source};
+use crate::instruction::Instruction;
+use crate::operands::{Axis, Field, Source, Target};
+use access_set::params::Params;
 use kinds::kind::Kind;
 use query::Term;
+
+/// How many registers a system has.
+const REGISTERS: u32 = 8;
 
 /// The place of a field among the fields of a kind, by how many the kind has.
 pub fn place(width: usize, axis: Axis) -> Option<usize>
@@ -28,7 +33,7 @@ pub fn place(width: usize, axis: Axis) -> Option<usize>
 }
 
 // Whether the kind of a field has the field.
-fn has(field: Field) -> bool
+fn has_field(field: Field) -> bool
     ensures { result ≡ has_field field }
 {
     place(field.kind.width(), field.axis).is_some()
@@ -64,58 +69,87 @@ fn fetches(terms: &[Term], kind: Kind) -> bool
     any_fetches(terms, kind)
 }
 
-// Whether a query with these terms fetches what a source names.
-fn fetches_source(terms: &[Term], source: Source) -> bool
-    ensures { result ≡ fetches_source (map term_of terms.now) source }
+// What is wrong with a source.
+fn source_cause(params: &Params, terms: &[Term], source: Source) -> Option<Cause>
+    ensures { result ≡ source_cause params.now (map term_of terms.now) source }
 {
     match source {
-        Source::Integer(_) => true,
-        Source::Field(field) => fetches(terms, field.kind),
+        Source::Field(field) if !fetches(terms, field.kind) => Some(Cause::NotFetched),
+        Source::Field(field) if !has_field(field) => Some(Cause::NoField),
+        Source::Resource(resource) if !params.names_resource(resource) => Some(Cause::NotDeclared),
+        Source::Register(number) if number >= REGISTERS => Some(Cause::NoRegister),
+        _ => None,
     }
 }
 
-// Whether the kind that a source names has the field.
-fn has_source(source: Source) -> bool
-    ensures { result ≡ has_source source }
+// What is wrong with a target.
+fn target_cause(params: &Params, terms: &[Term], target: Target) -> Option<Cause>
+    ensures { result ≡ target_cause params.now (map term_of terms.now) target }
 {
-    match source {
-        Source::Integer(_) => true,
-        Source::Field(field) => has(field),
+    match target {
+        Target::Field(field) if !writes(terms, field.kind) => Some(Cause::NotFetched),
+        Target::Field(field) if !has_field(field) => Some(Cause::NoField),
+        Target::Resource(resource) if !params.writes_resource(resource) => Some(Cause::NotDeclared),
+        Target::Register(number) if number >= REGISTERS => Some(Cause::NoRegister),
+        _ => None,
     }
 }
 
-// The least fault of a change of a target by a source.
-fn change_cause(terms: &[Term], target: Field, source: Source) -> Option<Cause>
-    ensures { result ≡ change_cause (map term_of terms.now) target source }
+// What is wrong with a count of instructions to pass over, where so many come after.
+fn count_cause(after: usize, passed: u32) -> Option<Cause>
+    ensures { result ≡ count_cause after passed }
 {
-    if !writes(terms, target.kind) || !fetches_source(terms, source) {
-        return Some(Cause::NotFetched);
-    }
-    if !has(target) || !has_source(source) {
-        return Some(Cause::NoField);
+    if after < passed as usize {
+        return Some(Cause::PastEnd);
     }
     None
 }
 
-// The least fault of an instruction in a block of a query with these terms.
-fn cause_of(terms: &[Term], instruction: Instruction) -> Option<Cause>
-    ensures { result ≡ instruction_cause (map term_of terms.now) instruction }
+// The least fault of an instruction that so many come after, in a block of a query with these terms.
+fn cause_of(
+    params: &Params,
+    terms: &[Term],
+    after: usize,
+    instruction: Instruction,
+) -> Option<Cause>
+    ensures { result ≡ instruction_cause params.now (map term_of terms.now) after instruction }
 {
     match instruction {
-        Instruction::Change { target, source, .. } => change_cause(terms, target, source),
+        Instruction::Change { target, source, .. } => Cause::least(
+            target_cause(params, terms, target),
+            source_cause(params, terms, source),
+        ),
+        Instruction::Compare {
+            left,
+            right,
+            passed,
+            ..
+        } => {
+            let read = Cause::least(
+                source_cause(params, terms, left),
+                source_cause(params, terms, right),
+            );
+            Cause::least(read, count_cause(after, passed))
+        }
+        Instruction::Has { kind, passed } => {
+            let asked = (!fetches(terms, kind)).then_some(Cause::NotFetched);
+            Cause::least(asked, count_cause(after, passed))
+        }
     }
 }
 
 // The first fault of the code of a block.
 pub(crate) fn check_code(
+    params: &Params,
     terms: &[Term],
     block: usize,
     code: &[Instruction],
 ) -> Result<(), ScriptFault>
-    ensures { code_fault (map term_of terms.now) block 0 code.now ≡ result_err result }
+    ensures { code_fault params.now (map term_of terms.now) block 0 code.now ≡ result_err result }
 {
     for (instruction, there) in code.iter().enumerate() {
-        if let Some(cause) = cause_of(terms, *there) {
+        let after = code.len() - instruction - 1;
+        if let Some(cause) = cause_of(params, terms, after, *there) {
             return Err(ScriptFault {
                 cause,
                 block,

@@ -1,6 +1,7 @@
 // Why a script is refused.
 
 ghost use Rattle.std.specs.Prelude.{◌≡◌};
+ghost use Rattle.script.specs.Faults.{cause_number, least};
 ghost use Rattle.script.specs.declared.fault.CheckFault.TheVariants as check_fault;
 
 use std::alloc::AllocError;
@@ -12,9 +13,44 @@ pub enum Cause {
     /// X1: the block names no query of the system, a kind is not fetched by the query, or the target has no `mut` term.
     #[error("X1")]
     NotFetched,
+    /// X2: the system does not name a resource that is read, or does not write one that is a target.
+    #[error("X2")]
+    NotDeclared,
     /// X3: the kind has no such field.
     #[error("X3")]
     NoField,
+    /// X4: more instructions are passed over than come after in the block.
+    #[error("X4")]
+    PastEnd,
+    /// X5: there is no such register.
+    #[error("X5")]
+    NoRegister,
+}
+
+impl Cause {
+    // The number that it is told by.
+    fn number(self) -> u32
+        ensures { result ≡ cause_number self }
+    {
+        match self {
+            Cause::NotFetched => 1,
+            Cause::NotDeclared => 2,
+            Cause::NoField => 3,
+            Cause::PastEnd => 4,
+            Cause::NoRegister => 5,
+        }
+    }
+
+    // The one with the lesser number, where there are two.
+    pub(crate) fn least(first: Option<Cause>, second: Option<Cause>) -> Option<Cause>
+        ensures { result ≡ least first second }
+    {
+        match (first, second) {
+            (Some(cause), Some(other)) if other.number() < cause.number() => Some(other),
+            (Some(cause), _) => Some(cause),
+            (None, other) => other,
+        }
+    }
 }
 
 /// The first fault of a script. A block's own fault is told at instruction 0.

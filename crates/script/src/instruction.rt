@@ -1,12 +1,13 @@
 // The instructions of a script, and how they are read.
 
-ghost use Rattle.std.specs.Prelude.{map};
+ghost use Rattle.std.specs.Prelude.{◌≢◌, [], ◌∷◌, map, codes};
 ghost use Rattle.texts.specs.Reads.{Reads, ReadsUnlessMemory};
-ghost use Rattle.script.specs.Instruction.{IsOperation, IsAxis, IsField, IsSource, AreInstruction, IsInstruction};
+ghost use Rattle.script.specs.Instruction.{IsOperation, IsRelation, IsCount, AreInstruction, IsInstruction};
 
+use crate::operands::{Source, Target};
 use kinds::kind::Kind;
 use std::alloc::Global;
-use texts::integer::read_integer;
+use texts::integer::read_number;
 use texts::read_error::ReadError;
 use texts::words::words_of;
 
@@ -44,65 +45,27 @@ impl Operation {
     }
 }
 
-/// The letter of a field within its kind. Not every kind has each: that is looked at when the script is checked.
+/// How two values compare.
 #[derive(Clone, Copy, PartialEq, Eq, Debug)]
-pub enum Axis {
-    X,
-    Y,
-    V,
+pub enum Relation {
+    /// The left is less than the right.
+    Less,
+    /// Both are equal.
+    Equal,
+    /// The left is greater than the right.
+    Greater,
 }
 
-impl Axis {
-    /// The letter that a word is.
-    pub fn named(word: &str) -> Option<Axis>
-        ensures { Reads IsAxis word.now result }
+impl Relation {
+    /// The relation that a word names.
+    pub fn named(word: &str) -> Option<Relation>
+        ensures { Reads IsRelation word.now result }
     {
         match word {
-            "x" => Some(Axis::X),
-            "y" => Some(Axis::Y),
-            "v" => Some(Axis::V),
+            "less" => Some(Relation::Less),
+            "equal" => Some(Relation::Equal),
+            "greater" => Some(Relation::Greater),
             _ => None,
-        }
-    }
-}
-
-/// A field of the row at hand, as `Position.x`.
-#[derive(Clone, Copy, PartialEq, Eq, Debug)]
-pub struct Field {
-    /// The kind of the component.
-    pub kind: Kind,
-    /// The field in it.
-    pub axis: Axis,
-}
-
-impl Field {
-    /// Reads a field: a kind's name, a point and a letter, with no space between.
-    pub fn read(word: &str) -> Option<Field>
-        ensures { Reads IsField word.now result }
-    {
-        let (kind, axis) = word.split_once('.')?;
-        Some(Field {
-            kind: Kind::named(kind)?,
-            axis: Axis::named(axis)?,
-        })
-    }
-}
-
-/// Where an instruction takes a value from.
-#[derive(Clone, Copy, PartialEq, Eq, Debug)]
-pub enum Source {
-    Integer(i64),
-    Field(Field),
-}
-
-impl Source {
-    /// Reads a source: an integer, or a field.
-    pub fn read(word: &str) -> Option<Source>
-        ensures { Reads IsSource word.now result }
-    {
-        match read_integer(word) {
-            Some(value) => Some(Source::Integer(value)),
-            None => Some(Source::Field(Field::read(word)?)),
         }
     }
 }
@@ -113,13 +76,35 @@ pub enum Instruction {
     /// The target becomes what the operation makes of it and the source.
     Change {
         operation: Operation,
-        target: Field,
+        target: Target,
         source: Source,
+    },
+    /// Where the relation holds between two values, so many of the next instructions are passed over.
+    Compare {
+        relation: Relation,
+        left: Source,
+        right: Source,
+        passed: u32,
+    },
+    /// Where the row at hand has the kind, so many of the next instructions are passed over.
+    Has {
+        kind: Kind,
+        passed: u32,
     },
 }
 
+// Reads how many instructions are passed over: one at the least.
+fn read_count(word: &str) -> Option<u32>
+    ensures { Reads IsCount word.now result }
+{
+    match read_number(word)? {
+        0 => None,
+        count => Some(count),
+    }
+}
+
 impl Instruction {
-    /// Reads an instruction: three words, with one or more spaces between and any number at either end.
+    /// Reads an instruction: its words, with one or more spaces between and any number at either end.
     pub fn read(alloc: Global, text: &str) -> Result<Instruction, ReadError>
         ensures { ReadsUnlessMemory IsInstruction text.now result }
     {
@@ -135,12 +120,46 @@ impl Instruction {
         ensures { Reads AreInstruction (map (λ word. word.now) words.now) result }
     {
         match words {
-            [operation, target, source] => Some(Instruction::Change {
-                operation: Operation::named(operation)?,
-                target: Field::read(target)?,
-                source: Source::read(source)?,
-            }),
+            [relation, left, right, passed] => Instruction::compare(relation, left, right, passed),
+            [first, second, third] => match *first {
+                "has" => Instruction::has(second, third),
+                _ => Instruction::change(first, second, third),
+            },
             _ => None,
         }
+    }
+
+    // The change that these words are.
+    fn change(operation: &str, target: &str, source: &str) -> Option<Instruction>
+        requires { operation.now ≢ codes "has" }
+        ensures { Reads AreInstruction (operation.now ∷ target.now ∷ source.now ∷ []) result }
+    {
+        Some(Instruction::Change {
+            operation: Operation::named(operation)?,
+            target: Target::read(target)?,
+            source: Source::read(source)?,
+        })
+    }
+
+    // The comparison that these words are.
+    fn compare(relation: &str, left: &str, right: &str, passed: &str) -> Option<Instruction>
+        ensures { Reads AreInstruction (relation.now ∷ left.now ∷ right.now ∷ passed.now ∷ []) result }
+    {
+        Some(Instruction::Compare {
+            relation: Relation::named(relation)?,
+            left: Source::read(left)?,
+            right: Source::read(right)?,
+            passed: read_count(passed)?,
+        })
+    }
+
+    // The question for a kind that these words are, after the first.
+    fn has(kind: &str, passed: &str) -> Option<Instruction>
+        ensures { Reads AreInstruction (codes "has" ∷ kind.now ∷ passed.now ∷ []) result }
+    {
+        Some(Instruction::Has {
+            kind: Kind::named(kind)?,
+            passed: read_count(passed)?,
+        })
     }
 }

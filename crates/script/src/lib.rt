@@ -7,12 +7,14 @@ pub mod check;
 pub mod fault;
 pub mod frame;
 pub mod instruction;
+mod machine;
+pub mod operands;
 pub mod row_plan;
 mod run;
 pub mod script_body;
 
-/// What a script answers keeps within the parameters of its system: it writes at `mut` terms alone, components of their kinds'
-/// widths, and nothing else, whatever it is shown.
+/// What a script answers keeps within the parameters of its system: it writes components at `mut` terms alone, of their kinds'
+/// widths, resources that the system writes, and the system's registers, and issues no command, whatever it is shown.
 pub fn scripts_keep_within()
     ensures within { ScriptsKeepWithin }
     ensures shown { ScriptsKeepWithinShown }

@@ -1,7 +1,7 @@
 -- Sets that are in themselves, and circles of sets, from what is found of their pairs.
-use Rattle.std.proofs.Common.{ℕ, zero, suc, ◌+◌, ◌<◌, ◌≤◌, ◌≡◌, Bool, true, false, eqb, nat_lt, ◌⊎◌, inl, inr, if◌then◌else◌, List, [], ◌∷◌, ◌++◌, length, take, get_or, Option, Some, None, refl, sym, ap, ◌∙◌, arith, ltb-true, lt-ltb, eqb-true, eq-eqb}
+use Rattle.std.proofs.Common.{ℕ, ◌+◌, ◌<◌, ◌≤◌, ◌≡◌, Bool, true, false, eqb, nat_lt, ◌⊎◌, inl, inr, if◌then◌else◌, List, [], ◌∷◌, ◌++◌, length, take, get_or, Option, Some, None, refl, sym, ap, ◌∙◌, arith, ltb-true, lt-ltb, eqb-true, eq-eqb}
 use Rattle.std.proofs.lemmas.Bool.{both_ways, cases_lt}
-use Rattle.model.specs.declarations.Refusals.{IsWalk}
+use Rattle.model.specs.declarations.Walks.{IsWalk}
 use Rattle.model.specs.declarations.Hierarchy.{IsHeld, HasNoSelf, IsFirstSelf, HasNoSetCycle, IsToldSetCycle}
 use Rattle.cycle_search.specs.declared.order.Order.{Order}
 use Rattle.cycle_search.specs.Cycles.{IsStep, IsRankable, IsRound, BeginsLeast}
@@ -126,3 +126,10 @@ told_set_cycle sets items orders none circle round least = record {
   };
   earliest = least;
 }
+
+-- ranks of pairs are ranks of what is held
+pub held_rankable : (sets items : ℕ) (pairs : List Order) → IsRankable (IsStep pairs) → IsRankable (IsHeld (hierarchy_of sets items pairs))
+held_rankable sets items pairs r = record { rank = r.rank; bound = r.bound; bounded = r.bounded; falls = λ m n held. r.falls m n (step_of_held pairs m n held) }
+
+pub step_rankable : (sets items : ℕ) (pairs : List Order) → IsRankable (IsHeld (hierarchy_of sets items pairs)) → IsRankable (IsStep pairs)
+step_rankable sets items pairs r = record { rank = r.rank; bound = r.bound; bounded = r.bounded; falls = λ m n step. r.falls m n (held_of_step pairs m n step) }

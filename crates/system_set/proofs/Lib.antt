@@ -1,2 +1,5 @@
 pub mod Circles
 pub mod Reaching
+pub mod Nodes
+pub mod Ordered
+pub mod EdgeLists

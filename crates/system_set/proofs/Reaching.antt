@@ -1,18 +1,17 @@
 -- What reaches a set is what is marked, where marks are sound and spread.
-use Rattle.std.proofs.Common.{ℕ, zero, suc, ◌+◌, ◌<◌, ◌≤◌, ◌≡◌, ◌↔◌, Bool, true, false, not, ◌&&◌, ◌||◌, eqb, cond, ◌⊎◌, inl, inr, List, [], ◌∷◌, ◌++◌, length, map, take, get_or, refl, sym, ap, ◌∙◌, subst, arith}
+use Rattle.std.proofs.Common.{ℕ, zero, suc, ◌+◌, ◌<◌, ◌≤◌, ◌≡◌, Bool, true, false, not, ◌&&◌, ◌||◌, eqb, cond, ◌⊎◌, inl, inr, List, [], ◌∷◌, ◌++◌, length, get_or, refl, sym, ap, ◌∙◌, subst, arith}
 use Rattle.std.proofs.Math.ListN.{set}
 use Rattle.std.specs.List.{All}
 use Rattle.std.proofs.lemmas.List.{get_or-set_other, get_or_past}
-use Rattle.std.proofs.lemmas.Bool.{false≢true, both_ways, and_parts, or_cases, or_left, or_right, and_from, eqb-true, eq-eqb, cases_lt, true_from_ne_false, not_from_false}
+use Rattle.std.proofs.lemmas.Bool.{false≢true, both_ways, or_cases, or_left, or_right, and_from, eqb-true, eq-eqb, cases_lt, true_from_ne_false, not_from_false}
 use Rattle.std.proofs.lemmas.Bool.Decides.{eqb_tells}
 use Rattle.model.specs.Lists.{has, IsIn}
-use Rattle.model.specs.declarations.Refusals.{IsWalk}
-use Rattle.model.specs.declarations.Hierarchy.{Hierarchy, IsHeld, Reaches, AreMembers, IsRising}
+use Rattle.model.specs.declarations.Walks.{IsWalk}
+use Rattle.model.specs.declarations.Hierarchy.{IsHeld, Reaches, AreMembers, IsRising}
 use Rattle.cycle_search.specs.declared.order.Order.{Order}
-use Rattle.cycle_search.specs.Orders.{IsBetween}
 use Rattle.cycle_search.specs.Cycles.{IsStep}
 use Rattle.cycle_search.proofs.Walks.{has-append}
-use Rattle.system_set.specs.Pairs.{pair_of, pairs_of, IsPlaced, ArePlaced, hierarchy_of, is_marked, AreSound, is_open_pair, IsSpread, IsOpenAt, AreMarked}
+use Rattle.system_set.specs.Pairs.{pair_of, pairs_of, hierarchy_of, is_marked, AreSound, IsSpread, AreMarked}
 
 -- ---- pairs
 
@@ -102,7 +101,7 @@ marked_from orders holder marks spread (m ∷ between) n walk =
 -- ---- members
 
 -- a mark is that of an item
-marked_known : (marks : List Bool) (n : ℕ) → is_marked marks n ≡ true → n < length marks
+pub marked_known : (marks : List Bool) (n : ℕ) → is_marked marks n ≡ true → n < length marks
 marked_known marks n e = elim (cases_lt n (length marks)) [
   | inl low ↦ low
   | inr past ↦ absurd (both_ways _ (get_or_past marks n false past) e)

@@ -1,5 +1,5 @@
 -- Pairs of an item and a set that it is in, and what is found out of them.
-use Rattle.std.specs.Prelude.{ℕ, ◌<◌, ◌≤◌, ◌≡◌, ◌↔◌, ◌==◌, ◌&&◌, ◌||◌, not, Bool, true, false, nat_lt, if◌then◌else◌, List, length, map, get_or, Option, Some, None}
+use Rattle.std.specs.Prelude.{ℕ, ◌<◌, ◌≤◌, ◌≡◌, ◌↔◌, ◌==◌, ◌&&◌, ◌||◌, not, Bool, true, false, nat_lt, if◌then◌else◌, List, map, get_or, Option, Some, None}
 use Rattle.std.specs.List.{All}
 use Rattle.model.specs.Lists.{has}
 use Rattle.model.specs.declarations.Hierarchy.{Hierarchy, HasNoSelf, IsFirstSelf, IsToldSetCycle, Reaches, IsRising}

@@ -1,12 +1,22 @@
 // Which items are in which sets.
 
 ghost use Rattle.std.specs.Prelude.{◌≡◌, ◌+◌, ◌<◌, ◌≤◌, ◌^◌, ◌++◌, ◌∷◌, [], ℕ, length, get_or, IfOk, IfErr, IfSome, IfNone, OnOk, OnErr};
-ghost use Rattle.model.specs.declarations.Hierarchy.{HasNoSelf, HasNoSetCycle, AreMembers};
-ghost use Rattle.cycle_search.specs.Cycles.{IsStep};
-ghost use Rattle.system_set.specs.Pairs.{IsHierarchyFault, TellsSelf, lesser_of, with_self};
+ghost use Rattle.std.specs.List.{All};
+ghost use Rattle.model.specs.declarations.Hierarchy.{IsHeld, HasNoSelf, HasNoSetCycle, AreMembers};
+ghost use Rattle.model.specs.declarations.Edges.{HasNoLoop, HasNoCrossing, AreApart};
+ghost use Rattle.cycle_search.specs.Cycles.{IsStep, IsRankable};
+ghost use Rattle.cycle_search.specs.Orders.{IsBetween};
+ghost use Rattle.system_set.specs.Pairs.{IsHierarchyFault, TellsSelf, lesser_of, with_self, pairs_of};
+ghost use Rattle.system_set.specs.Nodes.{TellsCycle};
+ghost use Rattle.system_set.specs.Ordered.{TellsCrossing, TellsSharing};
+ghost use Rattle.system_set.specs.Edges.{AreEdges};
 
+use crate::crossings::first_crossing;
+use crate::cycles::cycle_of_items;
+use crate::edges::edges_of;
 use crate::fault::HierarchyFault;
 use crate::members::members_of;
+use crate::sharing::{Sharing, first_sharing};
 use cycle_search::{Order, find_cycle};
 use std::alloc::{AllocError, Global};
 use std::marker::Model;
@@ -57,10 +67,12 @@ impl SetHierarchy {
         Ok(())
     }
 
-    /// Refuses a set that is in itself, else sets that hold one another in a circle.
+    /// Refuses a set that is in itself, else sets that hold one another in a circle. Where neither is there, sets have ranks that rise
+    /// inwards.
     pub fn check(&self, alloc: Global) -> Result<(), HierarchyFault>
         ensures no_self { OnOk result (HasNoSelf self.now) }
         ensures no_cycle { OnOk result (HasNoSetCycle self.now) }
+        ensures ranked { OnOk result (IsRankable (IsHeld self.now)) }
         ensures fault { IfErr result (IsHierarchyFault self.now) }
     {
         match least_self(self.inside.as_slice()) {
@@ -74,6 +86,7 @@ impl SetHierarchy {
         requires { HasNoSelf self.now }
         ensures no_self { OnOk result (HasNoSelf self.now) }
         ensures no_cycle { OnOk result (HasNoSetCycle self.now) }
+        ensures ranked { OnOk result (IsRankable (IsHeld self.now)) }
         ensures fault { IfErr result (IsHierarchyFault self.now) }
     {
         match find_cycle(alloc, self.items, self.inside.as_slice())? {
@@ -87,6 +100,43 @@ impl SetHierarchy {
         ensures { IfOk result (λ members. AreMembers self.now set members.items) }
     {
         members_of(alloc, self.sets, self.items, self.inside.as_slice(), set)
+    }
+
+    /// The item and the set of the first order between an item and a set that holds it.
+    pub fn crossing(&self, alloc: Global, orders: &[Order]) -> Result<Option<Order>, AllocError>
+        requires { All (IsBetween self.now.items) orders.now }
+        ensures { IfOk result (TellsCrossing self.now (pairs_of orders.now)) }
+    {
+        first_crossing(alloc, self.sets, self.items, self.inside.as_slice(), orders)
+    }
+
+    /// The first order of two sets that share a system, with the least declared system that they share.
+    pub fn sharing(&self, alloc: Global, orders: &[Order]) -> Result<Option<Sharing>, AllocError>
+        ensures { IfOk result (TellsSharing self.now (pairs_of orders.now)) }
+    {
+        first_sharing(alloc, self.sets, self.items, self.inside.as_slice(), orders)
+    }
+
+    /// A cycle of items by orders and by the edges that they give, from its earliest declared item. Asks that nothing that is looked for
+    /// before it was found. As many nodes are looked at as there are items and sets, and as many steps as there are pairs and orders.
+    pub fn cycle(&self, alloc: Global, orders: &[Order]) -> Result<Option<Vec<usize>>, AllocError>
+        requires between { All (IsBetween self.now.items) orders.now }
+        requires ranked { IsRankable (IsHeld self.now) }
+        requires no_loop { HasNoLoop (pairs_of orders.now) }
+        requires no_crossing { HasNoCrossing self.now (pairs_of orders.now) }
+        requires apart { AreApart self.now (pairs_of orders.now) }
+        ensures { IfOk result (TellsCycle self.now (pairs_of orders.now)) }
+    {
+        cycle_of_items(alloc, self.sets, self.items, self.inside.as_slice(), orders)
+    }
+
+    /// The edges of systems that orders give: from each member of the first item of an order to each member of the second. Systems have
+    /// their numbers among the systems. Each pair of systems is looked at, so it is for as many as a schedule may have.
+    pub fn edges(&self, alloc: Global, orders: &[Order]) -> Result<Vec<Order>, AllocError>
+        requires { All (IsBetween self.now.items) orders.now }
+        ensures { IfOk result (λ edges. AreEdges self.now (pairs_of orders.now) edges.items) }
+    {
+        edges_of(alloc, self.sets, self.items, self.inside.as_slice(), orders)
     }
 }
 

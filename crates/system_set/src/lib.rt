@@ -1,11 +1,16 @@
 // Sets of systems: which items are in which sets, whether sets hold one another in a circle, and the members of each.
 #![tactic(auto)]
 
+mod crossings;
+mod cycles;
+mod edges;
 mod fault;
 mod hierarchy;
 mod members;
+mod sharing;
 #[cfg(test)]
 mod tests;
 
 pub use fault::HierarchyFault;
 pub use hierarchy::SetHierarchy;
+pub use sharing::Sharing;

@@ -20,16 +20,18 @@ pub(crate) fn members_of(
     requires { ArePlaced sets items pairs.now }
     ensures { IfOk result (λ members. AreMembers (hierarchy_of sets items pairs.now) set members.items) }
 {
-    let marks = marks_of(alloc, items, pairs, set)?;
+    let lists = places_by_set(alloc, items, pairs)?;
+    let marks = marks_of(alloc, items, pairs, lists.as_slice(), set)?;
     let members = marked_systems(alloc, sets, marks.as_slice())?;
     Ok(members)
 }
 
-// Whether each item reaches the set.
-fn marks_of(
+/// Whether each item reaches the set. What `places_by_set` gives of the pairs makes it quick.
+pub(crate) fn marks_of(
     alloc: Global,
     items: usize,
     pairs: &[Order],
+    lists: &[Vec<usize>],
     set: usize,
 ) -> Result<Vec<bool>, AllocError>
     requires { All (IsBetween items) pairs.now }
@@ -38,7 +40,7 @@ fn marks_of(
     ensures whole { IfOk result (λ marks. All (IsSpread marks.items set) pairs.now) }
 {
     let mut marks = vec![in alloc; false; items]?;
-    let places = places_downwards(alloc, items, pairs, set)?;
+    let places = places_downwards(alloc, items, pairs, lists, set)?;
     for place in &places {
         if *place < pairs.len() {
             spread(pairs, *place, set, marks.as_mut_slice());
@@ -125,9 +127,9 @@ fn places_downwards(
     alloc: Global,
     items: usize,
     pairs: &[Order],
+    lists: &[Vec<usize>],
     set: usize,
 ) -> Result<Vec<usize>, AllocError> {
-    let lists = places_by_set(alloc, items, pairs)?;
     let mut seen = vec![in alloc; false; items]?;
     let mut open = Vec::new(alloc);
     open.push(set)?;
@@ -147,8 +149,8 @@ fn places_downwards(
     Ok(places)
 }
 
-// For each item the places of the pairs that put something into it.
-fn places_by_set(
+/// For each item the places of the pairs that put something into it.
+pub(crate) fn places_by_set(
     alloc: Global,
     items: usize,
     pairs: &[Order],

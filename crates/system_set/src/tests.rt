@@ -2,7 +2,8 @@
 
 ghost use Rattle.std.specs.Prelude.{◌≡◌, ◌+◌, ◌<◌, ◌^◌, IfOk};
 
-use crate::{HierarchyFault, SetHierarchy};
+use crate::{HierarchyFault, SetHierarchy, Sharing};
+use cycle_search::Order;
 use std::alloc::{AllocError, Global};
 use std::test::Fail;
 
@@ -72,5 +73,41 @@ fn many_sets_are_quick(rt: HostRuntime) -> Result<(), Fail> {
     hierarchy.put(19_999, 0)?;
     let circle = hierarchy.check(alloc);
     assert!(rt; matches!(&circle, Err(HierarchyFault::Cycle(items)) if items.len() == 20_000));
+    Ok(())
+}
+
+#[test]
+fn orders_reach_members(rt: HostRuntime) -> Result<(), Fail> {
+    let alloc = rt.alloc();
+    let hierarchy = two_in_one(alloc)?;
+    let apart = [Order {
+        first: 0,
+        second: 1,
+    }];
+    assert!(rt; hierarchy.crossing(alloc, &apart)?.is_none());
+    assert!(rt; hierarchy.sharing(alloc, &apart)?.is_none());
+    assert_eq!(rt;
+        hierarchy.edges(alloc, &apart)?.as_slice(),
+        apart.as_slice()
+    );
+    let crossed = [Order {
+        first: 2,
+        second: 4,
+    }];
+    let held = Order {
+        first: 4,
+        second: 2,
+    };
+    assert_eq!(rt; hierarchy.crossing(alloc, &crossed)?, Some(held));
+    let shared = [Order {
+        first: 2,
+        second: 1,
+    }];
+    let found = Sharing {
+        first: 2,
+        second: 1,
+        system: 4,
+    };
+    assert_eq!(rt; hierarchy.sharing(alloc, &shared)?, Some(found));
     Ok(())
 }

@@ -3,7 +3,7 @@ use Rattle.std.proofs.Common.{ℕ, zero, suc, ◌<◌, ◌≡◌, Bool, true, �
 use Rattle.std.specs.List.{list_any}
 use Rattle.std.proofs.lemmas.Bool.{and_parts, and_from, or_cases, or_left, or_right}
 use Rattle.model.specs.Lists.{IsIn}
-use Rattle.model.specs.declarations.Refusals.{IsWalk}
+use Rattle.model.specs.declarations.Walks.{IsWalk}
 use Rattle.model.specs.declarations.Hierarchy.{Hierarchy, IsHeld, Reaches, reaches_within}
 
 -- a pair that passes a test

@@ -2,7 +2,7 @@
 use Rattle.std.specs.Prelude.{ℕ, zero, suc, ◌<◌, ◌≤◌, ◌≡◌, ◌==◌, ◌&&◌, ◌||◌, ◌++◌, ◌∷◌, ◌↔◌, nat_le, Bool, true, false, if◌then◌else◌, List, [], length, take}
 use Rattle.std.specs.List.{list_any}
 use Rattle.model.specs.Lists.{has, IsIn, head_or}
-use Rattle.model.specs.declarations.Refusals.{IsOnceEach, IsWalk}
+use Rattle.model.specs.declarations.Walks.{IsOnceEach, IsWalk}
 
 -- items by number, sets before systems: how many sets and how many items there are, and the pairs of an item and a set that
 -- it is declared to be in

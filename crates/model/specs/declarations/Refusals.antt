@@ -1,38 +1,37 @@
 -- Why declared items are refused, each refusal in its own words, and which one is told.
-use Rattle.std.specs.Prelude.{ℕ, ◌<◌, ◌≤◌, ◌≡◌, ◌⊎◌, ◌++◌, true, false, List, [], ◌∷◌, Some, None, length, map, take, get_or}
-use Rattle.model.specs.Lists.{has, head_or}
+use Rattle.std.specs.Prelude.{ℕ, ◌<◌, ◌≤◌, ◌≡◌, ◌⊎◌, Some, None, List, [], length, map, get_or}
 use Rattle.model.specs.access.Query.{Term}
 use Rattle.model.specs.access.SelfConflict.{ConflictWithin}
 pub use Rattle.model.specs.access.QueryFaults.{query_fault}
-use Rattle.model.specs.declarations.Declarations.{Declared, declared_at, name_of, HasItem, looked_up, declared_orders, IsOrdered}
+use Rattle.model.specs.declarations.Walks.{EachIs, IsFirstBad}
+use Rattle.model.specs.declarations.Hierarchy.{HasNoSelf, IsFirstSelf, HasNoSetCycle, IsToldSetCycle}
+use Rattle.model.specs.declarations.Edges.{HasNoLoop, IsLoop, HasNoCrossing, IsCrossing, AreApart, IsSharing, HasNoCycle, IsToldCycle}
+use Rattle.model.specs.declarations.Declarations.{Declared, items_of, name_of, declared_at, system_name, IsNamedBelow, looked_up, hierarchy_of, declared_orders}
 
 -- a refusal, with what it tells
 pub data Refusal : Type 0 where
-  UnknownName DuplicateName DependencyLoop : List ℕ → Refusal
-  DependencyCycle : List (List ℕ) → Refusal
+  UnknownName DuplicateName HierarchyLoop DependencyLoop : List ℕ → Refusal
+  HierarchyCycle DependencyCycle : List (List ℕ) → Refusal
+  CrossDependency : List ℕ → List ℕ → Refusal
+  SetsIntersect : List ℕ → List ℕ → List ℕ → Refusal
   SelfConflict : List ℕ → Refusal
   BadQuery : List ℕ → ℕ → ℕ → Refusal
   OverLimit : ℕ → Refusal
 
--- each element is good
-abbrev pub EachIs : {A : Type 0} → (A → Type 0) → List A → Type 0
-EachIs Good [] = Unit {0}
-EachIs Good (x ∷ xs) = Good x × EachIs Good xs
-
--- x is bad, and each element before it is good
-abbrev pub IsFirstBad : {A : Type 0} → (A → Type 0) → (A → Type 0) → List A → A → Type 0
-IsFirstBad Good Bad [] x = ⊥
-IsFirstBad Good Bad (y ∷ ys) x = ((x ≡ y) × Bad y) ⊎ (Good y × IsFirstBad Good Bad ys x)
-
 -- ---- names
 
--- each name that is looked up is that of an item
-abbrev pub KnowsNames : Declared → Type 0
-KnowsNames d = EachIs (HasItem d) (looked_up d)
+-- a name that is looked up is that of an item that it may name
+abbrev pub IsKnown : Declared → ℕ × List ℕ → Type 0
+IsKnown d looked = IsNamedBelow d looked.0 looked.1
 
--- the first name looked up that no item has
-abbrev pub IsUnknownName : Declared → List ℕ → Type 0
-IsUnknownName d name = IsFirstBad (HasItem d) (λ x. HasItem d x → ⊥) (looked_up d) name
+-- each name that is looked up is
+abbrev pub KnowsNames : Declared → Type 0
+KnowsNames d = EachIs (IsKnown d) (looked_up d)
+
+-- the first name looked up that is not
+pub record IsUnknownName (d : Declared) (name : List ℕ) : Type 0 where
+  pub bound : ℕ
+  pub first : IsFirstBad (IsKnown d) (λ x. IsKnown d x → ⊥) (looked_up d) (bound, name)
 
 -- an item has an earlier item's name
 abbrev pub RepeatsName : Declared → ℕ → Type 0
@@ -40,46 +39,42 @@ RepeatsName d n = (m : ℕ) × (m < n) × (name_of d m ≡ name_of d n)
 
 -- no item has an earlier item's name
 abbrev pub HasDistinctNames : Declared → Type 0
-HasDistinctNames d = (n : ℕ) → n < length d.systems → RepeatsName d n → ⊥
+HasDistinctNames d = (n : ℕ) → n < length (items_of d) → RepeatsName d n → ⊥
 
 -- the name of the first item that has an earlier item's name
 abbrev pub IsDuplicateName : Declared → List ℕ → Type 0
-IsDuplicateName d name = (n : ℕ) × (n < length d.systems) × RepeatsName d n × ((m : ℕ) → m < n → RepeatsName d m → ⊥) × (name ≡ name_of d n)
+IsDuplicateName d name = (n : ℕ) × (n < length (items_of d)) × RepeatsName d n × ((m : ℕ) → m < n → RepeatsName d m → ⊥) × (name ≡ name_of d n)
 
--- ---- orders
+-- ---- sets and orders
 
--- no item is ordered with itself
-abbrev pub HasNoLoop : Declared → Type 0
-HasNoLoop d = EachIs (λ o. o.0 ≡ o.1 → ⊥) (declared_orders d)
+-- the names of items that are told
+abbrev pub names_of : Declared → List ℕ → List (List ℕ)
+names_of d items = map (name_of d) items
+
+-- the first set that is declared to be in itself
+abbrev pub IsHierarchyLoop : Declared → List ℕ → Type 0
+IsHierarchyLoop d name = (n : ℕ) × IsFirstSelf (hierarchy_of d) n × (name ≡ name_of d n)
+
+-- a cycle of sets
+abbrev pub IsHierarchyCycle : Declared → List (List ℕ) → Type 0
+IsHierarchyCycle d told = (items : List ℕ) × IsToldSetCycle (hierarchy_of d) items × (told ≡ names_of d items)
 
 -- the first declared order of an item with itself
-abbrev pub IsLoop : Declared → List ℕ → Type 0
-IsLoop d name = IsFirstBad (λ o. o.0 ≡ o.1 → ⊥) (λ o. o.0 ≡ o.1) (declared_orders d) (name, name)
+abbrev pub IsDependencyLoop : Declared → List ℕ → Type 0
+IsDependencyLoop d name = (n : ℕ) × IsLoop (declared_orders d) n × (name ≡ name_of d n)
 
--- no number stands twice
-abbrev pub IsOnceEach : List ℕ → Type 0
-IsOnceEach [] = Unit {0}
-IsOnceEach (n ∷ ns) = (has n ns ≡ false) × IsOnceEach ns
+-- the first declared order between an item and a set that holds it
+abbrev pub IsCrossDependency : Declared → List ℕ → List ℕ → Type 0
+IsCrossDependency d item holder = (m : ℕ) × (n : ℕ) × IsCrossing (hierarchy_of d) (declared_orders d) m n × (item ≡ name_of d m) × (holder ≡ name_of d n)
 
--- each number is related to the next
-abbrev pub IsWalk : (ℕ → ℕ → Type 0) → List ℕ → Type 0
-IsWalk Step [] = Unit {0}
-IsWalk Step (m ∷ []) = Unit {0}
-IsWalk Step (m ∷ n ∷ ns) = Step m n × IsWalk Step (n ∷ ns)
+-- the first declared order of two sets that share a system
+abbrev pub IsSetsIntersect : Declared → List ℕ → List ℕ → List ℕ → Type 0
+IsSetsIntersect d first second system = (m : ℕ) × (n : ℕ) × (k : ℕ) × IsSharing (hierarchy_of d) (declared_orders d) m n k
+    × (first ≡ name_of d m) × (second ≡ name_of d n) × (system ≡ name_of d k)
 
--- a cycle: at least two items, none twice, with a declared order from each to the next, and from the last to the first
-pub record IsCycle (d : Declared) (items : List ℕ) : Type 0 where
-  pub two : 2 ≤ length items
-  pub once : IsOnceEach items
-  pub ordered : IsWalk (IsOrdered d) (items ++ take 1 items)
-
--- there is no cycle
-abbrev pub HasNoCycle : Declared → Type 0
-HasNoCycle d = (items : List ℕ) → IsCycle d items → ⊥
-
--- the names of a cycle, from its least declared item
-abbrev pub IsToldCycle : Declared → List (List ℕ) → Type 0
-IsToldCycle d told = (items : List ℕ) × IsCycle d items × ((n : ℕ) → has n items ≡ true → head_or 0 items ≤ n) × (told ≡ map (name_of d) items)
+-- a cycle of items, each followed by the next by a declared order or by an edge of systems
+abbrev pub IsDependencyCycle : Declared → List (List ℕ) → Type 0
+IsDependencyCycle d told = (items : List ℕ) × IsToldCycle (hierarchy_of d) (declared_orders d) items × (told ≡ names_of d items)
 
 -- ---- parameters
 
@@ -89,11 +84,11 @@ HasNoSelfConflict d = (n : ℕ) → n < length d.systems → ConflictWithin (dec
 
 -- the name of the first system whose parameters conflict among themselves
 abbrev pub IsSelfConflict : Declared → List ℕ → Type 0
-IsSelfConflict d name = (n : ℕ) × (n < length d.systems) × ConflictWithin (declared_at d n).params × ((m : ℕ) → m < n → ConflictWithin (declared_at d m).params → ⊥) × (name ≡ name_of d n)
+IsSelfConflict d name = (n : ℕ) × (n < length d.systems) × ConflictWithin (declared_at d n).params × ((m : ℕ) → m < n → ConflictWithin (declared_at d m).params → ⊥) × (name ≡ system_name d n)
 
 -- ---- queries
 
--- the query of an item by its number; none where the item has no such query
+-- the query of a system by its number; none where the system has no such query
 abbrev pub query_of : Declared → ℕ → ℕ → List Term
 query_of d n number = get_or (declared_at d n).params.queries number []
 
@@ -107,28 +102,54 @@ pub record IsBadQuery (d : Declared) (owner : List ℕ) (number fault : ℕ) : T
   pub least : query_fault (query_of d item number) ≡ Some fault
   pub systems_before : (m k : ℕ) → m < item → query_fault (query_of d m k) ≡ None
   pub queries_before : (k : ℕ) → k < number → query_fault (query_of d item k) ≡ None
-  pub told : owner ≡ name_of d item
+  pub told : owner ≡ system_name d item
 
 -- ---- limits
 
--- there are few enough systems, and few enough queries in each
+-- there are few enough systems, sets, and queries in each system
 pub record IsWithinLimits (d : Declared) : Type 0 where
   pub systems : length d.systems ≤ 256
+  pub sets : length d.sets ≤ 64
   pub queries : (n : ℕ) → length (declared_at d n).params.queries ≤ 8
 
--- the number of the least limit that is passed: 1 of systems, 4 of the queries of a system
+-- a system has too many queries
+abbrev pub HasManyQueries : Declared → Type 0
+HasManyQueries d = (n : ℕ) × (8 < length (declared_at d n).params.queries)
+
+-- the number of the least limit that is passed: 1 of systems, 2 of sets, 4 of the queries of a system
 abbrev pub IsOverLimit : Declared → ℕ → Type 0
 IsOverLimit d limit = ((256 < length d.systems) × (limit ≡ 1))
-    ⊎ ((length d.systems ≤ 256) × ((n : ℕ) × (8 < length (declared_at d n).params.queries)) × (limit ≡ 4))
+    ⊎ (((length d.systems ≤ 256) × (64 < length d.sets) × (limit ≡ 2))
+    ⊎ ((length d.systems ≤ 256) × (length d.sets ≤ 64) × HasManyQueries d × (limit ≡ 4)))
 
 -- ---- which one is told
 
--- nothing is at fault
-pub record IsBuildable (d : Declared) : Type 0 where
+-- names can be looked up, and no two items have one
+pub record IsNamed (d : Declared) : Type 0 where
   pub known : KnowsNames d
   pub distinct : HasDistinctNames d
-  pub no_loop : HasNoLoop d
-  pub no_cycle : HasNoCycle d
+
+-- sets hold one another in no circle
+pub record IsNested (d : Declared) : Type 0 where
+  pub named : IsNamed d
+  pub no_self : HasNoSelf (hierarchy_of d)
+  pub no_cycle : HasNoSetCycle (hierarchy_of d)
+
+-- orders are of two items, neither in the other, and share no system
+pub record IsApart (d : Declared) : Type 0 where
+  pub nested : IsNested d
+  pub no_loop : HasNoLoop (declared_orders d)
+  pub no_crossing : HasNoCrossing (hierarchy_of d) (declared_orders d)
+  pub apart : AreApart (hierarchy_of d) (declared_orders d)
+
+-- orders lead back nowhere
+pub record IsOrdered (d : Declared) : Type 0 where
+  pub apart : IsApart d
+  pub no_cycle : HasNoCycle (hierarchy_of d) (declared_orders d)
+
+-- nothing is at fault
+pub record IsBuildable (d : Declared) : Type 0 where
+  pub ordered : IsOrdered d
   pub no_self_conflict : HasNoSelfConflict d
   pub good_queries : HasGoodQueries d
   pub within : IsWithinLimits d
@@ -137,8 +158,13 @@ pub record IsBuildable (d : Declared) : Type 0 where
 abbrev pub IsRefused : Declared → Refusal → Type 0
 IsRefused d (UnknownName name) = IsUnknownName d name
 IsRefused d (DuplicateName name) = KnowsNames d × IsDuplicateName d name
-IsRefused d (DependencyLoop name) = KnowsNames d × HasDistinctNames d × IsLoop d name
-IsRefused d (DependencyCycle told) = KnowsNames d × HasDistinctNames d × HasNoLoop d × IsToldCycle d told
-IsRefused d (SelfConflict name) = KnowsNames d × HasDistinctNames d × HasNoLoop d × HasNoCycle d × IsSelfConflict d name
-IsRefused d (BadQuery owner number fault) = KnowsNames d × HasDistinctNames d × HasNoLoop d × HasNoCycle d × HasNoSelfConflict d × IsBadQuery d owner number fault
-IsRefused d (OverLimit limit) = KnowsNames d × HasDistinctNames d × HasNoLoop d × HasNoCycle d × HasNoSelfConflict d × HasGoodQueries d × IsOverLimit d limit
+IsRefused d (HierarchyLoop name) = IsNamed d × IsHierarchyLoop d name
+IsRefused d (HierarchyCycle told) = IsNamed d × HasNoSelf (hierarchy_of d) × IsHierarchyCycle d told
+IsRefused d (DependencyLoop name) = IsNested d × IsDependencyLoop d name
+IsRefused d (CrossDependency item holder) = IsNested d × HasNoLoop (declared_orders d) × IsCrossDependency d item holder
+IsRefused d (SetsIntersect first second system) =
+    IsNested d × HasNoLoop (declared_orders d) × HasNoCrossing (hierarchy_of d) (declared_orders d) × IsSetsIntersect d first second system
+IsRefused d (DependencyCycle told) = IsApart d × IsDependencyCycle d told
+IsRefused d (SelfConflict name) = IsOrdered d × IsSelfConflict d name
+IsRefused d (BadQuery owner number fault) = IsOrdered d × HasNoSelfConflict d × IsBadQuery d owner number fault
+IsRefused d (OverLimit limit) = IsOrdered d × HasNoSelfConflict d × HasGoodQueries d × IsOverLimit d limit

@@ -1,7 +1,7 @@
 use Rattle.std.proofs.Common.{◌≡◌, ℕ, ◌<◌, ◌++◌, ◌∷◌, [], length, get_or, false, IsSome, not}
 use Rattle.std.specs.List.{count_by}
 use Rattle.model.specs.Lists.{has}
-use Rattle.model.specs.declarations.Refusals.{IsOnceEach, IsWalk}
+use Rattle.model.specs.declarations.Walks.{IsOnceEach, IsWalk}
 use Rattle.cycle_search.specs.Cycles.{height_of, Points}
 use Rattle.cycle_search.proofs.cycle.go_round.Given as goal
 

@@ -16,7 +16,7 @@ returns g c =
     let width = g.M.Mode.width c.args.mode.now in
     let s = c.in_ok-built.built in
     let scripts = c.in_ok-bodies.bodies.items in
-    let entities = map entity_given c.as_slice-3.result.now in
+    let entities = map entity_given c.as_slice-4.result.now in
     of-ok (λ text. IsTextOfRuns width s (meanings_of_scripts s scripts) (start_of s c.in_ok-world.world.state) c.in-Run.times (string_bytes text)) (λ text. IsTextOf width c.args.work (string_bytes text)) c.run.result
     (λ text h. subst (λ (w : Work). IsTextOf width w (string_bytes text)) (sym c.in-Run.is) (record {
       declared = c.in_ok-desc.desc;

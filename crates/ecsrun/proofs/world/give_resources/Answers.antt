@@ -2,7 +2,8 @@ use Rattle.std.proofs.Common.{rules, pos, get_or, ap, sym, ◌∙◌, arith}
 use Rattle.model.specs.state.State.{World}
 use Rattle.kinds.specs.declared.res.Res.TheVariants.{Round}
 use Rattle.kinds.specs.Res.{res_number, every_res}
-use Rattle.ecsrun.proofs.Loading.{resources-more, resources-all, res_number-at}
+use Rattle.body.proofs.Values.{res_number-at}
+use Rattle.ecsrun.proofs.Loading.{resources-more, resources-all}
 use Rattle.ecsrun.proofs.world.give_resources.Goals as goal
 
 pub set_res-requires : goal.set_res-requires

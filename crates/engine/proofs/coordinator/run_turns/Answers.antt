@@ -1,4 +1,5 @@
-use Rattle.std.proofs.Common.{◌≡◌, ◌<◌, ◌∷◌, [], List, length, reverse, Some, refl, sym, ap, ◌∙◌, subst, true, arith}
+use Rattle.std.proofs.Common.{◌≡◌, ◌<◌, ◌∷◌, [], List, length, reverse, Some, Err, refl, sym, ap, ◌∙◌, subst, true, arith}
+use Rattle.engine.specs.declared.faults.RunFault.{RunFault}
 use Rattle.model.specs.declared.steps.Step.{Step}
 use Rattle.model.specs.declared.steps.Step.TheVariants.{Start, Finish, Sync}
 use Rattle.model.specs.runs.Causes.Cause.{Refused}
@@ -51,6 +52,7 @@ start-requires g c = λ lifetimes.
 
 pub returns-in_err-start-in-Start-clause-clock : goal.returns-in_err-start-in-Start-clause-clock
 returns-in_err-start-in-Start-clause-clock g c = λ e.
+    let cause = c.in_err-start-in-Start.ensures.spent (let q = c.from_residual-in_err-start-in-Start.ensures in let p = rw e at q.1 in ap (λ (f : RunFault). Err f) (sym p)) in
     let meaning = g.B.Body.meaning in
     let fits = g.B.Body.fits in
     let there = g.M.Hosts.has_scope c.args.mode.now in
@@ -67,7 +69,7 @@ returns-in_err-start-in-Start-clause-clock g c = λ e.
     let n = c.in-Start.system in
     let free : length out < width = let r = next.room in let a = c.count.ensures in let b = c.width-width.ensures.width in omega arith in
     stops_start width s bodies start h w.state out inv.stage n free next.is next.allowed
-    (c.in_err-start-in-Start.ensures.spent (let q = c.from_residual-in_err-start-in-Start.ensures in let p = rw e at q.1 in cc))
+    cause
 
 pub take-requires-clause-may : goal.take-requires-clause-may
 take-requires-clause-may g c =
@@ -229,6 +231,7 @@ finish-requires g c = λ lifetimes.
 
 pub returns-in_err-system-in-Collect-clause-refusal : goal.returns-in_err-system-in-Collect-clause-refusal
 returns-in_err-system-in-Collect-clause-refusal g c = λ k e.
+    let cause = c.in_err-system-in-Collect.ensures.refused k (let q = c.from_residual-in_err-system-in-Collect.ensures in let p = rw e at q.1 in ap (λ (f : RunFault). Err f) (sym p)) in
     let meaning = g.B.Body.meaning in
     let fits = g.B.Body.fits in
     let there = g.M.Hosts.has_scope c.args.mode.now in
@@ -243,7 +246,7 @@ returns-in_err-system-in-Collect-clause-refusal g c = λ k e.
     let out = c.loop-turn.pool in
     let next = turn_collect core s h c.count.result c.width-width.result c.in-Some.turn inv.schedule inv.stands c.in-Some.ensures c.in-Collect.is in
     let wait = waits s h c.count.result c.width-width.result (length out) width c.count.ensures c.width-width.ensures.width next.1 in
-    let told = c.in_err-system-in-Collect.ensures.refused k (let q = c.from_residual-in_err-system-in-Collect.ensures in let p = rw e at q.1 in cc) bodies inv.placed in
+    let told = cause bodies inv.placed in
     stops_finish width s bodies start h w.state out inv.stage told.0.system (Refused k) wait (running_there width s bodies start h w.state out inv.stage told.0 told.1) told.2
 
 pub take-requires-in-Collect-clause-may : goal.take-requires-in-Collect-clause-may

@@ -1,8 +1,6 @@
-use Rattle.std.proofs.Common.{◌≡◌, ◌++◌, List, set, Some, refl, sym, ap, ◌∙◌, subst}
-use Rattle.model.specs.declared.steps.Step.TheVariants.{Finish}
-use Rattle.worker_pool.specs.JobOut.{JobOut}
+use Rattle.std.proofs.Common.{sym, subst}
 use Rattle.engine.specs.Jobs.{Placed}
-use Rattle.engine.proofs.Returning.{back_from, back_in, back_known, back_slot, back_lent, back_past, back_refused, back_finished, back_placed, job_there}
+use Rattle.engine.proofs.Returning.{back_from, back_in, back_known, back_slot, back_memory, back_lent, back_past, back_refused, back_finished, back_placed, job_there}
 use Rattle.engine.proofs.effects.finish.Goals as goal
 
 pub settle-requires-clause-known : goal.settle-requires-clause-known
@@ -32,6 +30,20 @@ settle-requires-clause-slot g c = λ lifetimes lives.
     let back = back_from meaning fits out left done.system done.body done.view done.answer ran.0 ran.1 ran.2 in
     let placed = c.requires.placed in
     back_slot meaning fits out left done.system done.body done.view done.answer there s placed.0 c.args.slots.now c.args.state.now back placed.1
+
+pub settle-requires-clause-memory : goal.settle-requires-clause-memory
+settle-requires-clause-memory g c = λ lifetimes lives.
+    let done = c.in-Some.done in
+    let meaning = g.B.Body.meaning in
+    let fits = g.B.Body.fits in
+    let there = g.M.Hosts.has_scope c.args.mode.now in
+    let s = c.args.built.now in
+    let out = c.args.pool.now in
+    let left = c.bring_back.new.self in
+    let ran = c.in-Some.ensures.ran in
+    let back = back_from meaning fits out left done.system done.body done.view done.answer ran.0 ran.1 ran.2 in
+    let placed = c.requires.placed in
+    back_memory meaning fits out left done.system done.body done.view done.answer there s placed.0 c.args.slots.now c.args.state.now back placed.1
 
 pub settle-requires-clause-lent : goal.settle-requires-clause-lent
 settle-requires-clause-lent g c = λ lifetimes lives.
@@ -92,7 +104,7 @@ returns-clause-finished g c = λ bodies placed.
     let ran = c.in-Some.ensures.ran in
     let back = back_from meaning fits out left done.system done.body done.view done.answer ran.0 ran.1 ran.2 in
     let ok = c.in_ok-settle.ensures in
-    back_finished meaning fits out left done.system done.body done.view done.answer there s bodies c.args.slots.now c.args.state.now back placed c.settle.new.state ok.answer ok.alone ok.laid ok.held ok.commands ok.registers
+    back_finished meaning fits out left done.system done.body done.view done.answer there s bodies c.args.slots.now c.args.state.now back placed c.settle.new.state ok.answer ok.alone ok.laid ok.held ok.commands
 
 pub returns-clause-placed : goal.returns-clause-placed
 returns-clause-placed g c = λ bodies placed.
@@ -107,7 +119,7 @@ returns-clause-placed g c = λ bodies placed.
     let back = back_from meaning fits out left done.system done.body done.view done.answer ran.0 ran.1 ran.2 in
     let ok = c.in_ok-settle.ensures in
     subst (λ slots. Placed meaning fits there s bodies slots left c.settle.new.state) (sym ok.slots)
-    (back_placed meaning fits out left done.system done.body done.view done.answer there s bodies c.args.slots.now c.args.state.now back placed c.settle.new.state ok.answer ok.alone ok.laid ok.held ok.commands ok.registers)
+    (back_placed meaning fits out left done.system done.body done.view done.answer there s bodies c.args.slots.now c.args.state.now back placed c.settle.new.state ok.answer ok.alone ok.laid ok.held ok.commands)
 
 pub returns-in_err-settle-clause-refused : goal.returns-in_err-settle-clause-refused
 returns-in_err-settle-clause-refused g c = λ k e bodies placed.

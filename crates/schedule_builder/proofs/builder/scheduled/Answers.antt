@@ -15,7 +15,7 @@ of_parts params predecessors = record { params = params; predecessors = predeces
 
 pub loop-system-preserved : goal.loop-system-preserved
 loop-system-preserved c =
-    let orders : List Order = c.args.orders.now in
+    let orders : List Order = c.args.edges.now in
     let built : List ScheduledSystem = c.loop-system.built.items in
     let s : DeclaredSystem = c.in-Some.system in
     let number : c.len.result ≡ length built = c.len.ensures ∙ c.loop-system.built.ok.0 in

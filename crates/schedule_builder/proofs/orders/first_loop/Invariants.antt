@@ -1,6 +1,7 @@
-use Rattle.std.proofs.Common.{ℕ, ◌<◌}
-use Rattle.schedule_builder.specs.Orders.{IsLoopAt}
+use Rattle.std.proofs.Common.{take}
+use Rattle.model.specs.declarations.Edges.{HasNoLoop}
+use Rattle.system_set.specs.Pairs.{pairs_of}
 use Rattle.schedule_builder.proofs.orders.first_loop.Given as goal
 
-abbrev pub invariant-loop-place : goal.invariant-loop-place
-invariant-loop-place l = (k : ℕ) → k < l.place → IsLoopAt l.orders k → ⊥
+abbrev pub invariant-loop-order : goal.invariant-loop-order
+invariant-loop-order l = HasNoLoop (pairs_of (take l.order-index l.orders))

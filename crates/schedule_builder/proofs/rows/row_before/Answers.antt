@@ -1,6 +1,6 @@
-use Rattle.std.proofs.Common.{ℕ, ◌<◌, length, get_or, arith}
+use Rattle.std.proofs.Common.{ℕ, length, get_or}
 use Rattle.cycle_search.proofs.Walks.{at_has}
-use Rattle.schedule_builder.proofs.SystemSets.{within_room, list_more, row_of_list}
+use Rattle.schedule_builder.proofs.SystemSets.{within_room, row_of_list}
 use Rattle.schedule_builder.proofs.rows.row_before.Goals as goal
 
 pub insert-requires : goal.insert-requires

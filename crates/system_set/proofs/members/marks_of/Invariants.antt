@@ -1,4 +1,4 @@
-use Rattle.std.proofs.Common.{◌≡◌, ℕ, length, not}
+use Rattle.std.proofs.Common.{◌≡◌, length, not}
 use Rattle.std.specs.List.{count_by}
 use Rattle.system_set.specs.Pairs.{AreSound}
 use Rattle.system_set.proofs.members.marks_of.Given as goal

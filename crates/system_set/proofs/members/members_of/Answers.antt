@@ -8,4 +8,4 @@ returns c =
     let marks : List Bool = c.in_ok-marks.marks.items in
     let e = c.in_ok-marks.ensures in
     members_from c.args.sets c.args.items c.args.pairs.now c.args.set marks c.in_ok-members.members.items e.long e.sound e.whole
-    (subst (λ (xs : List Bool). AreMarked c.args.sets xs (length xs) c.in_ok-members.members.items) c.as_slice.ensures.value c.in_ok-members.ensures)
+    (subst (λ (xs : List Bool). AreMarked c.args.sets xs (length xs) c.in_ok-members.members.items) c.as_slice-2.ensures.value c.in_ok-members.ensures)

@@ -9,5 +9,5 @@ open_queries-requires-clause-apart c = λ kind two. c.requires.apart (OfKind kin
 
 pub returns-clause-shown : goal.returns-clause-shown
 returns-clause-shown c = λ state w.
-    seen_over-shown c.args.params.now c.args.memory.now c.args.world.now.state c.queries.result.now c.args.tick c.in_ok-queries.queries.items c.registers.result
-    c.queries.ensures.alone (rw c.last_run.ensures at c.in_ok-queries.ensures.rows) c.registers.ensures state w
+    seen_over-shown c.args.params.now c.args.memory.now c.args.world.now.state c.queries.result.now c.args.tick c.in_ok-queries.queries.items c.open-values.result
+    c.queries.ensures.alone (rw c.last_run.ensures at c.in_ok-queries.ensures.rows) c.open-values.ensures state w

@@ -28,4 +28,5 @@ invariant_of-self c =
           known (sym c.if-contains.ensures) c.insert.ensures.members c.lower_each.ensures
           (subst (λ (k : ℕ). get_or c.lower.new.self k 0 + 1 ≡ get_or inside.left k 0) c.level.ensures c.lower.ensures.lowered)
           (subst (λ (j : ℕ). (k : ℕ) → k ≢ j → get_or c.lower.new.self k 0 ≡ get_or inside.left k 0) c.level.ensures c.lower.ensures.rest),
+      c.self.invariant.2,
     )

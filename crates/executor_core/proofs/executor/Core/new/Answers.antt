@@ -10,4 +10,5 @@ invariant_of-result c = (
   counted_first c.args.built.now.systems c.in_ok-over.over c.in_ok-waits.waits c.in_ok-left.left c.in_ok-over.ensures.empty
       (λ n. ap (λ (xs : List ℕ). get_or xs n 0) c.in_ok-waits.ensures ∙ c.waits.ensures n)
       (λ k. ap (λ (xs : List ℕ). get_or xs k 0) c.in_ok-left.ensures ∙ c.sizes.ensures k),
+  search rules,
 )

@@ -1,0 +1,6 @@
+// What run conditions answer of a world and its events.
+#![tactic(auto)]
+
+pub mod answer;
+#[cfg(test)]
+mod tests;

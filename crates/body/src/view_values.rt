@@ -1,0 +1,131 @@
+// The resources and the registers of a view.
+
+ghost use Rattle.std.specs.Prelude.{◌≡◌, ◌<◌, ◌≤◌, ◌||◌, ℕ, set, get_or, pos, IsTrue};
+ghost use Rattle.kinds.specs.Res.{res_number};
+ghost use Rattle.model.specs.Lists.{has};
+ghost use Rattle.model.specs.shown.Input.{value_of};
+ghost use Rattle.model.specs.shown.Outcome.{value_written};
+ghost use Rattle.model.specs.shown.Overlay.{resources_after};
+ghost use Rattle.model.specs.state.State.{register_count};
+ghost use Rattle.body.specs.Laid.{with_resources};
+ghost use Rattle.body.specs.Seen.{value_read, with_value};
+ghost use Rattle.body.specs.Values.{first_values, value_at};
+
+use crate::memory::Memory;
+use access_set::params::Params;
+use archetype_store::store::World;
+use change_ticks::clock::Tick;
+use kinds::res::Res;
+use std::marker::Model;
+use std::snapshot::Snapshot;
+
+/// The resources and the registers of a view: the values that all resources had as the view was opened, what was written of them since, and
+/// the registers. Contracts see those that the parameters name. The parameters, and the registers as they were shown, have no bytes here.
+#[derive(Drop)]
+pub(crate) struct ViewValues {
+    params: Snapshot<Params>,
+    resources: [i64; Res::COUNT],
+    written: [Option<i64>; Res::COUNT],
+    registers_shown: Snapshot<[i64; 8]>,
+    registers: [i64; 8],
+}
+
+impl Model for ViewValues {
+    ghost use Rattle.body.specs.Values.{ValuesSeen, values_over, AreWritable};
+
+    ghost Value = { ValuesSeen };
+
+    ghost view = { λ v. values_over v.params.value v.resources v.written v.registers_shown.value v.registers };
+
+    ghost invariant = { λ v. AreWritable v.params.value v.written };
+}
+
+impl ViewValues {
+    // What is shown to a system with these parameters and this memory, and nothing written.
+    pub(crate) fn open(params: &Params, memory: &Memory, world: &World) -> Self
+        ensures { result ≡ first_values params.now world.now.state.resources memory.now.registers }
+    {
+        let registers = memory.registers();
+        ViewValues {
+            params: Snapshot::of(params),
+            resources: values_of(world),
+            written: [None; Res::COUNT],
+            registers_shown: Snapshot::of(&registers),
+            registers,
+        }
+    }
+
+    // The value of a resource that is named: what was written, else what is shown.
+    pub(crate) fn res(&self, resource: Res) -> i64
+        requires { IsTrue (has (res_number resource) self.now.res || has (res_number resource) self.now.res_mut) }
+        ensures { result ≡ value_read self.now.res self.now.res_mut self.now.res_shown self.now.res_mut_shown self.now.written (res_number resource) }
+    {
+        let number = resource.number() as usize;
+        match self.written[number] {
+            Some(value) => value,
+            None => self.resources[number],
+        }
+    }
+
+    // Writes a resource that may be written.
+    pub(crate) fn set_res(&mut self, resource: Res, value: i64)
+        requires { IsTrue (has (res_number resource) self.old.res_mut) }
+        ensures { self.new ≡ record self.old { written = with_value self.old.res_mut (res_number resource) value self.old.written } }
+    {
+        self.written[resource.number() as usize] = Some(value);
+    }
+
+    // A register.
+    pub(crate) fn reg(&self, register: usize) -> i64
+        requires { register < register_count }
+        ensures { result ≡ get_or self.now.registers register (pos 0) }
+    {
+        self.registers[register]
+    }
+
+    // Puts a value into a register.
+    pub(crate) fn set_reg(&mut self, register: usize, value: i64)
+        requires { register < register_count }
+        ensures { self.new ≡ record self.old { registers = set self.old.registers register value } }
+    {
+        self.registers[register] = value;
+    }
+
+    // The registers.
+    pub(crate) fn registers(&self) -> [i64; 8]
+        ensures { result ≡ self.now.registers }
+    {
+        self.registers
+    }
+
+    // Lays what was written over the resources of a world, at a tick.
+    pub(crate) fn lay(&self, tick: Tick, world: &mut World)
+        requires { tick ≤ world.old.state.clock }
+        ensures state { world.new.state ≡ with_resources world.old.state (resources_after tick (value_written self.now.res_mut self.now.written) world.old.state.resources) }
+        ensures layout { world.new.layout ≡ world.old.layout }
+    {
+        for (number, written) in self.written.iter().enumerate() {
+            if let Some(value) = *written {
+                world.set_res(Res::ALL[number], value, tick);
+            }
+        }
+    }
+}
+
+// The value of each resource of a world.
+fn values_of(world: &World) -> [i64; Res::COUNT]
+    ensures { (number : ℕ) → value_at result number ≡ value_of world.now.state.resources number }
+{
+    // Tells how many resources there are.
+    let _now = world.now();
+    [
+        world.res(Res::Round),
+        world.res(Res::Gravity),
+        world.res(Res::Total),
+        world.res(Res::Seed),
+        world.res(Res::Limit),
+        world.res(Res::Alarm),
+        world.res(Res::Mode),
+        world.res(Res::Step),
+    ]
+}

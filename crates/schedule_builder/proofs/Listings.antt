@@ -1,0 +1,73 @@
+-- Lists of numbers in rising order.
+use Rattle.std.proofs.Common.{ℕ, zero, suc, ◌+◌, ◌<◌, ◌≡◌, ◌↔◌, Bool, true, false, ◌||◌, eqb, inl, inr, List, [], ◌∷◌, ◌++◌, length, get_or, refl, sym, ap, ◌∙◌, subst, arith}
+use Rattle.std.proofs.lemmas.Bool.{false≢true, or_cases, or_left, or_right, eqb-true, eq-eqb, cases_lt}
+use Rattle.std.proofs.lemmas.List.{get_or_default}
+use Rattle.model.specs.Lists.{has}
+use Rattle.model.specs.access.Access.{Params}
+use Rattle.model.specs.access.Condition.{access_of_condition}
+use Rattle.model.specs.access.Condition.Condition.{RunOnce}
+use Rattle.model.specs.access.Conflict.{Conflict}
+use Rattle.model.specs.declarations.Hierarchy.{IsRising}
+use Rattle.model.specs.steps.Schedule.{ScheduledSystem, ScheduledCondition}
+use Rattle.schedule_builder.specs.Rows.{system_in, IsRow, AreRows}
+use Rattle.schedule_builder.specs.Conditions.{condition_in, IsCovering, IsClash, IsRisingListing, HasConditionRows}
+use Rattle.cycle_search.proofs.Walks.{has-append}
+
+-- a greater number at the end of a rising list
+pub rising_push : (xs : List ℕ) (n : ℕ) → IsRising xs → ((m : ℕ) → has m xs ≡ true → m < n) → IsRising (xs ++ n ∷ [])
+rising_push [] n rising below = ((λ m e. absurd (false≢true e)), tt)
+rising_push (x ∷ xs) n rising below = (
+  (λ m e. elim (or_cases (has m xs) (has m (n ∷ [])) (sym (has-append m xs (n ∷ [])) ∙ e)) [
+    | inl old ↦ rising.0 m old
+    | inr new ↦ elim (or_cases (eqb n m) false new) [
+      | inl same ↦ let here : n ≡ m = eqb-true n m same in let low : x < n = below x (or_left (eqb x x) (has x xs) (eq-eqb x x refl)) in omega arith
+      | inr none ↦ absurd (false≢true none)
+    ]
+  ]),
+  rising_push xs n rising.1 (λ m e. below m (or_right (eqb x m) (has m xs) e)),
+)
+
+-- the numbers with a property below a bound, listed, with one more that has it
+pub named_more : (P : ℕ → Type 0) (xs : List ℕ) (n : ℕ) → P n → ((m : ℕ) → (has m xs ≡ true) ↔ ((m < n) × P m)) →
+    (m : ℕ) → (has m (xs ++ n ∷ []) ≡ true) ↔ ((m < n + 1) × P m)
+named_more P xs n here names m = (
+  (λ e. elim (or_cases (has m xs) (has m (n ∷ [])) (sym (has-append m xs (n ∷ [])) ∙ e)) [
+    | inl old ↦ let found = (names m).0 old in let low : m < n = found.0 in (omega arith, found.1)
+    | inr new ↦ elim (or_cases (eqb n m) false new) [
+      | inl same ↦ let is : n ≡ m = eqb-true n m same in (omega arith, subst P is here)
+      | inr none ↦ absurd (false≢true none)
+    ]
+  ]),
+  (λ (low, p). has-append m xs (n ∷ []) ∙ elim (cases_lt m n) [
+    | inl below ↦ or_left (has m xs) (has m (n ∷ [])) ((names m).1 (below, p))
+    | inr above ↦ let is : n ≡ m = omega arith in or_right (has m xs) (has m (n ∷ [])) (or_left (eqb n m) false (eq-eqb n m is))
+  ]),
+)
+
+-- and with one more that has it not
+pub named_same : (P : ℕ → Type 0) (xs : List ℕ) (n : ℕ) → (P n → ⊥) → ((m : ℕ) → (has m xs ≡ true) ↔ ((m < n) × P m)) →
+    (m : ℕ) → (has m xs ≡ true) ↔ ((m < n + 1) × P m)
+named_same P xs n not names m = (
+  (λ e. let found = (names m).0 e in let low : m < n = found.0 in (omega arith, found.1)),
+  (λ (low, p). elim (cases_lt m n) [
+    | inl below ↦ (names m).1 (below, p)
+    | inr above ↦ let is : m ≡ n = omega arith in absurd (not (subst P is p))
+  ]),
+)
+
+-- what was read of a condition is what the schedule has of it
+pub read_condition : (conditions : List ScheduledCondition) (n : ℕ) (c : ScheduledCondition) → n < length conditions → c ≡ get_or conditions n c → condition_in conditions n ≡ c
+read_condition conditions n c low is = get_or_default conditions n (record { condition = RunOnce; covers = [] }) c low ∙ sym is
+
+-- the systems that conflict with an access that was read of a condition
+pub clashes_of : (count : ℕ) (systems : List ScheduledSystem) (conditions : List ScheduledCondition) (n : ℕ) (access : Params) (row : List ℕ) →
+    access ≡ access_of_condition (condition_in conditions n).condition → IsRow count (λ m. (m < length systems) × Conflict (system_in systems m).params access) row →
+    IsRow count (IsClash systems conditions n) row
+clashes_of count systems conditions n access row same is = subst (λ (x : Params). IsRow count (λ m. (m < length systems) × Conflict (system_in systems m).params x) row) same is
+
+-- what is found out of the conditions of a schedule once
+pub has_condition_rows : (systems : List ScheduledSystem) (conditions : List ScheduledCondition) (asked_by clashed : List (List ℕ)) → length asked_by ≡ length systems →
+    ((n : ℕ) → n < length systems → IsRisingListing (IsCovering conditions n) (get_or asked_by n [])) → AreRows (length systems) (length conditions) (IsClash systems conditions) clashed →
+    HasConditionRows systems conditions asked_by clashed
+unfolding HasConditionRows
+has_condition_rows systems conditions asked_by clashed long each rows = record { long = long; covering = each; clashes = rows }

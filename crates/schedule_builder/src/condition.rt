@@ -1,0 +1,69 @@
+// A run condition of a built schedule.
+
+ghost use Rattle.std.specs.Prelude.{◌≡◌};
+ghost use Rattle.model.specs.Lists.{has};
+ghost use Rattle.model.specs.access.Condition.{access_of_condition};
+
+use access_set::params::Params;
+use run_condition::Cond;
+use std::marker::Model;
+
+/// A run condition of a built schedule: what it asks, and the systems that it covers. Contracts see these two.
+#[derive(Drop)]
+pub struct Condition {
+    cond: Cond,
+    access: Params,
+    covers: Vec<u32>,
+}
+
+impl Model for Condition {
+    ghost use Rattle.std.specs.Prelude.{◌≡◌};
+    ghost use Rattle.model.specs.access.Condition.{access_of_condition};
+    ghost use Rattle.model.specs.steps.Schedule.{ScheduledCondition};
+    ghost use Rattle.model.specs.steps.Codes.{scheduled_condition_code};
+
+    ghost Value = { ScheduledCondition };
+
+    ghost coded = { scheduled_condition_code };
+
+    ghost view = { λ c. record { condition = c.cond; covers = c.covers.items } };
+
+    ghost invariant = { λ c. c.access ≡ access_of_condition c.cond };
+}
+
+impl Condition {
+    /// What it asks.
+    pub fn cond(&self) -> &Cond
+        ensures { result.now ≡ self.now.condition }
+    {
+        &self.cond
+    }
+
+    /// What it asks about, all of it read.
+    pub fn access(&self) -> &Params
+        ensures { result.now ≡ access_of_condition self.now.condition }
+    {
+        &self.access
+    }
+
+    /// Whether it covers a system.
+    pub fn is_covering(&self, system: u32) -> bool
+        ensures { result ≡ has system self.now.covers }
+    {
+        has_number(self.covers.as_slice(), system)
+    }
+
+    /// The systems that it covers.
+    pub fn covers(&self) -> &[u32]
+        ensures { result.now ≡ self.now.covers }
+    {
+        self.covers.as_slice()
+    }
+}
+
+// Whether the number is among these.
+fn has_number(numbers: &[u32], number: u32) -> bool
+    ensures { result ≡ has number numbers.now }
+{
+    numbers.iter().any(|other| *other == number)
+}

@@ -1,0 +1,15 @@
+-- What is none of the three is no target.
+use Rattle.std.proofs.Common.{ℕ, List}
+use Rattle.texts.specs.Reads.{SpellsNone}
+use Rattle.kinds.specs.Res.{IsRes}
+use Rattle.script.specs.declared.operands.Target.TheVariants.{Register, Field, Resource}
+use Rattle.script.specs.Operands.{IsRegister, IsField, IsTarget}
+use Rattle.script.proofs.operands.Target.read.Goals as goal
+
+no_target : (word : List ℕ) → SpellsNone IsRegister word → SpellsNone IsRes word → SpellsNone IsField word → SpellsNone IsTarget word
+no_target word no_register no_resource no_field (Register n) spelled = no_register n spelled
+no_target word no_register no_resource no_field (Field field) spelled = no_field field spelled
+no_target word no_register no_resource no_field (Resource resource) spelled = no_resource resource spelled
+
+pub returns-in_err-read-in-None : goal.returns-in_err-read-in-None
+returns-in_err-read-in-None c = rw c.from_residual.ensures (no_target c.args.word.now c.in_default.ensures c.in-None.ensures c.in_err-read-in-None.ensures)

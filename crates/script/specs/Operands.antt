@@ -1,0 +1,42 @@
+-- The words of what an instruction takes values from and writes.
+use Rattle.std.specs.Prelude.{◌≡◌, ℕ, List, ◌∷◌, ◌++◌, codes}
+use Rattle.kinds.specs.Kind.{kind_name}
+use Rattle.kinds.specs.Res.{IsRes}
+use Rattle.texts.specs.Integer.{IsInteger, IsNumber}
+use Rattle.script.specs.declared.operands.Axis.{Axis}
+use Rattle.script.specs.declared.operands.Axis.TheVariants.{X, Y, V}
+use Rattle.script.specs.declared.operands.Field.{Field}
+use Rattle.script.specs.declared.operands.Target.{Target}
+use Rattle.script.specs.declared.operands.Target.TheVariants as target
+use Rattle.script.specs.declared.operands.Source.{Source}
+use Rattle.script.specs.declared.operands.Source.TheVariants as source
+
+-- the letter of a field within its kind
+abbrev pub axis_name : Axis → List ℕ
+axis_name X = codes "x"
+axis_name Y = codes "y"
+axis_name V = codes "v"
+
+abbrev pub IsAxis : Axis → List ℕ → Type 0
+IsAxis axis word = word ≡ axis_name axis
+
+-- a field: the name of its kind, a point, its letter
+abbrev pub IsField : Field → List ℕ → Type 0
+IsField field word = word ≡ kind_name field.kind ++ (46 ∷ axis_name field.axis)
+
+-- a register: an r and its number
+abbrev pub IsRegister : ℕ → List ℕ → Type 0
+IsRegister n word = (digits : List ℕ) × IsNumber n digits × (word ≡ 114 ∷ digits)
+
+-- a target: a register, a field, or a resource's name
+abbrev pub IsTarget : Target → List ℕ → Type 0
+IsTarget (target.Register n) word = IsRegister n word
+IsTarget (target.Field field) word = IsField field word
+IsTarget (target.Resource resource) word = IsRes resource word
+
+-- a source: an integer, a register, a field, or a resource's name
+abbrev pub IsSource : Source → List ℕ → Type 0
+IsSource (source.Integer z) word = IsInteger z word
+IsSource (source.Register n) word = IsRegister n word
+IsSource (source.Field field) word = IsField field word
+IsSource (source.Resource resource) word = IsRes resource word

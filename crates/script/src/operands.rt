@@ -1,0 +1,115 @@
+// What an instruction takes values from and writes, and how these are read.
+
+ghost use Rattle.texts.specs.Reads.{Reads};
+ghost use Rattle.script.specs.Operands.{IsAxis, IsField, IsRegister, IsTarget, IsSource};
+
+use kinds::kind::Kind;
+use kinds::res::Res;
+use texts::integer::{read_integer, read_number};
+
+/// The letter of a field within its kind. Not every kind has each: that is looked at when the script is checked.
+#[derive(Clone, Copy, PartialEq, Eq, Debug)]
+pub enum Axis {
+    X,
+    Y,
+    V,
+}
+
+impl Axis {
+    /// The letter that a word is.
+    pub fn named(word: &str) -> Option<Axis>
+        ensures { Reads IsAxis word.now result }
+    {
+        match word {
+            "x" => Some(Axis::X),
+            "y" => Some(Axis::Y),
+            "v" => Some(Axis::V),
+            _ => None,
+        }
+    }
+}
+
+/// A field of the row at hand, as `Position.x`.
+#[derive(Clone, Copy, PartialEq, Eq, Debug)]
+pub struct Field {
+    /// The kind of the component.
+    pub kind: Kind,
+    /// The field in it.
+    pub axis: Axis,
+}
+
+impl Field {
+    /// Reads a field: a kind's name, a point and a letter, with no space between.
+    pub fn read(word: &str) -> Option<Field>
+        ensures { Reads IsField word.now result }
+    {
+        let (kind, axis) = word.split_once('.')?;
+        Some(Field {
+            kind: Kind::named(kind)?,
+            axis: Axis::named(axis)?,
+        })
+    }
+}
+
+// Reads a register, as `r3`, for its number. Any number of 32 bits is read: how many registers there are is looked at when the script
+// is checked.
+fn read_register(word: &str) -> Option<u32>
+    ensures { Reads IsRegister word.now result }
+{
+    read_number(word.strip_prefix('r')?)
+}
+
+/// What an instruction writes.
+#[derive(Clone, Copy, PartialEq, Eq, Debug)]
+pub enum Target {
+    /// A register of the system, by number.
+    Register(u32),
+    /// A field of the row at hand.
+    Field(Field),
+    /// A resource.
+    Resource(Res),
+}
+
+impl Target {
+    /// Reads a target: a register, a field, or a resource's name.
+    pub fn read(word: &str) -> Option<Target>
+        ensures { Reads IsTarget word.now result }
+    {
+        if let Some(number) = read_register(word) {
+            return Some(Target::Register(number));
+        }
+        match Res::named(word) {
+            Some(resource) => Some(Target::Resource(resource)),
+            None => Some(Target::Field(Field::read(word)?)),
+        }
+    }
+}
+
+/// Where an instruction takes a value from.
+#[derive(Clone, Copy, PartialEq, Eq, Debug)]
+pub enum Source {
+    /// The value itself.
+    Integer(i64),
+    /// A register of the system, by number.
+    Register(u32),
+    /// A field of the row at hand.
+    Field(Field),
+    /// A resource.
+    Resource(Res),
+}
+
+impl Source {
+    /// Reads a source: an integer, a register, a field, or a resource's name.
+    pub fn read(word: &str) -> Option<Source>
+        ensures { Reads IsSource word.now result }
+    {
+        if let Some(value) = read_integer(word) {
+            return Some(Source::Integer(value));
+        }
+        match Target::read(word)? {
+            Target::Register(number) => Some(Source::Register(number)),
+            Target::Field(field) => Some(Source::Field(field)),
+            Target::Resource(resource) => Some(Source::Resource(resource)),
+        }
+    }
+}
