@@ -1,0 +1,84 @@
+-- The first line of a text ends at the first end of a line.
+use Rattle.std.proofs.Common.{◌≡◌, ℕ, zero, suc, ◌<◌, ◌≤◌, ◌+◌, ◌-◌, true, false, nat_lt, inl, inr, List, [], ◌∷◌, ◌++◌, Some, None, length, take, drop, get_or, refl, sym, ap, ◌∙◌, arith}
+use Rattle.std.proofs.Math.ListN.{get_or-append}
+use Rattle.std.proofs.Math.Seq.{take-length, get_or-append_seam}
+use Rattle.std.proofs.lemmas.Bool.{eqb-false, eqb-true, ne_eqb, cases_Bool, ltb-false}
+use Rattle.std.proofs.lemmas.List.Quantifiers.{position-Some}
+use Rattle.std.proofs.lemmas.List.Sums.{position_or_len_is}
+use Rattle.std.proofs.lemmas.List.{length-append, length-drop}
+use Rattle.std.specs.List.{position, position_or_len}
+use Rattle.texts.specs.Reads.{SpellsNone, SpellsOnly}
+use Rattle.texts.specs.Words.{Lacks}
+use Rattle.trace_checker.specs.declared.line.Line.{Line}
+use Rattle.trace_checker.specs.Grammar.{is_end, line_text, IsLine, IsLineBefore}
+use Rattle.trace_checker.proofs.Lines.{line_lacks, same_cut}
+
+-- no end stands before the first
+lacks_take : (i : ℕ) (text : List ℕ) → i ≤ length text → ((k : ℕ) → k < i → is_end (get_or text k 0) ≡ false) → Lacks 10 (take i text)
+lacks_take zero text within none = tt
+lacks_take (suc i) [] within none = tt
+lacks_take (suc i) (b ∷ text) within none = (eqb-false b 10 (none 0 (omega arith)), lacks_take i text (omega (arith, within)) (λ k below. none (suc k) (omega (arith, below))))
+
+-- a text cut at a byte that is known
+cut_there : (i : ℕ) (text : List ℕ) (c : ℕ) → i < length text → get_or text i 0 ≡ c → text ≡ take i text ++ c ∷ drop (suc i) text
+cut_there i [] c below e = absurd (omega (arith, below))
+cut_there zero (b ∷ text) c below e = ap (λ x. x ∷ text) e
+cut_there (suc i) (b ∷ text) c below e = ap (λ l. b ∷ l) (cut_there i text c (omega (arith, below)) e)
+
+module _ (text : List ℕ) (i : ℕ) (found : position is_end text ≡ Some i) where
+  whole : text ≡ take i text ++ 10 ∷ drop (suc i) text
+  whole = let k = position-Some is_end text i 0 found in cut_there i text 10 k.0 (eqb-true (get_or text i 0) 10 k.1)
+
+  plain : Lacks 10 (take i text)
+  plain = let k = position-Some is_end text i 0 found in lacks_take i text (omega (arith, k.0)) k.2
+
+  -- the line before the end is the only one that the text begins with
+  begins : (line : Line) (rest : List ℕ) → IsLineBefore (line, rest) text → (line_text line ≡ take i text) × (rest ≡ drop (suc i) text)
+  begins line rest h = same_cut 10 (line_text line) (take i text) rest (drop (suc i) text) (line_lacks line h.0) plain (sym h.1 ∙ whole)
+
+  pub none_before : SpellsNone IsLine (take i text) → SpellsNone IsLineBefore text
+  none_before none (line, rest) h = none line (h.0, sym (begins line rest h).0)
+
+  pub only_before : (line : Line) (rest : List ℕ) → rest ≡ drop (suc i) text → SpellsOnly IsLine (take i text) line → SpellsOnly IsLineBefore text (line, rest)
+  only_before line rest e only = (
+    (only.0.0, whole ∙ (ap (λ l. l ++ 10 ∷ drop (suc i) text) only.0.1 ∙ ap (λ r. line_text line ++ 10 ∷ r) (sym e))),
+    λ v h. same v h,
+  ) where
+    same : (v : Line × List ℕ) → IsLineBefore v text → v ≡ (line, rest)
+    same (l, r) h =
+        let k = begins l r h in
+        let p : l ≡ line = only.1 l (h.0, sym k.0) in
+        let q : r ≡ rest = k.1 ∙ sym e in
+        ap (λ x. (x, r)) p ∙ ap (λ x. (line, x)) q
+
+-- no byte of a line ends it
+passes_nowhere : (a : List ℕ) (k : ℕ) → Lacks 10 a → k < length a → is_end (get_or a k 0) ≡ false
+passes_nowhere [] k lacks below = absurd (omega (arith, below))
+passes_nowhere (b ∷ a) zero lacks below = ne_eqb b 10 lacks.0
+passes_nowhere (b ∷ a) (suc k) lacks below = passes_nowhere a k lacks.1 (omega (arith, below))
+
+-- the end behind a line is found
+end_is_found : (a rest : List ℕ) → Lacks 10 a → position_or_len is_end (a ++ 10 ∷ rest) ≡ length a
+end_is_found a rest lacks = position_or_len_is is_end (a ++ 10 ∷ rest) (length a) 0 (omega (arith, length-append a (10 ∷ rest)))
+    (λ k below. rw (get_or-append a (10 ∷ rest) 0 k below) (passes_nowhere a k lacks below))
+    (λ below. rw (get_or-append_seam a 10 rest 0) refl)
+
+found_is_some : (text : List ℕ) → nat_lt (position_or_len is_end text) (length text) ≡ true → position is_end text ≡ None → ⊥
+found_is_some text t none = let k : position is_end text ≡ Some (position_or_len is_end text) = rw t refl in cc
+
+-- where no line ends none stands
+pub none_without_end : (text : List ℕ) → position is_end text ≡ None → SpellsNone IsLineBefore text
+none_without_end text none (line, rest) h =
+    let e : position_or_len is_end text ≡ length (line_text line) = ap (position_or_len is_end) h.1 ∙ end_is_found (line_text line) rest (line_lacks line h.0) in
+    let n : length text ≡ length (line_text line) + length (10 ∷ rest) = ap length h.1 ∙ length-append (line_text line) (10 ∷ rest) in
+    elim (cases_Bool (nat_lt (position_or_len is_end text) (length text))) [
+      | inl t ↦ found_is_some text t none
+      | inr f ↦ absurd (omega (arith, ltb-false _ _ f, e, n))
+    ]
+
+-- what is left behind a place
+pub rest_behind : (text : List ℕ) (i : ℕ) → take (length text - (i + 1)) (drop (i + 1) text) ≡ drop (suc i) text
+rest_behind text i =
+    let next : i + 1 ≡ suc i = omega arith in
+    let n : length text - (i + 1) ≡ length (drop (suc i) text) = omega (arith, length-drop (suc i) text) in
+    ap (λ k. take (length text - (i + 1)) (drop k text)) next ∙ (ap (λ k. take k (drop (suc i) text)) n ∙ take-length (drop (suc i) text))

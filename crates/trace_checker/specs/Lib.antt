@@ -1,0 +1,3 @@
+pub mod Grammar
+pub mod TextFaults
+pub mod Verdicts

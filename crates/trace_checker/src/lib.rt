@@ -1,0 +1,10 @@
+// Traces: their text, and what a schedule says of one.
+#![tactic(auto)]
+
+pub mod check;
+pub mod line;
+mod numeral;
+pub mod read;
+#[cfg(test)]
+mod tests;
+pub mod write;

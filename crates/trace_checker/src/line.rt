@@ -1,0 +1,75 @@
+// The lines of a trace's text.
+
+ghost use Rattle.texts.specs.Reads.{Reads};
+ghost use Rattle.trace_checker.specs.Grammar.{IsLine, IsAnswerTail};
+
+use crate::numeral::numeral_of;
+use model::steps::Step;
+use std::fmt;
+
+/// A line of a trace's text.
+#[derive(Clone, Copy, PartialEq, Eq, Debug)]
+pub enum Line {
+    /// The run of this number begins.
+    Begin(u32),
+    /// The next step of the run.
+    Take(Step),
+}
+
+impl fmt::Display for Line {
+    ghost use Rattle.std.specs.Prelude.{Some};
+    ghost use Rattle.trace_checker.specs.Grammar.{line_text};
+
+    ghost output = { λ line. Some (line_text line) };
+
+    fn fmt<W: fmt::Write>(&self, f: &mut fmt::Formatter<W>) -> fmt::Result {
+        match self {
+            Line::Begin(run) => write!(f, "R {run}"),
+            Line::Take(Step::Cond(condition, true)) => write!(f, "C {condition} 1"),
+            Line::Take(Step::Cond(condition, false)) => write!(f, "C {condition} 0"),
+            Line::Take(Step::Start(system)) => write!(f, "S {system}"),
+            Line::Take(Step::Skip(system)) => write!(f, "K {system}"),
+            Line::Take(Step::Finish(system)) => write!(f, "F {system}"),
+            Line::Take(Step::Sync(sync)) => write!(f, "Y {sync}"),
+        }
+    }
+}
+
+impl Line {
+    /// Reads a line without its end.
+    pub fn read(bytes: &[u8]) -> Option<Line>
+        ensures { Reads IsLine bytes.now result }
+    {
+        match bytes {
+            [b'R', b' ', number @ ..] => Some(Line::Begin(numeral_of(number)?)),
+            [b'S', b' ', number @ ..] => Some(Line::Take(Step::Start(numeral_of(number)?))),
+            [b'K', b' ', number @ ..] => Some(Line::Take(Step::Skip(numeral_of(number)?))),
+            [b'F', b' ', number @ ..] => Some(Line::Take(Step::Finish(numeral_of(number)?))),
+            [b'Y', b' ', number @ ..] => Some(Line::Take(Step::Sync(numeral_of(number)?))),
+            [b'C', b' ', tail @ ..] => {
+                let (condition, answer) = answer_of(tail)?;
+                Some(Line::Take(Step::Cond(condition, answer)))
+            }
+            _ => None,
+        }
+    }
+}
+
+/// Reads the number of a condition and its answer, 1 or 0 behind a space.
+fn answer_of(bytes: &[u8]) -> Option<(u32, bool)>
+    ensures { Reads IsAnswerTail bytes.now result }
+{
+    if bytes.len() < 2 {
+        return None;
+    }
+    let (number, tail) = bytes.split_at(bytes.len() - 2);
+    if tail[0] != b' ' {
+        return None;
+    }
+    let answer = match tail[1] {
+        b'1' => true,
+        b'0' => false,
+        _ => return None,
+    };
+    Some((numeral_of(number)?, answer))
+}

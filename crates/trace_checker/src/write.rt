@@ -1,0 +1,68 @@
+// The text of traces.
+
+ghost use Rattle.std.specs.Prelude.{◌≡◌, ◌<◌, ◌≤◌, ◌^◌, ◌++◌, ◌∷◌, [], length, string_bytes, IfOk, OnOk, IsErrOf};
+ghost use Rattle.trace_checker.specs.Grammar.{lines_text, run_lines, steps_of, trace_text};
+
+use crate::line::Line;
+use executor_core::Trace;
+use std::alloc::{AllocError, Global};
+use thiserror::Error;
+
+/// Why no text is written.
+#[derive(Clone, Copy, PartialEq, Eq, Debug, Error)]
+pub enum WriteFault {
+    /// The text would be longer than it may be.
+    #[error("the text would be too long")]
+    TooLong,
+    /// Memory is wanting.
+    #[error("memory is wanting")]
+    Memory,
+}
+
+impl From<AllocError> for WriteFault {
+    ghost use Rattle.std.specs.Prelude.{◌≡◌};
+    ghost use Rattle.trace_checker.specs.declared.write.WriteFault.TheVariants.{Memory};
+
+    ghost from_gives = { λ _ e. e ≡ Memory };
+
+    fn from(_error: AllocError) -> WriteFault {
+        WriteFault::Memory
+    }
+}
+
+/// The text of traces, which has at most so many bytes. It ends with the first run that passes them.
+pub fn text_of_traces(alloc: Global, traces: &[Trace], limit: usize) -> Result<String, WriteFault>
+    requires { length traces.now < 2 ^ 32 }
+    ensures written { IfOk result (λ text. string_bytes text ≡ trace_text (steps_of traces.now)) }
+    ensures within { IfOk result (λ text. length (string_bytes text) ≤ limit) }
+    ensures long { IsErrOf result WriteFault.TooLong → limit < length (trace_text (steps_of traces.now)) }
+{
+    let mut text = String::new(alloc);
+    let mut number = 0;
+    for trace in traces {
+        number += 1;
+        push_run(&mut text, number, trace)?;
+        if text.as_bytes().len() > limit {
+            return Err(WriteFault::TooLong);
+        }
+    }
+    Ok(text)
+}
+
+/// Adds the lines of a run of this number to a text.
+pub fn push_run(text: &mut String, number: u32, trace: &Trace) -> Result<(), AllocError>
+    ensures { OnOk result (string_bytes text.new ≡ string_bytes text.old ++ lines_text (run_lines number trace.now.steps.items)) }
+{
+    push_line(text, Line::Begin(number))?;
+    for step in &trace.steps {
+        push_line(text, Line::Take(*step))?;
+    }
+    Ok(())
+}
+
+// Adds a line and its end.
+fn push_line(text: &mut String, line: Line) -> Result<(), AllocError>
+    ensures { OnOk result (string_bytes text.new ≡ string_bytes text.old ++ lines_text (line ∷ [])) }
+{
+    writeln!(text, "{line}")
+}
