@@ -91,7 +91,7 @@ const PATIENCE: u64 = 20_000;
 // How long bodies wait for others that can't come, in milliseconds.
 const HASTE: u64 = 20;
 
-// How many of so many bodies ran at once, that wait so many milliseconds for each other, on so many threads, or where there are none on one.
+// How many of so many bodies ran at once, that wait so many milliseconds for each other, on so many threads.
 fn met<R: Threads + Wait + Watch + Copy + Send + Sync + Drop + 'static>(
     runtime: R,
     alloc: Global,
@@ -99,6 +99,7 @@ fn met<R: Threads + Wait + Watch + Copy + Send + Sync + Drop + 'static>(
     workers: usize,
     patience: u64,
 ) -> Result<u64, Fail>
+    requires some { 1 ≤ workers }
     requires few { workers ≤ 64 }
 {
     let patience = Duration::from_millis(patience);
@@ -109,11 +110,7 @@ fn met<R: Threads + Wait + Watch + Copy + Send + Sync + Drop + 'static>(
         bodies.push(Meeting { place })?;
     }
     let mut engine = engine_of(alloc, bodies)?;
-    if workers == 0 {
-        engine.run(alloc, 1, &Single)?;
-    } else {
-        run_on_threads(runtime, &NoGate, alloc, workers, 1, &mut engine)?;
-    }
+    run_on_threads(runtime, &NoGate, alloc, workers, 1, &mut engine)?;
     Ok(place.most())
 }
 
@@ -154,7 +151,6 @@ fn bodies_meet(rt: HostRuntime) -> Result<(), Fail> {
 
 #[test]
 fn bodies_do_not_meet_on_one_thread(rt: HostRuntime) -> Result<(), Fail> {
-    assert_eq!(rt; met(rt, rt.alloc(), 2, 0, HASTE)?, 1);
     assert_eq!(rt; met(rt, rt.alloc(), 2, 1, HASTE)?, 1);
     Ok(())
 }
