@@ -2,32 +2,31 @@
 
 use kinds::kind::Kind;
 use query::{BadQuery, Query, Term};
+use std::alloc::Global;
 use std::test::Fail;
 use texts::read_error::ReadError;
 
+// The terms that a text spells, as they are debugged.
+fn terms_of(alloc: Global, text: &str) -> Result<String, Fail> {
+    let query = Query::read(alloc, text)?;
+    Ok(format!(in alloc; "{:?}", query.terms())?)
+}
+
 #[test]
 fn queries(rt: HostRuntime) -> Result<(), Fail> {
-    let query = Query::read(rt.alloc(), " read  Position , mut Velocity")?;
-    assert_eq!(rt;
-        query.terms(),
-        [Term::Read(Kind::Position), Term::Mut(Kind::Velocity)].as_slice()
-    );
-    let every = Query::read(
-        rt.alloc(),
-        "entity,opt Health,with Frozen , without  Hidden ",
-    )?;
-    assert_eq!(rt;
-        every.terms(),
-        [
-            Term::Entity,
-            Term::Opt(Kind::Health),
-            Term::With(Kind::Frozen),
-            Term::Without(Kind::Hidden)
-        ]
-        .as_slice()
-    );
-    let empty = Query::read(rt.alloc(), "  ")?;
-    assert_eq!(rt; empty.terms().len(), 0);
+    for (text, terms) in [
+        (
+            " read  Position , mut Velocity",
+            "[Read(Position), Mut(Velocity)]",
+        ),
+        (
+            "entity,opt Health,with Frozen , without  Hidden ",
+            "[Entity, Opt(Health), With(Frozen), Without(Hidden)]",
+        ),
+        ("  ", "[]"),
+    ] {
+        assert_eq!(rt; terms_of(rt.alloc(), text)?.as_str(), terms);
+    }
     Ok(())
 }
 

@@ -3,10 +3,9 @@
 use access_set::params::Params;
 use archetype_store::store::World;
 use body::state::State;
-use change_ticks::clock::{Clock, LAST_TICK};
+use change_ticks::clock::{Clock, LAST_TICK, Tick};
 use engine::{Engine, NewFault, RunFault};
 use entity_table::Entity;
-use executor_core::Step;
 use kinds::component::{Position, Velocity};
 use kinds::kind::Kind;
 use query::{Query, Term};
@@ -82,34 +81,59 @@ fn state(alloc: Global, clock: Clock) -> Result<State, Fail> {
     Ok(State::new(alloc, world, 1)?)
 }
 
+// An engine of the system that moves, over such a state.
+fn engine(alloc: Global, clock: Clock) -> Result<Engine<ScriptBody>, Fail> {
+    let state = state(alloc, clock)?;
+    Ok(Engine::new(alloc, schedule(alloc)?, movement(alloc)?, state)?)
+}
+
+// The steps of so many runs, as they are debugged.
+fn steps_of(alloc: Global, engine: &mut Engine<ScriptBody>, times: u32) -> Result<String, Fail> {
+    let traces = engine.run(alloc, times, &Single)?;
+    let mut text = String::new(alloc);
+    for trace in &traces {
+        text = format!(in alloc; "{text}{:?}", trace.steps.as_slice())?;
+    }
+    Ok(text)
+}
+
+// The fault of so many runs.
+fn fault_of(alloc: Global, engine: &mut Engine<ScriptBody>, times: u32) -> Result<RunFault, Fail> {
+    Ok(engine.run(alloc, times, &Single).err().ok_or("no fault")?)
+}
+
+// When the component of a kind of the first entity was added and changed, and how far the clock is.
+fn stamp_of(engine: &Engine<ScriptBody>, kind: Kind) -> Option<(Tick, Tick, Tick)> {
+    let world = engine.state().world();
+    let stamp = world.stamp(FIRST, kind)?;
+    Some((stamp.added, stamp.changed, world.now()))
+}
+
+// The position of the first entity.
+fn position_of(engine: &Engine<ScriptBody>) -> Option<Position> {
+    engine.state().world().get::<Position>(FIRST)
+}
+
+#[test]
+fn steps_are_traced(rt: HostRuntime) -> Result<(), Fail> {
+    let alloc = rt.alloc();
+    let mut engine = engine(alloc, Clock::at(1))?;
+    assert_eq!(rt;
+        steps_of(alloc, &mut engine, 2)?.as_str(),
+        "[Start(0), Finish(0), Sync(0)][Start(0), Finish(0), Sync(0)]"
+    );
+    assert_eq!(rt; steps_of(alloc, &mut engine, 0)?.as_str(), "");
+    Ok(())
+}
+
 #[test]
 fn moves(rt: HostRuntime) -> Result<(), Fail> {
     let alloc = rt.alloc();
-    let state = state(alloc, Clock::at(1))?;
-    let mut engine = Engine::new(alloc, schedule(alloc)?, movement(alloc)?, state)?;
-    let traces = engine.run(alloc, 3, &Single)?;
-    assert_eq!(rt; traces.len(), 3);
-    for trace in &traces {
-        assert_eq!(rt;
-            trace.steps.as_slice(),
-            [Step::Start(0), Step::Finish(0), Step::Sync(0)].as_slice()
-        );
-    }
-    let world = engine.state().world();
-    assert_eq!(rt; world.now(), 10);
-    assert_eq!(rt; world.slot_count(), 1);
-    assert_eq!(rt;
-        world.get::<Position>(FIRST),
-        Some(Position { x: 3, y: -6 })
-    );
-    let moved = world.stamp(FIRST, Kind::Position).ok_or("no position")?;
-    assert_eq!(rt; (moved.added, moved.changed), (1, 9));
-    assert_eq!(rt;
-        world.get::<Velocity>(FIRST),
-        Some(Velocity { x: 1, y: -2 })
-    );
-    let kept = world.stamp(FIRST, Kind::Velocity).ok_or("no velocity")?;
-    assert_eq!(rt; (kept.added, kept.changed), (1, 1));
+    let mut engine = engine(alloc, Clock::at(1))?;
+    steps_of(alloc, &mut engine, 3)?;
+    assert_eq!(rt; position_of(&engine), Some(Position { x: 3, y: -6 }));
+    assert_eq!(rt; stamp_of(&engine, Kind::Position), Some((1, 9, 10)));
+    assert_eq!(rt; stamp_of(&engine, Kind::Velocity), Some((1, 1, 10)));
     Ok(())
 }
 
@@ -117,14 +141,10 @@ fn moves(rt: HostRuntime) -> Result<(), Fail> {
 fn spoils(rt: HostRuntime) -> Result<(), Fail> {
     let alloc = rt.alloc();
     for now in [LAST_TICK - 2, LAST_TICK - 1, LAST_TICK] {
-        let state = state(alloc, Clock::at(now))?;
-        let mut engine = Engine::new(alloc, schedule(alloc)?, movement(alloc)?, state)?;
-        let first = engine.run(alloc, 1, &Single).err().ok_or("no fault")?;
-        assert_eq!(rt; first, RunFault::ClockSpent);
-        let second = engine.run(alloc, 1, &Single).err().ok_or("no fault")?;
-        assert_eq!(rt; second, RunFault::Spoiled);
-        let third = engine.run(alloc, 0, &Single).err().ok_or("no fault")?;
-        assert_eq!(rt; third, RunFault::Spoiled);
+        let mut engine = engine(alloc, Clock::at(now))?;
+        assert_eq!(rt; fault_of(alloc, &mut engine, 1)?, RunFault::ClockSpent);
+        assert_eq!(rt; fault_of(alloc, &mut engine, 1)?, RunFault::Spoiled);
+        assert_eq!(rt; fault_of(alloc, &mut engine, 0)?, RunFault::Spoiled);
     }
     Ok(())
 }

@@ -237,26 +237,42 @@ fn sets_order_their_members(rt: HostRuntime) -> Result<(), Fail> {
     Ok(())
 }
 
+/// What is told of these sets, each by its name, the set that it is in and the item that it is before, and of one system in these sets.
+fn told_of_items(
+    alloc: Global,
+    sets: &[(&str, &str, &str)],
+    inside: &[&str],
+) -> Result<String, AllocError> {
+    let mut desc = ScheduleDesc::new(alloc);
+    for (name, inside, before) in sets {
+        desc.add_set(set(alloc, *name, *inside, *before)?)?;
+    }
+    let mut system = system(alloc, "s", "", "")?;
+    for set in inside {
+        system.add_in(String::from_str(alloc, *set)?)?;
+    }
+    desc.add_system(system)?;
+    answer(alloc, desc)
+}
+
 #[test]
 fn tells_refusals_of_sets(rt: HostRuntime) -> Result<(), Fail> {
     let alloc = rt.alloc();
-    let mut crossing = ScheduleDesc::new(alloc);
-    crossing.add_set(set(alloc, "x", "y", "")?)?;
-    crossing.add_set(set(alloc, "y", "", "s")?)?;
-    crossing.add_system(member(alloc, "s", "x")?)?;
-    assert_eq!(rt; answer(alloc, crossing)?.as_str(), "refused B7 s y");
-    let mut sharing = ScheduleDesc::new(alloc);
-    sharing.add_set(set(alloc, "x", "", "y")?)?;
-    sharing.add_set(set(alloc, "y", "", "")?)?;
-    sharing.add_set(set(alloc, "z", "x", "")?)?;
-    let mut shared = member(alloc, "s", "y")?;
-    shared.add_in(String::from_str(alloc, "z")?)?;
-    sharing.add_system(shared)?;
-    assert_eq!(rt; answer(alloc, sharing)?.as_str(), "refused B8 x y s");
-    let mut circle = ScheduleDesc::new(alloc);
-    circle.add_set(set(alloc, "x", "y", "")?)?;
-    circle.add_set(set(alloc, "y", "x", "")?)?;
-    assert_eq!(rt; answer(alloc, circle)?.as_str(), "refused B4 x y x");
+    let crossing = [("x", "y", ""), ("y", "", "s")];
+    assert_eq!(rt;
+        told_of_items(alloc, &crossing, &["x"])?.as_str(),
+        "refused B7 s y"
+    );
+    let sharing = [("x", "", "y"), ("y", "", ""), ("z", "x", "")];
+    assert_eq!(rt;
+        told_of_items(alloc, &sharing, &["y", "z"])?.as_str(),
+        "refused B8 x y s"
+    );
+    let circle = [("x", "y", ""), ("y", "x", "")];
+    assert_eq!(rt;
+        told_of_items(alloc, &circle, &[])?.as_str(),
+        "refused B4 x y x"
+    );
     Ok(())
 }
 

@@ -106,44 +106,58 @@ fn grants_the_least_vacant(rt: HostRuntime) -> Result<(), Fail> {
     Ok(())
 }
 
+// One entity, with a velocity and a position that were added at tick 1.
+fn one(alloc: Global) -> Result<World, Fail>
+    ensures { IfOk result (λ world. AreAllHome world.layout) }
+{
+    let mut world = World::new(alloc, Clock::at(4))?;
+    spawn(alloc, &mut world, 1)?;
+    world.insert(FIRST, Velocity { x: 0, y: 1 }, 1)?;
+    world.insert(FIRST, Position { x: 3, y: 5 }, 1)?;
+    Ok(world)
+}
+
+// The stamp of a kind of the first entity, as two numbers.
+fn stamp_of(world: &World, kind: Kind) -> Option<(Tick, Tick)>
+    requires { AreAllHome world.now.layout }
+{
+    let stamp = world.stamp(FIRST, kind)?;
+    Some((stamp.added, stamp.changed))
+}
+
 #[test]
 fn stamps_an_insert(rt: HostRuntime) -> Result<(), Fail> {
-    let mut world = World::new(rt.alloc(), Clock::at(4))?;
-    let ids = world.grant(rt.alloc(), 1)?;
-    assert_eq!(rt; ids.as_slice(), [FIRST].as_slice());
-    world.spawn_at(ids[0]);
-    world.insert(FIRST, Velocity { x: 0, y: 1 }, 2)?;
-    world.insert(FIRST, Position { x: 3, y: 5 }, 3)?;
-    world.insert(FIRST, Velocity { x: 1, y: 1 }, 4)?;
-    assert_eq!(rt; world.next_living(0), Some(FIRST));
+    let mut world = one(rt.alloc())?;
+    let now = world.now();
+    world.insert(FIRST, Velocity { x: 1, y: 1 }, now)?;
     assert_eq!(rt; world.get::<Velocity>(FIRST), Some(Velocity { x: 1, y: 1 }));
-    assert_eq!(rt;
-        world.stamp(FIRST, Kind::Velocity),
-        Some(Stamp {
-            added: 2,
-            changed: 4
-        })
-    );
-    world.insert(FIRST, Position { x: 8, y: 9 }, 4)?;
-    assert_eq!(rt;
-        world.stamp(FIRST, Kind::Position),
-        Some(Stamp {
-            added: 3,
-            changed: 4
-        })
-    );
+    assert_eq!(rt; stamp_of(&world, Kind::Velocity), Some((1, 4)));
+    assert_eq!(rt; stamp_of(&world, Kind::Position), Some((1, 1)));
+    Ok(())
+}
+
+#[test]
+fn shows_components_by_rising_kinds(rt: HostRuntime) -> Result<(), Fail> {
+    let world = one(rt.alloc())?;
+    assert_eq!(rt; world.next_living(0), Some(FIRST));
     let components = world.components(rt.alloc(), 0)?;
     assert_eq!(rt; components.len(), 2, "kinds rise");
     assert_eq!(rt;
         components[0].value,
-        Value::Position(Position { x: 8, y: 9 })
+        Value::Position(Position { x: 3, y: 5 })
     );
+    Ok(())
+}
+
+#[test]
+fn a_stale_id_is_not_alive(rt: HostRuntime) -> Result<(), Fail> {
+    let mut world = one(rt.alloc())?;
     let stale = Entity {
         index: 0,
         generation: 2,
     };
     assert_eq!(rt;
-        world.insert(stale, Position { x: 0, y: 0 }, 4),
+        world.insert(stale, Position { x: 0, y: 0 }, 1),
         Err(StoreFault::NotAlive)
     );
     assert!(rt; !world.has(stale, Kind::Position));
@@ -151,18 +165,23 @@ fn stamps_an_insert(rt: HostRuntime) -> Result<(), Fail> {
 }
 
 #[test]
-fn frees_what_is_despawned(rt: HostRuntime) -> Result<(), Fail> {
+fn releases_ids(rt: HostRuntime) -> Result<(), Fail> {
     let mut world = World::new(rt.alloc(), Clock::at(4))?;
     let ids = world.grant(rt.alloc(), 3)?;
     assert_eq!(rt; ids.len(), 3);
     world.spawn_at(ids[0]);
-    world.insert(FIRST, Position { x: 3, y: 5 }, 4)?;
     world.release(ids.as_slice());
+    assert!(rt; world.lives(FIRST), "one that was spawned is kept");
     let again = world.grant(rt.alloc(), 1)?;
     assert_eq!(rt; again.len(), 1);
     assert_eq!(rt; format!(in rt.alloc(); "{}", again[0])?.as_str(), "1v2");
+    Ok(())
+}
+
+#[test]
+fn frees_what_is_despawned(rt: HostRuntime) -> Result<(), Fail> {
+    let mut world = one(rt.alloc())?;
     assert_eq!(rt; world.remove(FIRST, Kind::Velocity), Ok(()));
-    assert!(rt; world.has(FIRST, Kind::Position));
     assert_eq!(rt; world.remove(FIRST, Kind::Position), Ok(()));
     assert!(rt; world.lives(FIRST), "without components it still lives");
     assert!(rt; !world.has(FIRST, Kind::Position));
