@@ -1,7 +1,7 @@
 // The command line.
 
 ghost use Rattle.std.specs.Prelude.{◌≡◌, IfOk};
-ghost use Rattle.command_line.specs.Args.{IsWithin, line_status_of, line_text_of};
+ghost use Rattle.command_line.specs.Args.{IsWithin, is_recorded, line_status_of, line_text_of};
 
 use clap::error::ErrorKind;
 use clap::{Arg, ArgMatches, Command, Error, value_parser};
@@ -16,9 +16,25 @@ pub enum Work {
         times: u32,
         /// How many worker threads, at most 64. With none all is done on the program's own thread.
         workers: u8,
+        /// Whether the traces of the runs are written.
+        recorded: bool,
     },
     /// The report of which systems of the schedule race.
     Ambiguities,
+    /// What the schedule says of the runs of a trace.
+    Check,
+}
+
+impl Work {
+    /// Whether it is runs whose traces are written.
+    pub fn is_recorded(&self) -> bool
+        ensures { result ≡ is_recorded self.now }
+    {
+        match self {
+            Work::Run { recorded, .. } => *recorded,
+            Work::Ambiguities | Work::Check => false,
+        }
+    }
 }
 
 /// What a command line asks for: some work on the schedule that a file declares.
@@ -26,6 +42,10 @@ pub enum Work {
 pub struct Args<'a> {
     /// The path of the program file.
     pub file: &'a str,
+    /// The path of the trace that is read; empty where none is.
+    pub trace: &'a str,
+    /// The path of the file in which runs are recorded; empty where none are.
+    pub record: &'a str,
     /// The work.
     pub work: Work,
     ghost within: { IsWithin work },
@@ -47,8 +67,9 @@ const MOST_TIMES: u32 = 1_000_000;
 const MOST_WORKERS: u8 = 64;
 
 impl<'a> Args<'a> {
-    /// Reads the words of a command line, of which the first is the program's own name: `run FILE [--times N] [--workers W]`, where N is
-    /// from 0 to 1,000,000, and 1 if it is left out, and W from 0 to 64, and 0 if it is left out; or `ambiguities FILE`.
+    /// Reads the words of a command line, of which the first is the program's own name: `run FILE [--times N] [--workers W] [--trace OUT]`,
+    /// where N is from 0 to 1,000,000, and 1 if it is left out, and W from 0 to 64, and 0 if it is left out; `check FILE TRACE`; or
+    /// `ambiguities FILE`.
     pub fn read(alloc: Global, words: &'a [String]) -> Result<Args<'a>, LineFault>
         ensures { IfOk result (λ args. IsWithin args.work) }
     {
@@ -59,7 +80,16 @@ impl<'a> Args<'a> {
         if let Some(run) = matches.subcommand_matches("run") {
             let times = run.get_one::<u32>("times").unwrap_or(1).min(MOST_TIMES);
             let workers = run.get_one::<u8>("workers").unwrap_or(0).min(MOST_WORKERS);
-            return Ok(Args::of(run, Work::Run { times, workers }));
+            let recorded = run.get_str("record").is_some();
+            let work = Work::Run {
+                times,
+                workers,
+                recorded,
+            };
+            return Ok(Args::of(run, work));
+        }
+        if let Some(check) = matches.subcommand_matches("check") {
+            return Ok(Args::of(check, Work::Check));
         }
         if let Some(ambiguities) = matches.subcommand_matches("ambiguities") {
             return Ok(Args::of(ambiguities, Work::Ambiguities));
@@ -67,13 +97,15 @@ impl<'a> Args<'a> {
         Err(LineFault::Memory)
     }
 
-    // The work, on the file that the matches name.
+    // The work, on the files that the matches name.
     fn of(matches: &ArgMatches<'a>, work: Work) -> Args<'a>
         requires { IsWithin work }
         ensures { result.work ≡ work }
     {
         Args {
             file: matches.get_str("file").unwrap_or(""),
+            trace: matches.get_str("trace").unwrap_or(""),
+            record: matches.get_str("record").unwrap_or(""),
             work,
         }
     }
@@ -128,8 +160,8 @@ fn file<'a>(alloc: Global) -> Arg<'a> {
         .help("the program file")
 }
 
-// What the program takes.
-fn command<'a>(alloc: Global) -> Result<Command<'a>, AllocError> {
+// What `run` takes.
+fn run<'a>(alloc: Global) -> Result<Command<'a>, AllocError> {
     let times = Arg::new(alloc, "times")
         .long("times")
         .value_name("N")
@@ -140,18 +172,40 @@ fn command<'a>(alloc: Global) -> Result<Command<'a>, AllocError> {
         .value_name("W")
         .value_parser(value_parser!(u8).range(0..=64))
         .help("how many worker threads, 0 to 64, 0 (one thread) if left out");
-    let run = Command::new(alloc, "run")
+    let record = Arg::new(alloc, "record")
+        .long("trace")
+        .value_name("OUT")
+        .help("the file in which the steps of the runs are recorded; none if left out");
+    Command::new(alloc, "run")
         .about("runs the schedule of a program file and prints the world")
         .arg(file(alloc))?
         .arg(times)?
-        .arg(workers)?;
+        .arg(workers)?
+        .arg(record)
+}
+
+// What `check` takes.
+fn check<'a>(alloc: Global) -> Result<Command<'a>, AllocError> {
+    let trace = Arg::new(alloc, "trace")
+        .value_name("TRACE")
+        .required(true)
+        .help("the file of recorded runs");
+    Command::new(alloc, "check")
+        .about("prints what the schedule of a program file says of recorded runs")
+        .arg(file(alloc))?
+        .arg(trace)
+}
+
+// What the program takes.
+fn command<'a>(alloc: Global) -> Result<Command<'a>, AllocError> {
     let ambiguities = Command::new(alloc, "ambiguities")
         .about("prints which systems of a program file race")
         .arg(file(alloc))?;
     Command::new(alloc, "ecsrun")
         .bin_name("ecsrun")?
         .subcommand_required(true)
-        .subcommand(run)?
+        .subcommand(run(alloc)?)?
+        .subcommand(check(alloc)?)?
         .subcommand(ambiguities)
 }
 
@@ -166,46 +220,58 @@ mod tests {
             .try_collect(alloc)
     }
 
+    // So many runs on so many workers.
+    fn runs(times: u32, workers: u8, recorded: bool) -> Work {
+        Work::Run {
+            times,
+            workers,
+            recorded,
+        }
+    }
+
     #[test]
     fn lines_are_read(rt: HostRuntime) -> Result<(), Fail> {
-        for (line, file, work) in [
+        for (line, files, work) in [
             (
                 "ecsrun run world.toml",
-                "world.toml",
-                Work::Run {
-                    times: 1,
-                    workers: 0,
-                },
+                ("world.toml", "", ""),
+                runs(1, 0, false),
             ),
             (
                 "ecsrun run world.toml --times 3",
-                "world.toml",
-                Work::Run {
-                    times: 3,
-                    workers: 0,
-                },
+                ("world.toml", "", ""),
+                runs(3, 0, false),
             ),
             (
                 "ecsrun run --times=0 a.toml",
-                "a.toml",
-                Work::Run {
-                    times: 0,
-                    workers: 0,
-                },
+                ("a.toml", "", ""),
+                runs(0, 0, false),
             ),
             (
                 "ecsrun run a.toml --times 1000000 --workers 64",
-                "a.toml",
-                Work::Run {
-                    times: 1_000_000,
-                    workers: 64,
-                },
+                ("a.toml", "", ""),
+                runs(1_000_000, 64, false),
             ),
-            ("ecsrun ambiguities a.toml", "a.toml", Work::Ambiguities),
+            (
+                "ecsrun run a.toml --trace b.txt --workers 2",
+                ("a.toml", "", "b.txt"),
+                runs(1, 2, true),
+            ),
+            (
+                "ecsrun check a.toml b.txt",
+                ("a.toml", "b.txt", ""),
+                Work::Check,
+            ),
+            (
+                "ecsrun ambiguities a.toml",
+                ("a.toml", "", ""),
+                Work::Ambiguities,
+            ),
         ] {
             let words = words_of(rt.alloc(), line)?;
             let args = Args::read(rt.alloc(), words.as_slice())?;
-            assert_eq!(rt; args.file, file, "at {line}");
+            let found = (args.file, args.trace, args.record);
+            assert_eq!(rt; found, files, "at {line}");
             assert_eq!(rt; args.work, work, "at {line}");
         }
         Ok(())
@@ -216,11 +282,14 @@ mod tests {
         for (line, status) in [
             ("ecsrun", 2),
             ("ecsrun run", 2),
-            ("ecsrun check a.toml b.txt", 2),
+            ("ecsrun check a.toml", 2),
+            ("ecsrun check a.toml b.txt c.txt", 2),
+            ("ecsrun check a.toml b.txt --times 1", 2),
             ("ecsrun run a.toml b.toml", 2),
             ("ecsrun run a.toml --workers 65", 2),
             ("ecsrun run a.toml --workers -1", 2),
-            ("ecsrun run a.toml --trace b.txt", 2),
+            ("ecsrun run a.toml --trace", 2),
+            ("ecsrun run a.toml --trace b.txt --trace c.txt", 2),
             ("ecsrun run a.toml --times 1000001", 2),
             ("ecsrun run a.toml --times -1", 2),
             ("ecsrun run a.toml --times 1 --times 2", 2),
@@ -230,6 +299,7 @@ mod tests {
             ("ecsrun --version", 2),
             ("ecsrun --help", 0),
             ("ecsrun run --help", 0),
+            ("ecsrun check --help", 0),
             ("ecsrun ambiguities --help", 0),
         ] {
             let words = words_of(rt.alloc(), line)?;

@@ -1,5 +1,6 @@
-pub mod Loading
+mod Noting
 pub mod Fitting
-pub mod Starting
+pub mod Loading
 pub mod Serving
+pub mod Starting
 pub mod Times

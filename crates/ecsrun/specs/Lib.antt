@@ -1,4 +1,6 @@
+pub mod Checked
 pub mod Fault
-pub mod Served
 pub mod Load
+pub mod Recorded
+pub mod Served
 pub mod Setup

@@ -12,6 +12,7 @@ use std::alloc::{AllocError, AllocFailed, Global};
 use streams::reading::ReadFault;
 use streams::writing::WriteFault;
 use thiserror::Error;
+use trace_checker::read::TextFault;
 
 /// Why the work is not done. It is printed as the line that the standard error gets, without its end.
 #[derive(Debug, Drop, Error)]
@@ -33,6 +34,15 @@ pub enum Fault {
         block: usize,
         instruction: usize,
     },
+    /// A trace is longer than its limit: one that is read, or one that would be written.
+    #[error("refused L3")]
+    TraceTooLong,
+    /// This line of a trace, counted from 1, is outside the grammar, or has no end.
+    #[error("refused L1 {0}")]
+    TraceLine(usize),
+    /// This line of a trace, counted from 1, begins another run than the next one, or is a step before any run.
+    #[error("refused L2 {0}")]
+    TraceOrder(usize),
     /// The clock has no next tick.
     #[error("refused E2")]
     ClockSpent,
@@ -42,7 +52,7 @@ pub enum Fault {
     /// The body of a system refused. No script does.
     #[error("refused E6")]
     BodyRefused,
-    /// The program file can't be read.
+    /// A file can't be read.
     #[error("error file")]
     File,
     /// A write failed.
@@ -137,6 +147,16 @@ impl From<GrantFault> for Fault {
     }
 }
 
+impl From<TextFault> for Fault {
+    fn from(error: TextFault) -> Fault {
+        match error {
+            TextFault::Line(line) => Fault::TraceLine(line),
+            TextFault::Order(line) => Fault::TraceOrder(line),
+            TextFault::Memory => Fault::Memory,
+        }
+    }
+}
+
 impl From<WriteFault> for Fault {
     ghost from_gives = { λ _ fault. fault ≡ Write };
 
@@ -161,6 +181,9 @@ mod tests {
                 1,
             ),
             (Fault::from(FileFault::Memory), "error memory", 3),
+            (Fault::TraceTooLong, "refused L3", 1),
+            (Fault::from(TextFault::Line(3)), "refused L1 3", 1),
+            (Fault::from(TextFault::Order(1)), "refused L2 1", 1),
             (Fault::ClockSpent, "refused E2", 1),
             (Fault::IdsSpent, "refused E3", 1),
             (Fault::File, "error file", 3),

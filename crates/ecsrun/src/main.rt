@@ -1,8 +1,11 @@
 // The program: its command line, its streams, and the texts that it prints.
 #![tactic(auto)]
 
+mod answer;
+mod checking;
 #[cfg(test)]
 mod code_tests;
+mod created;
 #[cfg(test)]
 mod fakes;
 mod fault;
@@ -10,28 +13,31 @@ mod file;
 mod opened;
 #[cfg(test)]
 mod programs;
+mod recording;
 mod schedule;
 mod serve;
 #[cfg(test)]
 mod served;
 #[cfg(test)]
 mod tests;
+#[cfg(test)]
+mod traces;
 mod words;
 mod workers;
 mod world;
 
 use command_line::args::{Args, LineFault, Work};
+use created::Created;
 use fault::Fault;
 use opened::open;
 use serve::{serve, tell};
 use std::alloc::Global;
 use std::io::Write;
 use std::process::ExitCode;
-use std::thread;
 use streams::writing::write_whole;
 use words::words_of;
 use worker_pool::Single;
-use workers::serve_in_scope;
+use workers::serve_on_threads;
 
 // Tells of a line that asks for no work.
 fn tell_line_fault<O: Write, E: Write>(
@@ -76,24 +82,30 @@ fn main(rt: HostRuntime) -> ExitCode {
         Err(status) => return ExitCode::from(status),
     };
     let mut file = open(&rt, args.file);
+    let mut trace = open(&rt, args.trace);
+    let mut traces = Created::new(rt, args.record);
     let status = match args.work {
-        Work::Run { workers, .. } if workers > 0 => thread::scope(
-            thread::scope_env(),
-            &rt,
-            |scope| {
-                serve_in_scope(
-                    scope,
-                    rt,
-                    workers,
-                    rt.alloc(),
-                    &args,
-                    &mut file,
-                    &mut out,
-                    &mut faults,
-                )
-            },
+        Work::Run { workers, .. } if workers > 0 => serve_on_threads(
+            rt,
+            workers,
+            rt.alloc(),
+            &args,
+            &mut file,
+            &mut trace,
+            &mut traces,
+            &mut out,
+            &mut faults,
         ),
-        _ => serve(rt.alloc(), &args, &Single, &mut file, &mut out, &mut faults),
+        _ => serve(
+            rt.alloc(),
+            &args,
+            &Single,
+            &mut file,
+            &mut trace,
+            &mut traces,
+            &mut out,
+            &mut faults,
+        ),
     };
     ExitCode::from(status)
 }

@@ -1,15 +1,20 @@
 // The work of a command line, on readers and writers.
 
-ghost use Rattle.std.specs.Prelude.{◌≡◌, map, length, string_bytes, IfOk, OnOk, IsFalse};
+ghost use Rattle.std.specs.Prelude.{◌≡◌, ◌∷◌, [], map, length, string_bytes, IfOk, OnOk, IsFalse};
 ghost use Rattle.archetype_store.specs.Layout.{AreAllHome};
+ghost use Rattle.engine.specs.History.{history_of};
 ghost use Rattle.engine.specs.Meanings.{meanings};
 ghost use Rattle.ecsrun.specs.Fault.{status_of};
-ghost use Rattle.ecsrun.specs.Served.{HaveRun, IsServed, IsTextOf, IsTextOfReport, IsTextOfRuns};
+ghost use Rattle.ecsrun.specs.Recorded.{HaveNoted, HaveRun, IsTextOfRuns};
+ghost use Rattle.ecsrun.specs.Served.{IsAnswerTo, IsServed, IsTextOfReport, WritesRecord};
 ghost use Rattle.ecsrun.specs.Setup.{AreScriptsOf, meanings_of_scripts, script_means, start_of};
 ghost use Rattle.streams.specs.Writing.{GainsLine};
 
+use crate::answer::Answer;
+use crate::checking::check_trace;
 use crate::fault::Fault;
 use crate::file::bytes_of;
+use crate::recording::note;
 use crate::schedule::{bodies_of, declare, names_of};
 use crate::world::world_of;
 use ambiguity_report::report::{is_settled, report};
@@ -17,6 +22,7 @@ use archetype_store::store::World;
 use body::state::State;
 use command_line::args::{Args, Work};
 use engine::{Engine, NewFault, RunFault};
+use executor_core::Trace;
 use output_text::report::text_of_report;
 use output_text::world::text_of_world;
 use program_file::{ProgramFile, document_of};
@@ -25,41 +31,48 @@ use schedule_builder::built::Built;
 use script::script_body::ScriptBody;
 use std::alloc::Global;
 use std::io::{Read, Write};
-use streams::writing::{write_line, write_whole};
+use streams::writing::{WriteFault, write_line, write_whole};
 use worker_pool::Mode;
 
-/// Does the work of a command line: reads the program file, and writes to `out` the world that so many runs of its schedule in the
-/// mode leave, or the report of which of its systems race. What goes wrong is told to `faults` in one line. Gives the exit
-/// status: 0 where the work is done, 1 where the content is refused, 3 where input, output, memory or a thread fail.
-pub fn serve<'s, M: Mode<'s>, F: Read, O: Write, E: Write>(
+/// Does the work of a command line: reads the program file, and the trace where one is checked, and writes to `out` the world that so
+/// many runs of its schedule in the mode leave, the report of which of its systems race, or what it says of the trace. Runs that are
+/// recorded are written to `traces` first. What goes wrong is told to `faults` in one line. Gives the exit status: 0 where the work is
+/// done, 1 where the content is refused or a run of the trace is not complete, 3 where input, output, memory or a thread fail.
+pub fn serve<'s, M: Mode<'s>, F: Read, T: Read, R: Write, O: Write, E: Write>(
     alloc: Global,
     args: &Args<'_>,
     mode: &M,
     file: &mut F,
+    trace: &mut T,
+    traces: &mut R,
     out: &mut O,
     faults: &mut E,
 ) -> u8
-    ensures output { IsServed (M.width mode.now) args.now.work result (O.contents out.old) (O.contents out.new) }
+    ensures output { IsServed (M.width mode.now) args.now.work (T.remaining trace.old) result (O.contents out.old, O.contents out.new) (R.contents traces.old, R.contents traces.new) }
     ensures told { GainsLine (E.contents faults.old) (E.contents faults.new) }
 {
-    let text = match answer(alloc, args.work, mode, file) {
-        Ok(text) => text,
+    let answer = match answer(alloc, args.work, mode, file, trace) {
+        Ok(answer) => answer,
         Err(fault) => return tell(alloc, faults, &fault),
     };
-    match write_whole(out, text.as_str()) {
-        Ok(()) => 0,
+    if let Err(error) = write_record(traces, args.work, answer.traces.as_str()) {
+        return tell(alloc, faults, &Fault::from(error));
+    }
+    match write_whole(out, answer.text.as_str()) {
+        Ok(()) => answer.status,
         Err(error) => tell(alloc, faults, &Fault::from(error)),
     }
 }
 
-// What is printed of the work on a program file. What was read of the file is dropped before the first run.
-fn answer<'s, M: Mode<'s>, F: Read>(
+// What is answered to some work on a program file. What was read of the file is dropped before the first run.
+fn answer<'s, M: Mode<'s>, F: Read, T: Read>(
     alloc: Global,
     work: Work,
     mode: &M,
     file: &mut F,
-) -> Result<String, Fault>
-    ensures { IfOk result (λ text. IsTextOf (M.width mode.now) work (string_bytes text)) }
+    trace: &mut T,
+) -> Result<Answer, Fault>
+    ensures { IfOk result (λ answer. IsAnswerTo (M.width mode.now) work (T.remaining trace.old) answer) }
 {
     let bytes = bytes_of(alloc, file)?;
     let document = document_of(alloc, bytes.as_slice())?;
@@ -75,37 +88,50 @@ fn answer<'s, M: Mode<'s>, F: Read>(
     let built = build(alloc, desc)?;
     let names = names_of(alloc, codes.as_slice())?;
     let bodies = bodies_of(alloc, &built, codes)?;
-    let Work::Run { times, workers: _ } = work else {
-        return report_of(alloc, &built, names.as_slice());
+    let (times, recorded) = match work {
+        Work::Ambiguities => return report_of(alloc, &built, names.as_slice()),
+        Work::Check => return check_trace(alloc, &built, trace),
+        Work::Run {
+            times,
+            recorded,
+            ..
+        } => (times, recorded),
     };
     drop(names);
     drop(document);
     let world = world_of(alloc, entities.as_slice(), &resources)?;
     drop(entities);
-    run(alloc, times, mode, built, bodies, world)
+    run(alloc, times, recorded, mode, built, bodies, world)
 }
 
-// The text of the report of a schedule whose systems have these names.
-fn report_of(alloc: Global, built: &Built, names: &[&str]) -> Result<String, Fault>
-    ensures { IfOk result (λ text. IsTextOfReport (map (λ name. name.now) names.now) built.now (string_bytes text)) }
+// The report of a schedule whose systems have these names.
+fn report_of(alloc: Global, built: &Built, names: &[&str]) -> Result<Answer, Fault>
+    ensures report { IfOk result (λ answer. IsTextOfReport (map (λ name. name.now) names.now) built.now (string_bytes answer.text)) }
+    ensures status { IfOk result (λ answer. answer.status ≡ 0) }
 {
     let pairs = report(alloc, built)?;
     let settled = is_settled(built);
-    Ok(text_of_report(alloc, names, pairs.as_slice(), settled)?)
+    Ok(Answer {
+        text: text_of_report(alloc, names, pairs.as_slice(), settled)?,
+        traces: String::new(alloc),
+        status: 0,
+    })
 }
 
-// The text of the world that so many runs of a schedule leave.
+// The world that so many runs of a schedule leave, and their record.
 fn run<'s, M: Mode<'s>>(
     alloc: Global,
     times: u32,
+    recorded: bool,
     mode: &M,
     built: Built,
     bodies: Vec<ScriptBody>,
     world: World,
-) -> Result<String, Fault>
+) -> Result<Answer, Fault>
     requires scripts { AreScriptsOf built bodies.items }
     requires home { AreAllHome world.layout }
-    ensures { IfOk result (λ text. IsTextOfRuns (M.width mode.now) built (meanings_of_scripts built bodies.items) (start_of built world.state) times (string_bytes text)) }
+    ensures runs { IfOk result (λ answer. IsTextOfRuns (M.width mode.now) built (meanings_of_scripts built bodies.items) (start_of built world.state) times recorded (string_bytes answer.text) (string_bytes answer.traces)) }
+    ensures status { IfOk result (λ answer. answer.status ≡ 0) }
 {
     let state = State::new(alloc, world, built.count() as usize)?;
     let mut engine = match Engine::new(alloc, built, bodies, state) {
@@ -114,25 +140,35 @@ fn run<'s, M: Mode<'s>>(
         Err(NewFault::Count) => unreachable!(),
         Err(NewFault::Misfit(_)) => unreachable!(),
     };
-    run_times(alloc, &mut engine, times, mode)?;
+    let traces = run_times(alloc, &mut engine, times, recorded, mode)?;
     let state = engine.state();
-    Ok(text_of_world(alloc, times, state.world(), state.passed_over())?)
+    Ok(Answer {
+        text: text_of_world(alloc, times, state.world(), state.passed_over())?,
+        traces,
+        status: 0,
+    })
 }
 
-// Runs a schedule so many times, one run after the other: the steps of a run are dropped before the next one begins.
+// Runs a schedule so many times, one run after the other, and gives their record. The steps of a run are dropped before the next one
+// begins.
 fn run_times<'s, M: Mode<'s>>(
     alloc: Global,
     engine: &mut Engine<ScriptBody>,
     times: u32,
+    recorded: bool,
     mode: &M,
-) -> Result<(), Fault>
+) -> Result<String, Fault>
     requires { IsFalse engine.old.spoiled }
-    ensures { OnOk result (HaveRun (M.width mode.now) engine.old.schedule (meanings script_means engine.old.schedule engine.old.bodies) engine.old.state times engine.new.state) }
+    ensures { IfOk result (λ text. HaveNoted (M.width mode.now) engine.old.schedule (meanings script_means engine.old.schedule engine.old.bodies) engine.old.state times recorded engine.new.state (string_bytes text)) }
 {
-    for _run in 0..times {
-        run_once(alloc, engine, mode)?;
+    let mut text = String::new(alloc);
+    for run in 0..times {
+        let trace = run_once(alloc, engine, mode)?;
+        if recorded {
+            note(&mut text, run + 1, &trace)?;
+        }
     }
-    Ok(())
+    Ok(text)
 }
 
 // Runs a schedule once.
@@ -140,21 +176,34 @@ fn run_once<'s, M: Mode<'s>>(
     alloc: Global,
     engine: &mut Engine<ScriptBody>,
     mode: &M,
-) -> Result<(), Fault>
+) -> Result<Trace, Fault>
     requires { IsFalse engine.old.spoiled }
-    ensures ran { OnOk result (HaveRun (M.width mode.now) engine.old.schedule (meanings script_means engine.old.schedule engine.old.bodies) engine.old.state 1 engine.new.state) }
+    ensures ran { IfOk result (λ trace. HaveRun (M.width mode.now) engine.old.schedule (meanings script_means engine.old.schedule engine.old.bodies) engine.old.state (history_of trace ∷ []) engine.new.state) }
     ensures schedule { engine.new.schedule ≡ engine.old.schedule }
     ensures meant { OnOk result (meanings script_means engine.old.schedule engine.new.bodies ≡ meanings script_means engine.old.schedule engine.old.bodies) }
     ensures sound { OnOk result (IsFalse engine.new.spoiled) }
 {
     match engine.run(alloc, 1, mode) {
-        Ok(_) => Ok(()),
+        Ok(mut traces) => match traces.pop() {
+            Some(trace) => Ok(trace),
+            None => unreachable!(),
+        },
         Err(RunFault::Memory) => Err(Fault::Memory),
         Err(RunFault::ClockSpent) => Err(Fault::ClockSpent),
         Err(RunFault::NoWorker) => Err(Fault::NoWorker),
         Err(RunFault::BodyFault(_)) => Err(Fault::BodyRefused),
         Err(RunFault::Spoiled) => unreachable!(),
     }
+}
+
+// Writes the record of runs that are recorded, and of other work nothing.
+fn write_record<R: Write>(traces: &mut R, work: Work, text: &str) -> Result<(), WriteFault>
+    ensures { WritesRecord work (R.contents traces.old, R.contents traces.new) result text.now }
+{
+    if work.is_recorded() {
+        return write_whole(traces, text);
+    }
+    Ok(())
 }
 
 /// Tells of a fault in one line, and gives the exit status. The status stays where the line can't be written.

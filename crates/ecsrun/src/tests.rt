@@ -1,7 +1,9 @@
 // What is told: ambiguities, refusals, files and outputs that fail.
 
 use crate::opened::open;
-use crate::served::{MOVE, first_other, serve_file, serve_reader, serve_until, words_of, world};
+use crate::served::{
+    MOVE, NEVER, Until, first_other, serve_file, serve_reader, serve_until, words_of, world,
+};
 use command_line::args::Args;
 use std::test::Fail;
 
@@ -210,7 +212,8 @@ fn a_long_chain_is_refused(rt: HostRuntime) -> Result<(), Fail> {
 #[test]
 fn a_file_that_fails_is_told(rt: HostRuntime) -> Result<(), Fail> {
     for reads in [0, 1] {
-        let answer = serve_until(rt.alloc(), "ecsrun run a.toml", MOVE, reads, 100)?;
+        let until = Until { reads, ..NEVER };
+        let answer = serve_until(rt.alloc(), "ecsrun run a.toml", MOVE, &[], until)?;
         assert_eq!(rt; answer.status, 3, "after {reads} reads");
         assert_eq!(rt; answer.out.len(), 0, "after {reads} reads");
         assert_eq!(rt; answer.faults.as_slice(), "error file\n".as_bytes());
@@ -241,7 +244,8 @@ fn an_output_that_fails_is_told(rt: HostRuntime) -> Result<(), Fail> {
     let whole = serve_file(rt.alloc(), "ecsrun run a.toml", file.as_str())?;
     assert_eq!(rt; whole.status, 0);
     for writes in [0, 1] {
-        let answer = serve_until(rt.alloc(), "ecsrun run a.toml", file.as_str(), 100, writes)?;
+        let until = Until { writes, ..NEVER };
+        let answer = serve_until(rt.alloc(), "ecsrun run a.toml", file.as_str(), &[], until)?;
         assert_eq!(rt; answer.status, 3, "after {writes} writes");
         assert_eq!(rt; answer.faults.as_slice(), "error write\n".as_bytes());
         assert!(rt;

@@ -9,6 +9,7 @@ use command_line::args::Args;
 use std::alloc::Global;
 use std::io::{Read, Write};
 use std::sync::Wait;
+use std::thread;
 use std::thread::{Scope, Threads};
 use worker_pool::Workers;
 use worker_pool::single::NoGate;
@@ -17,20 +18,57 @@ use worker_pool::single::NoGate;
 const NO_GATE: NoGate = NoGate;
 
 /// Does the work of a command line with so many workers, at least one and at most 64, in threads of the scope.
-pub fn serve_in_scope<'s, V: 's, R: Threads + Wait + Copy + Send + 's, F: Read, O: Write, E: Write>(
+pub fn serve_in_scope<
+    's,
+    V: 's,
+    H: Threads + Wait + Copy + Send + 's,
+    F: Read,
+    T: Read,
+    R: Write,
+    O: Write,
+    E: Write,
+>(
     scope: &Scope<'s, V>,
-    runtime: R,
+    runtime: H,
     workers: u8,
     alloc: Global,
     args: &Args<'_>,
     file: &mut F,
+    trace: &mut T,
+    traces: &mut R,
     out: &mut O,
     faults: &mut E,
 ) -> u8
-    ensures output { 1 ≤ workers → workers ≤ 64 → IsServed workers args.now.work result (O.contents out.old) (O.contents out.new) }
+    ensures output { 1 ≤ workers → workers ≤ 64 → IsServed workers args.now.work (T.remaining trace.old) result (O.contents out.old, O.contents out.new) (R.contents traces.old, R.contents traces.new) }
     ensures told { GainsLine (E.contents faults.old) (E.contents faults.new) }
 {
     let count = workers.max(1).min(64) as usize;
     let mode = Workers::new(count, scope, runtime, &NO_GATE);
-    serve(alloc, args, &mode, file, out, faults)
+    serve(alloc, args, &mode, file, trace, traces, out, faults)
+}
+
+/// Does the work of a command line with so many workers, at least one and at most 64, in threads of a scope of its own.
+pub fn serve_on_threads<
+    H: Threads + Wait + Copy + Send + Sync + 'static,
+    F: Read,
+    T: Read,
+    R: Write,
+    O: Write,
+    E: Write,
+>(
+    runtime: H,
+    workers: u8,
+    alloc: Global,
+    args: &Args<'_>,
+    file: &mut F,
+    trace: &mut T,
+    traces: &mut R,
+    out: &mut O,
+    faults: &mut E,
+) -> u8 {
+    thread::scope(thread::scope_env(), &runtime, |scope| {
+        serve_in_scope(
+            scope, runtime, workers, alloc, args, file, trace, traces, out, faults,
+        )
+    })
 }

@@ -1,2 +1,3 @@
+pub mod CheckText
 pub mod ReportText
 pub mod WorldText

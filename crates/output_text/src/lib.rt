@@ -1,5 +1,6 @@
-// What the program prints: the text of a world, and that of an ambiguity report.
+// What the program prints: the texts of a world, of an ambiguity report, and of what is said of traces.
 #![tactic(auto)]
 
+pub mod check;
 pub mod report;
 pub mod world;

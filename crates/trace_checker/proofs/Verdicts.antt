@@ -1,7 +1,7 @@
 -- One verdict is that of some steps.
 use Rattle.std.proofs.Common.{◌≡◌, ◌⊎◌, inl, inr, ℕ, zero, suc, ◌+◌, ◌<◌, ◌≤◌, List, [], ◌∷◌, ◌++◌, length, drop, take, get_or, reverse, refl, sym, ap, subst, ◌∙◌, arith}
 use Rattle.std.proofs.Math.Seq.{take-suc}
-use Rattle.std.proofs.lemmas.List.{reverse-append, append_assoc, length-take-le, take_all}
+use Rattle.std.proofs.lemmas.List.{reverse-append, append_assoc, length-take-le, take_all, map-append}
 use Rattle.model.specs.declared.steps.Step.{Step}
 use Rattle.model.specs.declared.steps.StepFault.{StepFault}
 use Rattle.model.specs.steps.Schedule.{Schedule}
@@ -11,7 +11,9 @@ use Rattle.model.proofs.faults.ExactFaults.{faults_are_exact}
 use Rattle.executor_core.specs.Stands.{Stand, Stands}
 use Rattle.trace_checker.specs.declared.check.Verdict.{Verdict}
 use Rattle.trace_checker.specs.declared.check.Verdict.TheVariants.{Complete, Unfinished, Bad}
-use Rattle.trace_checker.specs.Verdicts.{IsRefusedAt, IsVerdict}
+use Rattle.executor_core.specs.declared.trace.Trace.{Trace}
+use Rattle.trace_checker.specs.Grammar.{steps_of}
+use Rattle.trace_checker.specs.Verdicts.{IsRefusedAt, IsVerdict, AreVerdicts}
 
 -- what comes before a lawful list's later steps is lawful
 lawful_before : (s : Schedule) (later h : List Step) → IsLawful s (later ++ h) → IsLawful s h
@@ -132,3 +134,21 @@ stands_more steps items core i d e within stands =
     let k : get_or items i d ∷ reverse (take i steps) ≡ reverse (take (i + 1) steps) =
     ap (λ l. get_or l i d ∷ reverse (take i steps)) e ∙ (sym (history_more steps i d below) ∙ ap (λ m. reverse (take m steps)) (sym next)) in
     subst (λ h. Stands core h) k stands
+
+-- something is said of one run more
+verdicts_append : (s : Schedule) (runs : List (List Step)) (verdicts : List Verdict) (run : List Step) (verdict : Verdict)
+    → AreVerdicts s runs verdicts → IsVerdict s run verdict → AreVerdicts s (runs ++ run ∷ []) (verdicts ++ verdict ∷ [])
+verdicts_append s [] [] run verdict said more = (more, tt)
+verdicts_append s [] (v ∷ verdicts) run verdict said more = absurd said
+verdicts_append s (r ∷ runs) [] run verdict said more = absurd said
+verdicts_append s (r ∷ runs) (v ∷ verdicts) run verdict said more = (said.0, verdicts_append s runs verdicts run verdict said.1 more)
+
+pub verdicts_more : (s : Schedule) (traces : List Trace) (i : ℕ) (d t : Trace) (old new : List Verdict) (verdict : Verdict) → t ≡ get_or traces i d → i < length traces
+    → AreVerdicts s (steps_of (take i traces)) old → IsVerdict s t.steps.items verdict → new ≡ old ++ verdict ∷ [] → AreVerdicts s (steps_of (take (i + 1) traces)) new
+verdicts_more s traces i d t old new verdict there below said more is =
+    let next : i + 1 ≡ suc i = omega arith in
+    let runs : steps_of (take (i + 1) traces) ≡ steps_of (take i traces) ++ t.steps.items ∷ [] =
+    ap (λ k. steps_of (take k traces)) next ∙ (ap steps_of (take-suc traces i d below) ∙ (map-append (λ u. u.steps.items) (take i traces) (get_or traces i d ∷ [])
+    ∙ ap (λ (u : Trace). steps_of (take i traces) ++ u.steps.items ∷ []) (sym there))) in
+    subst (λ rs. AreVerdicts s rs new) (sym runs) (subst (λ vs. AreVerdicts s (steps_of (take i traces) ++ t.steps.items ∷ []) vs) (sym is)
+    (verdicts_append s (steps_of (take i traces)) old t.steps.items verdict said more))

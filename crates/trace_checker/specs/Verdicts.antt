@@ -1,7 +1,9 @@
 -- What a schedule says of the steps of a run.
-use Rattle.std.specs.Prelude.{ℕ, ◌+◌, ◌≡◌, List, ◌∷◌, ◌++◌, length, reverse}
+use Rattle.std.specs.Prelude.{ℕ, ◌+◌, ◌≡◌, Bool, true, false, List, [], ◌∷◌, ◌++◌, length, reverse, codes}
+use Rattle.std.specs.Fmt.{decimal}
 use Rattle.model.specs.declared.steps.Step.{Step}
 use Rattle.model.specs.declared.steps.StepFault.{StepFault}
+use Rattle.model.specs.declared.steps.StepFault.TheVariants.{Unknown, Repeated, NotReady, ConditionOpen, ConditionFalse, ConditionTrue, Conflict, NotRunning, LevelOpen}
 use Rattle.model.specs.steps.Schedule.{Schedule}
 use Rattle.model.specs.steps.Lawful.{IsLawful, IsComplete}
 use Rattle.model.specs.steps.Faults.{IsFirstFault}
@@ -18,3 +20,36 @@ abbrev pub IsVerdict : Schedule → List Step → Verdict → Type 0
 IsVerdict s steps Complete = IsLawful s (reverse steps) × IsComplete s (reverse steps)
 IsVerdict s steps Unfinished = IsLawful s (reverse steps) × (IsComplete s (reverse steps) → ⊥)
 IsVerdict s steps (Bad n fault) = IsRefusedAt s steps n fault
+
+-- what is said of runs, of each by itself
+abbrev pub AreVerdicts : Schedule → List (List Step) → List Verdict → Type 0
+AreVerdicts s [] [] = Unit {0}
+AreVerdicts s [] (verdict ∷ verdicts) = ⊥
+AreVerdicts s (run ∷ runs) [] = ⊥
+AreVerdicts s (run ∷ runs) (verdict ∷ verdicts) = IsVerdict s run verdict × AreVerdicts s runs verdicts
+
+-- whether all steps are lawful and none is missing
+abbrev pub is_complete : Verdict → Bool
+is_complete Complete = true
+is_complete Unfinished = false
+is_complete (Bad n fault) = false
+
+-- ---- text
+
+-- the number of a fault
+abbrev pub fault_number : StepFault → ℕ
+fault_number Unknown = 1
+fault_number Repeated = 2
+fault_number NotReady = 3
+fault_number ConditionOpen = 4
+fault_number ConditionFalse = 5
+fault_number ConditionTrue = 6
+fault_number Conflict = 7
+fault_number NotRunning = 8
+fault_number LevelOpen = 9
+
+-- what a verdict is printed as: for a step at fault its number and that of the fault
+abbrev pub verdict_text : Verdict → List ℕ
+verdict_text Complete = codes "complete"
+verdict_text Unfinished = codes "unfinished"
+verdict_text (Bad n fault) = codes "bad " ++ decimal n ++ (codes " S" ++ decimal (fault_number fault))

@@ -2,11 +2,13 @@
 
 ghost use Rattle.std.specs.Prelude.{◌≡◌, IfOk};
 ghost use Rattle.trace_checker.specs.declared.check.Verdict.{Verdict};
-ghost use Rattle.trace_checker.specs.Verdicts.{IsVerdict};
+ghost use Rattle.trace_checker.specs.Grammar.{steps_of};
+ghost use Rattle.trace_checker.specs.Verdicts.{IsVerdict, AreVerdicts, is_complete, fault_number};
 
 use executor_core::{Core, StepFault, Trace};
 use schedule_builder::built::Built;
 use std::alloc::{AllocError, Global};
+use std::fmt;
 
 /// What a schedule says of a trace.
 #[derive(Clone, Copy, PartialEq, Eq, Debug)]
@@ -17,6 +19,64 @@ pub enum Verdict {
     Unfinished,
     /// This step, counted from 1, is the first that may not come, for this fault.
     Bad(usize, StepFault),
+}
+
+impl Verdict {
+    /// Whether all steps are lawful and none is missing.
+    pub fn is_complete(&self) -> bool
+        ensures { result ≡ is_complete self.now }
+    {
+        match self {
+            Verdict::Complete => true,
+            Verdict::Unfinished | Verdict::Bad(_, _) => false,
+        }
+    }
+}
+
+impl fmt::Display for Verdict {
+    ghost use Rattle.std.specs.Prelude.{Some};
+    ghost use Rattle.trace_checker.specs.Verdicts.{verdict_text};
+
+    ghost output = { λ verdict. Some (verdict_text verdict) };
+
+    fn fmt<W: fmt::Write>(&self, f: &mut fmt::Formatter<W>) -> fmt::Result {
+        match self {
+            Verdict::Complete => write!(f, "complete"),
+            Verdict::Unfinished => write!(f, "unfinished"),
+            Verdict::Bad(step, fault) => {
+                let number = number_of(*fault);
+                write!(f, "bad {step} S{number}")
+            }
+        }
+    }
+}
+
+/// The number of a fault, 1 to 9: of those that hold of a step, the least is told.
+fn number_of(fault: StepFault) -> u8
+    ensures { result ≡ fault_number fault }
+{
+    match fault {
+        StepFault::Unknown => 1,
+        StepFault::Repeated => 2,
+        StepFault::NotReady => 3,
+        StepFault::ConditionOpen => 4,
+        StepFault::ConditionFalse => 5,
+        StepFault::ConditionTrue => 6,
+        StepFault::Conflict => 7,
+        StepFault::NotRunning => 8,
+        StepFault::LevelOpen => 9,
+    }
+}
+
+/// What a schedule says of each of these traces, by itself.
+pub fn check_all(alloc: Global, built: &Built, traces: &[Trace]) -> Result<Vec<Verdict>, AllocError>
+    ensures { IfOk result (λ verdicts. AreVerdicts built.now (steps_of traces.now) verdicts.items) }
+{
+    let mut verdicts = Vec::new(alloc);
+    for trace in traces {
+        verdicts.push(check(alloc, built, trace)?)?;
+    }
+    Ok(verdicts)
 }
 
 /// What a schedule says of a trace: exactly one verdict is that of it. Recorded answers are not compared with a world.

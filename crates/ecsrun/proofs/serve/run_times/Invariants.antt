@@ -1,6 +1,6 @@
-use Rattle.std.proofs.Common.{◌≡◌, IsFalse}
+use Rattle.std.proofs.Common.{◌≡◌, IsFalse, string_bytes}
 use Rattle.engine.specs.Meanings.{meanings}
-use Rattle.ecsrun.specs.Served.{HaveRun}
+use Rattle.ecsrun.specs.Recorded.{HaveNoted}
 use Rattle.ecsrun.specs.Setup.{script_means}
 use Rattle.ecsrun.proofs.serve.run_times.Given as goal
 
@@ -9,5 +9,5 @@ invariant-loop-run g l = record {
   schedule : l.engine.schedule ≡ l.fn.engine.schedule;
   meant : meanings script_means l.fn.engine.schedule l.engine.bodies ≡ meanings script_means l.fn.engine.schedule l.fn.engine.bodies;
   sound : IsFalse l.engine.spoiled;
-  ran : HaveRun (g.M.Mode.width l.mode) l.fn.engine.schedule (meanings script_means l.fn.engine.schedule l.fn.engine.bodies) l.fn.engine.state l._run l.engine.state;
+  noted : HaveNoted (g.M.Mode.width l.mode) l.fn.engine.schedule (meanings script_means l.fn.engine.schedule l.fn.engine.bodies) l.fn.engine.state l.run l.recorded l.engine.state (string_bytes l.text);
 }

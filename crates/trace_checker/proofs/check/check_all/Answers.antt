@@ -1,0 +1,7 @@
+use Rattle.trace_checker.proofs.Verdicts.{verdicts_more}
+use Rattle.trace_checker.proofs.check.check_all.Goals as goal
+
+-- what is said of the next trace stands behind what is said of those before it
+pub loop-trace-preserved : goal.loop-trace-preserved
+loop-trace-preserved c =
+    verdicts_more _ c.args.traces.now c.loop-trace.trace-index _ _ _ _ _ c.trace-item.is c.loop-trace-test.true c.loop-trace.invariant c.in_ok-check.ensures.verdict c.in_ok-push.ensures.items
