@@ -6,7 +6,7 @@ use Rattle.model.specs.declarations.Declarations.{Declared}
 use Rattle.model.specs.state.Loaded.{first_memory}
 use Rattle.model.specs.declarations.Refusals.{IsBuildable}
 use Rattle.model.specs.steps.Schedule.{Schedule, params_of}
-use Rattle.model.specs.declarations.ScheduleOrder.{HasDeclaredSystems, HasDeclaredEdges, IsOneLevel, IsScheduleOrder}
+use Rattle.model.specs.declarations.ScheduleOrder.{HasDeclaredSystems, HasDeclaredEdges, HasLevels, IsScheduleOrder}
 use Rattle.model.specs.state.State.{State, World, event_count, empty_queue}
 use Rattle.script.specs.declared.script_body.ScriptBody.{ScriptBody}
 use Rattle.script.specs.Faults.{fits}
@@ -18,7 +18,7 @@ pub record IsScheduleOf (d : Declared) (s : Schedule) : Type 0 where
   pub buildable : IsBuildable d
   pub systems : HasDeclaredSystems d s
   pub edges : HasDeclaredEdges d s
-  pub levels : IsOneLevel s
+  pub levels : HasLevels d s
   pub order : IsScheduleOrder s
   pub conditions : s.conditions ≡ []
 
