@@ -6,7 +6,7 @@ use Rattle.std.proofs.lemmas.List.{length-map}
 use Rattle.model.specs.access.Access.{Params}
 use Rattle.model.specs.declarations.Declarations.{Declared}
 use Rattle.model.specs.declarations.Refusals.{IsBuildable}
-use Rattle.model.specs.declarations.ScheduleOrder.{HasDeclaredSystems, HasDeclaredEdges, IsOneLevel, IsScheduleOrder}
+use Rattle.model.specs.declarations.ScheduleOrder.{HasDeclaredSystems, HasDeclaredEdges, HasLevels, IsScheduleOrder}
 use Rattle.model.specs.steps.Schedule.{Schedule, params_of}
 use Rattle.model.specs.state.State.{State, World}
 use Rattle.script.specs.declared.script_body.ScriptBody.{ScriptBody}
@@ -53,7 +53,7 @@ runs-loaded width s scripts world entities values times recorded text noted is h
     subst (λ (start : State). IsTextOfRuns width s (meanings_of_scripts s scripts) start times recorded text noted) (ap (first_state s) is) h
 
 -- what is built is the schedule of what is declared
-pub schedule-of : (d : Declared) (s : Schedule) → IsBuildable d → HasDeclaredSystems d s → HasDeclaredEdges d s → IsOneLevel s → IsScheduleOrder s → s.conditions ≡ []
+pub schedule-of : (d : Declared) (s : Schedule) → IsBuildable d → HasDeclaredSystems d s → HasDeclaredEdges d s → HasLevels d s → IsScheduleOrder s → s.conditions ≡ []
     → IsScheduleOf d s
 schedule-of d s buildable systems edges levels order conditions =
     record { buildable = buildable; systems = systems; edges = edges; levels = levels; order = order; conditions = conditions }

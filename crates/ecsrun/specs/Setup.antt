@@ -5,7 +5,7 @@ use Rattle.model.specs.shown.Outcome.{BodyMeaning}
 use Rattle.model.specs.declarations.Declarations.{Declared}
 use Rattle.model.specs.declarations.Refusals.{IsBuildable}
 use Rattle.model.specs.steps.Schedule.{Schedule, params_of}
-use Rattle.model.specs.declarations.ScheduleOrder.{HasDeclaredSystems, HasDeclaredEdges, IsOneLevel, IsScheduleOrder}
+use Rattle.model.specs.declarations.ScheduleOrder.{HasDeclaredSystems, HasDeclaredEdges, HasLevels, IsScheduleOrder}
 use Rattle.script.specs.declared.script_body.ScriptBody.{ScriptBody}
 use Rattle.script.specs.Faults.{fits}
 use Rattle.script.specs.Script.{script_meaning}
@@ -16,7 +16,7 @@ pub record IsScheduleOf (d : Declared) (s : Schedule) : Type 0 where
   pub buildable : IsBuildable d
   pub systems : HasDeclaredSystems d s
   pub edges : HasDeclaredEdges d s
-  pub levels : IsOneLevel s
+  pub levels : HasLevels d s
   pub order : IsScheduleOrder s
   pub conditions : s.conditions ≡ []
 

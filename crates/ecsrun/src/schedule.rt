@@ -7,10 +7,10 @@ ghost use Rattle.ecsrun.specs.Setup.{AreScriptsOf};
 use crate::fault::Fault;
 use access_set::params::Params;
 use kinds::res::Res;
-use program_file::{ItemTable, SystemTable};
+use program_file::{ChainTable, ItemTable, SystemTable};
 use query::Query;
 use schedule_builder::built::Built;
-use schedule_builder::desc::{ItemDesc, ScheduleDesc, SystemDesc};
+use schedule_builder::desc::{ChainDesc, ItemDesc, ScheduleDesc, SystemDesc};
 use script::fault::CheckFault;
 use script::script_body::{Block, ScriptBody};
 use std::alloc::{AllocError, Global};
@@ -24,11 +24,12 @@ pub struct Code<'a> {
     pub blocks: Vec<Block>,
 }
 
-/// The schedule that these sets and systems declare, and what each of the systems does.
+/// The schedule that these sets, systems and chains declare, and what each of the systems does.
 pub fn declare<'a>(
     alloc: Global,
     sets: &[ItemTable<'a>],
     rows: Vec<SystemTable<'a>>,
+    chains: &[ChainTable<'a>],
 ) -> Result<(ScheduleDesc, Vec<Code<'a>>), AllocError>
     ensures count { IfOk result (λ declared. length declared.1.items ≡ length declared.0.systems) }
     ensures names { IfOk result (λ declared. map (λ code. code.name.now) declared.1.items ≡ declared_names declared.0) }
@@ -50,7 +51,31 @@ pub fn declare<'a>(
             blocks,
         })?;
     }
+    declare_chains(alloc, chains, &mut desc)?;
     Ok((desc, codes))
+}
+
+// Declares these chains.
+fn declare_chains(
+    alloc: Global,
+    chains: &[ChainTable<'_>],
+    desc: &mut ScheduleDesc,
+) -> Result<(), AllocError>
+    ensures { OnOk result (desc.new.systems ≡ desc.old.systems) }
+{
+    for chain in chains {
+        desc.add_chain(chain_of(alloc, chain)?)?;
+    }
+    Ok(())
+}
+
+// A declared chain.
+fn chain_of(alloc: Global, table: &ChainTable<'_>) -> Result<ChainDesc, AllocError> {
+    let mut chain = ChainDesc::new(alloc, table.ignores_deferred);
+    for name in &table.items {
+        chain.add_item(String::from_str(alloc, name)?)?;
+    }
+    Ok(chain)
 }
 
 // The schedule of these sets, without systems yet.
@@ -78,7 +103,21 @@ fn item_of(alloc: Global, table: &ItemTable<'_>) -> Result<ItemDesc, AllocError>
     for name in &table.after {
         item.add_after(String::from_str(alloc, name)?)?;
     }
+    add_ignoring(alloc, table, &mut item)?;
     Ok(item)
+}
+
+// Declares the orders of an item that ignore that commands are deferred.
+fn add_ignoring(alloc: Global, table: &ItemTable<'_>, item: &mut ItemDesc) -> Result<(), AllocError>
+    ensures { OnOk result (item.new.name ≡ item.old.name) }
+{
+    for name in &table.before_ignore_deferred {
+        item.add_before_ignore_deferred(String::from_str(alloc, name)?)?;
+    }
+    for name in &table.after_ignore_deferred {
+        item.add_after_ignore_deferred(String::from_str(alloc, name)?)?;
+    }
+    Ok(())
 }
 
 // The parameters of a system with these queries, which reads these resources and writes those.

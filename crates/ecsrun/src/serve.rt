@@ -83,9 +83,11 @@ fn answer<'s, M: Mode<'s>, F: Read, T: Read>(
         entities,
         sets,
         systems,
+        chains,
     } = ProgramFile::read(alloc, &document)?;
-    let (desc, codes) = declare(alloc, sets.as_slice(), systems)?;
+    let (desc, codes) = declare(alloc, sets.as_slice(), systems, chains.as_slice())?;
     drop(sets);
+    drop(chains);
     let built = build(alloc, desc)?;
     let names = names_of(alloc, codes.as_slice())?;
     let bodies = bodies_of(alloc, &built, codes)?;

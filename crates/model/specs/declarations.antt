@@ -4,3 +4,4 @@ pub mod Edges
 pub mod Declarations
 pub mod Refusals
 pub mod ScheduleOrder
+pub mod Codes

@@ -134,3 +134,13 @@ pub fn number_at(table: &Table, key: &str) -> Result<u32, PlaceFault>
         None => Err(PlaceFault::Value),
     }
 }
+
+/// The truth value at a key. One that isn't there is `false`.
+pub fn flag_at(table: &Table, key: &str) -> Result<bool, PlaceFault>
+    ensures { IfErr result (λ fault. fault ≡ PlaceFault.Value) }
+{
+    match table.get(key) {
+        None => Ok(false),
+        Some(value) => value.as_bool().ok_or(PlaceFault::Value),
+    }
+}

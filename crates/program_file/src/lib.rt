@@ -13,4 +13,4 @@ mod readings;
 pub use document::document_of;
 pub use fault::FileFault;
 pub use place::Place;
-pub use program_file::{ItemTable, ProgramFile, SystemTable};
+pub use program_file::{ChainTable, ItemTable, ProgramFile, SystemTable};

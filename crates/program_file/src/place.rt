@@ -2,7 +2,8 @@
 
 use std::fmt;
 
-/// A place of a program file, by which a refusal is told. Entities, sets and systems are numbered from 0 in the order of the file.
+/// A place of a program file, by which a refusal is told. Entities, sets, systems and chains are numbered from 0 in the
+/// order of the file.
 #[derive(Clone, Copy, PartialEq, Eq, Debug)]
 pub enum Place {
     /// The keys at the top.
@@ -15,6 +16,8 @@ pub enum Place {
     Set(usize),
     /// A system, with its blocks.
     System(usize),
+    /// A chain.
+    Chain(usize),
 }
 
 impl fmt::Display for Place {
@@ -25,6 +28,7 @@ impl fmt::Display for Place {
             Place::Entity(number) => write!(f, "entity {number}"),
             Place::Set(number) => write!(f, "set {number}"),
             Place::System(number) => write!(f, "system {number}"),
+            Place::Chain(number) => write!(f, "chain {number}"),
         }
     }
 }

@@ -6,7 +6,7 @@ ghost use Rattle.program_file.specs.Name.{IsName};
 
 use crate::fault::FileFault;
 use crate::keys::{
-    integers_of, name_at, names_at, number_at, refuse_unknown, resources_at, tables_at, texts_at,
+    flag_at, integers_of, name_at, names_at, number_at, refuse_unknown, resources_at, tables_at, texts_at,
 };
 use crate::place::Place;
 use crate::place_fault::PlaceFault;
@@ -19,7 +19,7 @@ use script::script_body::{Block, Rounds};
 use std::alloc::Global;
 use toml::Table;
 
-/// A program file: the values of its resources, its entities, its sets and its systems, in the order of the file.
+/// A program file: the values of its resources, its entities, its sets, its systems and its chains, in the order of the file.
 #[derive(Drop)]
 pub struct ProgramFile<'a> {
     /// The value of each resource, by its number, 0 where the file gives none.
@@ -30,6 +30,8 @@ pub struct ProgramFile<'a> {
     pub sets: Vec<ItemTable<'a>>,
     /// The systems.
     pub systems: Vec<SystemTable<'a>>,
+    /// The chains.
+    pub chains: Vec<ChainTable<'a>>,
 }
 
 /// A set of a program file, or what a system has besides its queries and blocks.
@@ -43,6 +45,19 @@ pub struct ItemTable<'a> {
     pub before: Vec<&'a str>,
     /// The names of the items that it runs after.
     pub after: Vec<&'a str>,
+    /// The names of the items that it runs before whatever commands are deferred.
+    pub before_ignore_deferred: Vec<&'a str>,
+    /// The names of the items that it runs after whatever commands are deferred.
+    pub after_ignore_deferred: Vec<&'a str>,
+}
+
+/// A chain of a program file.
+#[derive(Drop)]
+pub struct ChainTable<'a> {
+    /// The names of its items, each of which runs before the next.
+    pub items: Vec<&'a str>,
+    /// Whether these orders ignore that commands are deferred.
+    pub ignores_deferred: bool,
 }
 
 /// A system of a program file.
@@ -67,19 +82,37 @@ struct BlockTexts<'a> {
     code: Vec<&'a str>,
 }
 
-const TOP_KEYS: [&str; 4] = ["resources", "entity", "set", "system"];
+const TOP_KEYS: [&str; 5] = ["resources", "entity", "set", "system", "chain"];
 
-const SET_KEYS: [&str; 4] = ["name", "in", "before", "after"];
-
-const SYSTEM_KEYS: [&str; 8] = [
-    "name", "in", "before", "after", "query", "res", "res_mut", "do",
+const SET_KEYS: [&str; 6] = [
+    "name",
+    "in",
+    "before",
+    "after",
+    "before_ignore_deferred",
+    "after_ignore_deferred",
 ];
+
+const SYSTEM_KEYS: [&str; 10] = [
+    "name",
+    "in",
+    "before",
+    "after",
+    "before_ignore_deferred",
+    "after_ignore_deferred",
+    "query",
+    "res",
+    "res_mut",
+    "do",
+];
+
+const CHAIN_KEYS: [&str; 2] = ["items", "ignore_deferred"];
 
 const BLOCK_KEYS: [&str; 2] = ["each", "code"];
 
 impl<'a> ProgramFile<'a> {
-    /// Reads a document. The places are looked at in this order: the top, the resources, each entity, each set, each system. A
-    /// fault is told with its place.
+    /// Reads a document. The places are looked at in this order: the top, the resources, each entity, each set, each system,
+    /// each chain. A fault is told with its place.
     pub fn read(alloc: Global, document: &'a Table) -> Result<ProgramFile<'a>, FileFault>
         ensures { IfErr result IsOfPlace }
     {
@@ -88,11 +121,13 @@ impl<'a> ProgramFile<'a> {
         let entities = entities_of(alloc, top.entities.as_slice())?;
         let sets = sets_of(alloc, top.sets.as_slice())?;
         let systems = systems_of(alloc, top.systems.as_slice())?;
+        let chains = chains_of(alloc, top.chains.as_slice())?;
         Ok(ProgramFile {
             resources,
             entities,
             sets,
             systems,
+            chains,
         })
     }
 }
@@ -135,6 +170,20 @@ fn systems_of<'a>(alloc: Global, tables: &[&'a Table]) -> Result<Vec<SystemTable
     Ok(systems)
 }
 
+// The chains.
+fn chains_of<'a>(alloc: Global, tables: &[&'a Table]) -> Result<Vec<ChainTable<'a>>, FileFault>
+    ensures { IfErr result IsOfPlace }
+{
+    let mut chains = Vec::new(alloc);
+    for (number, table) in tables.iter().enumerate() {
+        let chain = ChainTable::read(alloc, table).map_err(|fault| fault.at(Place::Chain(
+            number,
+        )))?;
+        chains.push(chain)?;
+    }
+    Ok(chains)
+}
+
 // Reads the table of a set.
 fn set_of<'a>(alloc: Global, table: &'a Table) -> Result<ItemTable<'a>, PlaceFault> {
     refuse_unknown(table, SET_KEYS.as_slice())?;
@@ -154,6 +203,24 @@ impl<'a> ItemTable<'a> {
             inside: names_at(alloc, table, "in")?,
             before: names_at(alloc, table, "before")?,
             after: names_at(alloc, table, "after")?,
+            before_ignore_deferred: names_at(alloc, table, "before_ignore_deferred")?,
+            after_ignore_deferred: names_at(alloc, table, "after_ignore_deferred")?,
+        })
+    }
+}
+
+impl<'a> ChainTable<'a> {
+    /// Reads the table of a chain.
+    pub fn read(alloc: Global, table: &'a Table) -> Result<ChainTable<'a>, PlaceFault>
+        ensures { IfOk result (λ chain. All (λ name. IsName name.now) chain.items.items) }
+    {
+        refuse_unknown(table, CHAIN_KEYS.as_slice())?;
+        if !table.contains_key("items") {
+            return Err(PlaceFault::Value);
+        }
+        Ok(ChainTable {
+            items: names_at(alloc, table, "items")?,
+            ignores_deferred: flag_at(table, "ignore_deferred")?,
         })
     }
 }
@@ -189,6 +256,7 @@ struct Top<'a> {
     entities: Vec<&'a Table>,
     sets: Vec<&'a Table>,
     systems: Vec<&'a Table>,
+    chains: Vec<&'a Table>,
 }
 
 impl<'a> Top<'a> {
@@ -203,6 +271,7 @@ impl<'a> Top<'a> {
             entities: tables_at(alloc, document, "entity")?,
             sets: tables_at(alloc, document, "set")?,
             systems: tables_at(alloc, document, "system")?,
+            chains: tables_at(alloc, document, "chain")?,
         })
     }
 }
@@ -342,7 +411,13 @@ mod tests {
             ("world = 3", "refused P2 top"),
             ("entity = 3", "refused P2 top"),
             ("system = [1]", "refused P2 top"),
-            ("chain = []", "refused P2 top"),
+            ("chain = []", ""),
+            ("chain = [3]", "refused P2 top"),
+            ("chain = [{ items = [\"a\"], ignore_deferred = true }]", ""),
+            ("chain = [{ items = [] }, {}]", "refused P2 chain 1"),
+            ("chain = [{ items = [\"A\"] }]", "refused P2 chain 0"),
+            ("chain = [{ items = [], ignore_deferred = 1 }]", "refused P2 chain 0"),
+            ("set = [{ name = \"a\", after_ignore_deferred = [\"a\"] }]", ""),
             ("resources = { Tot = 1 }", "refused P2 resources"),
             ("resources = { Total = 1.5 }", "refused P2 resources"),
             ("entity = [{}, { Position = [1] }]", "refused P2 entity 1"),

@@ -4,7 +4,7 @@ use access_set::params::Params;
 use kinds::kind::Kind;
 use query::{Query, Term};
 use schedule_builder::builder::build;
-use schedule_builder::desc::{ItemDesc, ScheduleDesc, SystemDesc};
+use schedule_builder::desc::{ChainDesc, ItemDesc, ScheduleDesc, SystemDesc};
 use schedule_builder::fault::BuildFault;
 use std::alloc::{AllocError, Global};
 use std::test::Fail;
@@ -318,5 +318,36 @@ fn refuses_long_chains_quickly(rt: HostRuntime) -> Result<(), Fail> {
     let closed = answer(alloc, chain(alloc, 4_000, true)?)?;
     assert!(rt; closed.as_str().starts_with("refused B6 s1 s2 s3 "));
     assert!(rt; closed.as_str().ends_with(" s3999 s4000 s1"));
+    Ok(())
+}
+
+/// What is told of the systems a, b and c, a chain of these names, and c before one of this name whatever commands are deferred.
+fn told_of_chain(alloc: Global, items: &[&str], later: &str) -> Result<String, AllocError> {
+    let mut desc = ScheduleDesc::new(alloc);
+    for name in ["a", "b"] {
+        desc.add_system(system(alloc, name, "", "")?)?;
+    }
+    let mut item = ItemDesc::new(alloc, String::from_str(alloc, "c")?);
+    if !later.is_empty() {
+        item.add_before_ignore_deferred(String::from_str(alloc, later)?)?;
+    }
+    desc.add_system(SystemDesc::of_item(item, Params::new(alloc)))?;
+    let mut chain = ChainDesc::new(alloc, false);
+    for name in items {
+        chain.add_item(String::from_str(alloc, name)?)?;
+    }
+    desc.add_chain(chain)?;
+    answer(alloc, desc)
+}
+
+#[test]
+fn orders_chains(rt: HostRuntime) -> Result<(), Fail> {
+    let alloc = rt.alloc();
+    let chain = ["c", "b", "a"];
+    assert_eq!(rt; told_of_chain(alloc, &chain, "")?.as_str(), "[2, 1, 0]");
+    let circle = told_of_chain(alloc, &["b", "c"], "b")?;
+    assert_eq!(rt; circle.as_str(), "refused B6 b c b");
+    let unknown = told_of_chain(alloc, &["zz"], "")?;
+    assert_eq!(rt; unknown.as_str(), "refused B1 zz");
     Ok(())
 }

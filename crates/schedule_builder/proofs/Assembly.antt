@@ -7,11 +7,10 @@ use Rattle.std.proofs.lemmas.List.{same_lists, get_or-map, length-map, get_or_pu
 use Rattle.model.specs.Lists.{has}
 use Rattle.model.specs.access.Access.{Params, no_params}
 use Rattle.model.specs.access.SelfConflict.{ConflictWithin}
-use Rattle.model.specs.declarations.Hierarchy.{Hierarchy}
-use Rattle.model.specs.declarations.Declarations.{Declared, DeclaredSystem, items_of, hierarchy_of, declared_orders}
-use Rattle.model.specs.declarations.Edges.{IsMemberOf, IsFollowed}
+use Rattle.model.specs.declarations.Declarations.{Declared, DeclaredSystem, plain_item, items_of, hierarchy_of, declared_orders}
+use Rattle.model.specs.declarations.Edges.{IsFollowed}
 use Rattle.model.specs.declarations.Refusals.{HasNoSelfConflict}
-use Rattle.model.specs.steps.Schedule.{ScheduledSystem, has_edge, level_of}
+use Rattle.model.specs.steps.Schedule.{Schedule, ScheduledSystem, has_edge, level_of}
 use Rattle.model.specs.steps.Ambiguity.{Reaches, Before}
 use Rattle.model.specs.declarations.ScheduleOrder.{IsScheduleOrder, IsDeclaredEdge, HasDeclaredEdges, HasDeclaredSystems}
 use Rattle.schedule_builder.proofs.ScheduleOrders.{split_at}
@@ -23,7 +22,7 @@ use Rattle.system_set.proofs.Reaching.{held_of_step, step_of_held}
 use Rattle.system_set.proofs.EdgeLists.{member_known}
 use Rattle.cycle_search.specs.Cycles.{IsStep, IsRankable}
 use Rattle.schedule_builder.specs.Rows.{AreApart}
-use Rattle.schedule_builder.specs.ScheduleOrder.{schedule_of, items_before, scheduled, IsEdge, HasSourcesBelow, AreScheduled}
+use Rattle.schedule_builder.specs.ScheduleOrder.{schedule_of, items_before, scheduled, IsEdge, HasSourcesBelow, AreRising, AreScheduled}
 
 -- ---- predecessors
 
@@ -66,13 +65,13 @@ has_of_place (o ∷ orders) m n (suc k) l e =
 no_system : ScheduledSystem
 no_system = record { params = no_params; predecessors = []; level = 0 }
 
-edge_inside : (orders : List Order) (systems : List DeclaredSystem) (built : List ScheduledSystem) → AreScheduled orders systems built → (m n : ℕ) → n < length systems → has_edge (schedule_of built []) m n ≡ has m (items_before orders n)
+edge_inside : {levels : List ℕ} (orders : List Order) (systems : List DeclaredSystem) (built : List ScheduledSystem) → AreScheduled orders levels systems built → (m n : ℕ) → n < length systems → has_edge (schedule_of built []) m n ≡ has m (items_before orders n)
 edge_inside orders systems built a m n l = ap (λ (s : ScheduledSystem). has m s.predecessors) (a.each n l)
 
 edge_outside : (built : List ScheduledSystem) (m n : ℕ) → length built ≤ n → has_edge (schedule_of built []) m n ≡ false
 edge_outside built m n l = ap (λ (s : ScheduledSystem). has m s.predecessors) (get_or_past built n (record { params = no_params; predecessors = []; level = 0 }) l)
 
-pub step_of_edge : (orders : List Order) (systems : List DeclaredSystem) (built : List ScheduledSystem) → AreScheduled orders systems built → (m n : ℕ) → IsEdge built m n → IsStep orders m n
+pub step_of_edge : {levels : List ℕ} (orders : List Order) (systems : List DeclaredSystem) (built : List ScheduledSystem) → AreScheduled orders levels systems built → (m n : ℕ) → IsEdge built m n → IsStep orders m n
 step_of_edge orders systems built a m n e = elim (cases_lt n (length systems)) [
   | inl l ↦ step_of_has orders m n (sym (edge_inside orders systems built a m n l) ∙ e)
   | inr l ↦ absurd (false≢true (sym (edge_outside built m n (omega (arith, a.long))) ∙ e))
@@ -87,7 +86,7 @@ items_count : (d : Declared) → length (items_of d) ≡ length d.sets + length 
 items_count d = length-append d.sets (map (λ (s : DeclaredSystem). s.item) d.systems) ∙ ap (λ (k : ℕ). length d.sets + k) (length-map d.systems (λ (s : DeclaredSystem). s.item))
 
 -- an edge is of two systems
-edge_known : (d : Declared) (m n : ℕ) → IsDeclaredEdge d m n → (m < length d.systems) × (n < length d.systems)
+pub edge_known : (d : Declared) (m n : ℕ) → IsDeclaredEdge d m n → (m < length d.systems) × (n < length d.systems)
 edge_known d m n e =
     let count = items_count d in
     let first : length d.sets + m < length (items_of d) = member_known (hierarchy_of d) e.first (length d.sets + m) e.from in
@@ -97,13 +96,13 @@ edge_known d m n e =
 edge_of_step : (d : Declared) (edges : List Order) → AreEdges (hierarchy_of d) (declared_orders d) edges → (m n : ℕ) → IsStep edges m n → IsDeclaredEdge d m n
 edge_of_step d edges are m n s = (are.tells m n).0 (held_of_step edges m n s)
 
-pub declared_edges : (edges : List Order) (d : Declared) (built : List ScheduledSystem) (order : List ℕ) → AreEdges (hierarchy_of d) (declared_orders d) edges → AreScheduled edges d.systems built → HasDeclaredEdges d (schedule_of built order)
+pub declared_edges : {levels : List ℕ} (edges : List Order) (d : Declared) (built : List ScheduledSystem) (order : List ℕ) → AreEdges (hierarchy_of d) (declared_orders d) edges → AreScheduled edges levels d.systems built → HasDeclaredEdges d (schedule_of built order)
 declared_edges edges d built order are a m n = (
   (λ e. edge_of_step d edges are m n (step_of_edge edges d.systems built a m n e)),
   (λ h. let s = step_of_held edges m n ((are.tells m n).1 h) in edge_inside edges d.systems built a m n (edge_known d m n h).1 ∙ has_of_place edges m n s.0 s.1 s.2),
 )
 
-pub edges_rankable : (edges : List Order) (d : Declared) (built : List ScheduledSystem) → AreEdges (hierarchy_of d) (declared_orders d) edges → AreScheduled edges d.systems built →
+pub edges_rankable : {levels : List ℕ} (edges : List Order) (d : Declared) (built : List ScheduledSystem) → AreEdges (hierarchy_of d) (declared_orders d) edges → AreScheduled edges levels d.systems built →
     IsRankable (IsFollowed (hierarchy_of d) (declared_orders d)) → IsRankable (IsEdge built)
 edges_rankable edges d built are a r = record {
   rank = λ n. r.rank (length d.sets + n);
@@ -112,7 +111,7 @@ edges_rankable edges d built are a r = record {
   falls = λ m n e. r.falls (length d.sets + m) (length d.sets + n) (inr (edge_of_step d edges are m n (step_of_edge edges d.systems built a m n e)));
 }
 
-pub edges_from : (edges : List Order) (d : Declared) (built : List ScheduledSystem) → AreEdges (hierarchy_of d) (declared_orders d) edges → AreScheduled edges d.systems built → HasSourcesBelow built
+pub edges_from : {levels : List ℕ} (edges : List Order) (d : Declared) (built : List ScheduledSystem) → AreEdges (hierarchy_of d) (declared_orders d) edges → AreScheduled edges levels d.systems built → HasSourcesBelow built
 edges_from edges d built are a m n e =
     let o = edge_known d m n (edge_of_step d edges are m n (step_of_edge edges d.systems built a m n e)) in
     omega (arith, o.0, a.long)
@@ -124,34 +123,46 @@ edges_small edges d are few k o low =
     let known = edge_known d here.first here.second (edge_of_step d edges are here.first here.second step) in
     record { first = omega (arith, known.0); second = omega (arith, known.1) }
 
-pub declared_systems : (edges : List Order) (d : Declared) (built : List ScheduledSystem) (order : List ℕ) → AreScheduled edges d.systems built → HasDeclaredSystems d (schedule_of built order)
+pub declared_systems : {levels : List ℕ} (edges : List Order) (d : Declared) (built : List ScheduledSystem) (order : List ℕ) → AreScheduled edges levels d.systems built → HasDeclaredSystems d (schedule_of built order)
 declared_systems edges d built order a =
     let systems = d.systems in
     let f : ScheduledSystem → Params = λ s. s.params in
     let g : DeclaredSystem → Params = λ s. s.params in
-    let none : DeclaredSystem = record { item = record { name = []; inside = []; before = []; after = [] }; params = no_params } in
+    let none : DeclaredSystem = record { item = plain_item []; params = no_params } in
     let nothing : ScheduledSystem = record { params = no_params; predecessors = []; level = 0 } in
     same_lists (map f built) (map g systems) (length-map built f ∙ (a.long ∙ sym (length-map systems g))) (λ k x l.
     let low : k < length built = omega (arith, length-map built f) in
     let inside : k < length systems = omega (arith, a.long) in
     get_or-map f built k nothing x low ∙ (ap f (a.each k inside) ∙ sym (get_or-map g systems k none x inside)))
 
-pub no_levels : (edges : List Order) (systems : List DeclaredSystem) (built : List ScheduledSystem) (order : List ℕ) → AreScheduled edges systems built → (n : ℕ) → level_of (schedule_of built order) n ≡ 0
-no_levels edges systems built order a n = elim (cases_lt n (length systems)) [
+pub levels_are : (edges : List Order) (levels : List ℕ) (systems : List DeclaredSystem) (built : List ScheduledSystem) → AreScheduled edges levels systems built → (n : ℕ) → n < length systems → level_of (schedule_of built []) n ≡ get_or levels n 0
+levels_are edges levels systems built a n l = ap (λ (s : ScheduledSystem). s.level) (a.each n l)
+
+-- where no level is given, all are of level 0
+pub flat_levels : (edges : List Order) (systems : List DeclaredSystem) (built : List ScheduledSystem) → AreScheduled edges [] systems built → (n : ℕ) → level_of (schedule_of built []) n ≡ 0
+flat_levels edges systems built a n = elim (cases_lt n (length systems)) [
   | inl l ↦ ap (λ (s : ScheduledSystem). s.level) (a.each n l)
   | inr l ↦ ap (λ (s : ScheduledSystem). s.level) (get_or_past built n (record { params = no_params; predecessors = []; level = 0 }) (omega (arith, a.long)))
 ]
 
+pub flat_rises : (edges : List Order) (systems : List DeclaredSystem) (built : List ScheduledSystem) → AreScheduled edges [] systems built → AreRising built
+flat_rises edges systems built a m n e = omega (arith, flat_levels edges systems built a m, flat_levels edges systems built a n)
+
 -- ---- a built schedule
 
-pub is_built : (edges : List Order) (d : Declared) (built : List ScheduledSystem) (order : List ℕ) → AreEdges (hierarchy_of d) (declared_orders d) edges → AreScheduled edges d.systems built → length d.systems ≤ 256 → IsScheduleOrder (schedule_of built order) → IsBuilt (schedule_of built order)
-is_built edges d built order are a few s = record {
+-- a schedule of these systems in this order, with so many sync points
+abbrev pub with_syncs : List ScheduledSystem → ℕ → List ℕ → Schedule
+with_syncs systems syncs order = record { systems = systems; conditions = []; syncs = syncs; order = order }
+
+pub is_built : {levels : List ℕ} (edges : List Order) (d : Declared) (built : List ScheduledSystem) (syncs : ℕ) (order : List ℕ) → AreEdges (hierarchy_of d) (declared_orders d) edges → AreScheduled edges levels d.systems built → length d.systems ≤ 256
+    → IsScheduleOrder (schedule_of built order) → AreRising built → ((n : ℕ) → n < length built → level_of (schedule_of built []) n < syncs) → syncs ≤ 257 → IsBuilt (with_syncs built syncs order)
+is_built edges d built syncs order are a few s rising below few_syncs = record {
   few_systems = omega (arith, a.long);
   few_conditions = omega arith;
-  few_syncs = omega arith;
+  few_syncs = few_syncs;
   sources = edges_from edges d built are a;
-  rising = λ m n e. omega (arith, no_levels edges d.systems built order a m, no_levels edges d.systems built order a n);
-  levels = λ n l. omega (arith, no_levels edges d.systems built order a n);
+  rising = λ m n e. rising m n e;
+  levels = λ n l. below n l;
   listed = s.whole;
   known = λ n h. let p = split_at n order h in (s.next p.0 p.1 n p.2).placeable.known;
   once = λ front rest n e. (s.next front rest n e).placeable.open_yet;
@@ -161,7 +172,7 @@ is_built edges d built order are a few s = record {
 }
 
 -- systems whose parameters don't conflict among themselves as declared don't in the schedule
-pub are_apart : (edges : List Order) (d : Declared) (built : List ScheduledSystem) → AreScheduled edges d.systems built → HasNoSelfConflict d → AreApart built
+pub are_apart : {levels : List ℕ} (edges : List Order) (d : Declared) (built : List ScheduledSystem) → AreScheduled edges levels d.systems built → HasNoSelfConflict d → AreApart built
 are_apart edges d built a none = record {
   apart = λ n l h.
       let low : n < length d.systems = omega (arith, a.long) in
@@ -170,18 +181,18 @@ are_apart edges d built a none = record {
 
 -- ---- one more system
 
-pub scheduled_more : (orders : List Order) (systems : List DeclaredSystem) (built : List ScheduledSystem) (s : DeclaredSystem) → AreScheduled orders systems built → AreScheduled orders (systems ++ s ∷ []) (built ++ scheduled orders (length built) s.params ∷ [])
+pub scheduled_more : (orders : List Order) (systems : List DeclaredSystem) (built : List ScheduledSystem) (s : DeclaredSystem) → AreScheduled orders [] systems built → AreScheduled orders [] (systems ++ s ∷ []) (built ++ scheduled orders (length built) s.params 0 ∷ [])
 scheduled_more orders systems built s a =
-    let none : DeclaredSystem = record { item = record { name = []; inside = []; before = []; after = [] }; params = no_params } in
+    let none : DeclaredSystem = record { item = plain_item []; params = no_params } in
     let nothing : ScheduledSystem = record { params = no_params; predecessors = []; level = 0 } in
-    let new : ScheduledSystem = scheduled orders (length built) s.params in
+    let new : ScheduledSystem = scheduled orders (length built) s.params 0 in
     record {
       long = length_push built new ∙ (ap (λ (k : ℕ). k + 1) a.long ∙ sym (length_push systems s));
       each = λ n l. elim (cases_lt n (length systems)) [
-        | inl low ↦ get_or_append_left built (new ∷ []) nothing n (omega (arith, a.long)) ∙ (a.each n low ∙ ap (λ (x : DeclaredSystem). scheduled orders n x.params) (sym (get_or_append_left systems (s ∷ []) none n low)))
+        | inl low ↦ get_or_append_left built (new ∷ []) nothing n (omega (arith, a.long)) ∙ (a.each n low ∙ ap (λ (x : DeclaredSystem). scheduled orders n x.params 0) (sym (get_or_append_left systems (s ∷ []) none n low)))
         | inr high ↦
             let at : length systems ≡ n = omega (arith, length_push systems s) in
             let here : length built ≡ n = a.long ∙ at in
-            get_or_push built new nothing n here ∙ (ap (λ (k : ℕ). scheduled orders k s.params) here ∙ ap (λ (x : DeclaredSystem). scheduled orders n x.params) (sym (get_or_push systems s none n at)))
+            get_or_push built new nothing n here ∙ (ap (λ (k : ℕ). scheduled orders k s.params 0) here ∙ ap (λ (x : DeclaredSystem). scheduled orders n x.params 0) (sym (get_or_push systems s none n at)))
       ];
     }

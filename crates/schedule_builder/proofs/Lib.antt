@@ -6,3 +6,5 @@ pub mod SystemSets
 pub mod Counting
 pub mod Counted
 mod Listings
+pub mod LevelSteps
+pub mod Levelling

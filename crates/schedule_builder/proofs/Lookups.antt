@@ -1,5 +1,5 @@
--- What a table of places by name tells of declared items, and what is looked up in it.
-use Rattle.std.proofs.Common.{◌≡◌, ℕ, zero, suc, ◌<◌, ◌≤◌, ◌+◌, inl, inr, Bool, true, false, cond, List, [], ◌∷◌, ◌++◌, length, map, flat_map, get_or, take, Option, Some, None, is_some, unwrap_or, string_bytes, refl, arith, subst, sym, ap, ◌∙◌}
+-- What a table of places by name tells of declared items, what is looked up in it, and the numbers of what is declared.
+use Rattle.std.proofs.Common.{◌≡◌, ℕ, zero, suc, ◌<◌, ◌≤◌, ◌+◌, inl, inr, Bool, true, false, cond, List, [], ◌∷◌, ◌++◌, length, map, flat_map, get_or, take, Option, Some, None, Result, Ok, Err, IfErr, OnOk, is_some, unwrap_or, string_bytes, refl, arith, subst, sym, ap, ◌∙◌}
 use Rattle.std.specs.declared.alloc.Global.{Global}
 use Rattle.std.specs.declared.string.String.{String}
 use Rattle.std.specs.Str.{bytes_eq}
@@ -9,16 +9,15 @@ use Rattle.std.proofs.lemmas.Bool.{false≢true}
 use Rattle.std.proofs.lemmas.List.{append-nil, append_assoc, map-append, take_more, take_all, length-append}
 use Rattle.std.proofs.lemmas.List.Concat.{flat_map-append}
 use Rattle.model.specs.declarations.Walks.{EachIs, IsFirstBad}
-use Rattle.model.specs.declarations.Declarations.{Declared, DeclaredItem, items_of, item_at, name_of, first_named, number_of, IsNamedBelow, names_in, looked_up, holders_in, orders_in, from_each}
-use Rattle.model.specs.declarations.Refusals.{RepeatsName, IsKnown}
-use Rattle.cycle_search.specs.declared.order.Order.{Order}
-use Rattle.cycle_search.specs.Orders.{IsBetween}
-use Rattle.system_set.specs.Pairs.{pair_of, pairs_of, IsPlaced}
+use Rattle.model.specs.declarations.Declarations.{Declared, DeclaredItem, DeclaredChain, plain_item, items_of, name_of, first_named, number_of, bounded, names_in, names_along, looked_up, holders_in, orders_before, orders_after, orders_in, plain_orders_in, neighbours, orders_along, plain_orders_along, from_each, hierarchy_of, declared_orders, plain_orders}
+use Rattle.model.specs.declarations.Refusals.{RepeatsName, IsKnown, KnowsNames}
 use Rattle.schedule_builder.specs.declared.fault.BuildFault.{BuildFault}
-use Rattle.schedule_builder.specs.declared.fault.BuildFault.TheVariants.{UnknownName, DuplicateName, HierarchyLoop, HierarchyCycle, DependencyLoop, CrossDependency, SetsIntersect, DependencyCycle, SelfConflict, BadQuery, OverLimit, Memory}
+use Rattle.schedule_builder.specs.declared.fault.BuildFault.TheVariants.{UnknownName}
 use Rattle.schedule_builder.specs.Answers.{IsAnswered}
-use Rattle.schedule_builder.specs.Orders.{Places, IsPlaceAmong, TellsPlaces, place_in, IsBelow, orders_before, orders_after, TellsMissing, TellsLacking, AreDeclaredBy, AreDeclared}
-use Rattle.model.proofs.lists.Firsts.{EachIs-append, EachIs-at, EachIs-weaker, EachIs-map, IsFirstBad-front, IsFirstBad-rest}
+use Rattle.cycle_search.specs.declared.order.Order.{Order}
+use Rattle.system_set.specs.Pairs.{pair_of, pairs_of}
+use Rattle.schedule_builder.specs.Orders.{Places, IsPlaceAmong, TellsPlaces, IsLacking, IsWhole, link}
+use Rattle.model.proofs.lists.Firsts.{EachIs-append, IsFirstBad-front, IsFirstBad-rest, each_in, first_here}
 
 -- ---- one more name in the table
 
@@ -51,8 +50,8 @@ repeats_not d places n t l (Some p) e h r =
 -- ---- the number of a name
 
 -- no item
-abbrev no_item : DeclaredItem
-no_item = record { name = []; inside = []; before = []; after = [] }
+abbrev pub no_item : DeclaredItem
+no_item = plain_item []
 
 named_here : (i : DeclaredItem) (items : List DeclaredItem) (x : List ℕ) → i.name ≡ x → first_named (i ∷ items) x ≡ 0
 named_here i items x same = ap (λ (b : Bool). cond b 0 (suc (first_named items x))) ((bytes_eq-Decides i.name x).1 same)
@@ -70,78 +69,92 @@ first_named-is (i ∷ items) x zero low here before = named_here i items x here
 first_named-is (i ∷ items) x (suc p) low here before =
     named_later i items x (before 0 (omega arith)) ∙ ap suc (first_named-is items x p (omega arith) here (λ m l e. before (suc m) (omega arith) e))
 
+-- ---- the number of a name, from the table
+
+first_named-none : (items : List DeclaredItem) (x : List ℕ) → ((m : ℕ) → m < length items → (get_or items m no_item).name ≡ x → ⊥) → first_named items x ≡ length items
+first_named-none [] x none = refl
+first_named-none (i ∷ items) x none = named_later i items x (none 0 (omega arith)) ∙ ap suc (first_named-none items x (λ m l e. none (suc m) (omega arith) e))
+
+place_by : (d : Declared) (x : List ℕ) (o : Option ℕ) → IsPlaceAmong d (length (items_of d)) x o → number_of d x ≡ unwrap_or o (length (items_of d))
+place_by d x (Some p) h = first_named-is (items_of d) x p h.0 h.1 h.2
+place_by d x None h = first_named-none (items_of d) x h
+
+pub place_is : (d : Declared) (places : Places) (x : List ℕ) → TellsPlaces d places → number_of d x ≡ unwrap_or (get_by_text places x) (length (items_of d))
+place_is d places x t = place_by d x (get_by_text places x) (t.tells x)
+
+-- ---- names that are known
+
+here_by : (i : DeclaredItem) (items : List DeclaredItem) (x : List ℕ) → (first_named items x < length items → (get_or items (first_named items x) no_item).name ≡ x) → (b : Bool) → bytes_eq i.name x ≡ b → first_named (i ∷ items) x < suc (length items)
+    → (get_or (i ∷ items) (first_named (i ∷ items) x) no_item).name ≡ x
+here_by i items x later true e l =
+    let same : i.name ≡ x = (bytes_eq-Decides i.name x).0 e in
+    subst (λ (k : ℕ). (get_or (i ∷ items) k no_item).name ≡ x) (sym (named_here i items x same)) same
+here_by i items x later false e l =
+    let other : first_named (i ∷ items) x ≡ suc (first_named items x) = ap (λ (b : Bool). cond b 0 (suc (first_named items x))) e in
+    subst (λ (k : ℕ). (get_or (i ∷ items) k no_item).name ≡ x) (sym other) (later (omega (arith, other)))
+
+first_named-here : (items : List DeclaredItem) (x : List ℕ) → first_named items x < length items → (get_or items (first_named items x) no_item).name ≡ x
+first_named-here [] x l = absurd (omega arith)
+first_named-here (i ∷ items) x l = here_by i items x (first_named-here items x) (bytes_eq i.name x) refl l
+
+least_by : (i : DeclaredItem) (items : List DeclaredItem) (x : List ℕ) (n : ℕ) → first_named items x ≤ n → (b : Bool) → bytes_eq i.name x ≡ b → first_named (i ∷ items) x ≤ suc n
+least_by i items x n low true f = let first : first_named (i ∷ items) x ≡ 0 = ap (λ (b : Bool). cond b 0 (suc (first_named items x))) f in omega arith
+least_by i items x n low false f = let later : first_named (i ∷ items) x ≡ suc (first_named items x) = ap (λ (b : Bool). cond b 0 (suc (first_named items x))) f in omega arith
+
+first_named-least : (items : List DeclaredItem) (x : List ℕ) (n : ℕ) → n < length items → (get_or items n no_item).name ≡ x → first_named items x ≤ n
+first_named-least [] x n l e = absurd (omega arith)
+first_named-least (i ∷ items) x zero l e = omega (arith, named_here i items x e)
+first_named-least (i ∷ items) x (suc n) l e = least_by i items x n (first_named-least items x n (omega arith) e) (bytes_eq i.name x) refl
+
+pub is_known : (d : Declared) (bound : ℕ) (x : List ℕ) → bound ≤ length (items_of d) → number_of d x < bound → IsKnown d (bound, x)
+is_known d bound x few l = (number_of d x, l, first_named-here (items_of d) x (omega arith))
+
+pub known_below : (d : Declared) (bound : ℕ) (x : List ℕ) → bound ≤ length (items_of d) → IsKnown d (bound, x) → number_of d x < bound
+known_below d bound x few named =
+    let low : named.0 < bound = named.1 in
+    let least : number_of d x ≤ named.0 = first_named-least (items_of d) x named.0 (omega arith) named.2 in
+    omega arith
+
 -- ---- names that are looked up
 
-found_at : (d : Declared) (bound : ℕ) (x : List ℕ) (o : Option ℕ) → IsPlaceAmong d (length (items_of d)) x o → IsBelow bound o → (unwrap_or o 0 < bound) × (number_of d x ≡ unwrap_or o 0) × (name_of d (unwrap_or o 0) ≡ x)
-found_at d bound x (Some p) h s = (s, first_named-is (items_of d) x p h.0 h.1 h.2, h.1)
-found_at d bound x None h s = absurd s
-
-pub found_place : (d : Declared) (places : Places) (bound : ℕ) → TellsPlaces d places → (x : List ℕ) → IsBelow bound (get_by_text places x) → (place_in places x < bound) × (number_of d x ≡ place_in places x) × (name_of d (place_in places x) ≡ x)
-found_place d places bound t x s = found_at d bound x (get_by_text places x) (t.tells x) s
-
-pub is_known : (d : Declared) (places : Places) (bound : ℕ) → TellsPlaces d places → (x : List ℕ) → IsBelow bound (get_by_text places x) → IsNamedBelow d bound x
-is_known d places bound t x s = let f = found_place d places bound t x s in (place_in places x, f.0, f.2)
-
-not_known_by : (d : Declared) (bound : ℕ) (x : List ℕ) (o : Option ℕ) → bound ≤ length (items_of d) → IsPlaceAmong d (length (items_of d)) x o → (IsBelow bound o → ⊥) → IsNamedBelow d bound x → ⊥
-not_known_by d bound x None few h none named = let low : named.0 < bound = named.1 in h named.0 (omega arith) named.2
-not_known_by d bound x (Some p) few h none named =
-    let high : bound ≤ p = omega (arith, none) in
-    let low : named.0 < bound = named.1 in
-    h.2 named.0 (omega arith) named.2
-
-pub not_known : (d : Declared) (places : Places) (bound : ℕ) → TellsPlaces d places → bound ≤ length (items_of d) → (x : List ℕ) → (IsBelow bound (get_by_text places x) → ⊥) → IsNamedBelow d bound x → ⊥
-not_known d places bound t few x none named = not_known_by d bound x (get_by_text places x) few (t.tells x) none named
-
--- the first of some names that is not known, among all that are looked up
-tells_lacking : (places : Places) (bound : ℕ) (front : List (List ℕ)) (x : List ℕ) (rest : List (List ℕ)) (fault : BuildFault) → EachIs (λ y. IsBelow bound (get_by_text places y)) front → TellsMissing places bound x fault →
-    TellsLacking places bound (front ++ x ∷ rest) fault
-tells_lacking places bound front x rest (UnknownName told) e h =
-    subst (λ (y : List ℕ). IsFirstBad (λ z. IsBelow bound (get_by_text places z)) (λ z. IsBelow bound (get_by_text places z) → ⊥) (front ++ x ∷ rest) y) (sym h.0)
-    (IsFirstBad-rest (λ z. IsBelow bound (get_by_text places z)) (λ z. IsBelow bound (get_by_text places z) → ⊥) front (x ∷ rest) x e (inl (refl, h.1)))
-tells_lacking places bound front x rest (DuplicateName told) e h = h
-tells_lacking places bound front x rest (HierarchyLoop told) e h = h
-tells_lacking places bound front x rest (HierarchyCycle told) e h = h
-tells_lacking places bound front x rest (DependencyLoop told) e h = h
-tells_lacking places bound front x rest (CrossDependency item holder) e h = h
-tells_lacking places bound front x rest (SetsIntersect first second system) e h = h
-tells_lacking places bound front x rest (DependencyCycle told) e h = h
-tells_lacking places bound front x rest (SelfConflict told) e h = h
-tells_lacking places bound front x rest (BadQuery owner query fault) e h = h
-tells_lacking places bound front x rest (OverLimit limit) e h = h
-tells_lacking places bound front x rest Memory e h = tt
-
-IsFirstBad-map : {A B : Type 0} (Good Bad : A → Type 0) (Fine Ill : B → Type 0) (f : A → B) (xs : List A) (x : A) → ((y : A) → Good y → Fine (f y)) → ((y : A) → Bad y → Ill (f y)) → IsFirstBad Good Bad xs x → IsFirstBad Fine Ill (map f xs) (f x)
-IsFirstBad-map Good Bad Fine Ill f [] x g b h = h
-IsFirstBad-map Good Bad Fine Ill f (y ∷ xs) x g b (inl h) = inl (ap f h.0, b y h.1)
-IsFirstBad-map Good Bad Fine Ill f (y ∷ xs) x g b (inr h) = inr (g y h.0, IsFirstBad-map Good Bad Fine Ill f xs x g b h.1)
-
 -- a name with how many items it may name
-abbrev pub with_bound : ℕ → List ℕ → ℕ × List ℕ
-with_bound bound name = (bound, name)
+abbrev pub with_bound : ℕ → String Global → ℕ × List ℕ
+with_bound bound name = (bound, string_bytes name)
 
-lacking_answered : (d : Declared) (places : Places) (bound : ℕ) → TellsPlaces d places → bound ≤ length (items_of d) → (front : List (ℕ × List ℕ)) (names : List (List ℕ)) (rest : List (ℕ × List ℕ)) (fault : BuildFault) →
-    looked_up d ≡ front ++ (map (with_bound bound) names ++ rest) → EachIs (IsKnown d) front → TellsLacking places bound names fault → IsAnswered d fault
-lacking_answered d places bound t few front names rest (UnknownName told) e k h =
-    let here = IsFirstBad-map (λ x. IsBelow bound (get_by_text places x)) (λ x. IsBelow bound (get_by_text places x) → ⊥) (IsKnown d) (λ x. IsKnown d x → ⊥) (with_bound bound) names (string_bytes told)
-    (is_known d places bound t) (not_known d places bound t few) h in
-    record {
-      bound = bound;
-      first =
-          subst (λ xs. IsFirstBad (IsKnown d) (λ x. IsKnown d x → ⊥) xs (bound, string_bytes told)) (sym e)
-          (IsFirstBad-rest (IsKnown d) (λ x. IsKnown d x → ⊥) front (map (with_bound bound) names ++ rest) (bound, string_bytes told) k
-          (IsFirstBad-front (IsKnown d) (λ x. IsKnown d x → ⊥) (map (with_bound bound) names) rest (bound, string_bytes told) here));
-    }
-lacking_answered d places bound t few front names rest (DuplicateName told) e k h = absurd h
-lacking_answered d places bound t few front names rest (HierarchyLoop told) e k h = absurd h
-lacking_answered d places bound t few front names rest (HierarchyCycle told) e k h = absurd h
-lacking_answered d places bound t few front names rest (DependencyLoop told) e k h = absurd h
-lacking_answered d places bound t few front names rest (CrossDependency item holder) e k h = absurd h
-lacking_answered d places bound t few front names rest (SetsIntersect first second system) e k h = absurd h
-lacking_answered d places bound t few front names rest (DependencyCycle told) e k h = absurd h
-lacking_answered d places bound t few front names rest (SelfConflict told) e k h = absurd h
-lacking_answered d places bound t few front names rest (BadQuery owner query fault) e k h = absurd h
-lacking_answered d places bound t few front names rest (OverLimit limit) e k h = absurd h
-lacking_answered d places bound t few front names rest Memory e k h = tt
+pub bounded-names : (bound : ℕ) (names : List (String Global)) → bounded bound (map string_bytes names) ≡ map (with_bound bound) names
+bounded-names bound [] = refl
+bounded-names bound (x ∷ names) = ap (λ ys. with_bound bound x ∷ ys) (bounded-names bound names)
+
+pub lacks_here : (d : Declared) (bound : ℕ) (names : List (String Global)) (i : ℕ) (x told : String Global) → bound ≤ length (items_of d) → i < length names → x ≡ get_or names i x →
+    EachIs (IsKnown d) (map (with_bound bound) (take i names)) → bound ≤ number_of d (string_bytes x) → string_bytes told ≡ string_bytes x → IsLacking d (bounded bound (map string_bytes names)) (UnknownName told)
+lacks_here d bound names i x told few l e known high same = inr (record {
+  name = told;
+  told = refl;
+  bound = bound;
+  first =
+      subst (λ ys. IsFirstBad (IsKnown d) (λ y. IsKnown d y → ⊥) ys (bound, string_bytes told)) (sym (bounded-names bound names))
+      (subst (λ y. IsFirstBad (IsKnown d) (λ z. IsKnown d z → ⊥) (map (with_bound bound) names) (bound, y)) (sym same)
+      (first_here (IsKnown d) (λ y. IsKnown d y → ⊥) (with_bound bound) names i x l e known
+      (λ k. let low : number_of d (string_bytes x) < bound = known_below d bound (string_bytes x) few k in absurd (omega arith))));
+})
+
+pub lacking_front : (d : Declared) (xs ys : List (ℕ × List ℕ)) (fault : BuildFault) → IsLacking d xs fault → IsLacking d (xs ++ ys) fault
+lacking_front d xs ys fault (inl e) = inl e
+lacking_front d xs ys fault (inr h) = inr (record { name = h.name; told = h.told; bound = h.bound; first = IsFirstBad-front (IsKnown d) (λ x. IsKnown d x → ⊥) xs ys (h.bound, string_bytes h.name) h.first })
+
+pub lacking_rest : (d : Declared) (xs ys : List (ℕ × List ℕ)) (fault : BuildFault) → EachIs (IsKnown d) xs → IsLacking d ys fault → IsLacking d (xs ++ ys) fault
+lacking_rest d xs ys fault k (inl e) = inl e
+lacking_rest d xs ys fault k (inr h) = inr (record { name = h.name; told = h.told; bound = h.bound; first = IsFirstBad-rest (IsKnown d) (λ x. IsKnown d x → ⊥) xs ys (h.bound, string_bytes h.name) k h.first })
+
+pub known_both : (d : Declared) (xs ys : List (ℕ × List ℕ)) → EachIs (IsKnown d) xs → EachIs (IsKnown d) ys → EachIs (IsKnown d) (xs ++ ys)
+known_both d xs ys h k = EachIs-append (IsKnown d) xs ys h k
+
+-- what is lacking among all names is told
+pub lacking_answered : (d : Declared) (fault : BuildFault) → IsLacking d (looked_up d) fault → IsAnswered d fault
+lacking_answered d fault (inl e) = subst (λ (f : BuildFault). IsAnswered d f) (sym e) tt
+lacking_answered d fault (inr h) = subst (λ (f : BuildFault). IsAnswered d f) (sym h.told) (record { bound = h.bound; first = h.first })
+
+-- ---- one element after the other
 
 -- the elements that a function makes of those before one, of this one, and of those after it
 flat_map-split : {A B : Type 0} (f : A → List B) (xs : List A) (i : ℕ) (d : A) → i < length xs → (rest : List B) × (flat_map f xs ≡ flat_map f (take i xs) ++ (f (get_or xs i d) ++ rest))
@@ -151,99 +164,23 @@ flat_map-split f (x ∷ xs) (suc i) d l =
     let r = flat_map-split f xs i d (omega arith) in
     (r.0, ap (λ ys. f x ++ ys) r.1 ∙ sym (append_assoc (f x) (flat_map f (take i xs)) (f (get_or xs i d) ++ r.0)))
 
-map-split : {A B : Type 0} (f : A → B) (xs : List A) (i : ℕ) (x : A) → i < length xs → x ≡ get_or xs i x → (rest : List B) × (map f xs ≡ map f (take i xs) ++ f x ∷ rest)
-map-split f [] i x l e = absurd (omega arith)
-map-split f (y ∷ xs) zero x l e = (map f xs, ap (λ z. f z ∷ map f xs) (sym e))
-map-split f (y ∷ xs) (suc i) x l e = let r = map-split f xs i x (omega arith) e in (r.0, ap (λ zs. f y ∷ zs) r.1)
+pub flat_map-one_more : {A B : Type 0} (f : A → List B) (xs : List A) (i : ℕ) (d : A) → i < length xs → flat_map f (take (i + 1) xs) ≡ flat_map f (take i xs) ++ f (get_or xs i d)
+flat_map-one_more f xs i d l = ap (flat_map f) (take_more xs i d l) ∙ (flat_map-append f (take i xs) (get_or xs i d ∷ []) ∙ ap (λ ys. flat_map f (take i xs) ++ ys) (append-nil (f (get_or xs i d))))
 
-pub lacking_at : (places : Places) (bound : ℕ) (names : List (String Global)) (i : ℕ) (x : String Global) (fault : BuildFault) → i < length names → x ≡ get_or names i x
-    → EachIs (λ y. IsBelow bound (get_by_text places y)) (map string_bytes (take i names)) → TellsMissing places bound (string_bytes x) fault → TellsLacking places bound (map string_bytes names) fault
-lacking_at places bound names i x fault l e k h =
-    let r = map-split string_bytes names i x l e in
-    subst (λ (ys : List (List ℕ)). TellsLacking places bound ys fault) (sym r.1) (tells_lacking places bound (map string_bytes (take i names)) (string_bytes x) r.0 fault k h)
+pub lacking_at : {A : Type 0} (d : Declared) (f : A → List (ℕ × List ℕ)) (xs : List A) (i : ℕ) (x : A) (fault : BuildFault) → i < length xs → EachIs (IsKnown d) (flat_map f (take i xs)) → IsLacking d (f (get_or xs i x)) fault → IsLacking d (flat_map f xs) fault
+lacking_at d f xs i x fault l k h =
+    let r = flat_map-split f xs i x l in
+    subst (λ ys. IsLacking d ys fault) (sym r.1) (lacking_rest d (flat_map f (take i xs)) (f (get_or xs i x) ++ r.0) fault k (lacking_front d (f (get_or xs i x)) r.0 fault h))
 
--- ---- one item
+pub known_more : {A : Type 0} (d : Declared) (f : A → List (ℕ × List ℕ)) (xs : List A) (i : ℕ) (x : A) → i < length xs → EachIs (IsKnown d) (flat_map f (take i xs)) → EachIs (IsKnown d) (f (get_or xs i x)) → EachIs (IsKnown d) (flat_map f (take (i + 1) xs))
+known_more d f xs i x l k h = subst (λ ys. EachIs (IsKnown d) ys) (sym (flat_map-one_more f xs i x l)) (known_both d (flat_map f (take i xs)) (f (get_or xs i x)) k h)
 
--- names of an item that is looked at, the first of which is not known
-abbrev pub looked_before : Declared → ℕ → List (ℕ × List ℕ)
-looked_before d i = flat_map (names_in (length d.sets) (length (items_of d))) (take i (items_of d))
+pub known_all : {A : Type 0} (d : Declared) (f : A → List (ℕ × List ℕ)) (xs : List A) (i : ℕ) → length xs ≤ i → EachIs (IsKnown d) (flat_map f (take i xs)) → EachIs (IsKnown d) (flat_map f xs)
+known_all d f xs i l k = subst (λ ys. EachIs (IsKnown d) (flat_map f ys)) (take_all i xs l) k
 
-answered_at : (d : Declared) (places : Places) (i bound : ℕ) (early rest : List (ℕ × List ℕ)) (names : List (List ℕ)) (fault : BuildFault) → TellsPlaces d places → bound ≤ length (items_of d) → i < length (items_of d) →
-    EachIs (IsKnown d) (looked_before d i) → EachIs (IsKnown d) early → names_in (length d.sets) (length (items_of d)) (item_at d i) ≡ early ++ (map (with_bound bound) names ++ rest) → TellsLacking places bound names fault →
-    IsAnswered d fault
-answered_at d places i bound early rest names fault t few l k first has lacking =
-    let f = names_in (length d.sets) (length (items_of d)) in
-    let r = flat_map-split f (items_of d) i no_item l in
-    let front : List (ℕ × List ℕ) = looked_before d i in
-    let mine = map (with_bound bound) names in
-    lacking_answered d places bound t few (front ++ early) names (rest ++ r.0) fault
-    (r.1 ∙ (ap (λ ys. front ++ (ys ++ r.0)) has ∙ (ap (λ ys. front ++ ys) (append_assoc early (mine ++ rest) r.0 ∙ ap (λ ys. early ++ ys) (append_assoc mine rest r.0)) ∙ sym (append_assoc front early (mine ++ (rest ++ r.0))))))
-    (EachIs-append (IsKnown d) front early k first) lacking
+-- ---- one item more, and one chain more
 
-all_known : (d : Declared) (places : Places) (bound : ℕ) → TellsPlaces d places → (names : List (List ℕ)) → EachIs (λ x. IsBelow bound (get_by_text places x)) names → EachIs (IsKnown d) (map (with_bound bound) names)
-all_known d places bound t names each = EachIs-map (IsKnown d) (with_bound bound) names (EachIs-weaker (λ x. IsBelow bound (get_by_text places x)) (λ x. IsKnown d (with_bound bound x)) names (is_known d places bound t) each)
-
-sets_few : (d : Declared) → length d.sets ≤ length (items_of d)
-sets_few d = rw (length-append d.sets (map (λ s. s.item) d.systems)) (omega arith)
-
-pub inside_answered : (d : Declared) (places : Places) (i : ℕ) (fault : BuildFault) → TellsPlaces d places → i < length (items_of d) → EachIs (IsKnown d) (looked_before d i) → TellsLacking places (length d.sets) (item_at d i).inside fault → IsAnswered d fault
-inside_answered d places i fault t l k lacking =
-    let item : DeclaredItem = item_at d i in
-    let count = length (items_of d) in
-    answered_at d places i (length d.sets) [] (map (with_bound count) item.before ++ map (with_bound count) item.after) item.inside fault t (sets_few d) l k tt refl lacking
-
-pub before_answered : (d : Declared) (places : Places) (i : ℕ) (fault : BuildFault) → TellsPlaces d places → i < length (items_of d) → EachIs (IsKnown d) (looked_before d i) →
-    EachIs (λ x. IsBelow (length d.sets) (get_by_text places x)) (item_at d i).inside → TellsLacking places (length (items_of d)) (item_at d i).before fault → IsAnswered d fault
-before_answered d places i fault t l k inside lacking =
-    let item : DeclaredItem = item_at d i in
-    let count = length (items_of d) in
-    answered_at d places i count (map (with_bound (length d.sets)) item.inside) (map (with_bound count) item.after) item.before fault t (omega arith) l k
-    (all_known d places (length d.sets) t item.inside inside) refl lacking
-
-pub after_answered : (d : Declared) (places : Places) (i : ℕ) (fault : BuildFault) → TellsPlaces d places → i < length (items_of d) → EachIs (IsKnown d) (looked_before d i) →
-    EachIs (λ x. IsBelow (length d.sets) (get_by_text places x)) (item_at d i).inside → EachIs (λ x. IsBelow (length (items_of d)) (get_by_text places x)) (item_at d i).before →
-    TellsLacking places (length (items_of d)) (item_at d i).after fault → IsAnswered d fault
-after_answered d places i fault t l k inside before lacking =
-    let item : DeclaredItem = item_at d i in
-    let count = length (items_of d) in
-    let sets = map (with_bound (length d.sets)) item.inside in
-    let firsts = map (with_bound count) item.before in
-    let seconds = map (with_bound count) item.after in
-    answered_at d places i count (sets ++ firsts) [] item.after fault t (omega arith) l k
-    (EachIs-append (IsKnown d) sets firsts (all_known d places (length d.sets) t item.inside inside) (all_known d places count t item.before before))
-    (sym (append_assoc sets firsts (seconds ++ []) ∙ ap (λ ys. sets ++ (firsts ++ ys)) (append-nil seconds))) lacking
-
--- ---- pairs and orders by number
-
-numbered_before : (d : Declared) (places : Places) (bound n : ℕ) → TellsPlaces d places → (names : List (List ℕ)) → EachIs (λ x. IsBelow bound (get_by_text places x)) names
-    → pairs_of (orders_before places n names) ≡ map (λ name. (n, number_of d name)) names
-numbered_before d places bound n t [] e = refl
-numbered_before d places bound n t (x ∷ names) e =
-    ap (λ (k : ℕ). (n, k) ∷ pairs_of (orders_before places n names)) (sym (found_place d places bound t x e.0).1)
-    ∙ ap (λ ys. (n, number_of d x) ∷ ys) (numbered_before d places bound n t names e.1)
-
-numbered_after : (d : Declared) (places : Places) (bound n : ℕ) → TellsPlaces d places → (names : List (List ℕ)) → EachIs (λ x. IsBelow bound (get_by_text places x)) names
-    → pairs_of (orders_after places n names) ≡ map (λ name. (number_of d name, n)) names
-numbered_after d places bound n t [] e = refl
-numbered_after d places bound n t (x ∷ names) e =
-    ap (λ (k : ℕ). (k, n) ∷ pairs_of (orders_after places n names)) (sym (found_place d places bound t x e.0).1)
-    ∙ ap (λ ys. (number_of d x, n) ∷ ys) (numbered_after d places bound n t names e.1)
-
-placed_inside : (d : Declared) (places : Places) (sets count n : ℕ) → n < count → TellsPlaces d places → (names : List (List ℕ)) → EachIs (λ x. IsBelow sets (get_by_text places x)) names → EachIs (IsPlaced sets count) (orders_before places n names)
-placed_inside d places sets count n l t [] e = tt
-placed_inside d places sets count n l t (x ∷ names) e = (record { item = l; holder = (found_place d places sets t x e.0).0 }, placed_inside d places sets count n l t names e.1)
-
-between_before : (d : Declared) (places : Places) (count n : ℕ) → n < count → TellsPlaces d places → (names : List (List ℕ)) → EachIs (λ x. IsBelow count (get_by_text places x)) names → EachIs (IsBetween count) (orders_before places n names)
-between_before d places count n l t [] e = tt
-between_before d places count n l t (x ∷ names) e = (record { first = l; second = (found_place d places count t x e.0).0 }, between_before d places count n l t names e.1)
-
-between_after : (d : Declared) (places : Places) (count n : ℕ) → n < count → TellsPlaces d places → (names : List (List ℕ)) → EachIs (λ x. IsBelow count (get_by_text places x)) names → EachIs (IsBetween count) (orders_after places n names)
-between_after d places count n l t [] e = tt
-between_after d places count n l t (x ∷ names) e = (record { first = (found_place d places count t x e.0).0; second = l }, between_after d places count n l t names e.1)
-
--- ---- one more item
-
-from_each-more : (f : ℕ → DeclaredItem → List (ℕ × ℕ)) (n : ℕ) (items : List DeclaredItem) (i : ℕ) → i < length items → from_each f n (take (suc i) items) ≡ from_each f n (take i items) ++ f (n + i) (get_or items i no_item)
+from_each-more : {A : Type 0} (f : ℕ → DeclaredItem → List A) (n : ℕ) (items : List DeclaredItem) (i : ℕ) → i < length items → from_each f n (take (suc i) items) ≡ from_each f n (take i items) ++ f (n + i) (get_or items i no_item)
 from_each-more f n [] i l = absurd (omega arith)
 from_each-more f n (x ∷ items) zero l = append-nil (f n x) ∙ (let same : n ≡ n + 0 = omega arith in ap (λ (k : ℕ). f k x) same)
 from_each-more f n (x ∷ items) (suc i) l =
@@ -251,97 +188,272 @@ from_each-more f n (x ∷ items) (suc i) l =
     ap (λ ys. f n x ++ ys) (from_each-more f (suc n) items i (omega arith) ∙ ap (λ (k : ℕ). from_each f (suc n) (take i items) ++ f k (get_or items i no_item)) same)
     ∙ sym (append_assoc (f n x) (from_each f (suc n) (take i items)) (f (n + suc i) (get_or items i no_item)))
 
-from_each-next : (f : ℕ → DeclaredItem → List (ℕ × ℕ)) (items : List DeclaredItem) (i : ℕ) → i < length items → from_each f 0 (take (i + 1) items) ≡ from_each f 0 (take i items) ++ f i (get_or items i no_item)
+pub from_each-next : {A : Type 0} (f : ℕ → DeclaredItem → List A) (items : List DeclaredItem) (i : ℕ) → i < length items → from_each f 0 (take (i + 1) items) ≡ from_each f 0 (take i items) ++ f i (get_or items i no_item)
 from_each-next f items i l =
     let next : i + 1 ≡ suc i = omega arith in
     let same : 0 + i ≡ i = omega arith in
     ap (λ (k : ℕ). from_each f 0 (take k items)) next ∙ (from_each-more f 0 items i l ∙ ap (λ (k : ℕ). from_each f 0 (take i items) ++ f k (get_or items i no_item)) same)
 
-flat_map-one_more : {A B : Type 0} (f : A → List B) (xs : List A) (i : ℕ) (d : A) → i < length xs → flat_map f (take (i + 1) xs) ≡ flat_map f (take i xs) ++ f (get_or xs i d)
-flat_map-one_more f xs i d l = ap (flat_map f) (take_more xs i d l) ∙ (flat_map-append f (take i xs) (get_or xs i d ∷ []) ∙ ap (λ ys. flat_map f (take i xs) ++ ys) (append-nil (f (get_or xs i d))))
+pub from_each-all : {A : Type 0} (f : ℕ → DeclaredItem → List A) (items : List DeclaredItem) (i : ℕ) → length items ≤ i → from_each f 0 (take i items) ≡ from_each f 0 items
+from_each-all f items i l = ap (from_each f 0) (take_all i items l)
 
-pub declared_none : (d : Declared) → AreDeclaredBy d 0 [] []
-declared_none d = record { held = refl; placed = tt; ordered = refl; between = tt; known = tt }
+pub sets_few : (d : Declared) → length d.sets ≤ length (items_of d)
+sets_few d = rw (length-append d.sets (map (λ s. s.item) d.systems)) (omega arith)
 
-pub declared_more : (d : Declared) (places : Places) (i : ℕ) (inside orders : List Order) → TellsPlaces d places → i < length (items_of d) → AreDeclaredBy d i inside orders →
-    EachIs (λ x. IsBelow (length d.sets) (get_by_text places x)) (item_at d i).inside → EachIs (λ x. IsBelow (length (items_of d)) (get_by_text places x)) (item_at d i).before →
-    EachIs (λ x. IsBelow (length (items_of d)) (get_by_text places x)) (item_at d i).after →
-    AreDeclaredBy d (i + 1) (inside ++ orders_before places i (item_at d i).inside) ((orders ++ orders_before places i (item_at d i).before) ++ orders_after places i (item_at d i).after)
-declared_more d places i inside orders t l h k b a =
-    let item : DeclaredItem = item_at d i in
-    let sets = length d.sets in
-    let count = length (items_of d) in
-    let holders : List Order = orders_before places i item.inside in
-    let first : List Order = orders_before places i item.before in
-    let second : List Order = orders_after places i item.after in
-    let names_before = map (with_bound count) item.before in
-    let names_after = map (with_bound count) item.after in
+-- ---- numbers are those of items
+
+-- a pair of numbers below bounds
+abbrev pub IsPairBelow : ℕ → ℕ → (ℕ × ℕ) → Type 0
+IsPairBelow m n p = (p.0 < m) × (p.1 < n)
+
+EachIs-front : {A : Type 0} (Good : A → Type 0) (xs ys : List A) → EachIs Good (xs ++ ys) → EachIs Good xs
+EachIs-front Good [] ys h = tt
+EachIs-front Good (x ∷ xs) ys h = (h.0, EachIs-front Good xs ys h.1)
+
+EachIs-back : {A : Type 0} (Good : A → Type 0) (xs ys : List A) → EachIs Good (xs ++ ys) → EachIs Good ys
+EachIs-back Good [] ys h = h
+EachIs-back Good (x ∷ xs) ys h = EachIs-back Good xs ys h.1
+
+-- what holds of all that a function makes holds of what it makes of each
+each_of_flat : {A B : Type 0} (Good : B → Type 0) (f : A → List B) (xs : List A) → EachIs Good (flat_map f xs) → EachIs (λ x. EachIs Good (f x)) xs
+each_of_flat Good f [] h = tt
+each_of_flat Good f (x ∷ xs) h = (EachIs-front Good (f x) (flat_map f xs) h, each_of_flat Good f xs (EachIs-back Good (f x) (flat_map f xs) h))
+
+flat_of_each : {A B : Type 0} (Fit : A → Type 0) (Good : B → Type 0) (f : A → List B) (xs : List A) → ((x : A) → Fit x → EachIs Good (f x)) → EachIs Fit xs → EachIs Good (flat_map f xs)
+flat_of_each Fit Good f [] g h = tt
+flat_of_each Fit Good f (x ∷ xs) g h = EachIs-append Good (f x) (flat_map f xs) (g x h.0) (flat_of_each Fit Good f xs g h.1)
+
+from_of_each : {A : Type 0} (Fit : DeclaredItem → Type 0) (Good : A → Type 0) (f : ℕ → DeclaredItem → List A) (count n : ℕ) (items : List DeclaredItem) → n + length items ≤ count → ((m : ℕ) (i : DeclaredItem) → m < count → Fit i → EachIs Good (f m i)) → EachIs Fit items
+    → EachIs Good (from_each f n items)
+from_of_each Fit Good f count n [] l g h = tt
+from_of_each Fit Good f count n (i ∷ items) l g h = EachIs-append Good (f n i) (from_each f (suc n) items) (g n i (omega arith) h.0) (from_of_each Fit Good f count (suc n) items (omega arith) g h.1)
+
+before_below : (d : Declared) (count bound n : ℕ) (names : List (List ℕ)) → n < count → bound ≤ length (items_of d) → EachIs (IsKnown d) (bounded bound names) → EachIs (IsPairBelow count bound) (orders_before d n names)
+before_below d count bound n [] l few h = tt
+before_below d count bound n (x ∷ names) l few h = ((l, known_below d bound x few h.0), before_below d count bound n names l few h.1)
+
+after_below : (d : Declared) (count bound n : ℕ) (names : List (List ℕ)) → n < count → bound ≤ length (items_of d) → EachIs (IsKnown d) (bounded bound names) → EachIs (IsPairBelow bound count) (orders_after d n names)
+after_below d count bound n [] l few h = tt
+after_below d count bound n (x ∷ names) l few h = ((known_below d bound x few h.0, l), after_below d count bound n names l few h.1)
+
+neighbours_below : (d : Declared) (names : List (List ℕ)) → EachIs (IsKnown d) (bounded (length (items_of d)) names) → EachIs (IsPairBelow (length (items_of d)) (length (items_of d))) (neighbours (map (number_of d) names))
+neighbours_below d [] h = tt
+neighbours_below d (x ∷ []) h = tt
+neighbours_below d (x ∷ y ∷ names) h =
+    ((known_below d (length (items_of d)) x (omega arith) h.0, known_below d (length (items_of d)) y (omega arith) h.1.0), neighbours_below d (y ∷ names) h.1)
+
+-- the parts of the names of an item
+abbrev IsItemKnown : Declared → DeclaredItem → Type 0
+IsItemKnown d i = EachIs (IsKnown d) (names_in (length d.sets) (length (items_of d)) i)
+
+record PartsKnown (d : Declared) (i : DeclaredItem) : Type 0 where
+  inside : EachIs (IsKnown d) (bounded (length d.sets) i.inside)
+  before : EachIs (IsKnown d) (bounded (length (items_of d)) i.before)
+  after : EachIs (IsKnown d) (bounded (length (items_of d)) i.after)
+  before_ignore : EachIs (IsKnown d) (bounded (length (items_of d)) i.before_ignore_deferred)
+  after_ignore : EachIs (IsKnown d) (bounded (length (items_of d)) i.after_ignore_deferred)
+  ambiguous : EachIs (IsKnown d) (bounded (length (items_of d)) i.ambiguous_with)
+
+parts_of : (d : Declared) (i : DeclaredItem) → IsItemKnown d i → PartsKnown d i
+parts_of d i h =
+    let count : ℕ = length (items_of d) in
+    let a = bounded (length d.sets) i.inside in
+    let b = bounded count i.before in
+    let e = bounded count i.after in
+    let f = bounded count i.before_ignore_deferred in
+    let g = bounded count i.after_ignore_deferred in
+    let k = bounded count i.ambiguous_with in
+    let h1 = EachIs-back (IsKnown d) a (b ++ (e ++ (f ++ (g ++ k)))) h in
+    let h2 = EachIs-back (IsKnown d) b (e ++ (f ++ (g ++ k))) h1 in
+    let h3 = EachIs-back (IsKnown d) e (f ++ (g ++ k)) h2 in
+    let h4 = EachIs-back (IsKnown d) f (g ++ k) h3 in
     record {
-      held =
-          map-append pair_of inside holders
-          ∙ (ap (λ ps. ps ++ pairs_of holders) h.held
-          ∙ (ap (λ ps. from_each (holders_in d) 0 (take i (items_of d)) ++ ps) (numbered_before d places sets i t item.inside k)
-          ∙ sym (from_each-next (holders_in d) (items_of d) i l)));
-      placed = EachIs-append (IsPlaced sets count) inside holders h.placed (placed_inside d places sets count i l t item.inside k);
-      ordered =
-          ap pairs_of (append_assoc orders first second)
-          ∙ (map-append pair_of orders (first ++ second)
-          ∙ (ap (λ ps. ps ++ pairs_of (first ++ second)) h.ordered
-          ∙ (ap (λ ps. from_each (orders_in d) 0 (take i (items_of d)) ++ ps)
-          (map-append pair_of first second
-          ∙ (ap (λ ps. ps ++ pairs_of second) (numbered_before d places count i t item.before b)
-          ∙ ap (λ ps. map (λ later. (i, number_of d later)) item.before ++ ps) (numbered_after d places count i t item.after a)))
-          ∙ sym (from_each-next (orders_in d) (items_of d) i l))));
-      between = EachIs-append (IsBetween count) (orders ++ first) second (EachIs-append (IsBetween count) orders first h.between (between_before d places count i l t item.before b)) (between_after d places count i l t item.after a);
-      known =
-          subst (λ xs. EachIs (IsKnown d) xs) (sym (flat_map-one_more (names_in sets count) (items_of d) i no_item l))
-          (EachIs-append (IsKnown d) (looked_before d i) (names_in sets count item) h.known
-          (EachIs-append (IsKnown d) (map (with_bound sets) item.inside) (names_before ++ names_after) (all_known d places sets t item.inside k)
-          (EachIs-append (IsKnown d) names_before names_after (all_known d places count t item.before b) (all_known d places count t item.after a))));
+      inside = EachIs-front (IsKnown d) a (b ++ (e ++ (f ++ (g ++ k)))) h;
+      before = EachIs-front (IsKnown d) b (e ++ (f ++ (g ++ k))) h1;
+      after = EachIs-front (IsKnown d) e (f ++ (g ++ k)) h2;
+      before_ignore = EachIs-front (IsKnown d) f (g ++ k) h3;
+      after_ignore = EachIs-front (IsKnown d) g k h4;
+      ambiguous = EachIs-back (IsKnown d) g k h4;
     }
 
--- with all items
-pub declared_all : (d : Declared) (n : ℕ) (inside orders : List Order) → length (items_of d) ≤ n → AreDeclaredBy d n inside orders → AreDeclared d inside orders
-declared_all d n inside orders past h =
-    let whole = take_all n (items_of d) past in
+plain_below : (d : Declared) (m : ℕ) (i : DeclaredItem) → m < length (items_of d) → IsItemKnown d i → EachIs (IsPairBelow (length (items_of d)) (length (items_of d))) (plain_orders_in d m i)
+plain_below d m i l h =
+    let p = parts_of d i h in
+    let count : ℕ = length (items_of d) in
+    EachIs-append (IsPairBelow count count) (orders_before d m i.before) (orders_after d m i.after) (before_below d count count m i.before l (omega arith) p.before) (after_below d count count m i.after l (omega arith) p.after)
+
+orders_below : (d : Declared) (m : ℕ) (i : DeclaredItem) → m < length (items_of d) → IsItemKnown d i → EachIs (IsPairBelow (length (items_of d)) (length (items_of d))) (orders_in d m i)
+orders_below d m i l h =
+    let p = parts_of d i h in
+    let count : ℕ = length (items_of d) in
+    let more : List (ℕ × ℕ) = orders_before d m i.before_ignore_deferred ++ orders_after d m i.after_ignore_deferred in
+    EachIs-append (IsPairBelow count count) (plain_orders_in d m i) more (plain_below d m i l h)
+    (EachIs-append (IsPairBelow count count) (orders_before d m i.before_ignore_deferred) (orders_after d m i.after_ignore_deferred)
+    (before_below d count count m i.before_ignore_deferred l (omega arith) p.before_ignore) (after_below d count count m i.after_ignore_deferred l (omega arith) p.after_ignore))
+
+plain_along_below : (d : Declared) (c : DeclaredChain) → EachIs (IsKnown d) (names_along (length (items_of d)) c) → (b : Bool) → EachIs (IsPairBelow (length (items_of d)) (length (items_of d))) (cond b [] (orders_along d c))
+plain_along_below d c h true = tt
+plain_along_below d c h false = neighbours_below d c.items h
+
+-- where all names are known, what is declared is of items
+pub whole_of : (d : Declared) → KnowsNames d → IsWhole d
+whole_of d k =
+    let count : ℕ = length (items_of d) in
+    let sets : ℕ = length d.sets in
+    let named = flat_map (names_in sets count) (items_of d) in
+    let along = flat_map (names_along count) d.chains in
+    let items : EachIs (IsItemKnown d) (items_of d) = each_of_flat (IsKnown d) (names_in sets count) (items_of d) (EachIs-front (IsKnown d) named along k) in
+    let chains = each_of_flat (IsKnown d) (names_along count) d.chains (EachIs-back (IsKnown d) named along k) in
+    let inside = from_of_each (IsItemKnown d) (IsPairBelow count sets) (holders_in d) count 0 (items_of d) (omega arith) (λ m i l h. before_below d count sets m i.inside l (sets_few d) (parts_of d i h).inside) items in
+    let ordered = EachIs-append (IsPairBelow count count) (from_each (orders_in d) 0 (items_of d)) (flat_map (orders_along d) d.chains)
+    (from_of_each (IsItemKnown d) (IsPairBelow count count) (orders_in d) count 0 (items_of d) (omega arith) (orders_below d) items)
+    (flat_of_each (λ c. EachIs (IsKnown d) (names_along count c)) (IsPairBelow count count) (orders_along d) d.chains (λ c h. neighbours_below d c.items h) chains) in
+    let plainly = EachIs-append (IsPairBelow count count) (from_each (plain_orders_in d) 0 (items_of d)) (flat_map (plain_orders_along d) d.chains)
+    (from_of_each (IsItemKnown d) (IsPairBelow count count) (plain_orders_in d) count 0 (items_of d) (omega arith) (plain_below d) items)
+    (flat_of_each (λ c. EachIs (IsKnown d) (names_along count c)) (IsPairBelow count count) (plain_orders_along d) d.chains (λ c h. plain_along_below d c h c.ignores_deferred) chains) in
     record {
-      held = h.held ∙ ap (from_each (holders_in d) 0) whole;
-      placed = record { few = sets_few d; placed = λ k o l. EachIs-at (IsPlaced (length d.sets) (length (items_of d))) inside h.placed k o l };
-      ordered = h.ordered ∙ ap (from_each (orders_in d) 0) whole;
-      between = λ k o l. EachIs-at (IsBetween (length (items_of d))) orders h.between k o l;
+      held = λ item holder h. each_in (IsPairBelow count sets) (hierarchy_of d).inside inside (item, holder) h;
+      ordered = λ m n h. each_in (IsPairBelow count count) (declared_orders d) ordered (m, n) h;
+      plainly = λ m n h. each_in (IsPairBelow count count) (plain_orders d) plainly (m, n) h;
     }
 
-pub known_all : (d : Declared) (n : ℕ) (inside orders : List Order) → length (items_of d) ≤ n → AreDeclaredBy d n inside orders → EachIs (IsKnown d) (looked_up d)
-known_all d n inside orders past h = subst (λ (items : List DeclaredItem). EachIs (IsKnown d) (flat_map (names_in (length d.sets) (length (items_of d))) items)) (take_all n (items_of d) past) h.known
+-- ---- the same names, and the same items
 
--- ---- the same by what was read
+pub lacks_as : (d : Declared) (bound : ℕ) (xs ys : List (List ℕ)) (fault : BuildFault) → xs ≡ ys → IsLacking d (bounded bound xs) fault → IsLacking d (bounded bound ys) fault
+lacks_as d bound xs ys fault e h = subst (λ (zs : List (List ℕ)). IsLacking d (bounded bound zs) fault) e h
 
-pub known_as : (places : Places) (bound limit : ℕ) (xs ys : List (List ℕ)) → bound ≡ limit → xs ≡ ys → EachIs (λ x. IsBelow bound (get_by_text places x)) xs → EachIs (λ x. IsBelow limit (get_by_text places x)) ys
-known_as places bound limit xs ys e f k =
-    subst (λ (b : ℕ). EachIs (λ x. IsBelow b (get_by_text places x)) ys) e (subst (λ (zs : List (List ℕ)). EachIs (λ x. IsBelow bound (get_by_text places x)) zs) f k)
+pub knows_as : (d : Declared) (bound : ℕ) (xs ys : List (List ℕ)) → xs ≡ ys → EachIs (IsKnown d) (bounded bound xs) → EachIs (IsKnown d) (bounded bound ys)
+knows_as d bound xs ys e h = subst (λ (zs : List (List ℕ)). EachIs (IsKnown d) (bounded bound zs)) e h
 
-pub lacking_as : (places : Places) (bound limit : ℕ) (xs ys : List (List ℕ)) (fault : BuildFault) → bound ≡ limit → xs ≡ ys → TellsLacking places bound xs fault → TellsLacking places limit ys fault
-lacking_as places bound limit xs ys fault e f k =
-    subst (λ (b : ℕ). TellsLacking places b ys fault) e (subst (λ (zs : List (List ℕ)). TellsLacking places bound zs fault) f k)
+pub item_lacks : (d : Declared) (s t k l : ℕ) (i j : DeclaredItem) (fault : BuildFault) → s ≡ t → k ≡ l → i ≡ j → IsLacking d (names_in s k i) fault → IsLacking d (names_in t l j) fault
+item_lacks d s t k l i j fault e f g h =
+    subst (λ (x : DeclaredItem). IsLacking d (names_in t l x) fault) g (subst (λ (x : ℕ). IsLacking d (names_in t x i) fault) f (subst (λ (x : ℕ). IsLacking d (names_in x k i) fault) e h))
 
--- the lists after one more item, as they were added to
-pub record AreAdded (places : Places) (i : ℕ) (inside orders inside' orders' : List Order) (ins firsts seconds : List (List ℕ)) : Type 0 where
-  pub middle : List Order
-  pub held : inside' ≡ inside ++ orders_before places i ins
-  pub before : middle ≡ orders ++ orders_before places i firsts
-  pub after : orders' ≡ middle ++ orders_after places i seconds
+pub item_knows : (d : Declared) (s t k l : ℕ) (i j : DeclaredItem) → s ≡ t → k ≡ l → i ≡ j → EachIs (IsKnown d) (names_in s k i) → EachIs (IsKnown d) (names_in t l j)
+item_knows d s t k l i j e f g h =
+    subst (λ (x : DeclaredItem). EachIs (IsKnown d) (names_in t l x)) g (subst (λ (x : ℕ). EachIs (IsKnown d) (names_in t x i)) f (subst (λ (x : ℕ). EachIs (IsKnown d) (names_in x k i)) e h))
 
-pub declared_next : (d : Declared) (places : Places) (i : ℕ) (inside orders inside' orders' : List Order) (ins firsts seconds : List (List ℕ)) → TellsPlaces d places → i < length (items_of d) → AreDeclaredBy d i inside orders →
-    ins ≡ (item_at d i).inside → firsts ≡ (item_at d i).before → seconds ≡ (item_at d i).after →
-    EachIs (λ x. IsBelow (length d.sets) (get_by_text places x)) ins → EachIs (λ x. IsBelow (length (items_of d)) (get_by_text places x)) firsts → EachIs (λ x. IsBelow (length (items_of d)) (get_by_text places x)) seconds →
-    AreAdded places i inside orders inside' orders' ins firsts seconds → AreDeclaredBy d (i + 1) inside' orders'
-declared_next d places i inside orders inside' orders' ins firsts seconds t l h e f g k b a added =
-    let one : inside' ≡ inside ++ orders_before places i (item_at d i).inside = added.held ∙ ap (λ ns. inside ++ orders_before places i ns) e in
-    let two : orders' ≡ (orders ++ orders_before places i (item_at d i).before) ++ orders_after places i (item_at d i).after =
-    added.after ∙ (ap (λ (os : List Order). os ++ orders_after places i seconds) (added.before ∙ ap (λ ns. orders ++ orders_before places i ns) f)
-    ∙ ap (λ ns. (orders ++ orders_before places i (item_at d i).before) ++ orders_after places i ns) g) in
-    subst (λ (os : List Order). AreDeclaredBy d (i + 1) os orders') (sym one) (subst (λ (os : List Order). AreDeclaredBy d (i + 1) (inside ++ orders_before places i (item_at d i).inside) os) (sym two)
-    (declared_more d places i inside orders t l h
-    (subst (λ (ns : List (List ℕ)). EachIs (λ x. IsBelow (length d.sets) (get_by_text places x)) ns) e k)
-    (subst (λ (ns : List (List ℕ)). EachIs (λ x. IsBelow (length (items_of d)) (get_by_text places x)) ns) f b)
-    (subst (λ (ns : List (List ℕ)). EachIs (λ x. IsBelow (length (items_of d)) (get_by_text places x)) ns) g a)))
+-- ---- the six lists of names of an item
+
+pub known_six : (d : Declared) (s k : ℕ) (i : DeclaredItem) → EachIs (IsKnown d) (bounded s i.inside) → EachIs (IsKnown d) (bounded k i.before) → EachIs (IsKnown d) (bounded k i.after) → EachIs (IsKnown d) (bounded k i.before_ignore_deferred) → EachIs (IsKnown d) (bounded k i.after_ignore_deferred) → EachIs (IsKnown d) (bounded k i.ambiguous_with)
+    → EachIs (IsKnown d) (names_in s k i)
+known_six d s k i p q r t u v =
+    known_both d (bounded s i.inside) (bounded k i.before ++ (bounded k i.after ++ (bounded k i.before_ignore_deferred ++ (bounded k i.after_ignore_deferred ++ bounded k i.ambiguous_with)))) p
+    (known_both d (bounded k i.before) (bounded k i.after ++ (bounded k i.before_ignore_deferred ++ (bounded k i.after_ignore_deferred ++ bounded k i.ambiguous_with))) q
+    (known_both d (bounded k i.after) (bounded k i.before_ignore_deferred ++ (bounded k i.after_ignore_deferred ++ bounded k i.ambiguous_with)) r
+    (known_both d (bounded k i.before_ignore_deferred) (bounded k i.after_ignore_deferred ++ bounded k i.ambiguous_with) t
+    (known_both d (bounded k i.after_ignore_deferred) (bounded k i.ambiguous_with) u v))))
+
+pub err_as : {T E : Type 0} (P Q : E → Type 0) (r : Result T E) → ((e : E) → P e → Q e) → IfErr r P → IfErr r Q
+err_as P Q (Ok x) f h = h
+err_as P Q (Err e) f h = f e h
+
+pub ok_as : {T E : Type 0} (P Q : Type 0) (r : Result T E) → (P → Q) → OnOk r P → OnOk r Q
+ok_as P Q (Ok x) f h = f h
+ok_as P Q (Err e) f h = h
+
+-- ---- orders, one after the other
+
+-- the order of an item before one of a name, and after it; and the number of a name
+abbrev pub before_name : Declared → ℕ → String Global → ℕ × ℕ
+before_name d n name = (n, number_of d (string_bytes name))
+
+abbrev pub after_name : Declared → ℕ → String Global → ℕ × ℕ
+after_name d n name = (number_of d (string_bytes name), n)
+
+abbrev pub place_name : Declared → String Global → ℕ
+place_name d name = number_of d (string_bytes name)
+
+pub before_names : (d : Declared) (n : ℕ) (names : List (String Global)) → map (before_name d n) names ≡ orders_before d n (map string_bytes names)
+before_names d n [] = refl
+before_names d n (x ∷ names) = ap (λ ys. before_name d n x ∷ ys) (before_names d n names)
+
+pub after_names : (d : Declared) (n : ℕ) (names : List (String Global)) → map (after_name d n) names ≡ orders_after d n (map string_bytes names)
+after_names d n [] = refl
+after_names d n (x ∷ names) = ap (λ ys. after_name d n x ∷ ys) (after_names d n names)
+
+pub place_names : (d : Declared) (names : List (String Global)) → map (place_name d) names ≡ map (number_of d) (map string_bytes names)
+place_names d [] = refl
+place_names d (x ∷ names) = ap (λ ys. place_name d x ∷ ys) (place_names d names)
+
+take_next : (names : List (String Global)) (i : ℕ) (x : String Global) → i < length names → x ≡ get_or names i x → take (i + 1) names ≡ take i names ++ x ∷ []
+take_next names i x l e = take_more names i x l ∙ ap (λ (y : String Global). take i names ++ y ∷ []) (sym e)
+
+pub pushed_pair : (g : String Global → ℕ × ℕ) (names : List (String Global)) (i : ℕ) (x : String Global) (base : List (ℕ × ℕ)) (old new : List Order) (o : Order) → i < length names → x ≡ get_or names i x →
+    pairs_of old ≡ base ++ map g (take i names) → pair_of o ≡ g x → new ≡ old ++ o ∷ [] → pairs_of new ≡ base ++ map g (take (i + 1) names)
+pushed_pair g names i x base old new o l e inv same pushed =
+    ap pairs_of pushed
+    ∙ (map-append pair_of old (o ∷ [])
+    ∙ (ap (λ ps. ps ++ pair_of o ∷ []) inv
+    ∙ (append_assoc base (map g (take i names)) (pair_of o ∷ [])
+    ∙ ap (λ ps. base ++ ps)
+    (ap (λ (p : ℕ × ℕ). map g (take i names) ++ p ∷ []) same
+    ∙ (sym (map-append g (take i names) (x ∷ [])) ∙ ap (map g) (sym (take_next names i x l e)))))))
+
+pub pushed_all : (g : String Global → ℕ × ℕ) (names : List (String Global)) (i : ℕ) (base qs : List (ℕ × ℕ)) (orders : List Order) → length names ≤ i → map g names ≡ qs → pairs_of orders ≡ base ++ map g (take i names) → pairs_of orders ≡ base ++ qs
+pushed_all g names i base qs orders l e inv = inv ∙ ap (λ ps. base ++ ps) (ap (map g) (take_all i names l) ∙ e)
+
+pub from_more : (f : ℕ → DeclaredItem → List (ℕ × ℕ)) (items : List DeclaredItem) (i : ℕ) (old new more : List (ℕ × ℕ)) → i < length items → old ≡ from_each f 0 (take i items) → new ≡ old ++ more → more ≡ f i (get_or items i no_item) → new ≡ from_each f 0 (take (i + 1) items)
+from_more f items i old new more l inv pushed same = pushed ∙ (ap (λ ps. ps ++ more) inv ∙ (ap (λ ps. from_each f 0 (take i items) ++ ps) same ∙ sym (from_each-next f items i l)))
+
+pub flat_more : {A : Type 0} (f : A → List (ℕ × ℕ)) (xs : List A) (i : ℕ) (x : A) (base old new : List (ℕ × ℕ)) → i < length xs → x ≡ get_or xs i x → old ≡ base ++ flat_map f (take i xs) → new ≡ old ++ f x → new ≡ base ++ flat_map f (take (i + 1) xs)
+flat_more f xs i x base old new l e inv pushed =
+    pushed
+    ∙ (ap (λ ps. ps ++ f x) inv
+    ∙ (append_assoc base (flat_map f (take i xs)) (f x)
+    ∙ ap (λ ps. base ++ ps) (ap (λ y. flat_map f (take i xs) ++ f y) e ∙ sym (flat_map-one_more f xs i x l))))
+
+pub flat_all : {A : Type 0} (f : A → List (ℕ × ℕ)) (xs ys : List A) (i : ℕ) (base all : List (ℕ × ℕ)) → length xs ≤ i → xs ≡ ys → all ≡ base ++ flat_map f (take i xs) → all ≡ base ++ flat_map f ys
+flat_all f xs ys i base all l e inv = inv ∙ ap (λ zs. base ++ flat_map f zs) (take_all i xs l ∙ e)
+
+pub flat_none : (base all : List (ℕ × ℕ)) → all ≡ base → all ≡ base ++ []
+flat_none base all e = e ∙ sym (append-nil base)
+
+-- ---- the orders of a chain, one after the other
+
+-- the last of some numbers
+abbrev pub last_number : List ℕ → Option ℕ
+last_number [] = None
+last_number (n ∷ []) = Some n
+last_number (m ∷ n ∷ ns) = last_number (n ∷ ns)
+
+neighbours_push : (ns : List ℕ) (n : ℕ) → neighbours (ns ++ n ∷ []) ≡ neighbours ns ++ link (last_number ns) n
+neighbours_push [] n = refl
+neighbours_push (m ∷ []) n = refl
+neighbours_push (m ∷ k ∷ ns) n = ap (λ ps. (m, k) ∷ ps) (neighbours_push (k ∷ ns) n)
+
+last_push : (ns : List ℕ) (n : ℕ) → last_number (ns ++ n ∷ []) ≡ Some n
+last_push [] n = refl
+last_push (m ∷ []) n = refl
+last_push (m ∷ k ∷ ns) n = last_push (k ∷ ns) n
+
+-- the orders of the first so many items of a chain, and the number of the last of these
+pub record IsAlong (d : Declared) (base : List (ℕ × ℕ)) (names : List (String Global)) (i : ℕ) (previous : Option ℕ) (pairs : List (ℕ × ℕ)) : Type 0 where
+  pub last : previous ≡ last_number (map (place_name d) (take i names))
+  pub along : pairs ≡ base ++ neighbours (map (place_name d) (take i names))
+
+numbers_next : (d : Declared) (names : List (String Global)) (i : ℕ) (x : String Global) → i < length names → x ≡ get_or names i x → map (place_name d) (take (i + 1) names) ≡ map (place_name d) (take i names) ++ place_name d x ∷ []
+numbers_next d names i x l e = ap (map (place_name d)) (take_next names i x l e) ∙ map-append (place_name d) (take i names) (x ∷ [])
+
+pub along_none : (d : Declared) (base pairs : List (ℕ × ℕ)) (names : List (String Global)) → pairs ≡ base → IsAlong d base names 0 None pairs
+along_none d base pairs names e = record { last = refl; along = e ∙ sym (append-nil base) }
+
+pub along_more : (d : Declared) (base : List (ℕ × ℕ)) (names : List (String Global)) (i : ℕ) (x : String Global) (previous : Option ℕ) (old new : List (ℕ × ℕ)) (place : ℕ) → i < length names → x ≡ get_or names i x → IsAlong d base names i previous old →
+    place ≡ number_of d (string_bytes x) → new ≡ old ++ link previous place → IsAlong d base names (i + 1) (Some place) new
+along_more d base names i x previous old new place l e h same pushed =
+    let before : List ℕ = map (place_name d) (take i names) in
+    record {
+      last = ap (λ (n : ℕ). Some n) same ∙ (sym (last_push before (place_name d x)) ∙ ap last_number (sym (numbers_next d names i x l e)));
+      along =
+          pushed
+          ∙ (ap (λ (n : ℕ). old ++ link previous n) same
+          ∙ (ap (λ (o : Option ℕ). old ++ link o (place_name d x)) h.last
+          ∙ (ap (λ ps. ps ++ link (last_number before) (place_name d x)) h.along
+          ∙ (append_assoc base (neighbours before) (link (last_number before) (place_name d x))
+          ∙ ap (λ ps. base ++ ps) (sym (neighbours_push before (place_name d x)) ∙ ap neighbours (sym (numbers_next d names i x l e)))))));
+    }
+
+pub along_all : (d : Declared) (base : List (ℕ × ℕ)) (names : List (String Global)) (i : ℕ) (previous : Option ℕ) (pairs : List (ℕ × ℕ)) (items : List (List ℕ)) → length names ≤ i → map string_bytes names ≡ items → IsAlong d base names i previous pairs →
+    pairs ≡ base ++ neighbours (map (number_of d) items)
+along_all d base names i previous pairs items l e h =
+    h.along ∙ ap (λ (ns : List ℕ). base ++ neighbours ns) (ap (map (place_name d)) (take_all i names l) ∙ (place_names d names ∙ ap (map (number_of d)) e))

@@ -1,16 +1,16 @@
 -- Orders of items with themselves, and the items of a cycle.
-use Rattle.std.proofs.Common.{◌≡◌, ℕ, zero, suc, ◌<◌, ◌≤◌, ◌+◌, inl, inr, List, [], ◌∷◌, ◌++◌, length, take, get_or, arith, subst, sym, ap, ◌∙◌}
+use Rattle.std.proofs.Common.{◌≡◌, ℕ, zero, suc, ◌<◌, ◌≤◌, ◌+◌, inl, inr, List, [], ◌∷◌, ◌++◌, length, take, get_or, arith, subst, refl, sym, ap, ◌∙◌}
+use Rattle.std.specs.List.{All}
 use Rattle.std.proofs.lemmas.List.{get_or_default, take_more, take_all, map-append}
 use Rattle.model.specs.Lists.{IsIn}
 use Rattle.model.specs.declarations.Walks.{IsFirstBad, IsWalk}
 use Rattle.model.specs.declarations.Declarations.{Declared, items_of, hierarchy_of, declared_orders}
 use Rattle.model.specs.declarations.Hierarchy.{Hierarchy, IsHeld, IsFirstSelf, IsSetCycle}
-use Rattle.model.specs.declarations.Edges.{IsMemberOf, HasNoLoop, IsLoop, IsCrossed, IsCrossing, IsShared, IsSharing, IsFollowed, IsCycle}
+use Rattle.model.specs.declarations.Edges.{HasNoLoop, IsLoop, IsCrossed, IsCrossing, IsShared, IsSharing, IsFollowed, IsCycle}
 use Rattle.model.proofs.lists.Firsts.{each_more, each_all, first_here}
 use Rattle.cycle_search.specs.declared.order.Order.{Order}
 use Rattle.cycle_search.specs.Orders.{IsBetween}
-use Rattle.system_set.specs.Pairs.{pair_of, pairs_of, IsPlaced}
-use Rattle.system_set.proofs.Reaching.{held_place}
+use Rattle.system_set.specs.Pairs.{pair_of, pairs_of, ArePlaced}
 use Rattle.system_set.proofs.EdgeLists.{member_known}
 use Rattle.schedule_builder.specs.Orders.{AreDeclared, IsWhole}
 
@@ -49,21 +49,28 @@ put_all sets items pairs i h inside past is same = is ∙ ap (with_pairs sets it
 
 -- ---- what is told is of items
 
-pub whole : (d : Declared) (inside orders : List Order) → AreDeclared d inside orders → IsWhole d
-whole d inside orders a = record {
-  held = λ item holder h.
-      let r = held_place inside item holder (subst (λ ps. IsIn (item, holder) ps) (sym a.held) h) in
-      let o : Order = record { first = 0; second = 0 } in
-      let here = r.2 o in
-      let at : IsPlaced (length d.sets) (length (items_of d)) (get_or inside r.0 o) = a.placed.placed r.0 o r.1 in
-      (subst (λ (x : ℕ). x < length (items_of d)) here.0 at.item, subst (λ (x : ℕ). x < length d.sets) here.1 at.holder);
-  ordered = λ m n h.
-      let r = held_place orders m n (subst (λ ps. IsIn (m, n) ps) (sym a.ordered) h) in
-      let o : Order = record { first = 0; second = 0 } in
-      let here = r.2 o in
-      let at : IsBetween (length (items_of d)) (get_or orders r.0 o) = a.between r.0 o r.1 in
-      (subst (λ (x : ℕ). x < length (items_of d)) here.0 at.first, subst (λ (x : ℕ). x < length (items_of d)) here.1 at.second);
+pair_in : (orders : List Order) (k : ℕ) (o : Order) → k < length orders → IsIn ((get_or orders k o).first, (get_or orders k o).second) (pairs_of orders)
+pair_in [] k o l = absurd (omega arith)
+pair_in (x ∷ orders) zero o l = inl refl
+pair_in (x ∷ orders) (suc k) o l = inr (pair_in orders k o (omega arith))
+
+-- pairs of items and sets, and orders of items, as they were read
+pub placed_of : (d : Declared) (inside orders plain : List Order) → IsWhole d → AreDeclared d inside orders plain → length d.sets ≤ length (items_of d) → ArePlaced (length d.sets) (length (items_of d)) inside
+placed_of d inside orders plain w a few = record {
+  few = few;
+  placed = λ k o l.
+      let here : Order = get_or inside k o in
+      let there : IsIn (here.first, here.second) (hierarchy_of d).inside = subst (λ ps. IsIn (here.first, here.second) ps) a.held (pair_in inside k o l) in
+      let both = w.held here.first here.second there in
+      record { item = both.0; holder = both.1 };
 }
+
+pub between_of : (bound : ℕ) (orders : List Order) (ps : List (ℕ × ℕ)) → pairs_of orders ≡ ps → ((m n : ℕ) → IsIn (m, n) ps → (m < bound) × (n < bound)) → All (IsBetween bound) orders
+between_of bound orders ps e h = λ k o l.
+    let here : Order = get_or orders k o in
+    let there : IsIn (here.first, here.second) ps = subst (λ qs. IsIn (here.first, here.second) qs) e (pair_in orders k o l) in
+    let both = h here.first here.second there in
+    record { first = both.0; second = both.1 }
 
 first_in : {A : Type 0} (Good Bad : A → Type 0) (xs : List A) (x : A) → IsFirstBad Good Bad xs x → IsIn x xs
 first_in Good Bad [] x h = absurd h

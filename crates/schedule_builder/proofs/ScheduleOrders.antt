@@ -1,13 +1,14 @@
 -- The schedule order: one more system, and why it ends with every system.
-use Rattle.std.proofs.Common.{◌≡◌, ℕ, zero, suc, ◌<◌, ◌≤◌, ◌+◌, Bool, true, false, not, ◌&&◌, eqb, List, [], ◌∷◌, ◌++◌, length, get_or, refl, arith, subst, sym, ap, ◌∙◌, append_assoc, inl, inr}
+use Rattle.std.proofs.Common.{◌≡◌, ℕ, zero, suc, ◌<◌, ◌≤◌, ◌+◌, Bool, true, false, not, ◌&&◌, eqb, cond, nat_lt, Option, None, Some, ◌⊎◌, List, [], ◌∷◌, ◌++◌, length, get_or, refl, arith, subst, sym, ap, ◌∙◌, append_assoc, inl, inr}
 use Rattle.std.specs.List.{list_all}
-use Rattle.std.proofs.lemmas.Bool.{false≢true, or_cases, or_left, or_right, eqb-true, eq-eqb}
+use Rattle.std.proofs.lemmas.Bool.{false≢true, or_cases, or_left, or_right, eqb-true, eq-eqb, cases_lt}
+use borrow.Author.Tests.{ltb-true, ltb-false}
 use Rattle.model.specs.Lists.{has}
 use Rattle.model.specs.steps.Schedule.{ScheduledSystem, system_at, level_of}
 use Rattle.model.specs.steps.Ambiguity.{Reaches, Before}
 use Rattle.model.specs.declarations.ScheduleOrder.{IsNextPlaced, IsScheduleOrder}
 use Rattle.cycle_search.specs.Cycles.{IsRankable}
-use Rattle.schedule_builder.specs.ScheduleOrder.{schedule_of, can_place, IsEdge, HasSourcesBelow, IsOpen, IsNextOpen, IsSequence, HasNoLevels}
+use Rattle.schedule_builder.specs.ScheduleOrder.{schedule_of, can_place, IsEdge, HasSourcesBelow, IsOpen, IsNextOpen, IsSequence, AreRising, IsLowest, TellsLowestAmong, lower_level}
 
 -- ---- tests on each of a list's numbers
 
@@ -49,26 +50,111 @@ not_true true h = absurd (false≢true h)
 false_not : (b : Bool) → b ≡ false → not b ≡ true
 false_not b h = ap not h
 
-placeable : (systems : List ScheduledSystem) (placed : List Bool) (order : List ℕ) (n : ℕ) → ((m : ℕ) → get_or placed m false ≡ has m order) → n < length systems → can_place systems placed n ≡ true → IsOpen systems order n
-placeable systems placed order n same l h =
-    let both = both_parts (not (get_or placed n false)) (list_all (λ m. get_or placed m false) (system_at (schedule_of systems []) n).predecessors) h in
+-- the level of a system of a list
+abbrev level_in : List ScheduledSystem → ℕ → ℕ
+level_in systems n = level_of (schedule_of systems []) n
+
+-- whether the predecessors of a system are placed
+abbrev are_before : List ScheduledSystem → List Bool → ℕ → Bool
+are_before systems placed n = list_all (λ m. get_or placed m false) (system_at (schedule_of systems []) n).predecessors
+
+placed_or_not : (b : Bool) → (b ≡ true) ⊎ (b ≡ false)
+placed_or_not true = inl refl
+placed_or_not false = inr refl
+
+-- what is lower than the lowest open level is placed
+lower_placed : (systems : List ScheduledSystem) (placed : List Bool) (order : List ℕ) (lowest m : ℕ) → ((k : ℕ) → get_or placed k false ≡ has k order) → IsLowest systems placed (length systems) lowest → m < length systems → level_in systems m < lowest → has m order ≡ true
+lower_placed systems placed order lowest m same low l below = elim (placed_or_not (get_or placed m false)) [
+  | inl e ↦ sym (same m) ∙ e
+  | inr e ↦ let least : lowest ≤ level_in systems m = low.least m l e in absurd (omega arith)
+]
+
+placeable : (systems : List ScheduledSystem) (placed : List Bool) (order : List ℕ) (lowest n : ℕ) → ((m : ℕ) → get_or placed m false ≡ has m order) → IsLowest systems placed (length systems) lowest → n < length systems → can_place systems placed lowest n ≡ true → IsOpen systems order n
+placeable systems placed order lowest n same low l h =
+    let both = both_parts (not (get_or placed n false)) (eqb (level_in systems n) lowest && are_before systems placed n) h in
+    let rest = both_parts (eqb (level_in systems n) lowest) (are_before systems placed n) both.1 in
+    let level : level_in systems n ≡ lowest = eqb-true (level_in systems n) lowest rest.0 in
     record {
       known = l;
       open_yet = sym (same n) ∙ not_true (get_or placed n false) both.0;
-      after = λ m e. sym (same m) ∙ passes (λ k. get_or placed k false) (system_at (schedule_of systems []) n).predecessors m both.1 e;
+      after = λ m e. sym (same m) ∙ passes (λ k. get_or placed k false) (system_at (schedule_of systems []) n).predecessors m rest.1 e;
+      lower = λ m k below. lower_placed systems placed order lowest m same low k (subst (λ (x : ℕ). level_in systems m < x) level below);
     }
 
-can_place-of : (systems : List ScheduledSystem) (placed : List Bool) (order : List ℕ) (n : ℕ) → ((m : ℕ) → get_or placed m false ≡ has m order) → IsOpen systems order n → can_place systems placed n ≡ true
-can_place-of systems placed order n same p =
-    both_from (not (get_or placed n false)) (list_all (λ m. get_or placed m false) (system_at (schedule_of systems []) n).predecessors)
-    (false_not (get_or placed n false) (same n ∙ p.open_yet))
-    (all_pass (λ k. get_or placed k false) (system_at (schedule_of systems []) n).predecessors (λ m e. same m ∙ p.after m e))
+-- an open system is of the lowest open level
+open_lowest : (systems : List ScheduledSystem) (placed : List Bool) (order : List ℕ) (lowest n : ℕ) → ((m : ℕ) → get_or placed m false ≡ has m order) → IsLowest systems placed (length systems) lowest → IsOpen systems order n → level_in systems n ≡ lowest
+open_lowest systems placed order lowest n same low p =
+    let least : lowest ≤ level_in systems n = low.least n p.known (same n ∙ p.open_yet) in
+    let high : lowest < level_in systems n → ⊥ = λ more.
+    false≢true (sym low.open_yet ∙ (same low.system ∙ p.lower low.system low.known (subst (λ (x : ℕ). x < level_in systems n) (sym low.same) more))) in
+    omega arith
 
-pub next_is : (systems : List ScheduledSystem) (placed : List Bool) (order : List ℕ) (n : ℕ) → ((m : ℕ) → get_or placed m false ≡ has m order) → n < length systems → can_place systems placed n ≡ true → ((k : ℕ) → k < n → can_place systems placed k ≡ false) → IsNextOpen systems order n
-next_is systems placed order n same l h below = record {
-  is_open = placeable systems placed order n same l h;
-  least = λ m low p. false≢true (sym (below m low) ∙ can_place-of systems placed order m same p);
+can_place-of : (systems : List ScheduledSystem) (placed : List Bool) (order : List ℕ) (lowest n : ℕ) → ((m : ℕ) → get_or placed m false ≡ has m order) → IsLowest systems placed (length systems) lowest → IsOpen systems order n → can_place systems placed lowest n ≡ true
+can_place-of systems placed order lowest n same low p =
+    both_from (not (get_or placed n false)) (eqb (level_in systems n) lowest && are_before systems placed n)
+    (false_not (get_or placed n false) (same n ∙ p.open_yet))
+    (both_from (eqb (level_in systems n) lowest) (are_before systems placed n)
+    (eq-eqb (level_in systems n) lowest (open_lowest systems placed order lowest n same low p))
+    (all_pass (λ k. get_or placed k false) (system_at (schedule_of systems []) n).predecessors (λ m e. same m ∙ p.after m e)))
+
+pub next_is : (systems : List ScheduledSystem) (placed : List Bool) (order : List ℕ) (lowest n : ℕ) → ((m : ℕ) → get_or placed m false ≡ has m order) → IsLowest systems placed (length systems) lowest → n < length systems → can_place systems placed lowest n ≡ true → ((k : ℕ) → k < n → can_place systems placed lowest k ≡ false) → IsNextOpen systems order n
+next_is systems placed order lowest n same low l h below = record {
+  is_open = placeable systems placed order lowest n same low l h;
+  least = λ m k p. false≢true (sym (below m k) ∙ can_place-of systems placed order lowest m same low p);
 }
+
+-- ---- the lowest open level, one system after the other
+
+lowest_wider : (systems : List ScheduledSystem) (placed : List Bool) (n lowest : ℕ) → get_or placed n false ≡ true → IsLowest systems placed n lowest → IsLowest systems placed (n + 1) lowest
+lowest_wider systems placed n lowest e low = record {
+  system = low.system;
+  known = omega (arith, low.known);
+  open_yet = low.open_yet;
+  same = low.same;
+  least = λ m l f. elim (cases_lt m n) [
+    | inl k ↦ low.least m k f
+    | inr k ↦ let at : n ≡ m = omega arith in absurd (false≢true (sym f ∙ subst (λ (x : ℕ). get_or placed x false ≡ true) at e))
+  ];
+}
+
+lowest_here : (systems : List ScheduledSystem) (placed : List Bool) (n lowest : ℕ) → get_or placed n false ≡ false → ((m : ℕ) → m < n → get_or placed m false ≡ false → lowest ≤ level_in systems m) → lowest ≡ level_in systems n → IsLowest systems placed (n + 1) lowest
+lowest_here systems placed n lowest e least same = record {
+  system = n;
+  known = omega arith;
+  open_yet = e;
+  same = sym same;
+  least = λ m l f. elim (cases_lt m n) [
+    | inl k ↦ least m k f
+    | inr k ↦ let at : n ≡ m = omega arith in subst (λ (x : ℕ). lowest ≤ level_in systems x) at (omega (arith, same))
+  ];
+}
+
+lowest_stays : (systems : List ScheduledSystem) (placed : List Bool) (n lowest : ℕ) → lowest ≤ level_in systems n → IsLowest systems placed n lowest → IsLowest systems placed (n + 1) lowest
+lowest_stays systems placed n lowest h low = record {
+  system = low.system;
+  known = omega (arith, low.known);
+  open_yet = low.open_yet;
+  same = low.same;
+  least = λ m l f. elim (cases_lt m n) [
+    | inl k ↦ low.least m k f
+    | inr k ↦ let at : n ≡ m = omega arith in subst (λ (x : ℕ). lowest ≤ level_in systems x) at h
+  ];
+}
+
+lesser_by : (systems : List ScheduledSystem) (placed : List Bool) (n known : ℕ) (b : Bool) → nat_lt known (level_in systems n) ≡ b → get_or placed n false ≡ false → IsLowest systems placed n known → IsLowest systems placed (n + 1) (cond b known (level_in systems n))
+lesser_by systems placed n known true e f low = let l : known < level_in systems n = ltb-true known (level_in systems n) e in lowest_stays systems placed n known (omega arith) low
+lesser_by systems placed n known false e f low =
+    let l : level_in systems n ≤ known = ltb-false known (level_in systems n) e in
+    lowest_here systems placed n (level_in systems n) f (λ m k g. let least : known ≤ level_in systems m = low.least m k g in omega arith) refl
+
+pub lowest_more : (systems : List ScheduledSystem) (placed : List Bool) (n : ℕ) (lowest : Option ℕ) (b : Bool) → get_or placed n false ≡ b → TellsLowestAmong systems placed n lowest → TellsLowestAmong systems placed (n + 1) (lower_level lowest b (level_in systems n))
+lowest_more systems placed n None true e h = λ m l. elim (cases_lt m n) [
+  | inl k ↦ h m k
+  | inr k ↦ let at : n ≡ m = omega arith in subst (λ (x : ℕ). get_or placed x false ≡ true) at e
+]
+lowest_more systems placed n (Some low) true e h = lowest_wider systems placed n low e h
+lowest_more systems placed n None false e h = lowest_here systems placed n (level_in systems n) e (λ m k f. absurd (false≢true (sym f ∙ h m k))) refl
+lowest_more systems placed n (Some known) false e h = lesser_by systems placed n known (nat_lt known (level_in systems n)) refl e h
 
 -- ---- one more system
 
@@ -91,27 +177,33 @@ sequence_more systems order n s p = push_split (IsNextOpen systems) order n s p
 
 -- ---- the end
 
-stuck_at : (systems : List ScheduledSystem) (placed : List Bool) → ((k : ℕ) → k < length systems → can_place systems placed k ≡ false) → (n : ℕ) → n < length systems → get_or placed n false ≡ false → (m : ℕ) × (IsEdge systems m n) × (get_or placed m false ≡ false)
-stuck_at systems placed none n l open_yet =
-    let stuck : (true && list_all (λ m. get_or placed m false) (system_at (schedule_of systems []) n).predecessors) ≡ false =
-    subst (λ (b : Bool). (b && list_all (λ m. get_or placed m false) (system_at (schedule_of systems []) n).predecessors) ≡ false) (false_not (get_or placed n false) open_yet) (none n l) in
+stuck_at : (systems : List ScheduledSystem) (placed : List Bool) (lowest : ℕ) → ((k : ℕ) → k < length systems → can_place systems placed lowest k ≡ false) → (n : ℕ) → n < length systems → get_or placed n false ≡ false → level_in systems n ≡ lowest → (m : ℕ) × (IsEdge systems m n) × (get_or placed m false ≡ false)
+stuck_at systems placed lowest none n l open_yet level =
+    let stuck : (true && (true && are_before systems placed n)) ≡ false =
+    subst (λ (b : Bool). (true && (b && are_before systems placed n)) ≡ false) (eq-eqb (level_in systems n) lowest level)
+    (subst (λ (b : Bool). (b && (eqb (level_in systems n) lowest && are_before systems placed n)) ≡ false) (false_not (get_or placed n false) open_yet) (none n l)) in
     failing (λ m. get_or placed m false) (system_at (schedule_of systems []) n).predecessors stuck
 
-unplaced_left : (systems : List ScheduledSystem) (placed : List Bool) (r : IsRankable (IsEdge systems)) → HasSourcesBelow systems → ((k : ℕ) → k < length systems → can_place systems placed k ≡ false)
-    → (gap n : ℕ) → n < length systems → get_or placed n false ≡ false → r.bound ≤ r.rank n + gap → ⊥
-unplaced_left systems placed r sources none zero n l open_yet high =
-    let f = stuck_at systems placed none n l open_yet in
+unplaced_left : (systems : List ScheduledSystem) (placed : List Bool) (lowest : ℕ) (r : IsRankable (IsEdge systems)) → HasSourcesBelow systems → AreRising systems → IsLowest systems placed (length systems) lowest
+    → ((k : ℕ) → k < length systems → can_place systems placed lowest k ≡ false)
+    → (gap n : ℕ) → n < length systems → get_or placed n false ≡ false → level_in systems n ≡ lowest → r.bound ≤ r.rank n + gap → ⊥
+unplaced_left systems placed lowest r sources rising low none zero n l open_yet level high =
+    let f = stuck_at systems placed lowest none n l open_yet level in
     let up : r.rank n < r.rank f.0 = r.falls f.0 n f.1 in
     let top : r.rank f.0 ≤ r.bound = r.bounded f.0 in
     omega arith
-unplaced_left systems placed r sources none (suc gap) n l open_yet high =
-    let f = stuck_at systems placed none n l open_yet in
+unplaced_left systems placed lowest r sources rising low none (suc gap) n l open_yet level high =
+    let f = stuck_at systems placed lowest none n l open_yet level in
     let up : r.rank n < r.rank f.0 = r.falls f.0 n f.1 in
-    unplaced_left systems placed r sources none gap f.0 (sources f.0 n f.1) f.2 (omega arith)
+    let under : level_in systems f.0 ≤ level_in systems n = rising f.0 n f.1 in
+    let over : lowest ≤ level_in systems f.0 = low.least f.0 (sources f.0 n f.1) f.2 in
+    let same : level_in systems f.0 ≡ lowest = omega (arith, level) in
+    unplaced_left systems placed lowest r sources rising low none gap f.0 (sources f.0 n f.1) f.2 same (omega arith)
 
-whole_by : (systems : List ScheduledSystem) (placed : List Bool) (r : IsRankable (IsEdge systems)) → HasSourcesBelow systems → ((k : ℕ) → k < length systems → can_place systems placed k ≡ false) → (n : ℕ) → n < length systems → (b : Bool) → get_or placed n false ≡ b → b ≡ true
-whole_by systems placed r sources none n l true e = refl
-whole_by systems placed r sources none n l false e = absurd (unplaced_left systems placed r sources none r.bound n l e (omega arith))
+-- where a system is open, one can be placed
+pub never_stuck : (systems : List ScheduledSystem) (placed : List Bool) (lowest : ℕ) → IsRankable (IsEdge systems) → HasSourcesBelow systems → AreRising systems → IsLowest systems placed (length systems) lowest
+    → ((k : ℕ) → k < length systems → can_place systems placed lowest k ≡ false) → ⊥
+never_stuck systems placed lowest r sources rising low none = unplaced_left systems placed lowest r sources rising low none r.bound low.system low.known low.open_yet low.same (omega arith)
 
 -- ---- by edges, and by what is before
 
@@ -145,26 +237,27 @@ reached : (systems : List ScheduledSystem) (order front rest : List ℕ) (n : �
 reached systems order front rest n s e m (Reaches.Edge i j h) = (s front rest n e).is_open.after m h
 reached systems order front rest n s e m (Reaches.Onward i k j h onward) = closed systems order front (n ∷ rest) s e m k (reached systems order front rest n s e k onward) h
 
--- and, with no levels, all that is before
-before_placed : (systems : List ScheduledSystem) (order front rest : List ℕ) (n : ℕ) → HasNoLevels systems → IsSequence systems order → order ≡ front ++ n ∷ rest
-    → (m : ℕ) → Before (schedule_of systems order) m n → has m front ≡ true
-before_placed systems order front rest n flat s e m (Before.ByPath path) = reached systems order front rest n s e m path
-before_placed systems order front rest n flat s e m (Before.ByLevel low) =
-    let here : level_of (schedule_of systems order) n ≡ 0 = flat n in
-    absurd (omega arith)
+-- and all that is before
+before_placed : (systems : List ScheduledSystem) (order front rest : List ℕ) (n : ℕ) → IsSequence systems order → order ≡ front ++ n ∷ rest
+    → (m : ℕ) → m < length systems → Before (schedule_of systems order) m n → has m front ≡ true
+before_placed systems order front rest n s e m l (Before.ByPath path) = reached systems order front rest n s e m path
+before_placed systems order front rest n s e m l (Before.ByLevel low) = (s front rest n e).is_open.lower m l low
 
-next_placed : (systems : List ScheduledSystem) (order front rest : List ℕ) (n : ℕ) → HasSourcesBelow systems → HasNoLevels systems → IsSequence systems order → order ≡ front ++ n ∷ rest
+next_placed : (systems : List ScheduledSystem) (order front rest : List ℕ) (n : ℕ) → HasSourcesBelow systems → IsSequence systems order → order ≡ front ++ n ∷ rest
     → IsNextPlaced (schedule_of systems order) front n
-next_placed systems order front rest n sources flat s e =
+next_placed systems order front rest n sources s e =
     let here = s front rest n e in
     record {
-      placeable = record { known = here.is_open.known; open_yet = here.is_open.open_yet; after = λ m l. before_placed systems order front rest n flat s e m };
-      least = λ m l q. here.least m l (record { known = q.known; open_yet = q.open_yet; after = λ k edge. q.after k (sources k m edge) (Before.ByPath (Reaches.Edge k m edge)) });
+      placeable = record { known = here.is_open.known; open_yet = here.is_open.open_yet; after = λ m l. before_placed systems order front rest n s e m l };
+      least = λ m l q. here.least m l (record { known = q.known; open_yet = q.open_yet; after = λ k edge. q.after k (sources k m edge) (Before.ByPath (Reaches.Edge k m edge)); lower = λ k j below. q.after k j (Before.ByLevel below) });
     }
 
-pub schedule_order : (systems : List ScheduledSystem) (placed : List Bool) (order : List ℕ) → IsRankable (IsEdge systems) → HasSourcesBelow systems → HasNoLevels systems → ((m : ℕ) → get_or placed m false ≡ has m order) → IsSequence systems order → ((k : ℕ) → k < length systems → can_place systems placed k ≡ false)
+pub schedule_order : (systems : List ScheduledSystem) (placed : List Bool) (order : List ℕ) → HasSourcesBelow systems → ((m : ℕ) → get_or placed m false ≡ has m order) → IsSequence systems order → ((k : ℕ) → k < length systems → get_or placed k false ≡ true)
     → IsScheduleOrder (schedule_of systems order)
-schedule_order systems placed order r sources flat same s none = record {
-  next = λ front rest n e. next_placed systems order front rest n sources flat s e;
-  whole = λ n l. sym (same n) ∙ whole_by systems placed r sources none n l (get_or placed n false) refl;
+schedule_order systems placed order sources same s all = record {
+  next = λ front rest n e. next_placed systems order front rest n sources s e;
+  whole = λ n l. sym (same n) ∙ all n l;
 }
+
+pub lowest_all : (systems : List ScheduledSystem) (placed : List Bool) (n : ℕ) (lowest : Option ℕ) → n ≡ length systems → TellsLowestAmong systems placed n lowest → TellsLowestAmong systems placed (length systems) lowest
+lowest_all systems placed n lowest e h = subst (λ (k : ℕ). TellsLowestAmong systems placed k lowest) e h

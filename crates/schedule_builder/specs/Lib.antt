@@ -6,3 +6,4 @@ pub mod Queries
 pub mod Rows
 pub mod Counts
 pub mod Conditions
+pub mod Levels

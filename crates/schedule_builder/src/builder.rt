@@ -1,13 +1,13 @@
 // The builder: refusals in their order, and else the schedule.
 
-ghost use Rattle.std.specs.Prelude.{◌≡◌, ℕ, ◌<◌, ◌≤◌, ◌^◌, length, map, get_or, string_bytes, [], IfOk, IfErr, OnOk};
+ghost use Rattle.std.specs.Prelude.{◌≡◌, ℕ, ◌<◌, ◌≤◌, ◌^◌, length, map, get_or, string_bytes, unwrap_or, [], IfOk, IfErr, OnOk};
 ghost use Rattle.std.specs.Bool.{MatchBool};
 ghost use Rattle.std.specs.List.{All};
 ghost use Rattle.model.specs.declarations.Hierarchy.{IsHeld};
 ghost use Rattle.model.specs.declarations.Edges.{HasNoLoop, HasNoCrossing, IsFollowed};
-ghost use Rattle.model.specs.declarations.Declarations.{items_of, name_of, system_name, declared_at, hierarchy_of, declared_orders};
-ghost use Rattle.model.specs.declarations.Refusals.{IsNamed, IsNested, IsApart, IsOrdered, HasNoSelfConflict, HasGoodQueries, IsWithinLimits, HasManyQueries, IsBuildable, names_of};
-ghost use Rattle.model.specs.declarations.ScheduleOrder.{HasDeclaredSystems, HasDeclaredEdges, IsOneLevel, IsScheduleOrder};
+ghost use Rattle.model.specs.declarations.Declarations.{items_of, name_of, system_name, declared_at, hierarchy_of, declared_orders, plain_orders};
+ghost use Rattle.model.specs.declarations.Refusals.{IsNamed, IsNested, IsApart, IsOrdered, HasNoSelfConflict, HasGoodQueries, IsWithinLimits, HasManyQueries, HasManySpawns, granted_to, IsBuildable, names_of};
+ghost use Rattle.model.specs.declarations.ScheduleOrder.{HasDeclaredSystems, HasDeclaredEdges, HasLevels, IsScheduleOrder};
 ghost use Rattle.cycle_search.specs.Cycles.{IsStep, IsRankable};
 ghost use Rattle.cycle_search.specs.Orders.{IsBetween};
 ghost use Rattle.system_set.specs.Pairs.{pairs_of};
@@ -15,10 +15,12 @@ ghost use Rattle.system_set.specs.Edges.{AreEdges};
 ghost use Rattle.schedule_builder.specs.Answers.{IsAnswered};
 ghost use Rattle.schedule_builder.specs.Orders.{AreDeclared, AreOrders, IsWhole};
 ghost use Rattle.schedule_builder.specs.ScheduleOrder.{AreScheduled};
+ghost use Rattle.schedule_builder.specs.Levels.{AreLevelledBy};
 
 use crate::built::{Built, System};
 use crate::desc::{ScheduleDesc, SystemDesc};
 use crate::fault::BuildFault;
+use crate::levels::{found_levels, level_in, syncs_of};
 use crate::names::{first_repeated, places_of};
 use crate::orders::{Resolved, first_loop, hierarchy_from, resolve};
 use crate::query_faults::first_bad;
@@ -36,6 +38,9 @@ const SETS: usize = 64;
 
 // How many queries a system may have.
 const QUERIES: usize = 8;
+
+// How many ids a system may be given at a start.
+const SPAWNS: u32 = 1024;
 
 /// The name of an item.
 fn name_at(alloc: Global, desc: &ScheduleDesc, number: usize) -> Result<String, AllocError>
@@ -71,7 +76,7 @@ fn names_at(
 
 /// What is declared by number, where every name is that of one item.
 fn resolved(alloc: Global, desc: &ScheduleDesc) -> Result<Resolved, BuildFault>
-    ensures declared { IfOk result (λ r. AreDeclared desc.now r.inside.items r.orders.items) }
+    ensures declared { IfOk result (λ r. AreDeclared desc.now r.inside.items r.orders.items r.plain.items) }
     ensures named { OnOk result (IsNamed desc.now) }
     ensures refused { IfErr result (IsAnswered desc.now) }
 {
@@ -270,6 +275,9 @@ fn check_limits(desc: &ScheduleDesc) -> Result<(), BuildFault>
     if has_too_many_queries(desc) {
         return Err(BuildFault::OverLimit(4));
     }
+    if has_too_many_spawns(desc) {
+        return Err(BuildFault::OverLimit(5));
+    }
     Ok(())
 }
 
@@ -285,6 +293,25 @@ fn has_too_many_queries(desc: &ScheduleDesc) -> bool
     false
 }
 
+// Whether a system is given more ids than it may.
+fn has_too_many_spawns(desc: &ScheduleDesc) -> bool
+    ensures { MatchBool result (HasManySpawns desc.now) ((n : ℕ) → granted_to desc.now n ≤ 1024) }
+{
+    for number in 0..desc.systems().len() {
+        if ids_of(desc.system(number)) > SPAWNS {
+            return true;
+        }
+    }
+    false
+}
+
+// How many ids a system is given at a start.
+fn ids_of(system: &SystemDesc) -> u32
+    ensures { result ≡ unwrap_or system.now.params.spawns 0 }
+{
+    system.params().spawns().unwrap_or(0)
+}
+
 /// Refuses what is at fault in systems and in how many there are of anything.
 fn check_systems(alloc: Global, desc: &ScheduleDesc) -> Result<(), BuildFault>
     requires { IsOrdered desc.now }
@@ -296,30 +323,42 @@ fn check_systems(alloc: Global, desc: &ScheduleDesc) -> Result<(), BuildFault>
     check_limits(desc)
 }
 
+/// The edges between systems, and those that plain orders give, which don't ignore that commands are deferred.
+#[derive(Drop)]
+struct Edges {
+    all: Vec<Order>,
+    plain: Vec<Order>,
+}
+
 /// The edges between systems, where nothing is at fault.
-fn checked(alloc: Global, desc: &ScheduleDesc) -> Result<Vec<Order>, BuildFault>
-    ensures edges { IfOk result (λ edges. AreEdges (hierarchy_of desc.now) (declared_orders desc.now) edges.items) }
+fn checked(alloc: Global, desc: &ScheduleDesc) -> Result<Edges, BuildFault>
+    ensures edges { IfOk result (λ edges. AreEdges (hierarchy_of desc.now) (declared_orders desc.now) edges.all.items) }
+    ensures plain { IfOk result (λ edges. AreEdges (hierarchy_of desc.now) (plain_orders desc.now) edges.plain.items) }
     ensures rankable { OnOk result (IsRankable (IsFollowed (hierarchy_of desc.now) (declared_orders desc.now))) }
     ensures buildable { OnOk result (IsBuildable desc.now) }
     ensures refused { IfErr result (IsAnswered desc.now) }
 {
     let resolved = resolved(alloc, desc)?;
     let orders = resolved.orders.as_slice();
+    let plain = resolved.plain.as_slice();
     let hierarchy = hierarchy_from(alloc, desc, resolved.inside.as_slice())?;
     check_hierarchy(alloc, desc, &hierarchy)?;
     check_orders(alloc, desc, &hierarchy, orders)?;
     check_systems(alloc, desc)?;
-    Ok(hierarchy.edges(alloc, orders)?)
+    Ok(Edges {
+        all: hierarchy.edges(alloc, orders)?,
+        plain: hierarchy.edges(alloc, plain)?,
+    })
 }
 
-/// The systems with the predecessors that edges give them.
+/// The systems with the predecessors that edges give them, of no level yet.
 fn scheduled(
     alloc: Global,
     systems: Vec<SystemDesc>,
     edges: &[Order],
 ) -> Result<Vec<System>, AllocError>
     requires { All (IsBetween (2 ^ 32)) edges.now }
-    ensures { IfOk result (λ built. AreScheduled edges.now systems.items built.items) }
+    ensures { IfOk result (λ built. AreScheduled edges.now [] systems.items built.items) }
 {
     let mut built = Vec::new(alloc);
     for system in systems {
@@ -329,16 +368,29 @@ fn scheduled(
     Ok(built)
 }
 
-/// The schedule of declared sets and systems: an edge from each member of the first item of a declared order to each member of the
-/// second, one level with one sync point, and the schedule order. Nothing is built where something is at fault; the first fault is told:
-/// a name that no item has, or no set to be in; an item with an earlier item's name; a set in itself; sets in a circle; an item ordered
-/// with itself; an order between an item and a set that holds it; two ordered sets that share a system; a cycle of items; a system of
-/// which two parameters conflict; a query at fault; more than 256 systems; more than 64 sets; a system with more than 8 queries.
+/// The systems, each with its level.
+fn levelled(alloc: Global, systems: Vec<System>, levels: &[u32]) -> Result<Vec<System>, AllocError>
+    ensures { IfOk result (λ built. AreLevelledBy levels.now systems.items built.items) }
+{
+    let mut built = Vec::new(alloc);
+    for system in systems {
+        let level = level_in(levels, built.len());
+        built.push(system.at_level(level))?;
+    }
+    Ok(built)
+}
+
+/// The schedule of declared sets, systems and chains: an edge from each member of the first item of a declared order to each member of
+/// the second, the level of each system and as many sync points as there are levels, and the schedule order. Nothing is built where
+/// something is at fault; the first fault is told: a name that no item has, or no set to be in; an item with an earlier item's name; a
+/// set in itself; sets in a circle; an item ordered with itself; an order between an item and a set that holds it; two ordered sets that
+/// share a system; a cycle of items; a system of which two parameters conflict; a query at fault; more than 256 systems; more than 64
+/// sets; a system with more than 8 queries; one that is given more than 1,024 ids.
 pub fn build(alloc: Global, desc: ScheduleDesc) -> Result<Built, BuildFault>
     ensures buildable { OnOk result (IsBuildable desc) }
     ensures systems { IfOk result (HasDeclaredSystems desc) }
     ensures edges { IfOk result (HasDeclaredEdges desc) }
-    ensures levels { IfOk result IsOneLevel }
+    ensures levels { IfOk result (HasLevels desc) }
     ensures order { IfOk result IsScheduleOrder }
     ensures conditions { IfOk result (λ built. built.conditions ≡ []) }
 
@@ -346,8 +398,11 @@ pub fn build(alloc: Global, desc: ScheduleDesc) -> Result<Built, BuildFault>
     ensures refused { IfErr result (IsAnswered desc) }
 {
     let edges = checked(alloc, &desc)?;
-    let systems = scheduled(alloc, desc.into_systems(), edges.as_slice())?;
+    let flat = scheduled(alloc, desc.into_systems(), edges.all.as_slice())?;
+    let levels = found_levels(alloc, flat.as_slice(), edges.plain.as_slice())?;
+    let syncs = syncs_of(levels.as_slice());
+    let systems = levelled(alloc, flat, levels.as_slice())?;
     let order = order_of(alloc, systems.as_slice())?;
-    let built = Built::of_parts(alloc, systems, 1, order)?;
+    let built = Built::of_parts(alloc, systems, syncs, order)?;
     Ok(built)
 }

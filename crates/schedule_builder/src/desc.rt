@@ -1,41 +1,50 @@
 // What a program declares of a schedule.
 
 ghost use Rattle.std.specs.Prelude.{◌≡◌, ◌<◌, ◌++◌, ◌∷◌, [], map, length, string_bytes, OnOk, OnErr};
-ghost use Rattle.model.specs.declarations.Declarations.{items_of, item_at, declared_at};
+ghost use Rattle.model.specs.declarations.Declarations.{items_of, item_at, declared_at, plain_item};
 
 use access_set::params::Params;
 use std::alloc::{AllocError, Global};
 use std::marker::Model;
 
-/// A declared item, which is a set, or what a system has besides its parameters: its name, the names of the sets that it is in, and
-/// those of the items that it runs before and after. Contracts see names by their bytes.
+/// A declared item, which is a set, or what a system has besides its parameters: its name, the names of the sets that it is in, those
+/// of the items that it runs before and after, and of those with which it may be ambiguous. Contracts see names by their bytes.
 #[derive(Drop)]
 pub struct ItemDesc {
     name: String,
     inside: Vec<String>,
     before: Vec<String>,
     after: Vec<String>,
+    before_ignore_deferred: Vec<String>,
+    after_ignore_deferred: Vec<String>,
+    ambiguous_with: Vec<String>,
 }
 
 impl Model for ItemDesc {
     ghost use Rattle.std.specs.Prelude.{map, string_bytes};
     ghost use Rattle.model.specs.declarations.Declarations.{DeclaredItem};
+    ghost use Rattle.model.specs.declarations.Codes.{item_code};
 
     ghost Value = { DeclaredItem };
 
-    ghost view = { λ i. record { name = string_bytes i.name; inside = map string_bytes i.inside.items; before = map string_bytes i.before.items; after = map string_bytes i.after.items } };
+    ghost coded = { item_code };
+
+    ghost view = { λ i. record { name = string_bytes i.name; inside = map string_bytes i.inside.items; before = map string_bytes i.before.items; after = map string_bytes i.after.items; before_ignore_deferred = map string_bytes i.before_ignore_deferred.items; after_ignore_deferred = map string_bytes i.after_ignore_deferred.items; ambiguous_with = map string_bytes i.ambiguous_with.items } };
 }
 
 impl ItemDesc {
     /// An item with this name, in no set, before and after nothing.
     pub fn new(alloc: Global, name: String) -> Self
-        ensures { result ≡ record { name = string_bytes name; inside = []; before = []; after = [] } }
+        ensures { result ≡ plain_item (string_bytes name) }
     {
         ItemDesc {
             name,
             inside: Vec::new(alloc),
             before: Vec::new(alloc),
             after: Vec::new(alloc),
+            before_ignore_deferred: Vec::new(alloc),
+            after_ignore_deferred: Vec::new(alloc),
+            ambiguous_with: Vec::new(alloc),
         }
     }
 
@@ -66,6 +75,35 @@ impl ItemDesc {
         Ok(())
     }
 
+    /// Declares that the item runs before the item of this name, which then doesn't wait for commands. Where memory is wanting nothing
+    /// is declared.
+    pub fn add_before_ignore_deferred(&mut self, name: String) -> Result<(), AllocError>
+        ensures ok { OnOk result (self.new ≡ record self.old { before_ignore_deferred = self.old.before_ignore_deferred ++ string_bytes name ∷ [] }) }
+        ensures err { OnErr result (self.new ≡ self.old) }
+    {
+        self.before_ignore_deferred.push(name)?;
+        Ok(())
+    }
+
+    /// Declares that the item runs after the item of this name, and doesn't wait for its commands. Where memory is wanting nothing is
+    /// declared.
+    pub fn add_after_ignore_deferred(&mut self, name: String) -> Result<(), AllocError>
+        ensures ok { OnOk result (self.new ≡ record self.old { after_ignore_deferred = self.old.after_ignore_deferred ++ string_bytes name ∷ [] }) }
+        ensures err { OnErr result (self.new ≡ self.old) }
+    {
+        self.after_ignore_deferred.push(name)?;
+        Ok(())
+    }
+
+    /// Declares that the item and the item of this name may be ambiguous. Where memory is wanting nothing is declared.
+    pub fn add_ambiguous_with(&mut self, name: String) -> Result<(), AllocError>
+        ensures ok { OnOk result (self.new ≡ record self.old { ambiguous_with = self.old.ambiguous_with ++ string_bytes name ∷ [] }) }
+        ensures err { OnErr result (self.new ≡ self.old) }
+    {
+        self.ambiguous_with.push(name)?;
+        Ok(())
+    }
+
     /// The name.
     pub fn name(&self) -> &str
         ensures { result.now ≡ self.now.name }
@@ -93,6 +131,27 @@ impl ItemDesc {
     {
         self.after.as_slice()
     }
+
+    /// The names of the items that it runs before whatever commands are deferred, as declared.
+    pub fn before_ignore_deferred(&self) -> &[String]
+        ensures { map string_bytes result.now ≡ self.now.before_ignore_deferred }
+    {
+        self.before_ignore_deferred.as_slice()
+    }
+
+    /// The names of the items that it runs after whatever commands are deferred, as declared.
+    pub fn after_ignore_deferred(&self) -> &[String]
+        ensures { map string_bytes result.now ≡ self.now.after_ignore_deferred }
+    {
+        self.after_ignore_deferred.as_slice()
+    }
+
+    /// The names of the items with which it may be ambiguous, as declared.
+    pub fn ambiguous_with(&self) -> &[String]
+        ensures { map string_bytes result.now ≡ self.now.ambiguous_with }
+    {
+        self.ambiguous_with.as_slice()
+    }
 }
 
 /// A declared system: an item with parameters.
@@ -104,8 +163,11 @@ pub struct SystemDesc {
 
 impl Model for SystemDesc {
     ghost use Rattle.model.specs.declarations.Declarations.{DeclaredSystem};
+    ghost use Rattle.model.specs.declarations.Codes.{declared_system_code};
 
     ghost Value = { DeclaredSystem };
+
+    ghost coded = { declared_system_code };
 
     ghost view = { λ s. record { item = s.item; params = s.params } };
 }
@@ -113,7 +175,7 @@ impl Model for SystemDesc {
 impl SystemDesc {
     /// A system with this name and these parameters, in no set, before and after nothing.
     pub fn new(alloc: Global, name: String, params: Params) -> Self
-        ensures { result ≡ record { item = record { name = string_bytes name; inside = []; before = []; after = [] }; params = params } }
+        ensures { result ≡ record { item = plain_item (string_bytes name); params = params } }
     {
         SystemDesc {
             item: ItemDesc::new(alloc, name),
@@ -174,30 +236,89 @@ impl SystemDesc {
     }
 }
 
-/// A declared schedule: its sets and its systems, each in declared order. Sets are items before systems, whichever were declared
-/// first.
+/// A declared chain: items by name, each of which runs before the next, and whether these orders ignore that commands are deferred.
+#[derive(Drop)]
+pub struct ChainDesc {
+    items: Vec<String>,
+    ignores_deferred: bool,
+}
+
+impl Model for ChainDesc {
+    ghost use Rattle.std.specs.Prelude.{map, string_bytes};
+    ghost use Rattle.model.specs.declarations.Declarations.{DeclaredChain};
+    ghost use Rattle.model.specs.declarations.Codes.{chain_code};
+
+    ghost Value = { DeclaredChain };
+
+    ghost coded = { chain_code };
+
+    ghost view = { λ c. record { items = map string_bytes c.items.items; ignores_deferred = c.ignores_deferred } };
+}
+
+impl ChainDesc {
+    /// The chain without items.
+    pub fn new(alloc: Global, ignores_deferred: bool) -> Self
+        ensures { result ≡ record { items = []; ignores_deferred = ignores_deferred } }
+    {
+        ChainDesc {
+            items: Vec::new(alloc),
+            ignores_deferred,
+        }
+    }
+
+    /// Adds the item of this name at the end. Where memory is wanting nothing is added.
+    pub fn add_item(&mut self, name: String) -> Result<(), AllocError>
+        ensures ok { OnOk result (self.new ≡ record self.old { items = self.old.items ++ string_bytes name ∷ [] }) }
+        ensures err { OnErr result (self.new ≡ self.old) }
+    {
+        self.items.push(name)?;
+        Ok(())
+    }
+
+    /// The names of the items, in order.
+    pub fn items(&self) -> &[String]
+        ensures { map string_bytes result.now ≡ self.now.items }
+    {
+        self.items.as_slice()
+    }
+
+    /// Whether the orders ignore that commands are deferred.
+    pub fn ignores_deferred(&self) -> bool
+        ensures { result ≡ self.now.ignores_deferred }
+    {
+        self.ignores_deferred
+    }
+}
+
+/// A declared schedule: its sets, its systems and its chains, each in declared order. Sets are items before systems, whichever were
+/// declared first.
 #[derive(Drop)]
 pub struct ScheduleDesc {
     sets: Vec<ItemDesc>,
     systems: Vec<SystemDesc>,
+    chains: Vec<ChainDesc>,
 }
 
 impl Model for ScheduleDesc {
     ghost use Rattle.model.specs.declarations.Declarations.{Declared};
+    ghost use Rattle.model.specs.declarations.Codes.{declared_code};
 
     ghost Value = { Declared };
 
-    ghost view = { λ d. record { sets = d.sets.items; systems = d.systems.items } };
+    ghost coded = { declared_code };
+
+    ghost view = { λ d. record { sets = d.sets.items; systems = d.systems.items; chains = d.chains.items } };
 }
 
 impl ScheduleDesc {
-    /// The schedule without sets and systems.
+    /// The schedule without sets, systems and chains.
     pub fn new(alloc: Global) -> Self
-        ensures { result ≡ record { sets = []; systems = [] } }
+        ensures { result ≡ record { sets = []; systems = []; chains = [] } }
     {
         ScheduleDesc {
             sets: Vec::new(alloc),
             systems: Vec::new(alloc),
+            chains: Vec::new(alloc),
         }
     }
 
@@ -217,6 +338,22 @@ impl ScheduleDesc {
     {
         self.systems.push(system)?;
         Ok(())
+    }
+
+    /// Declares a chain after the others. Where memory is wanting nothing is declared.
+    pub fn add_chain(&mut self, chain: ChainDesc) -> Result<(), AllocError>
+        ensures ok { OnOk result (self.new ≡ record self.old { chains = self.old.chains ++ chain ∷ [] }) }
+        ensures err { OnErr result (self.new ≡ self.old) }
+    {
+        self.chains.push(chain)?;
+        Ok(())
+    }
+
+    /// The chains, in declared order.
+    pub fn chains(&self) -> &[ChainDesc]
+        ensures { result.now ≡ self.now.chains }
+    {
+        self.chains.as_slice()
     }
 
     /// The sets, in declared order.

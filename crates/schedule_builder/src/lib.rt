@@ -8,6 +8,7 @@ mod condition_rows;
 mod counts;
 pub mod desc;
 pub mod fault;
+mod levels;
 mod listing;
 mod names;
 mod orders;

@@ -36,6 +36,13 @@ impl System {
         }
     }
 
+    /// The same system, of this level.
+    pub(crate) fn at_level(self, level: u32) -> Self
+        ensures { result ≡ record self { level = level } }
+    {
+        System { level, ..self }
+    }
+
     /// Its parameters.
     pub fn params(&self) -> &Params
         ensures { result.now ≡ self.now.params }

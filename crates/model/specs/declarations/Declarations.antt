@@ -1,27 +1,49 @@
--- What a program declares of a schedule: sets and systems by name, what is in which sets, the orders among them, and what its systems
--- touch.
-use Rattle.std.specs.Prelude.{ℕ, suc, ◌<◌, ◌≡◌, if◌then◌else◌, List, [], ◌∷◌, ◌++◌, length, map, flat_map, get_or}
+-- What a program declares of a schedule: sets, systems and chains by name, what is in which sets, the orders among them, and what its
+-- systems touch.
+use Rattle.std.specs.Prelude.{ℕ, suc, ◌<◌, ◌≡◌, Bool, if◌then◌else◌, List, [], ◌∷◌, ◌++◌, length, map, flat_map, get_or}
 use Rattle.std.specs.Str.{bytes_eq}
 use Rattle.model.specs.Lists.{map_index}
 use Rattle.model.specs.access.Access.{Params, no_params}
 use Rattle.model.specs.declarations.Hierarchy.{Hierarchy}
 
--- a set or a system: its name, by its bytes, and the names of the sets that it is in and of the items that it runs before and after
+-- a set or a system: its name, by its bytes, the names of the sets that it is in, of the items that it runs before and after, of those
+-- that it runs before and after whatever commands are deferred, and of those with which it may be ambiguous
 pub record DeclaredItem : Type 0 where
   pub name : List ℕ
   pub inside : List (List ℕ)
   pub before : List (List ℕ)
   pub after : List (List ℕ)
+  pub before_ignore_deferred : List (List ℕ)
+  pub after_ignore_deferred : List (List ℕ)
+  pub ambiguous_with : List (List ℕ)
+
+-- an item with this name and nothing else
+abbrev pub plain_item : List ℕ → DeclaredItem
+plain_item name = record {
+  name = name;
+  inside = [];
+  before = [];
+  after = [];
+  before_ignore_deferred = [];
+  after_ignore_deferred = [];
+  ambiguous_with = [];
+}
 
 -- a system: an item with parameters
 pub record DeclaredSystem : Type 0 where
   pub item : DeclaredItem
   pub params : Params
 
--- the sets and the systems, each in declared order
+-- a chain: the names of items, each of which runs before the next, and whether these orders ignore deferred commands
+pub record DeclaredChain : Type 0 where
+  pub items : List (List ℕ)
+  pub ignores_deferred : Bool
+
+-- the sets, the systems and the chains, each in declared order
 pub record Declared : Type 0 where
   pub sets : List DeclaredItem
   pub systems : List DeclaredSystem
+  pub chains : List DeclaredChain
 
 -- the items: sets come before systems
 abbrev pub items_of : Declared → List DeclaredItem
@@ -29,7 +51,7 @@ items_of d = d.sets ++ map (λ (s : DeclaredSystem). s.item) d.systems
 
 -- the item of a number
 abbrev pub item_at : Declared → ℕ → DeclaredItem
-item_at d n = get_or (items_of d) n (record { name = []; inside = []; before = []; after = [] })
+item_at d n = get_or (items_of d) n (plain_item [])
 
 -- the name of an item
 abbrev pub name_of : Declared → ℕ → List ℕ
@@ -37,7 +59,7 @@ name_of d n = (item_at d n).name
 
 -- the system of a number among the systems
 abbrev pub declared_at : Declared → ℕ → DeclaredSystem
-declared_at d n = get_or d.systems n (record { item = record { name = []; inside = []; before = []; after = [] }; params = no_params })
+declared_at d n = get_or d.systems n (record { item = plain_item []; params = no_params })
 
 -- the name of a system
 abbrev pub system_name : Declared → ℕ → List ℕ
@@ -57,13 +79,22 @@ number_of d name = first_named (items_of d) name
 abbrev pub IsNamedBelow : Declared → ℕ → List ℕ → Type 0
 IsNamedBelow d bound name = (n : ℕ) × (n < bound) × (name_of d n ≡ name)
 
+-- names, each with how many of the first items it may name
+abbrev pub bounded : ℕ → List (List ℕ) → List (ℕ × List ℕ)
+bounded bound names = map (λ name. (bound, name)) names
+
 -- the names that an item's texts look up, in order, each with how many of the first items it may name: the sets alone, or all items
 abbrev pub names_in : ℕ → ℕ → DeclaredItem → List (ℕ × List ℕ)
-names_in sets items i = map (λ name. (sets, name)) i.inside ++ (map (λ name. (items, name)) i.before ++ map (λ name. (items, name)) i.after)
+names_in sets items i = bounded sets i.inside ++ (bounded items i.before ++ (bounded items i.after
+    ++ (bounded items i.before_ignore_deferred ++ (bounded items i.after_ignore_deferred ++ bounded items i.ambiguous_with))))
 
--- the names that are looked up, in order
+-- the names that a chain looks up
+abbrev pub names_along : ℕ → DeclaredChain → List (ℕ × List ℕ)
+names_along items c = bounded items c.items
+
+-- the names that are looked up, in order: those of each item, then those of each chain
 abbrev pub looked_up : Declared → List (ℕ × List ℕ)
-looked_up d = flat_map (names_in (length d.sets) (length (items_of d))) (items_of d)
+looked_up d = flat_map (names_in (length d.sets) (length (items_of d))) (items_of d) ++ flat_map (names_along (length (items_of d))) d.chains
 
 -- ---- sets and orders, by number
 
@@ -71,12 +102,39 @@ looked_up d = flat_map (names_in (length d.sets) (length (items_of d))) (items_o
 abbrev pub holders_in : Declared → ℕ → DeclaredItem → List (ℕ × ℕ)
 holders_in d n i = map (λ name. (n, number_of d name)) i.inside
 
--- the orders that an item declares, each as the item that comes first and the item that comes second
+-- the orders of an item before others and after others, each as the item that comes first and the item that comes second
+abbrev pub orders_before : Declared → ℕ → List (List ℕ) → List (ℕ × ℕ)
+orders_before d n names = map (λ later. (n, number_of d later)) names
+
+abbrev pub orders_after : Declared → ℕ → List (List ℕ) → List (ℕ × ℕ)
+orders_after d n names = map (λ earlier. (number_of d earlier, n)) names
+
+-- the orders that an item declares, and of these the plain ones, which don't ignore deferred commands
 abbrev pub orders_in : Declared → ℕ → DeclaredItem → List (ℕ × ℕ)
-orders_in d n i = map (λ later. (n, number_of d later)) i.before ++ map (λ earlier. (number_of d earlier, n)) i.after
+orders_in d n i = (orders_before d n i.before ++ orders_after d n i.after) ++ (orders_before d n i.before_ignore_deferred ++ orders_after d n i.after_ignore_deferred)
+
+abbrev pub plain_orders_in : Declared → ℕ → DeclaredItem → List (ℕ × ℕ)
+plain_orders_in d n i = orders_before d n i.before ++ orders_after d n i.after
+
+-- each number with the next
+abbrev pub neighbours : List ℕ → List (ℕ × ℕ)
+neighbours [] = []
+neighbours (m ∷ []) = []
+neighbours (m ∷ n ∷ ns) = (m, n) ∷ neighbours (n ∷ ns)
+
+-- the orders of a chain, and of these the plain ones
+abbrev pub orders_along : Declared → DeclaredChain → List (ℕ × ℕ)
+orders_along d c = neighbours (map (number_of d) c.items)
+
+abbrev pub plain_orders_along : Declared → DeclaredChain → List (ℕ × ℕ)
+plain_orders_along d c = if c.ignores_deferred then [] else orders_along d c
+
+-- the pairs with which an item may be ambiguous
+abbrev pub silences_in : Declared → ℕ → DeclaredItem → List (ℕ × ℕ)
+silences_in d n i = orders_before d n i.ambiguous_with
 
 -- the lists of all items, one after the other
-abbrev pub from_each : (ℕ → DeclaredItem → List (ℕ × ℕ)) → ℕ → List DeclaredItem → List (ℕ × ℕ)
+abbrev pub from_each : {A : Type 0} → (ℕ → DeclaredItem → List A) → ℕ → List DeclaredItem → List A
 from_each f n [] = []
 from_each f n (i ∷ items) = f n i ++ from_each f (suc n) items
 
@@ -84,6 +142,14 @@ from_each f n (i ∷ items) = f n i ++ from_each f (suc n) items
 abbrev pub hierarchy_of : Declared → Hierarchy
 hierarchy_of d = record { sets = length d.sets; items = length (items_of d); inside = from_each (holders_in d) 0 (items_of d) }
 
--- the declared orders, in order
+-- the declared orders, in order: those of items, then those of chains
 abbrev pub declared_orders : Declared → List (ℕ × ℕ)
-declared_orders d = from_each (orders_in d) 0 (items_of d)
+declared_orders d = from_each (orders_in d) 0 (items_of d) ++ flat_map (orders_along d) d.chains
+
+-- the plain ones
+abbrev pub plain_orders : Declared → List (ℕ × ℕ)
+plain_orders d = from_each (plain_orders_in d) 0 (items_of d) ++ flat_map (plain_orders_along d) d.chains
+
+-- the pairs of items that may be ambiguous
+abbrev pub declared_silences : Declared → List (ℕ × ℕ)
+declared_silences d = from_each (silences_in d) 0 (items_of d)

@@ -1,5 +1,5 @@
 -- Why declared items are refused, each refusal in its own words, and which one is told.
-use Rattle.std.specs.Prelude.{ℕ, ◌<◌, ◌≤◌, ◌≡◌, ◌⊎◌, Some, None, List, [], length, map, get_or}
+use Rattle.std.specs.Prelude.{ℕ, ◌<◌, ◌≤◌, ◌≡◌, ◌⊎◌, Some, None, unwrap_or, List, [], length, map, get_or}
 use Rattle.model.specs.access.Query.{Term}
 use Rattle.model.specs.access.SelfConflict.{ConflictWithin}
 pub use Rattle.model.specs.access.QueryFaults.{query_fault}
@@ -106,21 +106,36 @@ pub record IsBadQuery (d : Declared) (owner : List ℕ) (number fault : ℕ) : T
 
 -- ---- limits
 
--- there are few enough systems, sets, and queries in each system
+-- the ids that a system is given at a start
+abbrev pub granted_to : Declared → ℕ → ℕ
+granted_to d n = unwrap_or (declared_at d n).params.spawns 0
+
+-- there are few enough systems, sets, queries in each system, and ids at each start
 pub record IsWithinLimits (d : Declared) : Type 0 where
   pub systems : length d.systems ≤ 256
   pub sets : length d.sets ≤ 64
   pub queries : (n : ℕ) → length (declared_at d n).params.queries ≤ 8
+  pub spawns : (n : ℕ) → granted_to d n ≤ 1024
 
 -- a system has too many queries
 abbrev pub HasManyQueries : Declared → Type 0
 HasManyQueries d = (n : ℕ) × (8 < length (declared_at d n).params.queries)
 
--- the number of the least limit that is passed: 1 of systems, 2 of sets, 4 of the queries of a system
+-- a system is given too many ids
+abbrev pub HasManySpawns : Declared → Type 0
+HasManySpawns d = (n : ℕ) × (1024 < granted_to d n)
+
+-- each system has few enough queries
+abbrev pub HasFewQueries : Declared → Type 0
+HasFewQueries d = (n : ℕ) → length (declared_at d n).params.queries ≤ 8
+
+-- the number of the least limit that is passed: 1 of systems, 2 of sets, 4 of the queries of a system, 5 of the ids that a system is
+-- given
 abbrev pub IsOverLimit : Declared → ℕ → Type 0
 IsOverLimit d limit = ((256 < length d.systems) × (limit ≡ 1))
     ⊎ (((length d.systems ≤ 256) × (64 < length d.sets) × (limit ≡ 2))
-    ⊎ ((length d.systems ≤ 256) × (length d.sets ≤ 64) × HasManyQueries d × (limit ≡ 4)))
+    ⊎ (((length d.systems ≤ 256) × (length d.sets ≤ 64) × HasManyQueries d × (limit ≡ 4))
+    ⊎ ((length d.systems ≤ 256) × (length d.sets ≤ 64) × HasFewQueries d × HasManySpawns d × (limit ≡ 5))))
 
 -- ---- which one is told
 

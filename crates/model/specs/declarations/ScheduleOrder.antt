@@ -1,9 +1,9 @@
--- The schedule that declared items stand for: its edges, its level, its sync point and its schedule order.
-use Rattle.std.specs.Prelude.{ℕ, ◌+◌, ◌<◌, ◌≡◌, ◌↔◌, true, false, List, ◌∷◌, ◌++◌, length, map}
+-- The schedule that declared items stand for: its edges, its levels, its sync points and its schedule order.
+use Rattle.std.specs.Prelude.{ℕ, suc, ◌+◌, ◌<◌, ◌≤◌, ◌≡◌, ◌⊎◌, ◌↔◌, true, false, is_some, List, ◌∷◌, ◌++◌, length, map}
 use Rattle.model.specs.Lists.{has}
 use Rattle.model.specs.steps.Schedule.{Schedule, ScheduledSystem, has_edge, level_of}
 use Rattle.model.specs.steps.Ambiguity.{Before}
-use Rattle.model.specs.declarations.Declarations.{Declared, DeclaredSystem, hierarchy_of, declared_orders}
+use Rattle.model.specs.declarations.Declarations.{Declared, DeclaredSystem, declared_at, hierarchy_of, declared_orders, plain_orders}
 use Rattle.model.specs.declarations.Edges.{IsEdge}
 
 -- a system that is not placed yet, where all that are before it are placed
@@ -34,7 +34,30 @@ HasDeclaredEdges d s = (m n : ℕ) → (has_edge s m n ≡ true) ↔ IsDeclaredE
 abbrev pub HasDeclaredSystems : Declared → Schedule → Type 0
 HasDeclaredSystems d s = map (λ (x : ScheduledSystem). x.params) s.systems ≡ map (λ (x : DeclaredSystem). x.params) d.systems
 
--- every system is of level 0, and there is one sync point
-pub record IsOneLevel (s : Schedule) : Type 0 where
-  pub levels : (n : ℕ) → level_of s n ≡ 0
-  pub syncs : s.syncs ≡ 1
+-- ---- levels
+
+-- whether a system has commands
+abbrev pub HasCommands : Declared → ℕ → Type 0
+HasCommands d n = is_some (declared_at d n).params.spawns ≡ true
+
+-- an edge is deferring where it leads out of a system with commands, and not every order that gives it ignores deferred commands
+pub record IsDeferring (d : Declared) (m n : ℕ) : Type 0 where
+  pub commands : HasCommands d m
+  pub plain : IsEdge (hierarchy_of d) (plain_orders d) (length d.sets + m) (length d.sets + n)
+
+-- a path of edges that ends at a system, with so many deferring edges
+pub data HasPath (d : Declared) : ℕ → ℕ → Type 0 where
+  Begins : (n : ℕ) → HasPath d n 0
+  Goes : (m n count : ℕ) → HasPath d m count → IsDeclaredEdge d m n → (IsDeferring d m n → ⊥) → HasPath d n count
+  Defers : (m n count : ℕ) → HasPath d m count → IsDeferring d m n → HasPath d n (suc count)
+
+-- the level of a system: the greatest number of deferring edges on a path that ends at it
+pub record IsLevel (d : Declared) (n level : ℕ) : Type 0 where
+  pub path : HasPath d n level
+  pub greatest : (count : ℕ) → HasPath d n count → count ≤ level
+
+-- each system has its level, and there are as many sync points as the greatest level plus one, and one without systems
+pub record HasLevels (d : Declared) (s : Schedule) : Type 0 where
+  pub levels : (n : ℕ) → n < length s.systems → IsLevel d n (level_of s n)
+  pub below : (n : ℕ) → n < length s.systems → level_of s n < s.syncs
+  pub least : (s.syncs ≡ 1) ⊎ ((n : ℕ) × (n < length s.systems) × (s.syncs ≡ suc (level_of s n)))

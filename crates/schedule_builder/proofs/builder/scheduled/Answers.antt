@@ -19,12 +19,12 @@ loop-system-preserved c =
     let built : List ScheduledSystem = c.loop-system.built.items in
     let s : DeclaredSystem = c.in-Some.system in
     let number : c.len.result ≡ length built = c.len.ensures ∙ c.loop-system.built.ok.0 in
-    let new : c.new.result ≡ scheduled orders (length built) s.params =
+    let new : c.new.result ≡ scheduled orders (length built) s.params 0 =
     c.new.ensures ∙ (ap (λ (p : Params). of_parts p c.in_ok-predecessors.predecessors.items) c.into_params.ensures ∙ ap (of_parts s.params) (c.in_ok-predecessors.ensures ∙ ap (items_before orders) number)) in
-    let pushed : c.push.new.self.items ≡ built ++ scheduled orders (length built) s.params ∷ [] = c.in_ok-push.ensures.items ∙ ap (λ (x : ScheduledSystem). built ++ x ∷ []) new in
+    let pushed : c.push.new.self.items ≡ built ++ scheduled orders (length built) s.params 0 ∷ [] = c.in_ok-push.ensures.items ∙ ap (λ (x : ScheduledSystem). built ++ x ∷ []) new in
     record {
       whole =
           append_assoc c.loop-system.yielded (s ∷ []) (into_iter_items c.next.new.self)
           ∙ (ap (λ (xs : List DeclaredSystem). c.loop-system.yielded ++ xs) (sym c.in-Some.ensures.steps.0) ∙ c.loop-system.invariant.whole);
-      built = subst (λ (xs : List ScheduledSystem). AreScheduled orders (c.loop-system.yielded ++ s ∷ []) xs) (sym pushed) (scheduled_more orders c.loop-system.yielded built s c.loop-system.invariant.built);
+      built = subst (λ (xs : List ScheduledSystem). AreScheduled orders [] (c.loop-system.yielded ++ s ∷ []) xs) (sym pushed) (scheduled_more orders c.loop-system.yielded built s c.loop-system.invariant.built);
     }

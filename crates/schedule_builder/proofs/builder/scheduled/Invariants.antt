@@ -1,4 +1,4 @@
-use Rattle.std.proofs.Common.{◌≡◌, ◌++◌}
+use Rattle.std.proofs.Common.{◌≡◌, ◌++◌, []}
 use Rattle.std.specs.Vec.Iter.{into_iter_items}
 use Rattle.schedule_builder.specs.ScheduleOrder.{AreScheduled}
 use Rattle.schedule_builder.proofs.builder.scheduled.Given as goal
@@ -6,5 +6,5 @@ use Rattle.schedule_builder.proofs.builder.scheduled.Given as goal
 abbrev pub invariant-loop-system : goal.invariant-loop-system
 invariant-loop-system l = record {
   whole : l.yielded ++ into_iter_items l.system-iterator ≡ l.fn.systems.items;
-  built : AreScheduled l.edges l.yielded l.built.items;
+  built : AreScheduled l.edges [] l.yielded l.built.items;
 }

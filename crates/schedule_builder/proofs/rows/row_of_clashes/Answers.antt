@@ -1,4 +1,4 @@
-use Rattle.std.proofs.Common.{ap, refl, ◌∙◌, sym}
+use Rattle.std.proofs.Common.{ap, ◌∙◌, sym}
 use Rattle.model.specs.steps.Schedule.{ScheduledSystem}
 use Rattle.schedule_builder.proofs.SystemSets.{read_system, tells_conflict, clash_more}
 use Rattle.schedule_builder.proofs.rows.row_of_clashes.Goals as goal

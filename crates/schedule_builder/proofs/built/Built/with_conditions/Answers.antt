@@ -1,7 +1,7 @@
-use Rattle.std.proofs.Common.{ℕ, List, [], length, get_or, ◌∙◌, arith, subst}
+use Rattle.std.proofs.Common.{ℕ, List, length, subst}
 use Rattle.model.specs.steps.Schedule.{ScheduledSystem, ScheduledCondition}
 use Rattle.schedule_builder.specs.Rows.{IsBefore, IsRival, AreRows}
-use Rattle.schedule_builder.specs.Conditions.{IsClash, IsCovering, IsRisingListing}
+use Rattle.schedule_builder.specs.Conditions.{IsClash}
 use Rattle.schedule_builder.proofs.Counted.{has_counts}
 use Rattle.schedule_builder.proofs.Listings.{has_condition_rows}
 use Rattle.schedule_builder.proofs.built.Built.with_conditions.Goals as goal
