@@ -8,6 +8,8 @@ pub mod picks;
 pub mod plan;
 pub mod planned;
 pub mod row;
+pub mod row_places;
+pub mod rows;
 
 ghost use Rattle.query_plan.specs.Standing.{HomeTellsPicks};
 
