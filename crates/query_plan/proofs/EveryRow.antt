@@ -1,7 +1,7 @@
 -- A row for each entity of an archetype.
-use Rattle.std.proofs.Common.{◌≡◌, ℕ, zero, suc, ◌+◌, ◌<◌, ◌≤◌, Bool, true, false, cond, not, nat_lt, ◌==◌, List, [], ◌∷◌, ◌++◌, length, get_or, map, drop, refl, sym, ap, ◌∙◌, append_assoc, append-nil, arith}
+use Rattle.std.proofs.Common.{◌≡◌, ℕ, zero, suc, ◌+◌, ◌<◌, ◌≤◌, Bool, true, false, cond, not, ◌==◌, List, [], ◌∷◌, ◌++◌, length, get_or, map, drop, refl, sym, ap, ◌∙◌, append_assoc, append-nil, arith}
 use Rattle.std.proofs.lemmas.List.{drop_more, drop_all, get_or_past}
-use Rattle.std.proofs.lemmas.Bool.{eqb-true, ne_eqb}
+use Rattle.std.proofs.lemmas.Bool.{ne_eqb}
 use Rattle.model.specs.declared.entities.Entity.{Entity}
 use Rattle.model.specs.Lists.{is_there}
 use Rattle.model.specs.state.State.{Slot}
@@ -24,6 +24,11 @@ every-at n place (suc i) (e ∷ es) d x l =
     every-at n (suc place) i es d x (omega arith)
     ∙ ap (λ p. (let r : Row = record { entity = get_or es i x; archetype = n; place = p } in r)) (let h : suc place + i ≡ place + suc i = omega arith in h)
 
+-- the same, counted from the first
+pub every-first : (n i : ℕ) (es : List Entity) (d : Row) (x : Entity) → i < length es → get_or (every_row n 0 es) i d ≡ record { entity = get_or es i x; archetype = n; place = i }
+every-first n i es d x l =
+    every-at n 0 i es d x l ∙ ap (λ p. (let r : Row = record { entity = get_or es i x; archetype = n; place = p } in r)) (let h : 0 + i ≡ i = omega arith in h)
+
 -- there is none just where the count is 0
 pub none-every : (n count : ℕ) (es : List Entity) → length es ≡ count → (count == 0) ≡ not (is_there (every_row n 0 es))
 none-every n count [] h = ap (λ k. k == 0) (sym h)
@@ -32,14 +37,6 @@ none-every n count (e ∷ es) h = ne_eqb count 0 (λ z. absurd (omega arith))
 -- past the end of a layout nobody is
 pub nobody-past : (layout : List Archetype) (n : ℕ) → length layout ≤ n → (archetype_at layout n).entities ≡ []
 nobody-past layout n l = ap (λ (a : Archetype). a.entities) (get_or_past layout n (record { kinds = []; entities = []; homes = [] }) l)
-
--- an archetype with entities is there
-pub there-counted : (layout : List Archetype) (n count : ℕ) → length (archetype_at layout n).entities ≡ count → (count == 0) ≡ false → n < length layout
-there-counted layout n count h some = go (nat_lt n (length layout)) refl
-  where
-    go : (b : Bool) → nat_lt n (length layout) ≡ b → n < length layout
-    go true e = omega arith
-    go false e = absurd (let none = ap (λ (es : List Entity). length es) (nobody-past layout n (omega arith)) in let zero_is : count ≡ 0 = sym h ∙ none in let yes : (count == 0) ≡ true = ap (λ k. k == 0) zero_is in cc)
 
 -- ---- places, one by one
 

@@ -2,8 +2,8 @@
 use Rattle.std.specs.Prelude.{◌≡◌, ℕ, List, length}
 use Rattle.std.specs.Arc.{arc_value}
 use Rattle.query_plan.specs.declared.row.Row.{Row}
-use Rattle.query_plan.specs.declared.rows.KeptRows.{KeptRows}
-use Rattle.query_plan.specs.declared.rows.KeptRows.TheVariants.{All, Listed}
+use Rattle.query_plan.specs.declared.kept_rows.KeptRows.{KeptRows}
+use Rattle.query_plan.specs.declared.kept_rows.KeptRows.TheVariants.{All, Listed}
 use Rattle.query_plan.specs.Places.{every_row}
 
 -- the rows

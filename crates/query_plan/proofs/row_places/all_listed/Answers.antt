@@ -1,8 +1,8 @@
 use Rattle.std.proofs.Common.{◌≡◌, ◌≤◌, length, map, sym, ap, ◌∙◌, arith}
 use Rattle.std.proofs.lemmas.List.{length-map}
-use Rattle.archetype_store.specs.Layout.{Archetype}
+use Rattle.std.proofs.lemmas.Result.{IfOk-weaker}
+use Rattle.archetype_store.specs.Layout.{Archetype, archetype_at}
 use Rattle.archetype_store.specs.View.{entities_seen}
-use Rattle.column_store.proofs.Made.{if_ok}
 use Rattle.query_plan.specs.Places.{every_row}
 use Rattle.query_plan.proofs.EveryRow.{nobody-past}
 use Rattle.query_plan.proofs.Walks.{view_at}
@@ -16,5 +16,7 @@ returns-then-views-archetype c =
 
 pub returns : goal.returns
 returns c =
-    let is = view_at entities_seen (λ (a : Archetype). a.entities) c.args.views.now c.args._world.now.layout c.args.archetype _ c.requires (omega arith) in
-    rw is at c.every_row.ensures
+    let layout = c.args._world.now.layout in
+    let is = view_at entities_seen (λ (a : Archetype). a.entities) c.args.views.now layout c.args.archetype _ c.requires (omega arith) in
+    IfOk-weaker c.every_row.result _ (λ rows. rows.items ≡ every_row c.args.archetype 0 (archetype_at layout c.args.archetype).entities)
+    (λ rows listed. listed ∙ ap (every_row c.args.archetype 0) is) c.every_row.ensures

@@ -85,11 +85,15 @@ impl Rows {
         ensures { result ≡ get_or self.now row result }
     {
         match &self.kept {
-            KeptRows::All(archetype, _count, entities) => Row {
-                entity: entities[row],
-                archetype: *archetype,
-                place: row as u32,
-            },
+            KeptRows::All(archetype, count, entities) => {
+                // Tells that places are below it.
+                let _count = *count;
+                Row {
+                    entity: entities[row],
+                    archetype: *archetype,
+                    place: row as u32,
+                }
+            }
             KeptRows::Listed(rows) => rows[row],
         }
     }
