@@ -1,6 +1,6 @@
 // The components of entities, in tables by archetype: the kinds that an entity has.
 
-ghost use Rattle.std.specs.Prelude.{◌≡◌, true, false, not, [], length, Some, map, option_map, IfSome, IfOk, IsErr, OnOk, OnErr};
+ghost use Rattle.std.specs.Prelude.{◌≡◌, ◌<◌, true, false, not, [], length, Some, map, option_map, IfSome, IfOk, IsErr, OnOk, OnErr};
 ghost use Rattle.kinds.specs.Value.{value_number, value_words};
 ghost use Rattle.model.specs.Lists.{is_there};
 ghost use Rattle.model.specs.state.Rows.{cell_at, kinds_of, insert_component, remove_component};
@@ -15,7 +15,9 @@ ghost use Rattle.archetype_store.specs.View.{kinds_seen, entities_seen};
 ghost use Rattle.archetype_store.specs.Archetypes.{row_of, holder_of, row_cells, IsHolder, AreAlike, HasRow, IsFilled, IsLaidOut};
 
 use crate::lay::{clear_in, insert_in, remove_in};
-use crate::lending::{column_at, home_at, lend_at, share_at, table_of_archetype};
+use crate::lending::{
+    column_at, home_at, lend_at, share_at, share_entities_at, table_of_archetype,
+};
 use crate::locations::{EntityLocation, place_at, reach};
 use crate::owning::own_all;
 use crate::tables::{ArchetypeView, components_at, find_at, has_at, views_of};
@@ -170,6 +172,22 @@ impl Archetypes {
         };
         self.shared = true;
         share_at(&mut self.tables, table, alloc, kind)
+    }
+
+    /// The entities of an archetype, to be read elsewhere too. They are copied only where its rows changed since they were asked for last.
+    pub fn share_entities(
+        &mut self,
+        alloc: Global,
+        archetype: usize,
+    ) -> Result<Arc<Vec<Entity>, Global>, AllocError>
+        requires { archetype < length self.old.layout }
+        ensures entities { IfOk result (λ list. (arc_value list).items ≡ (archetype_at self.old.layout archetype).entities) }
+        ensures same { self.new ≡ self.old }
+    {
+        let Some(table) = table_of_archetype(&self.tables, archetype) else {
+            unreachable!();
+        };
+        share_entities_at(&mut self.tables, table, alloc)
     }
 
     /// Puts a column that was taken back, with as many cells as the archetype has entities. It takes no memory.

@@ -11,6 +11,7 @@ ghost use Rattle.archetype_store.specs.Tables.{table_at, cells_at, AreAllAlike, 
 
 use column_store::stamped::StampedColumn;
 use column_store::table::Table;
+use entity_table::Entity;
 use kinds::kind::Kind;
 use std::alloc::{AllocError, Global};
 use std::sync::Arc;
@@ -84,6 +85,20 @@ pub(crate) fn share_at(
     // Tells that ids rise.
     let _entities = there.entities();
     there.share(alloc, kind)
+}
+
+// The entities of a table, to be read elsewhere too.
+pub(crate) fn share_entities_at(
+    tables: &mut Vec<Table>,
+    table: usize,
+    alloc: Global,
+) -> Result<Arc<Vec<Entity>, Global>, AllocError>
+    requires { table < length tables.old.items }
+    ensures entities { IfOk result (λ list. (arc_value list).items ≡ map (λ row. row.entity) (table_at tables.old.items table).rows) }
+    ensures same { tables.new.items ≡ tables.old.items }
+{
+    let there = &mut tables[table];
+    there.share_entities(alloc)
 }
 
 // Puts a column back.

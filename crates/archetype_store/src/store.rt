@@ -152,6 +152,20 @@ impl World {
         self.slots.share_column(alloc, archetype, kind)
     }
 
+    /// The entities of the archetype of a number, in the order of their rows, to be read elsewhere too. They are copied only where rows of the
+    /// archetype changed since they were asked for last.
+    pub fn share_entities(
+        &mut self,
+        alloc: Global,
+        archetype: usize,
+    ) -> Result<Arc<Vec<Entity>, Global>, AllocError>
+        requires { archetype < length self.old.layout }
+        ensures entities { IfOk result (λ list. (arc_value list).items ≡ (archetype_at self.old.layout archetype).entities) }
+        ensures same { self.new ≡ self.old }
+    {
+        self.slots.share_entities(alloc, archetype)
+    }
+
     /// Puts a column that was taken back: each entity of its archetype has the component beside it. It takes no memory.
     pub fn put_column(&mut self, archetype: usize, column: StampedColumn)
         requires away { column_home (archetype_at self.old.layout archetype) column.kind ≡ Some false }

@@ -78,7 +78,7 @@ fn has_row(alloc: Global, query: &Query, world: &World, last_run: Tick) -> Resul
     ensures { IfOk result (λ answer. answer ≡ is_there (rows_of query.now last_run world.now.state.slots)) }
 {
     let plan = plan(alloc, query, world, last_run)?;
-    Ok(!plan.rows.is_empty())
+    Ok(!plan.rows.is_empty(world))
 }
 
 // What the parts of a condition answer. The cursors of its readers come first, and so does what is known of its queries.

@@ -19,6 +19,7 @@ use crate::view_query::ViewQuery;
 use archetype_store::store::World;
 use change_ticks::clock::Tick;
 use query::Query;
+use query_plan::kept_rows::Rows;
 use query_plan::plan::plan;
 use std::alloc::{AllocError, Global};
 
@@ -49,9 +50,10 @@ pub(crate) fn open_query(
         return Err(AllocError);
     };
     let mut slots = no_slots(alloc, plan.archetypes as usize + 1)?;
+    let rows = Rows::of(alloc, plan.rows, world)?;
     let columns = take_picked(alloc, plan.picks.as_slice(), world)?;
     fill_slots(&mut slots, query.terms(), columns.as_slice(), count);
-    Ok(ViewQuery::open(tick, query, slots, plan.rows, columns))
+    Ok(ViewQuery::open(tick, query, slots, rows, columns))
 }
 
 // Queries as they are opened over a world at a tick to come. After an error the world is as it was.

@@ -18,6 +18,7 @@ use entity_table::Entity;
 use kinds::component::Component;
 use kinds::kind::Kind;
 use query::Query;
+use query_plan::kept_rows::Rows;
 use query_plan::row::Row;
 use std::marker::Model;
 use std::snapshot::Snapshot;
@@ -34,7 +35,7 @@ struct Placing {
     tick: Tick,
     query: Snapshot<Query>,
     slots: Vec<Slots>,
-    rows: Vec<Row>,
+    rows: Rows,
 }
 
 /// A query of a view. Contracts see its terms, its rows as they were shown, what was written in them, the columns as they were taken, and
@@ -54,9 +55,9 @@ impl Model for ViewQuery {
 
     ghost use Rattle.body.specs.HeldColumns.{held_seen, slots_seen};
 
-    ghost view = { λ q. sheet_of q.placing.tick q.placing.query.value (map slots_seen q.placing.slots.items) q.placing.rows.items (map held_seen q.taken.value.items) (map held_seen q.columns.items) };
+    ghost view = { λ q. sheet_of q.placing.tick q.placing.query.value (map slots_seen q.placing.slots.items) q.placing.rows (map held_seen q.taken.value.items) (map held_seen q.columns.items) };
 
-    ghost invariant = { λ q. IsSheet q.placing.tick q.placing.query.value (map slots_seen q.placing.slots.items) q.placing.rows.items (map held_seen q.taken.value.items) (map held_seen q.columns.items) };
+    ghost invariant = { λ q. IsSheet q.placing.tick q.placing.query.value (map slots_seen q.placing.slots.items) q.placing.rows (map held_seen q.taken.value.items) (map held_seen q.columns.items) };
 }
 
 impl ViewQuery {
@@ -66,12 +67,12 @@ impl ViewQuery {
         tick: Tick,
         query: &Query,
         slots: Vec<Slots>,
-        rows: Vec<Row>,
+        rows: Rows,
         columns: Vec<Held>,
     ) -> Self
-        requires { IsPlan tick query.now (map slots_seen slots.items) rows.items (map held_seen columns.items) }
+        requires { IsPlan tick query.now (map slots_seen slots.items) rows (map held_seen columns.items) }
         ensures terms { result.terms ≡ query.now }
-        ensures rows { result.rows ≡ map (row_of (map slots_seen slots.items) (map held_seen columns.items) query.now) rows.items }
+        ensures rows { result.rows ≡ map (row_of (map slots_seen slots.items) (map held_seen columns.items) query.now) rows }
         ensures untouched { result.cells ≡ untouched_rows result.terms result.rows }
         ensures taken { result.taken ≡ map held_seen columns.items }
         ensures tick { result.tick ≡ tick }
@@ -101,7 +102,7 @@ impl ViewQuery {
         requires { row < length self.now.rows }
         ensures { result ≡ (get_or self.now.rows row no_row).entity }
     {
-        self.placing.rows[row].entity
+        self.placing.rows.at(row).entity
     }
 
     /// The component of a row: what was written there, else what is shown. None where the row has not the kind, and where the query doesn't
@@ -110,7 +111,8 @@ impl ViewQuery {
         requires { row < length self.now.rows }
         ensures { option_map C.words result ≡ words_read self.now.terms (get_or self.now.rows row no_row).values (get_or self.now.cells row []) C.NUMBER }
     {
-        get_at(&self.placing.slots, &self.columns, self.placing.rows[row])
+        let at = self.placing.rows.at(row);
+        get_at(&self.placing.slots, &self.columns, at)
     }
 
     /// Writes a component of a row of a query that has a `mut` term of its kind.
@@ -119,7 +121,7 @@ impl ViewQuery {
         requires mut_term { IsTrue (writes self.old.terms C.NUMBER) }
         ensures { self.new ≡ record self.old { cells = update_at row (with_words self.old.terms C.NUMBER (C.words component)) self.old.cells } }
     {
-        let at = self.placing.rows[row];
+        let at = self.placing.rows.at(row);
         set_in(
             &self.placing.slots,
             &mut self.columns,

@@ -7,3 +7,4 @@ pub mod Places
 pub mod Inside
 pub mod Components
 pub mod Spots
+pub mod EntityList

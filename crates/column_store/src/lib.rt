@@ -2,6 +2,7 @@
 #![tactic(auto)]
 
 mod column_slot;
+mod entity_list;
 pub mod laws;
 mod order;
 mod parts;

@@ -11,6 +11,7 @@ ghost use Rattle.std.specs.Arc.{arc_value};
 ghost use Rattle.column_store.specs.Inside.{table_of, IsTable, IsPlaced, IsAbsent, IsKindPlaced, IsNoKind, AllTake, IsPutAt, IsRemovedAt, IsThere, AreReadAt, HoldsRow, OwnsRow};
 
 use crate::column_slot::{ColumnSlot, insert_row, read_row, remove_row};
+use crate::entity_list::EntityList;
 use crate::order::{column_in, gap_in, row_in};
 use crate::stamped::{StampedColumn, StampedValue};
 use change_ticks::clock::Tick;
@@ -171,18 +172,18 @@ pub(crate) fn home_in(
 
 // Adds the row of an entity.
 pub(crate) fn put_in(
-    entities: &mut Vec<Entity>,
+    entities: &mut EntityList,
     columns: &mut [ColumnSlot],
     e: Entity,
     components: &[StampedValue],
 ) -> Result<(), AllocError>
-    requires rising { AreRising entities.old.items }
-    requires take { (row : ℕ) → row ≤ length entities.old.items → AllTake row columns.old components.now }
-    ensures ok { OnOk result (IsPutAt e components.now entities.old.items entities.new.items columns.old columns.new) }
-    ensures entities_stay { OnErr result (entities.new.items ≡ entities.old.items) }
+    requires rising { AreRising entities.old }
+    requires take { (row : ℕ) → row ≤ length entities.old → AllTake row columns.old components.now }
+    ensures ok { OnOk result (IsPutAt e components.now entities.old entities.new columns.old columns.new) }
+    ensures entities_stay { OnErr result (entities.new ≡ entities.old) }
     ensures columns_stay { OnErr result (columns.new ≡ columns.old) }
 {
-    let row = gap_in(entities, e);
+    let row = gap_in(entities.as_slice(), e);
     entities.insert(row, e)?;
     if insert_row(columns, row, components).is_err() {
         entities.remove(row);
@@ -192,13 +193,13 @@ pub(crate) fn put_in(
 }
 
 // Removes the row of an entity.
-pub(crate) fn remove_in(entities: &mut Vec<Entity>, columns: &mut [ColumnSlot], e: Entity)
-    requires rising { AreRising entities.old.items }
-    requires there { IsThere e entities.old.items }
-    requires owned { (row : ℕ) → row < length entities.old.items → AllByRecursion (OwnsRow row) columns.old }
-    ensures { IsRemovedAt e entities.old.items entities.new.items columns.old columns.new }
+pub(crate) fn remove_in(entities: &mut EntityList, columns: &mut [ColumnSlot], e: Entity)
+    requires rising { AreRising entities.old }
+    requires there { IsThere e entities.old }
+    requires owned { (row : ℕ) → row < length entities.old → AllByRecursion (OwnsRow row) columns.old }
+    ensures { IsRemovedAt e entities.old entities.new columns.old columns.new }
 {
-    match row_in(entities, e) {
+    match row_in(entities.as_slice(), e) {
         None => unreachable!(),
         Some(row) => {
             entities.remove(row);

@@ -12,6 +12,7 @@ ghost use Rattle.std.specs.Arc.{arc_value};
 ghost use Rattle.column_store.specs.Table.{Standing, empty_table, is_home, is_owned, is_not_away, is_own_if, row_of, put_row, new_row, without_row, cell_in, standing_of, kind_cells, write_cell, lent, owned, homed, IsHome, IsAlike};
 
 use crate::column_slot::{ColumnSlot, empty_columns, own_each};
+use crate::entity_list::EntityList;
 use crate::order::row_in;
 use crate::parts::{
     among, find_in, home_in, lend_in, put_in, read_in, remove_in, seen_in, share_in, write_in,
@@ -32,7 +33,7 @@ use std::sync::Arc;
 #[derive(Drop, Debug)]
 pub struct Table {
     kinds: Vec<Kind>,
-    entities: Vec<Entity>,
+    entities: EntityList,
     columns: Vec<ColumnSlot>,
 }
 
@@ -44,9 +45,9 @@ impl Model for Table {
 
     ghost Value = { TableValue };
 
-    ghost view = { λ t. table_of (map kind_number t.kinds.items) t.entities.items t.columns.items };
+    ghost view = { λ t. table_of (map kind_number t.kinds.items) t.entities t.columns.items };
 
-    ghost invariant = { λ t. IsTable (map kind_number t.kinds.items) t.entities.items t.columns.items };
+    ghost invariant = { λ t. IsTable (map kind_number t.kinds.items) t.entities t.columns.items };
 }
 
 impl Table {
@@ -58,7 +59,7 @@ impl Table {
         let columns = empty_columns(alloc, &kinds)?;
         Ok(Table {
             kinds,
-            entities: Vec::new(alloc),
+            entities: EntityList::new(alloc),
             columns,
         })
     }
@@ -77,6 +78,14 @@ impl Table {
         ensures rising { AreRising result.now }
     {
         self.entities.as_slice()
+    }
+
+    /// The entities, row by row, to be read elsewhere too. They are copied only where rows changed since they were asked for last.
+    pub fn share_entities(&mut self, alloc: Global) -> Result<Arc<Vec<Entity>, Global>, AllocError>
+        ensures entities { IfOk result (λ list. (arc_value list).items ≡ map (λ row. row.entity) self.old.rows) }
+        ensures same { self.new ≡ self.old }
+    {
+        self.entities.share(alloc)
     }
 
     /// How many rows there are.
@@ -110,7 +119,13 @@ impl Table {
         ensures cell { option_map stamped_cell result ≡ cell_in self.now e number }
         ensures number { IfSome result (λ s. stamped_number s ≡ number) }
     {
-        find_in(&self.kinds, &self.entities, &self.columns, e, number)
+        find_in(
+            &self.kinds,
+            self.entities.as_slice(),
+            &self.columns,
+            e,
+            number,
+        )
     }
 
     /// The component of a kind of an entity.
@@ -159,7 +174,7 @@ impl Table {
     {
         write_in(
             &self.kinds,
-            &self.entities,
+            self.entities.as_slice(),
             &mut self.columns,
             e,
             value,
@@ -195,7 +210,7 @@ impl Table {
         ensures row { IfOk result (λ components. row_of e self.now.rows ≡ Some (new_row e components.items)) }
         ensures kinds { IfOk result (λ components. map stamped_number components.items ≡ self.now.kinds) }
     {
-        read_in(alloc, &self.entities, &self.columns, e)
+        read_in(alloc, self.entities.as_slice(), &self.columns, e)
     }
 
     /// Removes the row of an entity, and gives its components, in the order of the kinds. Where memory is wanting the table stays as
@@ -219,7 +234,7 @@ impl Table {
         ensures kind { result.now.kind ≡ kind_number kind }
         ensures cells { map (λ cell. Some cell) result.now.cells ≡ kind_cells self.now (kind_number kind) }
     {
-        seen_in(&self.kinds, &self.entities, &self.columns, kind)
+        seen_in(&self.kinds, self.entities.as_slice(), &self.columns, kind)
     }
 
     /// Takes a column that is at home out of the table until it comes home. One that is still read elsewhere is copied for it. After an
@@ -231,7 +246,13 @@ impl Table {
         ensures away { OnOk result (self.new ≡ lent self.old (kind_number kind)) }
         ensures err { OnErr result (self.new ≡ self.old) }
     {
-        lend_in(&self.kinds, &self.entities, &mut self.columns, alloc, kind)
+        lend_in(
+            &self.kinds,
+            self.entities.as_slice(),
+            &mut self.columns,
+            alloc,
+            kind,
+        )
     }
 
     /// A column that is at home, to be read elsewhere too. No row is copied.
@@ -245,7 +266,13 @@ impl Table {
         ensures cells { IfOk result (λ column. map (λ cell. Some cell) (arc_value column).cells ≡ kind_cells self.old (kind_number kind)) }
         ensures alike { IsAlike self.old self.new }
     {
-        share_in(&self.kinds, &self.entities, &mut self.columns, alloc, kind)
+        share_in(
+            &self.kinds,
+            self.entities.as_slice(),
+            &mut self.columns,
+            alloc,
+            kind,
+        )
     }
 
     /// Takes every column for the table alone. One that is still read elsewhere is copied for it. Where memory is wanting some may be the
@@ -264,7 +291,12 @@ impl Table {
         requires same_length { length column.cells ≡ length self.old.rows }
         ensures { self.new ≡ homed self.old column }
     {
-        home_in(&self.kinds, &self.entities, &mut self.columns, column);
+        home_in(
+            &self.kinds,
+            self.entities.as_slice(),
+            &mut self.columns,
+            column,
+        );
     }
 
     /// Replaces a component of an entity, which counts as changed at this tick, also where the value stays.

@@ -8,3 +8,4 @@ pub mod PickedHome
 pub mod Stamps
 pub mod Walks
 pub mod BareRows
+pub mod EveryRow

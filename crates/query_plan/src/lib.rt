@@ -3,11 +3,13 @@
 
 mod archetype_rows;
 mod filter;
+pub mod kept_rows;
 mod merge;
 pub mod picks;
 pub mod plan;
 pub mod planned;
 pub mod row;
+pub mod row_places;
 
 ghost use Rattle.query_plan.specs.Standing.{HomeTellsPicks};
 

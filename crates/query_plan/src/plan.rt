@@ -5,6 +5,7 @@ ghost use Rattle.std.specs.List.{AllByRecursion};
 ghost use Rattle.model.specs.shown.Input as input;
 ghost use Rattle.column_store.specs.Order.{AreRising};
 ghost use Rattle.query_plan.specs.Picks.{picks_of, pick_seen};
+ghost use Rattle.query_plan.specs.Places.{rows_of_places, IsCounted};
 ghost use Rattle.query_plan.specs.Standing.{ArePickedHome, IsStanding};
 
 use crate::archetype_rows::rows_in;
@@ -16,11 +17,13 @@ use std::alloc::{AllocError, Global};
 
 /// The plan of a query for an observer with this last run: its rows, in rising index, each with the place where its components are,
 /// and the columns that it picks. Archetypes that the query doesn't match are passed over, and no column is read but those whose stamps its
-/// filters ask for. The columns that it picks are at home.
+/// filters ask for. Where one archetype alone is matched, and no filter asks for stamps, the rows are told by its number, and nothing grows
+/// with their count. The columns that it picks are at home.
 pub fn plan(alloc: Global, query: &Query, world: &World, last_run: u64) -> Result<Plan, AllocError>
     requires { ArePickedHome query.now world.now.layout }
-    ensures rows { IfOk result (λ plan. map (λ row. row.entity) plan.rows.items ≡ map (λ row. row.entity) (input.rows_of query.now last_run world.now.state.slots)) }
-    ensures places { IfOk result (λ plan. AllByRecursion (IsStanding world.now.state.slots world.now.layout) plan.rows.items) }
+    ensures rows { IfOk result (λ plan. map (λ row. row.entity) (rows_of_places world.now.layout plan.rows) ≡ map (λ row. row.entity) (input.rows_of query.now last_run world.now.state.slots)) }
+    ensures places { IfOk result (λ plan. AllByRecursion (IsStanding world.now.state.slots world.now.layout) (rows_of_places world.now.layout plan.rows)) }
+    ensures counted { IfOk result (λ plan. IsCounted world.now.layout plan.rows) }
     ensures picks { IfOk result (λ plan. map pick_seen plan.picks.items ≡ picks_of query.now world.now.layout) }
     ensures archetypes { IfOk result (λ plan. plan.archetypes ≡ length world.now.layout) }
     ensures rising { IfOk result (λ plan. AllByRecursion (λ a. AreRising a.entities) world.now.layout) }

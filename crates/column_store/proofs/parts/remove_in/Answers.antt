@@ -1,4 +1,4 @@
-use Rattle.std.proofs.Common.{subst, arith}
+use Rattle.std.proofs.Common.{subst}
 use Rattle.column_store.specs.Order.{is_same}
 use Rattle.column_store.specs.Places.{IsPlace}
 use Rattle.column_store.proofs.Tables.{place-within}
@@ -6,10 +6,10 @@ use Rattle.column_store.proofs.parts.remove_in.Goals as goal
 
 pub remove-requires : goal.remove-requires
 remove-requires c =
-    let within = place-within (λ x. is_same x c.args.e) c.deref.result.now c.in-Some.row c.in-Some.ensures in
-    omega (arith, c.deref.ensures.len)
+    let place = subst (λ xs. IsPlace (λ x. is_same x c.args.e) xs c.in-Some.row) c.as_slice.ensures c.in-Some.ensures in
+    place-within (λ x. is_same x c.args.e) c.args.entities.now c.in-Some.row place
 
 pub remove_row-requires : goal.remove_row-requires
 remove_row-requires c =
-    let place = subst (λ xs. IsPlace (λ x. is_same x c.args.e) xs c.in-Some.row) c.deref.ensures.value c.in-Some.ensures in
-    c.requires.owned c.in-Some.row (place-within (λ x. is_same x c.args.e) c.args.entities.now.items c.in-Some.row place)
+    let place = subst (λ xs. IsPlace (λ x. is_same x c.args.e) xs c.in-Some.row) c.as_slice.ensures c.in-Some.ensures in
+    c.requires.owned c.in-Some.row (place-within (λ x. is_same x c.args.e) c.args.entities.now c.in-Some.row place)

@@ -11,7 +11,7 @@ get_at-requires-clause-readable g c =
     let columns = map held_seen c.self.inside.columns.items in
     let terms = p.query.value in
     rw (c.deref.ensures.value, c.deref-2.ensures.value)
-    (row-readable p.tick terms slots p.rows.items taken columns c.self.invariant c.args.self.now c.self.view_is c.args.row c.index.result.now g.C.Component.NUMBER c.requires c.index.ensures)
+    (row-readable p.tick terms slots p.rows taken columns c.self.invariant c.args.self.now c.self.view_is c.args.row c.at-at.result g.C.Component.NUMBER c.requires c.at-at.ensures)
 
 pub returns : goal.returns
 returns g c =
@@ -21,4 +21,4 @@ returns g c =
     let columns = map held_seen c.self.inside.columns.items in
     let terms = p.query.value in
     rw (c.deref.ensures.value, c.deref-2.ensures.value) at c.get_at.ensures
-    ∙ sheet-read p.tick terms slots p.rows.items taken columns c.self.invariant c.args.self.now c.self.view_is c.args.row c.index.result.now g.C.Component.NUMBER c.requires c.index.ensures
+    ∙ sheet-read p.tick terms slots p.rows taken columns c.self.invariant c.args.self.now c.self.view_is c.args.row c.at-at.result g.C.Component.NUMBER c.requires c.at-at.ensures

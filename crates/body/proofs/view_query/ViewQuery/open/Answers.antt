@@ -5,4 +5,4 @@ use Rattle.body.proofs.view_query.ViewQuery.open.Goals as goal
 
 pub returns-clause-untouched : goal.returns-clause-untouched
 returns-clause-untouched c =
-    untouched-of c.args.tick c.of.result.value (map slots_seen c.args.slots.items) c.args.rows.items (map held_seen c.args.columns.items) (map held_seen c.of-taken.result.value.items) c.requires.fresh
+    untouched-of c.args.tick c.of.result.value (map slots_seen c.args.slots.items) c.args.rows (map held_seen c.args.columns.items) (map held_seen c.of-taken.result.value.items) c.requires.fresh

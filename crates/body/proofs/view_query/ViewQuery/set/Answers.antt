@@ -11,7 +11,7 @@ set_in-requires-clause-writable g c =
     let columns = map held_seen c.self.inside.columns.items in
     let terms = p.query.value in
     rw (c.deref.ensures.value)
-    (row-writable p.tick terms slots p.rows.items taken columns c.self.invariant c.args.self.now c.self.view_is c.args.row c.index-at.result.now g.C.Component.NUMBER c.requires.row c.index-at.ensures c.requires.mut_term)
+    (row-writable p.tick terms slots p.rows taken columns c.self.invariant c.args.self.now c.self.view_is c.args.row c.at-at.result g.C.Component.NUMBER c.requires.row c.at-at.ensures c.requires.mut_term)
 
 pub invariant_of-self : goal.invariant_of-self
 invariant_of-self g c =
@@ -21,8 +21,8 @@ invariant_of-self g c =
     let columns = map held_seen c.self.inside.columns.items in
     let terms = p.query.value in
     let changed = rw (c.deref.ensures.value) at c.set_in.ensures in
-    sheet-after p.tick terms slots p.rows.items taken columns c.self.invariant c.args.self.now c.self.view_is c.args.row c.index-at.result.now g.C.Component.NUMBER (g.C.Component.words c.args.component)
-    (map held_seen c.set_in.new.columns.items) c.requires.row c.index-at.ensures c.requires.mut_term changed
+    sheet-after p.tick terms slots p.rows taken columns c.self.invariant c.args.self.now c.self.view_is c.args.row c.at-at.result g.C.Component.NUMBER (g.C.Component.words c.args.component)
+    (map held_seen c.set_in.new.columns.items) c.requires.row c.at-at.ensures c.requires.mut_term changed
 
 pub returns : goal.returns
 returns g c =
@@ -32,5 +32,5 @@ returns g c =
     let columns = map held_seen c.self.inside.columns.items in
     let terms = p.query.value in
     let changed = rw (c.deref.ensures.value) at c.set_in.ensures in
-    sheet-set p.tick terms slots p.rows.items taken columns c.self.invariant c.args.self.now c.self.view_is c.args.row c.index-at.result.now g.C.Component.NUMBER (g.C.Component.words c.args.component)
-    (map held_seen c.set_in.new.columns.items) c.requires.row c.index-at.ensures c.requires.mut_term changed
+    sheet-set p.tick terms slots p.rows taken columns c.self.invariant c.args.self.now c.self.view_is c.args.row c.at-at.result g.C.Component.NUMBER (g.C.Component.words c.args.component)
+    (map held_seen c.set_in.new.columns.items) c.requires.row c.at-at.ensures c.requires.mut_term changed

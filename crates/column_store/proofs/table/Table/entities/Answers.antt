@@ -5,5 +5,5 @@ use Rattle.column_store.proofs.table.Table.entities.Goals as goal
 
 pub returns-clause-entities : goal.returns-clause-entities
 returns-clause-entities c =
-    c.as_slice.ensures.value ∙ sym (entities-rows_of c.self.inside.entities.items c.self.inside.columns.items)
+    c.as_slice.ensures ∙ sym (entities-rows_of c.self.inside.entities c.self.inside.columns.items)
     ∙ ap (λ (t : TableValue). map (λ row. row.entity) t.rows) c.self.view_is

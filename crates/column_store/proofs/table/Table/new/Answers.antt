@@ -6,11 +6,11 @@ use Rattle.column_store.proofs.table.Table.new.Goals as goal
 pub invariant_of-result : goal.invariant_of-result
 invariant_of-result c =
     let kinds = numbers_in_order c.every.result.now c.args.kinds.now c.in_ok-kinds.kinds.items c.every.ensures c.in_ok-kinds.ensures in
-    made_kept c.in_ok-kinds.kinds.items c.args.kinds.now c.new.result.items c.in_ok-columns.columns.items kinds c.new.ensures.items
+    made_kept c.in_ok-kinds.kinds.items c.args.kinds.now c.new.result c.in_ok-columns.columns.items kinds c.new.ensures
     (c.in_ok-columns.ensures ∙ ap (map empty_column) c.deref.ensures.value)
 
 pub returns : goal.returns
 returns c =
     let kinds = numbers_in_order c.every.result.now c.args.kinds.now c.in_ok-kinds.kinds.items c.every.ensures c.in_ok-kinds.ensures in
-    made_view c.in_ok-kinds.kinds.items c.args.kinds.now c.new.result.items c.in_ok-columns.columns.items kinds c.new.ensures.items
+    made_view c.in_ok-kinds.kinds.items c.args.kinds.now c.new.result c.in_ok-columns.columns.items kinds c.new.ensures
     (c.in_ok-columns.ensures ∙ ap (map empty_column) c.deref.ensures.value)

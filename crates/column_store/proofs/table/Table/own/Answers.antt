@@ -18,7 +18,7 @@ own_each-requires c =
 pub invariant_of-self : goal.invariant_of-self
 invariant_of-self c =
     let ns = map kind_number c.self.inside.kinds.items in
-    let es = c.self.inside.entities.items in
+    let es = c.self.inside.entities in
     let same : length c.own_each.new.columns ≡ c.self.inside.columns.len = (let a = c.own_each.auto.columns in let v = c.self.inside.columns.ok.0 in omega (arith, c.deref_mut.ensures.len)) in
     let alike = rw c.deref_mut.ensures.value at c.own_each.ensures.alike in
     rw (with_items_is c.self.inside.columns c.own_each.new.columns same) (kept-columns ns es c.self.inside.columns.items c.own_each.new.columns alike.columns c.self.invariant)
@@ -26,7 +26,7 @@ invariant_of-self c =
 pub returns-clause-ok : goal.returns-clause-ok
 returns-clause-ok c =
     let ns = map kind_number c.self.inside.kinds.items in
-    let es = c.self.inside.entities.items in
+    let es = c.self.inside.entities in
     let same : length c.own_each.new.columns ≡ c.self.inside.columns.len = (let a = c.own_each.auto.columns in let v = c.self.inside.columns.ok.0 in omega (arith, c.deref_mut.ensures.len)) in
     let ok = rw c.deref_mut.ensures.value at c.own_each.ensures.ok in
     rw (with_items_is c.self.inside.columns c.own_each.new.columns same, ← c.self.view_is)
@@ -35,7 +35,7 @@ returns-clause-ok c =
 pub returns-clause-alike : goal.returns-clause-alike
 returns-clause-alike c =
     let ns = map kind_number c.self.inside.kinds.items in
-    let es = c.self.inside.entities.items in
+    let es = c.self.inside.entities in
     let same : length c.own_each.new.columns ≡ c.self.inside.columns.len = (let a = c.own_each.auto.columns in let v = c.self.inside.columns.ok.0 in omega (arith, c.deref_mut.ensures.len)) in
     let alike = rw c.deref_mut.ensures.value at c.own_each.ensures.alike in
     rw (with_items_is c.self.inside.columns c.own_each.new.columns same, ← c.self.view_is) (table-alike ns es c.self.inside.columns.items c.own_each.new.columns alike)

@@ -1,0 +1,87 @@
+// The entities of a table, and the copy of them that readers elsewhere have a part in.
+
+ghost use Rattle.std.specs.Prelude.{◌≡◌, ◌<◌, ◌≤◌, [], length, IfOk, OnOk, OnErr};
+ghost use Rattle.std.specs.Arc.{arc_value};
+ghost use Rattle.std.specs.List.{insert, remove};
+
+use entity_table::Entity;
+use std::alloc::{AllocError, Global};
+use std::marker::Model;
+use std::sync::Arc;
+
+// The entities of a table, row by row. To be read elsewhere too they are copied once, for all readers together, and the copy is kept until
+// rows change: so rows change without memory, whoever still reads.
+#[derive(Drop, Debug)]
+pub(crate) struct EntityList {
+    list: Vec<Entity>,
+    copy: Option<Arc<Vec<Entity>, Global>>,
+}
+
+impl Model for EntityList {
+    ghost use Rattle.std.specs.Prelude.{List};
+    ghost use Rattle.model.specs.declared.entities.Entity.{Entity};
+    ghost use Rattle.column_store.specs.EntityList.{IsCopy};
+
+    ghost Value = { List Entity };
+
+    ghost view = { λ l. l.list.items };
+
+    ghost invariant = { λ l. IsCopy l.list.items l.copy };
+}
+
+impl EntityList {
+    // No entities.
+    pub(crate) fn new(alloc: Global) -> Self
+        ensures { result ≡ [] }
+    {
+        EntityList {
+            list: Vec::new(alloc),
+            copy: None,
+        }
+    }
+
+    // The entities.
+    pub(crate) fn as_slice(&self) -> &[Entity]
+        ensures { result.now ≡ self.now }
+    {
+        self.list.as_slice()
+    }
+
+    // Inserts an entity before a row. Where memory is wanting the list stays as it was.
+    pub(crate) fn insert(&mut self, row: usize, e: Entity) -> Result<(), AllocError>
+        requires { row ≤ length self.old }
+        ensures ok { OnOk result (self.new ≡ insert self.old row e) }
+        ensures err { OnErr result (self.new ≡ self.old) }
+    {
+        self.copy = None;
+        self.list.insert(row, e)?;
+        Ok(())
+    }
+
+    // Removes the entity of a row.
+    pub(crate) fn remove(&mut self, row: usize)
+        requires { row < length self.old }
+        ensures { self.new ≡ remove self.old row }
+    {
+        self.copy = None;
+        self.list.remove(row);
+    }
+
+    // The entities, to be read elsewhere too.
+    pub(crate) fn share(&mut self, alloc: Global) -> Result<Arc<Vec<Entity>, Global>, AllocError>
+        ensures shared { IfOk result (λ list. (arc_value list).items ≡ self.old) }
+        ensures same { self.new ≡ self.old }
+    {
+        if let Some(copy) = &self.copy {
+            return Arc::try_clone(copy);
+        }
+        let mut list = Vec::with_capacity(alloc, self.list.len())?;
+        list.extend_from_slice(&self.list)?;
+        let Ok(copy) = Arc::new(alloc, list) else {
+            return Err(AllocError);
+        };
+        let shared = Arc::try_clone(&copy)?;
+        self.copy = Some(copy);
+        Ok(shared)
+    }
+}

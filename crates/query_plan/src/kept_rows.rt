@@ -1,0 +1,100 @@
+// Rows that are kept while the world goes on.
+
+ghost use Rattle.std.specs.Prelude.{◌≡◌, ◌<◌, get_or, length, IfOk};
+ghost use Rattle.std.specs.Arc.{arc_value};
+ghost use Rattle.archetype_store.specs.Layout.{archetype_at};
+ghost use Rattle.query_plan.specs.Places.{every_row, rows_of_places, IsCounted};
+
+use crate::row::Row;
+use crate::row_places::RowPlaces;
+use archetype_store::store::World;
+use entity_table::Entity;
+use std::alloc::{AllocError, Global};
+use std::marker::Model;
+use std::sync::Arc;
+
+// The rows of all entities of the archetype of a number, so many, or a list.
+#[derive(Drop)]
+enum KeptRows {
+    All(u32, u32, Arc<Vec<Entity>, Global>),
+    Listed(Vec<Row>),
+}
+
+/// The rows of a query, which stay as they are whatever becomes of the world. Contracts see a list. Where the rows are all entities of an
+/// archetype there is none: the entities are read where the world has them.
+#[derive(Drop)]
+pub struct Rows {
+    kept: KeptRows,
+}
+
+impl Model for Rows {
+    ghost use Rattle.std.specs.Prelude.{List};
+    ghost use Rattle.query_plan.specs.declared.row.Row.{Row};
+    ghost use Rattle.query_plan.specs.Kept.{rows_kept, AreCounted};
+
+    ghost Value = { List Row };
+
+    ghost view = { λ r. rows_kept r.kept };
+
+    ghost invariant = { λ r. AreCounted r.kept };
+}
+
+impl Rows {
+    /// The rows that stand at these places in a world.
+    pub fn of(alloc: Global, places: RowPlaces, world: &mut World) -> Result<Self, AllocError>
+        requires { IsCounted world.old.layout places }
+        ensures rows { IfOk result (λ rows. rows ≡ rows_of_places world.old.layout places) }
+        ensures same { world.new ≡ world.old }
+    {
+        match places {
+            RowPlaces::Listed(rows) => Ok(Rows::listed(rows)),
+            RowPlaces::All(archetype, count) => {
+                if count == 0 {
+                    return Ok(Rows::listed(Vec::new(alloc)));
+                }
+                let entities = world.share_entities(alloc, archetype as usize)?;
+                Ok(Rows {
+                    kept: KeptRows::All(archetype, count, entities),
+                })
+            }
+        }
+    }
+
+    /// These rows.
+    pub fn listed(rows: Vec<Row>) -> Self
+        ensures { result ≡ rows.items }
+    {
+        Rows {
+            kept: KeptRows::Listed(rows),
+        }
+    }
+
+    /// How many rows there are.
+    pub fn len(&self) -> usize
+        ensures { result ≡ length self.now }
+    {
+        match &self.kept {
+            KeptRows::All(_archetype, count, _entities) => *count as usize,
+            KeptRows::Listed(rows) => rows.len(),
+        }
+    }
+
+    /// A row.
+    pub fn at(&self, row: usize) -> Row
+        requires { row < length self.now }
+        ensures { result ≡ get_or self.now row result }
+    {
+        match &self.kept {
+            KeptRows::All(archetype, count, entities) => {
+                // Tells that places are below it.
+                let _count = *count;
+                Row {
+                    entity: entities[row],
+                    archetype: *archetype,
+                    place: row as u32,
+                }
+            }
+            KeptRows::Listed(rows) => rows[row],
+        }
+    }
+}
