@@ -1,13 +1,14 @@
 -- Lists of events by kind.
-use Rattle.std.proofs.Common.{◌≡◌, ℕ, zero, suc, ◌+◌, ◌<◌, ◌≤◌, Bool, true, false, cond, ◌==◌, ◌||◌, ℤ, List, [], ◌∷◌, ◌++◌, length, get_or, set, drop, take, map, Option, Some, None, option_map, refl, sym, ap, ap₂, ◌∙◌, arith}
+use Rattle.std.proofs.Common.{◌≡◌, ℕ, zero, suc, ◌+◌, ◌<◌, ◌≤◌, Bool, true, false, cond, ◌==◌, ◌||◌, ◌&&◌, ℤ, List, [], ◌∷◌, ◌++◌, length, get_or, set, drop, take, map, Option, Some, None, option_map, refl, sym, ap, ap₂, ◌∙◌, arith}
 use Rattle.std.proofs.lemmas.List.{map-append, take_more, take_all, drop_more, length-take, length-map}
 use Rattle.kinds.specs.declared.res.Event.{Event}
 use Rattle.kinds.specs.Res.{event_number}
-use Rattle.model.specs.Lists.{has, head_or, tail_of}
+use Rattle.model.specs.Lists.{has, head_or, tail_of, update_at}
 use Rattle.model.specs.state.State.{EventQueue}
-use Rattle.model.specs.state.Events.{queue_of, unread}
+use Rattle.model.specs.state.Events.{queue_of, unread, can_send, send_all}
 use Rattle.model.specs.shown.Input.{unread_of}
 use Rattle.model.specs.shown.Outcome.{events_sent}
+use Rattle.model.specs.shown.Overlay.{queues_after, has_event_numbers}
 use Rattle.event_buffers.specs.Lists.{ListValue, ListsValue, lists_of, place_in, with_event}
 
 -- ---- lists of kinds
@@ -192,3 +193,27 @@ pub lists-pushed : (lists : List ListValue) (k n : ℕ) (d new : ListValue) (v :
 lists-pushed lists k n d new v h e =
     ap (λ x. lists_of (set lists n x)) e
     ∙ (λ i. record { kinds = kinds-stay lists n d v i; values = values-pushed lists k n d v h i })
+
+-- ---- all kinds
+
+-- whether the events of all four kinds get numbers, kind by kind
+pub numbers-each : (events : ℕ → List ℤ) (queues : List EventQueue) → length queues ≡ 4 →
+    (can_send (events 0) (queue_of queues 0) && (can_send (events 1) (queue_of queues 1) && (can_send (events 2) (queue_of queues 2) && (can_send (events 3) (queue_of queues 3) && true)))) ≡ has_event_numbers events queues
+unfolding has_event_numbers
+numbers-each events [] l = absurd (omega arith)
+numbers-each events (a ∷ []) l = absurd (omega arith)
+numbers-each events (a ∷ b ∷ []) l = absurd (omega arith)
+numbers-each events (a ∷ b ∷ c ∷ []) l = absurd (omega arith)
+numbers-each events (a ∷ b ∷ c ∷ d ∷ []) l = refl
+numbers-each events (a ∷ b ∷ c ∷ d ∷ e ∷ more) l = absurd (omega arith)
+
+-- the queues once the events of all four kinds are sent, kind by kind
+pub sent-each : (events : ℕ → List ℤ) (queues : List EventQueue) → length queues ≡ 4 →
+    update_at 3 (send_all (events 3)) (update_at 2 (send_all (events 2)) (update_at 1 (send_all (events 1)) (update_at 0 (send_all (events 0)) queues))) ≡ queues_after events queues
+unfolding queues_after
+sent-each events [] l = absurd (omega arith)
+sent-each events (a ∷ []) l = absurd (omega arith)
+sent-each events (a ∷ b ∷ []) l = absurd (omega arith)
+sent-each events (a ∷ b ∷ c ∷ []) l = absurd (omega arith)
+sent-each events (a ∷ b ∷ c ∷ d ∷ []) l = refl
+sent-each events (a ∷ b ∷ c ∷ d ∷ e ∷ more) l = absurd (omega arith)

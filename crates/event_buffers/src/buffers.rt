@@ -1,6 +1,6 @@
 // The kept events of every kind.
 
-ghost use Rattle.std.specs.Prelude.{◌≡◌, ◌↔◌, ◌++◌, ◌≤◌, false, IfOk, IsErrOf, OnOk, OnErr, map, replicate};
+ghost use Rattle.std.specs.Prelude.{◌≡◌, ◌↔◌, ◌++◌, ◌≤◌, false, IfOk, IsErrOf, OnOk, OnErr, map, replicate, length};
 ghost use Rattle.kinds.specs.Res.{event_number};
 ghost use Rattle.model.specs.Lists.{update_at};
 ghost use Rattle.model.specs.state.State.{event_count, empty_queue, last_tick};
@@ -38,6 +38,13 @@ impl Events {
             queues.push(Queue::new(alloc))?;
         }
         Ok(Events { queues })
+    }
+
+    /// There is a queue for each kind.
+    pub fn law(&self)
+        ensures { length self.now ≡ event_count }
+    {
+        let _ = &self.queues;
     }
 
     /// The number of the next event of a kind.

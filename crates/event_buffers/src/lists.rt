@@ -1,17 +1,23 @@
 // Events of some kinds, a list for each.
 
-ghost use Rattle.std.specs.Prelude.{◌≡◌, ◌==◌, ◌++◌, [], ◌∷◌, get_or, map, IfOk, IsTrue, OnOk, OnErr};
+ghost use Rattle.std.specs.Prelude.{◌≡◌, ◌↔◌, false, IsErrOf, ◌==◌, ◌++◌, [], ◌∷◌, get_or, map, IfOk, IsTrue, OnOk, OnErr};
+ghost use Rattle.std.specs.List.{list_all};
 ghost use Rattle.kinds.specs.Res.{event_number};
-ghost use Rattle.model.specs.Lists.{has};
-ghost use Rattle.model.specs.state.Events.{queue_of, unread};
+ghost use Rattle.model.specs.Lists.{has, update_at};
+ghost use Rattle.model.specs.state.Events.{queue_of, unread, can_send, send_all};
 ghost use Rattle.model.specs.shown.Input.{unread_of};
 ghost use Rattle.model.specs.shown.Outcome.{events_sent};
+ghost use Rattle.model.specs.shown.Overlay.{queues_after, has_event_numbers};
 ghost use Rattle.event_buffers.specs.Lists.{ListValue, lists_of, place_in, with_event};
 
 use crate::buffers::Events;
+use crate::queue::SendFault;
 use kinds::res::Event;
 use std::alloc::{AllocError, Global};
 use std::marker::Model;
+
+// The kinds of events, by number.
+const EVENTS: [Event; Event::COUNT] = [Event::Hit, Event::Heal, Event::Spark, Event::Done];
 
 /// Events of one kind, in order. Contracts see the kind by number, and the values.
 #[derive(Drop, Debug)]
@@ -141,6 +147,61 @@ impl EventLists {
             }
             None => unreachable!(),
         }
+    }
+
+    /// Sends the events, of each kind those of its first list. Where one gets no number none is sent; where memory is wanting those of some
+    /// kinds may have been.
+    pub fn send(&self, events: &mut Events) -> Result<(), SendFault>
+        ensures ok { OnOk result (events.new ≡ queues_after (events_sent self.now.kinds self.now.values) events.old) }
+        ensures spent { IsErrOf result SendFault.NumbersSpent ↔ (has_event_numbers (events_sent self.now.kinds self.now.values) events.old ≡ false) }
+    {
+        if !self.can_send(events) {
+            return Err(SendFault::NumbersSpent);
+        }
+        match self.send_each(events) {
+            Ok(()) => Ok(()),
+            Err(_) => Err(SendFault::Memory),
+        }
+    }
+
+    // Whether the events of every kind get numbers.
+    fn can_send(&self, events: &Events) -> bool
+        ensures { result ≡ has_event_numbers (events_sent self.now.kinds self.now.values) events.now }
+    {
+        events.law();
+        self.can_send_each(&EVENTS, events)
+    }
+
+    // Whether the events of each of these kinds get numbers.
+    fn can_send_each(&self, kinds: &[Event], events: &Events) -> bool
+        ensures { result ≡ list_all (λ kind. can_send (events_sent self.now.kinds self.now.values (event_number kind)) (queue_of events.now (event_number kind))) kinds.now }
+    {
+        kinds.iter().all(|kind| self.can_send_of(*kind, events))
+    }
+
+    // Whether the events of a kind get numbers.
+    fn can_send_of(&self, kind: Event, events: &Events) -> bool
+        ensures { result ≡ can_send (events_sent self.now.kinds self.now.values (event_number kind)) (queue_of events.now (event_number kind)) }
+    {
+        events.can_send(kind, self.of_kind(kind))
+    }
+
+    // Sends the events of every kind.
+    fn send_each(&self, events: &mut Events) -> Result<(), SendFault>
+        ensures { OnOk result (events.new ≡ queues_after (events_sent self.now.kinds self.now.values) events.old) }
+    {
+        events.law();
+        self.send_of(Event::Hit, events)?;
+        self.send_of(Event::Heal, events)?;
+        self.send_of(Event::Spark, events)?;
+        self.send_of(Event::Done, events)
+    }
+
+    // Sends the events of a kind.
+    fn send_of(&self, kind: Event, events: &mut Events) -> Result<(), SendFault>
+        ensures { OnOk result (events.new ≡ update_at (event_number kind) (send_all (events_sent self.now.kinds self.now.values (event_number kind))) events.old) }
+    {
+        events.send_all(kind, self.of_kind(kind))
     }
 }
 
