@@ -1,13 +1,13 @@
 // A view: what a system is shown at its start, and its outcome so far, where the columns lie.
 
-ghost use Rattle.std.specs.Prelude.{◌≡◌, ◌<◌, ◌≤◌, [], length, get_or, pos, option_map, unwrap_or, IfOk, IsTrue, OnErr};
+ghost use Rattle.std.specs.Prelude.{◌≡◌, ◌<◌, ◌≤◌, [], length, get_or, pos, option_map, unwrap_or, IfOk, IsTrue, None, OnOk, OnErr};
 ghost use Rattle.std.specs.List.{AllByRecursion};
 ghost use Rattle.kinds.specs.Kind.{kind_number};
-ghost use Rattle.kinds.specs.Res.{res_number};
+ghost use Rattle.kinds.specs.Res.{res_number, event_number};
 ghost use Rattle.kinds.specs.Components.{widths};
 ghost use Rattle.model.specs.Lists.{has};
 ghost use Rattle.model.specs.state.State.{State, register_count};
-ghost use Rattle.model.specs.access.Access.{no_params, names_resource};
+ghost use Rattle.model.specs.access.Access.{names_resource};
 ghost use Rattle.model.specs.access.Query.{writes};
 ghost use Rattle.model.specs.access.SelfConflict.{ConflictWithin};
 ghost use Rattle.model.specs.shown.Input.{shown};
@@ -17,7 +17,7 @@ ghost use Rattle.archetype_store.specs.Overlays.{AreReached};
 ghost use Rattle.body.specs.Laid.{world_after};
 ghost use Rattle.body.specs.Lent.{AreLent, lent_in, with_away, with_back};
 ghost use Rattle.body.specs.Out.{IsWrittenBy};
-ghost use Rattle.body.specs.Seen.{query_at, rows_at, row_at, read_at, with_written, resource_read, with_resource, with_register};
+ghost use Rattle.body.specs.Seen.{query_at, rows_at, row_at, read_at, with_written, resource_read, with_resource, with_register, events_shown, with_emitted};
 
 use crate::closing::put_home;
 use crate::memory::Memory;
@@ -28,11 +28,12 @@ use access_set::params::Params;
 use archetype_store::store::World;
 use change_ticks::clock::Tick;
 use entity_table::Entity;
+use event_buffers::lists::EventLists;
 use kinds::component::Component;
 use kinds::each_kind;
 use kinds::fields::Fields;
 use kinds::kind::Kind;
-use kinds::res::Res;
+use kinds::res::{Event, Res};
 use std::alloc::{AllocError, Global};
 use std::marker::Model;
 
@@ -43,6 +44,8 @@ pub struct View {
     tick: Tick,
     queries: Vec<ViewQuery>,
     values: ViewValues,
+    unread: EventLists,
+    sent: EventLists,
 }
 
 impl Model for View {
@@ -52,7 +55,7 @@ impl Model for View {
 
     ghost use Rattle.body.specs.SeenOver.{seen_over, AreTogether};
 
-    ghost view = { λ v. seen_over v.tick v.queries.items v.values };
+    ghost view = { λ v. seen_over v.tick v.queries.items v.values v.unread v.sent };
 
     ghost invariant = { λ v. AreTogether v.tick v.queries.items };
 }
@@ -82,18 +85,22 @@ impl View {
         ensures err { OnErr result (world.new ≡ world.old) }
     {
         let values = ViewValues::open(params, memory, world);
+        let unread = EventLists::empty(alloc, params.reads())?;
+        let sent = EventLists::empty(alloc, params.writes())?;
         let queries = open_queries(alloc, params.queries(), world, memory.last_run(), tick)?;
         Ok(View {
             tick,
             queries,
             values,
+            unread,
+            sent,
         })
     }
 
-    /// What holds of every view: it shows rows for each query, is of a system without events and commands, and has no commands.
+    /// What holds of every view: it shows rows for each query, is of a system without commands, and has none.
     pub fn law(&self)
         ensures rows { length self.now.shown.rows ≡ length self.now.params.queries }
-        ensures alone { self.now.params ≡ record no_params { queries = self.now.params.queries; res = self.now.params.res; res_mut = self.now.params.res_mut } }
+        ensures alone { self.now.params.spawns ≡ None }
         ensures commands { self.now.outcome.commands ≡ [] }
     {
         let _tick = self.tick;
@@ -122,6 +129,8 @@ impl View {
             tick,
             queries,
             values,
+            unread: _unread,
+            sent: _sent,
         } = self;
         put_home(queries, world);
         values.lay(tick, world);
@@ -183,6 +192,23 @@ impl View {
         ensures { self.new ≡ with_resource self.old (res_number resource) value }
     {
         self.values.set_res(resource, value);
+    }
+
+    /// The events that are shown of a kind that is read, oldest first. Where several readers are of the kind, those of the first.
+    pub fn events(&self, kind: Event) -> &[i64]
+        requires { IsTrue (has (event_number kind) self.now.params.reads) }
+        ensures { result.now ≡ events_shown self.now.params self.now.shown (event_number kind) }
+    {
+        self.unread.of_kind(kind)
+    }
+
+    /// Emits an event of a kind that is written. Where memory is wanting nothing changes.
+    pub fn emit(&mut self, kind: Event, value: i64) -> Result<(), AllocError>
+        requires { IsTrue (has (event_number kind) self.old.params.writes) }
+        ensures ok { OnOk result (self.new ≡ with_emitted self.old (event_number kind) value) }
+        ensures err { OnErr result (self.new ≡ self.old) }
+    {
+        self.sent.push(kind, value)
     }
 
     /// A register: what was put there last, else what is shown.
