@@ -30,7 +30,7 @@ fn world(alloc: Global) -> Result<World, Fail>
 
 // Events of which two hits were sent, the second after an update.
 fn events(alloc: Global) -> Result<Events, Fail> {
-    let mut events = Events::new(alloc)?;
+    let mut events = Events::new(alloc);
     events.send(Event::Hit, 4)?;
     events.update();
     events.send(Event::Hit, 5)?;

@@ -2,21 +2,27 @@
 use Rattle.std.proofs.Common.{ℕ, zero, suc, ℤ, ◌≤◌, List, [], ◌∷◌, arith}
 use Rattle.std.specs.List.{AllByRecursion}
 use Rattle.model.specs.Lists.{update_at}
-use Rattle.model.specs.state.State.{Memory}
-use Rattle.model.specs.runs.RunState.{with_registers}
-use Rattle.body.specs.Steps.{memory_ran}
+use Rattle.model.specs.state.State.{EventQueue, Memory}
+use Rattle.model.specs.runs.RunState.{memory_after_run, with_registers}
+use Rattle.body.specs.Steps.{AreInTime}
 
 -- at a later tick
-pub later_in_time : (clock later : ℕ) (memories : List Memory) → AllByRecursion (λ m. m.last_run ≤ clock) memories → clock ≤ later → AllByRecursion (λ m. m.last_run ≤ later) memories
+later_in_time : (clock later : ℕ) (memories : List Memory) → AllByRecursion (λ m. m.last_run ≤ clock) memories → clock ≤ later → AllByRecursion (λ m. m.last_run ≤ later) memories
 later_in_time clock later [] all past = tt
 later_in_time clock later (m ∷ memories) all past = (let h : m.last_run ≤ clock = all.0 in omega arith, later_in_time clock later memories all.1 past)
 
+pub all_later : (clock later : ℕ) (systems conditions : List Memory) → AreInTime clock systems conditions → clock ≤ later → AreInTime later systems conditions
+all_later clock later systems conditions all past = record {
+  systems_in = later_in_time clock later systems all.systems_in past;
+  conditions_in = later_in_time clock later conditions all.conditions_in past;
+}
+
 -- after a run that is not above it
-pub ran_in_time : (clock tick n : ℕ) (memories : List Memory) → AllByRecursion (λ m. m.last_run ≤ clock) memories → tick ≤ clock →
-    AllByRecursion (λ m. m.last_run ≤ clock) (update_at n (memory_ran tick) memories)
-ran_in_time clock tick n [] all past = tt
-ran_in_time clock tick zero (m ∷ memories) all past = (past, all.1)
-ran_in_time clock tick (suc n) (m ∷ memories) all past = (all.0, ran_in_time clock tick n memories all.1 past)
+pub ran_in_time : (clock tick n : ℕ) (reads : List ℕ) (queues : List EventQueue) (memories : List Memory) → AllByRecursion (λ m. m.last_run ≤ clock) memories → tick ≤ clock →
+    AllByRecursion (λ m. m.last_run ≤ clock) (update_at n (memory_after_run tick reads queues) memories)
+ran_in_time clock tick n reads queues [] all past = tt
+ran_in_time clock tick zero reads queues (m ∷ memories) all past = (past, all.1)
+ran_in_time clock tick (suc n) reads queues (m ∷ memories) all past = (all.0, ran_in_time clock tick n reads queues memories all.1 past)
 
 -- with other registers in a memory
 pub kept_in_time : (clock n : ℕ) (registers : List ℤ) (memories : List Memory) → AllByRecursion (λ m. m.last_run ≤ clock) memories →

@@ -1,11 +1,11 @@
 -- What the steps of a run do to the parts of a state.
-use Rattle.std.specs.Prelude.{ℕ, ◌≤◌, List, [], replicate}
+use Rattle.std.specs.Prelude.{ℕ, ◌≤◌, List}
 use Rattle.std.specs.List.{AllByRecursion}
 use Rattle.archetype_store.specs.Layout.{Archetype, AreAllHome}
 use Rattle.archetype_store.specs.Store.{StoreValue}
 use Rattle.model.specs.Lists.{update_at}
-use Rattle.model.specs.state.State.{Memory, State, World, event_count, empty_queue}
-use Rattle.model.specs.runs.RunState.{with_registers}
+use Rattle.model.specs.state.State.{EventQueue, Memory, State, World}
+use Rattle.model.specs.runs.RunState.{memory_after_run, next_tick, with_registers}
 use Rattle.body.specs.Laid.{world_after}
 use Rattle.body.specs.Seen.{Seen}
 
@@ -19,17 +19,27 @@ at_clock clock state = record {
   passed_over = state.passed_over;
 }
 
--- a memory after a run at a tick
-abbrev pub memory_ran : ℕ → Memory → Memory
-memory_ran tick memory = record { last_run = tick; cursors = []; registers = memory.registers }
+-- the state at the next tick
+abbrev pub ticked : State → State
+ticked state = at_clock (next_tick state) state
 
--- the state with the run of a system at a tick noted
-abbrev pub noted : ℕ → ℕ → State → State
-noted n tick state = record {
+-- the state with the run of a system, with readers of these event kinds, at a tick noted
+abbrev pub noted : ℕ → List ℕ → ℕ → State → State
+noted n reads tick state = record {
   world = state.world;
   events = state.events;
-  systems = update_at n (memory_ran tick) state.systems;
+  systems = update_at n (memory_after_run tick reads state.events) state.systems;
   conditions = state.conditions;
+  passed_over = state.passed_over;
+}
+
+-- the state with the asking of a condition, with readers of these event kinds, at a tick noted
+abbrev pub asked_at : ℕ → List ℕ → ℕ → State → State
+asked_at c reads tick state = record {
+  world = state.world;
+  events = state.events;
+  systems = state.systems;
+  conditions = update_at c (memory_after_run tick reads state.events) state.conditions;
   passed_over = state.passed_over;
 }
 
@@ -52,15 +62,20 @@ pub record StateValue : Type 0 where
 abbrev pub store_of : StateValue → StoreValue
 store_of s = record { state = s.state.world; layout = s.layout }
 
--- the state of a world with these memories, without events and conditions
-abbrev pub state_of : World → List Memory → State
-state_of world memories = record { world = world; events = replicate event_count empty_queue; systems = memories; conditions = []; passed_over = 0 }
+-- the state of a world with these events and memories
+abbrev pub state_of : World → List EventQueue → List Memory → List Memory → State
+state_of world events systems conditions = record { world = world; events = events; systems = systems; conditions = conditions; passed_over = 0 }
 
--- what holds of every state: no last run is above the clock
+-- no last run is above the clock
 abbrev pub IsInTime : ℕ → List Memory → Type 0
 IsInTime clock memories = AllByRecursion (λ m. m.last_run ≤ clock) memories
 
+-- what holds of every state: no last run of a system or condition is above the clock
+pub record AreInTime (clock : ℕ) (systems conditions : List Memory) : Type 0 where
+  pub systems_in : IsInTime clock systems
+  pub conditions_in : IsInTime clock conditions
+
 -- what holds of a state that isn't in a run: no last run is above the clock, and all columns are at home
-pub record IsState (world : StoreValue) (memories : List Memory) : Type 0 where
-  pub last_runs : IsInTime world.state.clock memories
+pub record IsState (world : StoreValue) (systems conditions : List Memory) : Type 0 where
+  pub last_runs : AreInTime world.state.clock systems conditions
   pub home : AreAllHome world.layout

@@ -1,15 +1,18 @@
-// What a system remembers between its runs.
+// What a system or a condition remembers between its runs.
 
-ghost use Rattle.std.specs.Prelude.{◌≡◌, []};
+ghost use Rattle.std.specs.Prelude.{◌≡◌, [], map, length, replicate, IfOk};
+ghost use Rattle.kinds.specs.Res.{event_number};
+ghost use Rattle.model.specs.state.Events.{queue_of};
 ghost use Rattle.model.specs.state.Loaded.{first_memory};
-ghost use Rattle.model.specs.runs.RunState.{with_registers};
-ghost use Rattle.body.specs.Steps.{memory_ran};
+ghost use Rattle.model.specs.runs.RunState.{memory_after_run, with_registers};
 
 use change_ticks::clock::Tick;
-use std::alloc::Global;
+use event_buffers::buffers::Events;
+use kinds::res::Event;
+use std::alloc::{AllocError, Global};
 use std::marker::Model;
 
-/// What a system remembers: the tick of its last run, the cursor of each of its event readers in order, and eight registers.
+/// What a system or a condition remembers: the tick of its last run, the cursor of each of its event readers in order, and eight registers.
 #[derive(Drop, Debug)]
 pub struct Memory {
     last_run: Tick,
@@ -29,7 +32,7 @@ impl Model for Memory {
 }
 
 impl Memory {
-    /// The memory of a system without event readers that never ran.
+    /// The memory of who has no event readers and never ran.
     pub fn new(alloc: Global) -> Self
         ensures { result ≡ first_memory [] }
     {
@@ -40,11 +43,29 @@ impl Memory {
         }
     }
 
+    /// The memory of who has readers of these event kinds and never ran.
+    pub fn with_readers(alloc: Global, reads: &[Event]) -> Result<Self, AllocError>
+        ensures { IfOk result (λ memory. memory ≡ first_memory (map event_number reads.now)) }
+    {
+        Ok(Memory {
+            last_run: 0,
+            cursors: zeros(alloc, reads.len())?,
+            registers: [0; 8],
+        })
+    }
+
     /// The tick of the last run, 0 before the first.
     pub fn last_run(&self) -> Tick
         ensures { result ≡ self.now.last_run }
     {
         self.last_run
+    }
+
+    /// The cursors of the event readers, in order.
+    pub fn cursors(&self) -> &[u64]
+        ensures { result.now ≡ self.now.cursors }
+    {
+        self.cursors.as_slice()
     }
 
     /// The registers.
@@ -61,18 +82,34 @@ impl Memory {
         self.registers = registers;
     }
 
-    /// Remembers a run at a tick of a system without event readers.
-    pub fn ran(&mut self, tick: Tick)
-        ensures { self.new ≡ memory_ran tick self.old }
-    {
-        self.set_last_run(tick);
-        self.cursors.clear();
-    }
-
-    /// Remembers a run at a tick.
-    pub fn set_last_run(&mut self, tick: Tick)
-        ensures { self.new ≡ record self.old { last_run = tick } }
+    /// Remembers a run at a tick, in which the readers, of these event kinds, were shown all that was kept.
+    pub fn ran(&mut self, tick: Tick, reads: &[Event], events: &Events)
+        requires { length self.old.cursors ≡ length reads.now }
+        ensures { self.new ≡ memory_after_run tick (map event_number reads.now) events.now self.old }
     {
         self.last_run = tick;
+        move_to_ends(&mut self.cursors, reads, events);
+    }
+}
+
+// So many cursors at the first event.
+#[tactic(auto, using(crate::proofs::States::repeated))]
+fn zeros(alloc: Global, count: usize) -> Result<Vec<u64>, AllocError>
+    ensures { IfOk result (λ cursors. cursors.items ≡ replicate count 0) }
+{
+    let mut cursors = Vec::with_capacity(alloc, count)?;
+    for _reader in 0..count {
+        cursors.push(0)?;
+    }
+    Ok(cursors)
+}
+
+// Moves the cursor of each reader to the end of what was kept.
+fn move_to_ends(cursors: &mut [u64], reads: &[Event], events: &Events)
+    requires { length cursors.old ≡ length reads.now }
+    ensures { cursors.new ≡ map (λ kind. (queue_of events.now (event_number kind)).next) reads.now }
+{
+    for at in 0..reads.len() {
+        cursors[at] = events.next(reads[at]);
     }
 }

@@ -1,26 +1,32 @@
-// A state in a run: a tick, a system shown what it may see, an outcome laid over the world.
+// A state in a run: a tick, a system shown what it may see, an outcome laid over the world, a condition asked.
 
-ghost use Rattle.std.specs.Prelude.{◌≡◌, ◌<◌, ◌≤◌, ◌↔◌, ◌++◌, List, [], false, replicate, length, IfOk, OnOk, OnErr, IsErr};
+ghost use Rattle.std.specs.Prelude.{◌≡◌, ◌<◌, ◌≤◌, ◌↔◌, ◌++◌, List, [], false, map, length, get_or, IfOk, OnOk, OnErr, IsErr};
 ghost use Rattle.std.specs.List.{AllByRecursion};
-ghost use Rattle.model.specs.state.State.{most_indices, empty_queue, event_count};
+ghost use Rattle.kinds.specs.Res.{event_number};
+ghost use Rattle.model.specs.state.State.{most_indices, no_memory};
 ghost use Rattle.model.specs.Lists.{update_at};
+ghost use Rattle.model.specs.access.Condition.{holds, queries_of};
 ghost use Rattle.model.specs.access.SelfConflict.{ConflictWithin};
 ghost use Rattle.model.specs.shown.Input as input;
 ghost use Rattle.model.specs.shown.Outcome as outcome;
-ghost use Rattle.model.specs.runs.RunState.{has_tick, next_tick, memory_of_system, with_registers};
+ghost use Rattle.model.specs.runs.RunState.{has_tick, next_tick, opening, memory_after_run, memory_of_condition, memory_of_system, with_registers};
 ghost use Rattle.archetype_store.specs.Layout.{AreAllHome, IsLayoutOf};
 ghost use Rattle.query_plan.specs.Standing.{ArePickedHome};
 ghost use Rattle.body.specs.Columns.{Column};
 ghost use Rattle.body.specs.Lent.{AreLent, lent_in, with_away, with_back};
 ghost use Rattle.body.specs.Out.{IsWrittenBy, AreOut};
-ghost use Rattle.body.specs.Steps.{IsInTime, at_clock, laid, memory_ran, noted, state_of, store_of};
+ghost use Rattle.body.specs.Steps.{AreInTime, asked_at, at_clock, laid, noted, state_of, store_of};
 
 use crate::memory::Memory;
-use crate::state::State;
+use crate::state::{Memories, State};
 use crate::view::View;
 use access_set::params::Params;
 use archetype_store::store::World;
+use asking::answer::ask;
 use change_ticks::clock::{ClockSpent, LAST_TICK, Tick};
+use event_buffers::buffers::Events;
+use kinds::res::Event;
+use run_condition::Cond;
 use std::alloc::{AllocError, Global};
 use std::marker::Model;
 
@@ -30,26 +36,38 @@ use std::marker::Model;
 #[derive(Drop, Debug)]
 pub struct OpenState {
     world: World,
+    events: Events,
     systems: Vec<Memory>,
+    conditions: Vec<Memory>,
 }
 
 impl Model for OpenState {
-    ghost use Rattle.body.specs.Steps.{StateValue, IsInTime, state_of};
+    ghost use Rattle.body.specs.Steps.{StateValue, AreInTime, state_of};
 
     ghost Value = { StateValue };
 
-    ghost view = { λ s. record { state = state_of s.world.state s.systems.items; layout = s.world.layout } };
+    ghost view = { λ s. record { state = state_of s.world.state s.events s.systems.items s.conditions.items; layout = s.world.layout } };
 
-    ghost invariant = { λ s. IsInTime s.world.state.clock s.systems.items };
+    ghost invariant = { λ s. AreInTime s.world.state.clock s.systems.items s.conditions.items };
 }
 
 impl OpenState {
-    // The state of a world with these memories.
-    pub(crate) fn of_parts(world: World, systems: Vec<Memory>) -> Self
-        requires { IsInTime world.state.clock systems.items }
-        ensures { result ≡ record { state = state_of world.state systems.items; layout = world.layout } }
+    // The state of a world with these events and memories.
+    pub(crate) fn of_parts(
+        world: World,
+        events: Events,
+        systems: Vec<Memory>,
+        conditions: Vec<Memory>,
+    ) -> Self
+        requires { AreInTime world.state.clock systems.items conditions.items }
+        ensures { result ≡ record { state = state_of world.state events systems.items conditions.items; layout = world.layout } }
     {
-        OpenState { world, systems }
+        OpenState {
+            world,
+            events,
+            systems,
+            conditions,
+        }
     }
 
     /// The state when all columns have come home.
@@ -57,19 +75,43 @@ impl OpenState {
         requires { AreAllHome self.layout }
         ensures { result ≡ self.state }
     {
-        let OpenState { world, systems } = self;
-        State::of_parts(world, systems)
+        let OpenState {
+            world,
+            events,
+            systems,
+            conditions,
+        } = self;
+        State::new(
+            world,
+            events,
+            Memories {
+                systems,
+                conditions,
+            },
+        )
     }
 
-    /// What holds of every state: there aren't too many indices, no events, conditions and commands passed over yet, and the layout is that
-    /// of the world.
+    /// What holds of every state: there aren't too many indices, and the layout is that of the world.
     pub fn law(&self)
         ensures few { length self.now.state.world.slots ≤ most_indices }
-        ensures events { self.now.state.events ≡ replicate event_count empty_queue }
         ensures laid { IsLayoutOf self.now.state.world.slots self.now.layout }
     {
         self.world.laid();
         let _ = self.world.now();
+    }
+
+    /// The opening of a run: moves the clock to the next tick, and drops the older buffer of the events of each kind, whose newer one becomes
+    /// the older. At the last tick the clock is spent and nothing changes.
+    #[tactic(auto, using(crate::proofs::Times::all_later))]
+    pub fn begin(&mut self) -> Result<(), ClockSpent>
+        ensures ok { OnOk result (self.new ≡ record { state = opening self.old.state; layout = self.old.layout }) }
+        ensures spent { IsErr result ↔ (has_tick self.old.state ≡ false) }
+        ensures err { OnErr result (self.new ≡ self.old) }
+    {
+        let _ = self.world.now();
+        self.world.next()?;
+        self.events.update();
+        Ok(())
     }
 
     /// The tick to come, to which `next` would move the clock. At the last tick there is none.
@@ -86,7 +128,7 @@ impl OpenState {
     }
 
     /// Moves the clock to the next tick, and gives that tick. At the last tick the clock is spent and nothing changes.
-    #[tactic(auto, using(crate::proofs::Times::later_in_time))]
+    #[tactic(auto, using(crate::proofs::Times::all_later))]
     pub fn next(&mut self) -> Result<Tick, ClockSpent>
         ensures ok { IfOk result (λ tick. tick ≡ next_tick self.old.state) }
         ensures moved { OnOk result (self.new ≡ record { state = at_clock (next_tick self.old.state) self.old.state; layout = self.old.layout }) }
@@ -125,19 +167,59 @@ impl OpenState {
         View::open(alloc, params, &self.systems[system], &mut self.world, tick)
     }
 
-    /// Notes the run of a system at a tick, which isn't above the clock.
-    #[tactic(auto, using(crate::proofs::Times::ran_in_time))]
-    pub fn note(&mut self, system: usize, tick: Tick)
+    /// Notes the run of a system with these parameters at a tick, which isn't above the clock: its last run is then, and its readers have been
+    /// shown all that is kept.
+    pub fn note(&mut self, system: usize, params: &Params, tick: Tick)
         requires known { system < length self.old.state.systems }
+        requires readers { length (memory_of_system self.old.state system).cursors ≡ length params.now.reads }
         requires past { tick ≤ self.old.state.world.clock }
-        ensures { self.new ≡ record { state = noted system tick self.old.state; layout = self.old.layout } }
+        ensures { self.new ≡ record { state = noted system params.now.reads tick self.old.state; layout = self.old.layout } }
     {
-        ran_at(&mut self.systems, system, tick);
+        ran_at(
+            &mut self.systems,
+            system,
+            tick,
+            params.reads(),
+            &self.events,
+        );
+    }
+
+    /// What a condition answers of the state, for when it was last asked and what its readers have read. Fails only for want of memory.
+    pub fn ask(&self, alloc: Global, condition: usize, cond: &Cond) -> Result<bool, AllocError>
+        requires known { condition < length self.now.state.conditions }
+        requires home { AllByRecursion (λ query. ArePickedHome query self.now.layout) (queries_of cond.now) }
+        ensures { IfOk result (λ answer. answer ≡ holds cond.now (memory_of_condition self.now.state condition).last_run (memory_of_condition self.now.state condition).cursors self.now.state) }
+    {
+        let memory = &self.conditions[condition];
+        ask(
+            alloc,
+            cond,
+            &self.world,
+            &self.events,
+            memory.last_run(),
+            memory.cursors(),
+        )
+    }
+
+    /// Notes that a condition that asks about what these parameters name was asked at a tick, which isn't above the clock: that is its last
+    /// run, and its readers have read all that is kept.
+    pub fn note_condition(&mut self, condition: usize, access: &Params, tick: Tick)
+        requires known { condition < length self.old.state.conditions }
+        requires readers { length (memory_of_condition self.old.state condition).cursors ≡ length access.now.reads }
+        requires past { tick ≤ self.old.state.world.clock }
+        ensures { self.new ≡ record { state = asked_at condition access.now.reads tick self.old.state; layout = self.old.layout } }
+    {
+        ran_at(
+            &mut self.conditions,
+            condition,
+            tick,
+            access.reads(),
+            &self.events,
+        );
     }
 
     /// Brings the columns of a view of a system home, and so lays what was written over the state, at the tick of the view, which isn't above
     /// the clock: components, resources, and the registers of the system. What other views hold stays away.
-    #[tactic(auto, using(crate::proofs::Times::kept_in_time))]
     pub fn close(&mut self, view: View, system: usize)
         requires known { system < length self.old.state.systems }
         requires lent { AreLent (store_of self.old) view.opening.taken }
@@ -151,13 +233,14 @@ impl OpenState {
     }
 }
 
-// Notes the run of a system at a tick in its memory.
-fn ran_at(memories: &mut [Memory], system: usize, tick: Tick)
-    requires { system < length memories.old }
-    ensures { memories.new ≡ update_at system (memory_ran tick) memories.old }
+// Notes a run at a tick in a memory, with readers of these event kinds.
+fn ran_at(memories: &mut [Memory], at: usize, tick: Tick, reads: &[Event], events: &Events)
+    requires known { at < length memories.old }
+    requires readers { length (get_or memories.old at no_memory).cursors ≡ length reads.now }
+    ensures { memories.new ≡ update_at at (memory_after_run tick (map event_number reads.now) events.now) memories.old }
 {
-    let memory = &mut memories[system];
-    memory.ran(tick);
+    let memory = &mut memories[at];
+    memory.ran(tick, reads, events);
 }
 
 // Puts registers into the memory of a system.

@@ -1,80 +1,78 @@
-// The state of an engine: the world, and what the systems remember.
+// The state of an engine: the world, the kept events, and what systems and conditions remember.
 
-ghost use Rattle.std.specs.Prelude.{◌≡◌, ◌<◌, ◌≤◌, [], length, replicate, get_or, IfOk};
-ghost use Rattle.std.specs.List.{AllByRecursion};
+ghost use Rattle.std.specs.Prelude.{◌≡◌, ◌<◌, [], length, replicate, get_or};
 ghost use Rattle.model.specs.state.State.{no_memory, event_count, empty_queue};
-ghost use Rattle.model.specs.state.Loaded.{first_memory};
 ghost use Rattle.archetype_store.specs.Layout.{AreAllHome};
 ghost use Rattle.archetype_store.specs.Store.{empty_world};
+ghost use Rattle.body.specs.Steps.{AreInTime, state_of};
 
 use crate::memory::Memory;
 use crate::open_state::OpenState;
 use archetype_store::store::World;
 use change_ticks::clock::Clock;
-use std::alloc::{AllocError, Global};
+use event_buffers::buffers::Events;
+use std::alloc::Global;
 use std::marker::Model;
 
-/// The state of an engine. Contracts see the state that the definitions speak of, with no events, no conditions and nothing passed
-/// over. No last run is above the clock, and all columns are at home.
+/// The memories of a schedule: of its systems, and of its conditions, each by number.
+#[derive(Drop, Debug)]
+pub struct Memories {
+    /// Those of the systems.
+    pub systems: Vec<Memory>,
+    /// Those of the conditions.
+    pub conditions: Vec<Memory>,
+}
+
+/// The state of an engine. Contracts see the state that the definitions speak of, with nothing passed over. No last run is above the
+/// clock, and all columns are at home.
 #[derive(Drop, Debug)]
 pub struct State {
     world: World,
+    events: Events,
     systems: Vec<Memory>,
+    conditions: Vec<Memory>,
 }
 
 impl Model for State {
-    ghost use Rattle.std.specs.Prelude.{[], replicate, ◌≤◌};
-    ghost use Rattle.std.specs.List.{AllByRecursion};
-    ghost use Rattle.model.specs.state.State.{State as ModelState, event_count, empty_queue};
-    ghost use Rattle.body.specs.Steps.{IsState};
+    ghost use Rattle.model.specs.state.State.{State as ModelState};
+    ghost use Rattle.body.specs.Steps.{IsState, state_of};
 
     ghost Value = { ModelState };
 
-    ghost view = { λ s. record { world = s.world.state; events = replicate event_count empty_queue; systems = s.systems.items; conditions = []; passed_over = 0 } };
+    ghost view = { λ s. state_of s.world.state s.events s.systems.items s.conditions.items };
 
-    ghost invariant = { λ s. IsState s.world s.systems.items };
+    ghost invariant = { λ s. IsState s.world s.systems.items s.conditions.items };
 }
 
 impl State {
-    /// The state of a world without entities, for no system.
+    /// The state of a world without entities, for no system. Takes no memory.
     pub fn empty(alloc: Global) -> Self
-        ensures { result ≡ record { world = empty_world 1; events = replicate event_count empty_queue; systems = []; conditions = []; passed_over = 0 } }
+        ensures { result ≡ state_of (empty_world 1) (replicate event_count empty_queue) [] [] }
     {
         State {
             world: World::empty(alloc, Clock::at(1)),
+            events: Events::new(alloc),
             systems: Vec::new(alloc),
+            conditions: Vec::new(alloc),
         }
     }
 
-    /// The state of a world with this many systems that never ran.
-    #[tactic(auto, using(crate::proofs::States::repeated))]
-    pub fn new(alloc: Global, world: World, systems: usize) -> Result<Self, AllocError>
-        requires { AreAllHome world.layout }
-        ensures { IfOk result (λ s. s ≡ record { world = world.state; events = replicate event_count empty_queue; systems = replicate systems (first_memory []); conditions = []; passed_over = 0 }) }
-    {
-        let systems = memories(alloc, systems)?;
-        Ok(State { world, systems })
-    }
-
-    /// The state of a world with these memories.
-    pub fn of_parts(world: World, systems: Vec<Memory>) -> Self
-        requires last_runs { AllByRecursion (λ m. m.last_run ≤ world.state.clock) systems.items }
+    /// The state of a world with these events and memories.
+    pub fn new(world: World, events: Events, memories: Memories) -> Self
+        requires last_runs { AreInTime world.state.clock memories.systems.items memories.conditions.items }
         requires home { AreAllHome world.layout }
-        ensures { result ≡ record { world = world.state; events = replicate event_count empty_queue; systems = systems.items; conditions = []; passed_over = 0 } }
+        ensures { result ≡ state_of world.state events memories.systems.items memories.conditions.items }
     {
-        State { world, systems }
-    }
-
-    /// The world and the memories.
-    pub fn into_parts(self) -> (World, Vec<Memory>)
-        ensures world { result.0.state ≡ self.world }
-        ensures systems { result.1.items ≡ self.systems }
-        ensures whole { self ≡ record { world = result.0.state; events = replicate event_count empty_queue; systems = result.1.items; conditions = []; passed_over = 0 } }
-        ensures last_runs { AllByRecursion (λ m. m.last_run ≤ result.0.state.clock) result.1.items }
-        ensures home { AreAllHome result.0.layout }
-    {
-        let State { world, systems } = self;
-        (world, systems)
+        let Memories {
+            systems,
+            conditions,
+        } = memories;
+        State {
+            world,
+            events,
+            systems,
+            conditions,
+        }
     }
 
     /// The state to be run: while it is, its columns may leave it.
@@ -82,8 +80,13 @@ impl State {
         ensures state { result.state ≡ self }
         ensures home { AreAllHome result.layout }
     {
-        let State { world, systems } = self;
-        OpenState::of_parts(world, systems)
+        let State {
+            world,
+            events,
+            systems,
+            conditions,
+        } = self;
+        OpenState::of_parts(world, events, systems, conditions)
     }
 
     /// The world.
@@ -94,11 +97,25 @@ impl State {
         &self.world
     }
 
+    /// The kept events.
+    pub fn events(&self) -> &Events
+        ensures { result.now ≡ self.now.events }
+    {
+        &self.events
+    }
+
     /// How many systems there are.
     pub fn systems(&self) -> usize
         ensures { result ≡ length self.now.systems }
     {
         self.systems.len()
+    }
+
+    /// How many conditions there are.
+    pub fn conditions(&self) -> usize
+        ensures { result ≡ length self.now.conditions }
+    {
+        self.conditions.len()
     }
 
     /// How many commands were passed over. No system issues commands yet.
@@ -116,16 +133,12 @@ impl State {
     {
         &self.systems[system]
     }
-}
 
-// The memories of systems that never ran.
-#[tactic(auto, using(crate::proofs::States::repeated))]
-fn memories(alloc: Global, count: usize) -> Result<Vec<Memory>, AllocError>
-    ensures { IfOk result (λ v. v.items ≡ replicate count (first_memory [])) }
-{
-    let mut memories = Vec::with_capacity(alloc, count)?;
-    for _made in 0..count {
-        memories.push(Memory::new(alloc))?;
+    /// What a condition remembers.
+    pub fn memory_of_condition(&self, condition: usize) -> &Memory
+        requires { condition < length self.now.conditions }
+        ensures { result.now ≡ get_or self.now.conditions condition no_memory }
+    {
+        &self.conditions[condition]
     }
-    Ok(memories)
 }

@@ -6,9 +6,9 @@ ghost use Rattle.archetype_store.specs.Layout.{AreAllHome};
 
 use access_set::params::Params;
 use archetype_store::store::World;
-use body::state::State;
 use change_ticks::clock::Clock;
 use drift::Drift;
+use engine::first_state::first_state;
 use engine::Engine;
 use entity_table::Entity;
 use kinds::component::{Position, Team, Velocity};
@@ -87,8 +87,9 @@ fn engine(alloc: Global) -> Option<Engine<Drift>> {
     let mut bodies = Vec::new(alloc);
     bodies.push(Drift).ok()?;
     bodies.push(Drift).ok()?;
-    let state = State::new(alloc, world(alloc)?, bodies.len()).ok()?;
-    Engine::new(alloc, schedule(alloc)?, bodies, state).ok()
+    let built = schedule(alloc)?;
+    let state = first_state(alloc, &built, world(alloc)?).ok()?;
+    Engine::new(alloc, built, bodies, state).ok()
 }
 
 fn main(rt: HostRuntime) -> ExitCode {

@@ -1,6 +1,5 @@
 -- Scripts that fit their systems, one after the other.
-use Rattle.std.proofs.Common.{◌≡◌, ℕ, zero, suc, ◌<◌, ◌+◌, inl, inr, true, List, [], ◌∷◌, ◌++◌, length, slice_get, get_or, None, refl, ap, sym, ◌∙◌, arith}
-use Rattle.std.proofs.Math.Nat.{eq-or-lt_of_le}
+use Rattle.std.proofs.Common.{◌≡◌, ℕ, zero, suc, ◌<◌, true, List, [], ◌∷◌, ◌++◌, length, slice_get, get_or, None, refl, ap, sym, ◌∙◌, arith}
 use Rattle.std.proofs.lemmas.List.{length-map}
 use Rattle.model.specs.access.Access.{Params, no_params}
 use Rattle.model.specs.declarations.Declarations.{Declared}
@@ -27,11 +26,6 @@ fits-each params (x ∷ scripts) script h f (suc n) l = fits-each (λ k. params 
 pub fits-more : (s : Schedule) (scripts next : List ScriptBody) (script : ScriptBody) → ((n : ℕ) → n < length scripts → fits_at s scripts n ≡ true)
     → fits (params_of s (length scripts)) script ≡ true → next ≡ scripts ++ script ∷ [] → (n : ℕ) → n < length next → fits_at s next n ≡ true
 fits-more s scripts next script h f is = rw is (fits-each (params_of s) scripts script h f)
-
--- what holds of each system so far and of the next one
-pub readers-more : (s : Schedule) (count next : ℕ) → ((n : ℕ) → n < count → (params_of s n).reads ≡ []) → (params_of s count).reads ≡ [] → next ≡ count + 1
-    → (n : ℕ) → n < next → (params_of s n).reads ≡ []
-readers-more s count next h e is n l = elim (eq-or-lt_of_le {n = n} {m = count} (omega arith)) [ inl same ↦ ap (λ k. (params_of s k).reads) same ∙ e | inr below ↦ h n below ]
 
 get_or-as : {A : Type 0} (xs ys : List A) (k n : ℕ) (d e : A) → k < length xs → xs ≡ ys → k ≡ n → get_or xs k d ≡ get_or ys n e
 get_or-as [] ys k n d e l all same = absurd (omega arith)

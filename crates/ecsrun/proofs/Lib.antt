@@ -2,5 +2,4 @@ mod Noting
 pub mod Fitting
 pub mod Loading
 pub mod Serving
-pub mod Starting
 pub mod Times

@@ -17,14 +17,14 @@ use Rattle.command_line.specs.declared.args.Work.{Work}
 use Rattle.command_line.specs.Args.{is_recorded}
 use Rattle.streams.specs.Writing.{WritesWhole}
 use Rattle.ecsrun.specs.Load.{loaded_world}
-use Rattle.ecsrun.specs.Setup.{IsScheduleOf, AreScriptsOf, HasNoReaders, script_fits, meanings_of_scripts, start_of}
+use Rattle.engine.specs.FirstState.{first_state}
+use Rattle.ecsrun.specs.Setup.{IsScheduleOf, AreScriptsOf, script_fits, meanings_of_scripts}
 use Rattle.ecsrun.specs.Recorded.{IsTextOfRuns}
 use Rattle.ecsrun.specs.declared.answer.Answer.{Answer}
 use Rattle.ecsrun.specs.declared.fault.Fault.{Fault}
 use Rattle.ecsrun.specs.declared.fault.Fault.TheVariants.{Write}
 use Rattle.ecsrun.specs.Fault.{status_of}
 use Rattle.ecsrun.specs.Served.{IsAnswerTo, IsRecordKept, IsServed, HasGained, HasGainedFront, WritesRecord}
-use Rattle.ecsrun.proofs.Starting.{start-loaded}
 
 -- the numbers of scripts and memories are right
 pub no-miscount : (s : Schedule) (scripts : List ScriptBody) (w : World) (state : State) (count : ℕ) → AreScriptsOf s scripts → count ≡ length s.systems
@@ -47,10 +47,10 @@ no-misfit s scripts state n fitting wrong = unlike _ (fitting.fit n wrong.known)
 
 -- the runs start from the state as loaded
 pub runs-loaded : (width : ℕ) (s : Schedule) (scripts : List ScriptBody) (world : World) (entities : List (List Given)) (values : List ℤ) (times : ℕ) (recorded : Bool) (text noted : List ℕ)
-    → s.conditions ≡ [] → HasNoReaders s → world ≡ loaded_world entities values → IsTextOfRuns width s (meanings_of_scripts s scripts) (start_of s world) times recorded text noted
+    → world ≡ loaded_world entities values → IsTextOfRuns width s (meanings_of_scripts s scripts) (first_state s world) times recorded text noted
     → IsTextOfRuns width s (meanings_of_scripts s scripts) (loaded s entities values) times recorded text noted
-runs-loaded width s scripts world entities values times recorded text noted none readers is h =
-    subst (λ (start : State). IsTextOfRuns width s (meanings_of_scripts s scripts) start times recorded text noted) (ap (start_of s) is ∙ start-loaded s entities values none readers) h
+runs-loaded width s scripts world entities values times recorded text noted is h =
+    subst (λ (start : State). IsTextOfRuns width s (meanings_of_scripts s scripts) start times recorded text noted) (ap (first_state s) is) h
 
 -- what is built is the schedule of what is declared
 pub schedule-of : (d : Declared) (s : Schedule) → IsBuildable d → HasDeclaredSystems d s → HasDeclaredEdges d s → IsOneLevel s → IsScheduleOrder s → s.conditions ≡ []

@@ -1,8 +1,8 @@
 // The schedule that a program file declares, and the scripts of its systems.
 
-ghost use Rattle.std.specs.Prelude.{◌≡◌, [], map, length, IfOk, OnOk};
+ghost use Rattle.std.specs.Prelude.{◌≡◌, [], map, length, IfOk};
 ghost use Rattle.ecsrun.specs.Served.{declared_names};
-ghost use Rattle.ecsrun.specs.Setup.{AreScriptsOf, HasNoReaders};
+ghost use Rattle.ecsrun.specs.Setup.{AreScriptsOf};
 
 use crate::fault::Fault;
 use access_set::params::Params;
@@ -119,13 +119,11 @@ pub fn bodies_of(
     codes: Vec<Code<'_>>,
 ) -> Result<Vec<ScriptBody>, Fault>
     requires { length codes.items ≡ length built.now.systems }
-    ensures scripts { IfOk result (λ bodies. AreScriptsOf built.now bodies.items) }
-    ensures readers { OnOk result (HasNoReaders built.now) }
+    ensures { IfOk result (λ bodies. AreScriptsOf built.now bodies.items) }
 {
     let mut bodies = Vec::with_capacity(alloc, codes.len())?;
     for code in codes {
         let params = built.systems()[bodies.len()].params();
-        params.law();
         match ScriptBody::check(alloc, params, code.blocks) {
             Ok(body) => bodies.push(body)?,
             Err(CheckFault::Script(fault)) => {

@@ -7,7 +7,8 @@ ghost use Rattle.engine.specs.Meanings.{meanings};
 ghost use Rattle.ecsrun.specs.Fault.{status_of};
 ghost use Rattle.ecsrun.specs.Recorded.{HaveNoted, HaveRun, IsTextOfRuns};
 ghost use Rattle.ecsrun.specs.Served.{IsAnswerTo, IsServed, IsTextOfReport, WritesRecord};
-ghost use Rattle.ecsrun.specs.Setup.{AreScriptsOf, meanings_of_scripts, script_means, start_of};
+ghost use Rattle.engine.specs.FirstState.{first_state};
+ghost use Rattle.ecsrun.specs.Setup.{AreScriptsOf, meanings_of_scripts, script_means};
 ghost use Rattle.streams.specs.Writing.{GainsLine};
 
 use crate::answer::Answer;
@@ -19,8 +20,8 @@ use crate::schedule::{bodies_of, declare, names_of};
 use crate::world::world_of;
 use ambiguity_report::report::{is_settled, report};
 use archetype_store::store::World;
-use body::state::State;
 use command_line::args::{Args, Work};
+use engine::first_state::first_state;
 use engine::{Engine, NewFault, RunFault};
 use executor_core::Trace;
 use output_text::report::text_of_report;
@@ -130,10 +131,10 @@ fn run<'s, M: Mode<'s>>(
 ) -> Result<Answer, Fault>
     requires scripts { AreScriptsOf built bodies.items }
     requires home { AreAllHome world.layout }
-    ensures runs { IfOk result (λ answer. IsTextOfRuns (M.width mode.now) built (meanings_of_scripts built bodies.items) (start_of built world.state) times recorded (string_bytes answer.text) (string_bytes answer.traces)) }
+    ensures runs { IfOk result (λ answer. IsTextOfRuns (M.width mode.now) built (meanings_of_scripts built bodies.items) (first_state built world.state) times recorded (string_bytes answer.text) (string_bytes answer.traces)) }
     ensures status { IfOk result (λ answer. answer.status ≡ 0) }
 {
-    let state = State::new(alloc, world, built.count() as usize)?;
+    let state = first_state(alloc, &built, world)?;
     let mut engine = match Engine::new(alloc, built, bodies, state) {
         Ok(engine) => engine,
         Err(NewFault::Memory) => return Err(Fault::Memory),

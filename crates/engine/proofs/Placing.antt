@@ -18,7 +18,7 @@ use Rattle.model.specs.runs.Causes.{cause_of_answer, cause_of_running, interleav
 use Rattle.model.specs.runs.Causes.Cause.{Refused}
 use Rattle.model.proofs.lists.Each.{each-weaker}
 use Rattle.model.specs.declared.steps.Step.{Step}
-use Rattle.model.specs.steps.Lawful.{MayStart}
+use Rattle.model.specs.steps.Lawful.{MayStart, MeetsRunning}
 use Rattle.model.proofs.serial.Holding.{Holds, apart_start}
 use Rattle.model.proofs.lists.Lists.{length-update_at, IsIn-append, IsIn_left, IsIn_right, IsIn_from_has}
 use Rattle.model.proofs.lists.Members.{in-map}
@@ -28,13 +28,14 @@ use Rattle.body.specs.Columns.{Column}
 use Rattle.body.specs.Lent.{AreLent, lent_in, with_away, with_back}
 use Rattle.body.specs.Out.{IsWrittenBy, AreOut, IsApartFrom}
 use Rattle.body.specs.Seen.{Opening, Seen}
-use Rattle.body.specs.Steps.{StateValue, at_clock, laid, memory_ran, noted, store_of}
+use Rattle.body.specs.Steps.{StateValue, laid, noted, store_of, ticked}
 use Rattle.body.proofs.Lendings.{lent_in-append}
 use Rattle.body.proofs.Outs.{written-away, written-back, lent-part, none-out}
 use Rattle.body.proofs.Gets.{same-by-get, each-in, each-from}
 use Rattle.worker_pool.specs.JobOut.{JobOut}
-use Rattle.engine.specs.Meanings.{meaning_of, meanings_of, meanings, body_at, body_fits, Suits}
+use Rattle.engine.specs.Meanings.{meaning_of, meanings_of, meanings, body_at, body_fits, HasMemories, Suits}
 use Rattle.engine.specs.Jobs.{running_of, systems_of, held_by, woven, IsJob, IsPlaced, AreDistinct, Placed}
+use Rattle.engine.proofs.Remembering.{memories_at, memories_noted, memories_laid}
 use Rattle.engine.proofs.Weaving.{HasNoEvents, IsAnswered, start_woven, finish_woven}
 
 -- ---- one of a list
@@ -145,7 +146,7 @@ pub record IsHanded {B : Type 0} (s : Schedule) (n : ℕ) (w : StateValue) (late
   pub tick : job.view.opening.tick ≡ next_tick w.state
   pub written : AllByRecursion (IsWrittenBy (params_of s n).queries w.layout) (lent_in job.view.opening.taken)
   pub held : (others : List (List Column)) → AreOut (store_of w) others → AreOut (store_of later) (others ++ job.view.opening.taken)
-  pub is_later : later ≡ record { state = noted n (next_tick w.state) (at_clock (next_tick w.state) w.state); layout = with_away (lent_in job.view.opening.taken) w.layout }
+  pub is_later : later ≡ record { state = noted n (params_of s n).reads (next_tick w.state) (ticked w.state); layout = with_away (lent_in job.view.opening.taken) w.layout }
 
 module _ {B : Type 0} (meaning : B → Params → BodyMeaning) (fits : B → Params → Bool) (there : Bool) (s : Schedule) where
   -- the interleaved step
@@ -230,7 +231,7 @@ module _ {B : Type 0} (meaning : B → Params → BodyMeaning) (fits : B → Par
       pub placed_start : Placed meaning fits there s bodies (set slots n None) (out ++ job ∷ []) later
       placed_start = record {
         body_count = length-set slots n None ∙ placed.body_count;
-        memory_count = ap (λ (x : StateValue). length x.state.systems) handed.is_later ∙ length-update_at n (memory_ran (next_tick w.state)) w.state.systems ∙ placed.memory_count;
+        memories = subst (λ (x : StateValue). HasMemories s x.state) (sym handed.is_later) (memories_noted s (ticked w.state) (memories_at s w.state placed.memories (next_tick w.state)) n (next_tick w.state));
         home = home-more;
         jobs = λ j i. of-job j (IsIn-append j out (job ∷ []) i);
         distinct = subst AreDistinct (sym systems-more) (distinct-more (systems_of out) n placed.distinct home);
@@ -242,32 +243,32 @@ module _ {B : Type 0} (meaning : B → Params → BodyMeaning) (fits : B → Par
           of-job j (inr (inl same)) = subst (IsJob meaning fits there s bodies later) (sym same) job-new
           of-job j (inr (inr none)) = absurd none
 
--- ---- who may start
+-- ---- who may start, and what may be asked
 
 module _ {B : Type 0} (meaning : B → Params → BodyMeaning) (fits : B → Params → Bool) (there : Bool) (s : Schedule) (bodies : List BodyMeaning) (slots : List (Option B)) (out : List (JobOut B)) (w : StateValue) (placed : Placed meaning fits there s bodies slots out w)
-    (h : List Step) (n : ℕ) (may : MayStart s h n) (holds : Holds s h (woven w.state out)) where
+    (h : List Step) (holds : Holds s h (woven w.state out)) where
   -- a system that may start isn't out
-  pub start-free : has n (systems_of out) ≡ false
-  start-free = false_from_ne_true (has n (systems_of out)) (λ e. none out (λ j i. i) (IsIn_from_has n (systems_of out) e))
+  pub start-free : (n : ℕ) → MayStart s h n → has n (systems_of out) ≡ false
+  start-free n may = false_from_ne_true (has n (systems_of out)) (λ e. none out (λ j i. i) (IsIn_from_has n (systems_of out) e))
     where
       none : (jobs : List (JobOut B)) → ((j : JobOut B) → IsIn j jobs → IsIn j out) → IsIn n (systems_of jobs) → ⊥
       none [] within i = i
       none (j ∷ jobs) within (inl same) = (apart_start s h n (woven w.state out) may holds (running_of j) (in-map running_of out j (within j (inl refl)))).0 (sym same)
       none (j ∷ jobs) within (inr i) = none jobs (λ k m. within k (inr m)) i
 
-  -- and none that is out and holds columns conflicts with it
-  pub apart-held : AllByRecursion (IsApartFrom (params_of s n) w.layout) (lent_in (held_by out))
-  apart-held = each-from (IsApartFrom (params_of s n) w.layout) (lent_in (held_by out)) (λ c i. one out (λ j k. k) c i)
+  -- where no running system meets an access, none that is out and holds columns conflicts with it
+  pub apart-held : (access : Params) → (MeetsRunning s h access → ⊥) → AllByRecursion (IsApartFrom access w.layout) (lent_in (held_by out))
+  apart-held access apart = each-from (IsApartFrom access w.layout) (lent_in (held_by out)) (λ c i. one out (λ j k. k) c i)
     where
-      one : (jobs : List (JobOut B)) → ((j : JobOut B) → IsIn j jobs → IsIn j out) → (c : TakenColumn) → IsIn c (lent_in (held_by jobs)) → IsApartFrom (params_of s n) w.layout c
+      one : (jobs : List (JobOut B)) → ((j : JobOut B) → IsIn j jobs → IsIn j out) → (c : TakenColumn) → IsIn c (lent_in (held_by jobs)) → IsApartFrom access w.layout c
       one [] within c i = absurd i
       one (j ∷ jobs) within c i = go (IsIn-append c (lent_in j.view.opening.taken) (lent_in (held_by jobs)) (subst (IsIn c) (lent_in-append j.view.opening.taken (held_by jobs)) i)) (one jobs (λ k m. within k (inr m)) c)
         where
-          go : IsIn c (lent_in j.view.opening.taken) ⊎ IsIn c (lent_in (held_by jobs)) → (IsIn c (lent_in (held_by jobs)) → IsApartFrom (params_of s n) w.layout c) → IsApartFrom (params_of s n) w.layout c
+          go : IsIn c (lent_in j.view.opening.taken) ⊎ IsIn c (lent_in (held_by jobs)) → (IsIn c (lent_in (held_by jobs)) → IsApartFrom access w.layout c) → IsApartFrom access w.layout c
           go (inl mine) later = record {
             other = params_of s j.system;
             written = each-in (IsWrittenBy (params_of s j.system).queries w.layout) (lent_in j.view.opening.taken) (placed.jobs j (within j (inl refl))).written c mine;
-            apart = (apart_start s h n (woven w.state out) may holds (running_of j) (in-map running_of out j (within j (inl refl)))).1;
+            apart = λ conflict. apart (j.system, holds.alive (running_of j) (in-map running_of out j (within j (inl refl))), conflict);
           }
           go (inr others) later = later others
 
@@ -360,7 +361,7 @@ module _ {B : Type 0} (meaning : B → Params → BodyMeaning) (fits : B → Par
     pub placed_finish : Placed meaning fits there s bodies (set slots job.system (Some body)) (front ++ rest) later
     placed_finish = record {
       body_count = length-set slots job.system (Some body) ∙ placed.body_count;
-      memory_count = ap (λ (x : StateValue). length x.state.systems) is.is_later ∙ length-update_at job.system (with_registers seen.outcome.registers) w.state.systems ∙ placed.memory_count;
+      memories = subst (λ (x : StateValue). HasMemories s x.state) (sym is.is_later) (memories_laid s w.state placed.memories job.system seen.opening.tick seen);
       home = home-back;
       jobs = λ j i. kept-job j (placed.jobs j (within j (IsIn-append j front rest i)));
       distinct = subst AreDistinct (sym systems-left) once.others;
@@ -399,7 +400,7 @@ module _ {B : Type 0} (meaning : B → Params → BodyMeaning) (fits : B → Par
   pub placed_first : (slots : List (Option B)) (w : StateValue) → Suits fits s slots w.state → AreAllHome w.layout → Placed meaning fits there s (meanings meaning s slots) slots [] w
   placed_first slots w suits home = record {
     body_count = suits.body_count;
-    memory_count = suits.memory_count;
+    memories = suits.memories;
     home = λ n known. placed-one n known (body_at slots n) refl (suits.fit n known);
     jobs = λ job i. absurd i;
     distinct = tt;
@@ -415,7 +416,7 @@ module _ {B : Type 0} (meaning : B → Params → BodyMeaning) (fits : B → Par
     pub suits_last : Suits fits s slots w.state
     suits_last = record {
       body_count = placed.body_count;
-      memory_count = placed.memory_count;
+      memories = placed.memories;
       fit = λ n known. one n (body_at slots n) (placed.home n known);
     }
       where

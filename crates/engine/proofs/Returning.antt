@@ -60,7 +60,7 @@ module _ {B : Type 0} (meaning : B → Params → BodyMeaning) (fits : B → Par
     back_slot = let k = back_known in let e = placed.body_count in omega arith
 
     pub back_memory : system < length w.state.systems
-    back_memory = let k = back_known in let e = placed.memory_count in omega arith
+    back_memory = let k = back_known in let e = placed.memories.systems in omega arith
 
     pub back_lent : AreLent (store_of w) after.opening.taken
     back_lent = subst (λ (o : Opening). AreLent (store_of w) o.taken) (sym back.ran.same_opening) (lent-there meaning fits there s bodies slots back.front back.rest back.job w placed-around)

@@ -13,7 +13,7 @@ use Rattle.body.specs.Lent.{lent_in}
 use Rattle.body.specs.Out.{AreOut, IsWrittenBy}
 use Rattle.body.specs.Steps.{StateValue, store_of}
 use Rattle.worker_pool.specs.JobOut.{JobOut}
-use Rattle.engine.specs.Meanings.{body_at}
+use Rattle.engine.specs.Meanings.{body_at, HasMemories}
 
 -- the running system of a job, the systems of jobs, and the columns that they hold
 abbrev pub running_of : {B : Type 0} → JobOut B → RunningSystem
@@ -54,7 +54,7 @@ AreDistinct (n ∷ ns) = (has n ns ≡ false) × AreDistinct ns
 -- by the jobs
 pub record Placed {B : Type 0} (meaning : B → Params → BodyMeaning) (fits : B → Params → Bool) (there : Bool) (s : Schedule) (bodies : List BodyMeaning) (slots : List (Option B)) (out : List (JobOut B)) (w : StateValue) : Type 0 where
   pub body_count : length slots ≡ length s.systems
-  pub memory_count : length w.state.systems ≡ length s.systems
+  pub memories : HasMemories s w.state
   pub home : (n : ℕ) → n < length s.systems → IsPlaced meaning fits (params_of s n) (body_of bodies n) (has n (systems_of out)) (body_at slots n)
   pub jobs : (job : JobOut B) → IsIn job out → IsJob meaning fits there s bodies w job
   pub distinct : AreDistinct (systems_of out)

@@ -3,3 +3,4 @@ pub mod Meanings
 pub mod EngineValue
 pub mod Jobs
 pub mod Stage
+pub mod FirstState

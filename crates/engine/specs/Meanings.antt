@@ -3,7 +3,8 @@ use Rattle.std.specs.Prelude.{ℕ, ◌<◌, ◌≡◌, ◌≢◌, ◌⊎◌, Boo
 use Rattle.model.specs.access.Access.{Params}
 use Rattle.model.specs.shown.Outcome.{BodyMeaning}
 use Rattle.model.specs.state.State.{State}
-use Rattle.model.specs.steps.Schedule.{ScheduledSystem, Schedule, params_of}
+use Rattle.model.specs.steps.Schedule.{ScheduledSystem, Schedule, params_of, access_of}
+use Rattle.model.specs.runs.RunState.{memory_of_condition, memory_of_system}
 
 -- what a body means for these parameters. Where there is none it refuses
 abbrev pub meaning_of : {B : Type 0} → (B → Params → BodyMeaning) → Params → Option B → BodyMeaning
@@ -33,20 +34,34 @@ body_fits fits (Some body) params = fits body params
 abbrev pub fits_at : {B : Type 0} → (B → Params → Bool) → Schedule → List (Option B) → ℕ → Bool
 fits_at fits s slots n = body_fits fits (body_at slots n) (params_of s n)
 
--- the numbers of bodies or of memories differ from that of systems
-abbrev pub Miscounts : {B : Type 0} → Schedule → List (Option B) → State → Type 0
-Miscounts s slots state = (length slots ≢ length s.systems) ⊎ (length state.systems ≢ length s.systems)
+-- the memories of a state are those of a schedule: one for each system and each condition, with a cursor for each of its event readers
+pub record HasMemories (s : Schedule) (state : State) : Type 0 where
+  pub systems : length state.systems ≡ length s.systems
+  pub conditions : length state.conditions ≡ length s.conditions
+  pub system_readers : (n : ℕ) → n < length s.systems → length (memory_of_system state n).cursors ≡ length (params_of s n).reads
+  pub condition_readers : (c : ℕ) → c < length s.conditions → length (memory_of_condition state c).cursors ≡ length (access_of s c).reads
 
--- a body and a memory for each system, and each body fits
+-- they are not: the number of systems or conditions differs, or that of the cursors of one
+abbrev pub LacksMemories : Schedule → State → Type 0
+LacksMemories s state = (length state.systems ≢ length s.systems)
+    ⊎ ((length state.conditions ≢ length s.conditions)
+    ⊎ (((n : ℕ) × (n < length s.systems) × (length (memory_of_system state n).cursors ≢ length (params_of s n).reads))
+    ⊎ ((c : ℕ) × (c < length s.conditions) × (length (memory_of_condition state c).cursors ≢ length (access_of s c).reads))))
+
+-- the numbers of bodies, of memories or of a memory's cursors are not those of the schedule
+abbrev pub Miscounts : {B : Type 0} → Schedule → List (Option B) → State → Type 0
+Miscounts s slots state = (length slots ≢ length s.systems) ⊎ LacksMemories s state
+
+-- a body and a memory for each system, a memory for each condition, and each body fits
 pub record Suits {B : Type 0} (fits : B → Params → Bool) (s : Schedule) (slots : List (Option B)) (state : State) : Type 0 where
   pub body_count : length slots ≡ length s.systems
-  pub memory_count : length state.systems ≡ length s.systems
+  pub memories : HasMemories s state
   pub fit : (n : ℕ) → n < length s.systems → fits_at fits s slots n ≡ true
 
 -- the least system whose body doesn't fit, where the numbers are right
 pub record IsFirstMisfit {B : Type 0} (fits : B → Params → Bool) (s : Schedule) (slots : List (Option B)) (state : State) (n : ℕ) : Type 0 where
   pub body_count : length slots ≡ length s.systems
-  pub memory_count : length state.systems ≡ length s.systems
+  pub memories : HasMemories s state
   pub known : n < length s.systems
   pub misfit : fits_at fits s slots n ≡ false
   pub least : (m : ℕ) → m < n → fits_at fits s slots m ≡ true

@@ -7,8 +7,9 @@ ghost use Rattle.model.specs.Lists.{has, IsIn};
 ghost use Rattle.model.specs.access.Access.{no_params};
 ghost use Rattle.model.specs.shown.Input.{shown};
 ghost use Rattle.model.specs.shown.Outcome.{BodyMeaning, untouched};
-ghost use Rattle.model.specs.steps.Schedule.{params_of};
-ghost use Rattle.model.specs.runs.RunState.{between, begin_run, has_tick, next_tick, memory_of_system};
+ghost use Rattle.model.specs.access.Condition.{holds};
+ghost use Rattle.model.specs.steps.Schedule.{params_of, access_of, condition_of};
+ghost use Rattle.model.specs.runs.RunState.{between, begin_run, opening, has_tick, next_tick, memory_of_condition, memory_of_system};
 ghost use Rattle.model.specs.runs.Meaning.{interleaved_step};
 ghost use Rattle.model.specs.runs.Causes.{interleaved_cause_of};
 ghost use Rattle.model.specs.runs.Causes.{Cause as cause};
@@ -17,9 +18,9 @@ ghost use Rattle.body.specs.declared.system_body.BodyFault.TheVariants.{Refused}
 ghost use Rattle.body.specs.Columns.{Column};
 ghost use Rattle.body.specs.Lent.{AreLent, lent_in, with_away, with_back};
 ghost use Rattle.body.specs.Out.{IsWrittenBy, AreOut, IsApartFrom};
-ghost use Rattle.body.specs.Steps.{at_clock, laid, noted, store_of};
+ghost use Rattle.body.specs.Steps.{asked_at, laid, noted, store_of, ticked};
 ghost use Rattle.worker_pool.specs.JobOut.{JobOut};
-ghost use Rattle.engine.specs.Meanings.{body_at};
+ghost use Rattle.engine.specs.Meanings.{body_at, HasMemories};
 ghost use Rattle.engine.specs.Jobs.{systems_of, held_by, woven, Placed};
 
 use crate::faults::RunFault;
@@ -34,21 +35,44 @@ use worker_pool::{Done, HandFault, Mode, Pool, Start};
 /// The opening of a run.
 pub(crate) fn open(state: &mut OpenState) -> Result<(), ClockSpent>
     ensures opened { OnOk result (begin_run state.old.state ≡ Some (between state.new.state)) }
-    ensures moved { OnOk result (state.new ≡ record { state = at_clock (next_tick state.old.state) state.old.state; layout = state.old.layout }) }
+    ensures moved { OnOk result (state.new ≡ record { state = opening state.old.state; layout = state.old.layout }) }
     ensures spent { IsErr result ↔ (has_tick state.old.state ≡ false) }
 {
-    state.law();
-    state.next()?;
-    Ok(())
+    state.begin()
 }
 
 /// A sync point.
 pub(crate) fn sync(state: &mut OpenState) -> Result<(), ClockSpent>
-    ensures moved { OnOk result (state.new ≡ record { state = at_clock (next_tick state.old.state) state.old.state; layout = state.old.layout }) }
+    ensures moved { OnOk result (state.new ≡ record { state = ticked state.old.state; layout = state.old.layout }) }
     ensures spent { IsErr result ↔ (has_tick state.old.state ≡ false) }
 {
     state.next()?;
     Ok(())
+}
+
+/// A condition is asked: what it means on the state, at the tick to come, which becomes the clock.
+pub(crate) fn ask(
+    alloc: Global,
+    built: &Built,
+    state: &mut OpenState,
+    condition: u32,
+) -> Result<bool, RunFault>
+    requires known { condition < length built.now.conditions }
+    requires memories { HasMemories built.now state.old.state }
+    requires home { AllByRecursion (λ query. ArePickedHome query state.old.layout) (access_of built.now condition).queries }
+    ensures answer { IfOk result (λ answer. answer ≡ holds (condition_of built.now condition) (memory_of_condition state.old.state condition).last_run (memory_of_condition state.old.state condition).cursors state.old.state) }
+    ensures asked { OnOk result (state.new ≡ record { state = asked_at condition (access_of built.now condition).reads (next_tick state.old.state) (ticked state.old.state); layout = state.old.layout }) }
+    ensures spent { IsErrOf result RunFault.ClockSpent ↔ (has_tick state.old.state ≡ false) }
+    ensures only { (f : RunFault) → result ≡ Err f → (f ≡ RunFault.ClockSpent) ⊎ (f ≡ RunFault.Memory) }
+{
+    let asked = built.condition(condition);
+    state.coming()?;
+    let answer = state.ask(alloc, condition as usize, asked.cond())?;
+    let Ok(tick) = state.next() else {
+        unreachable!();
+    };
+    state.note_condition(condition as usize, asked.access(), tick);
+    Ok(answer)
 }
 
 // What a system is shown as it starts: its run is noted at the tick to come, which becomes the clock.
@@ -59,7 +83,7 @@ fn prepare(
     system: u32,
 ) -> Result<View, RunFault>
     requires known { system < length built.now.systems }
-    requires memory { system < length state.old.state.systems }
+    requires memories { HasMemories built.now state.old.state }
     requires home { AllByRecursion (λ query. ArePickedHome query state.old.layout) (params_of built.now system).queries }
     ensures params { IfOk result (λ view. view.params ≡ params_of built.now system) }
     ensures shown { IfOk result (λ view. view.shown ≡ shown (params_of built.now system) (memory_of_system state.old.state system) state.old.state []) }
@@ -67,7 +91,7 @@ fn prepare(
     ensures tick { IfOk result (λ view. view.opening.tick ≡ next_tick state.old.state) }
     ensures written { IfOk result (λ view. AllByRecursion (IsWrittenBy (params_of built.now system).queries state.old.layout) (lent_in view.opening.taken)) }
     ensures held { IfOk result (λ view. (others : List (List Column)) → AreOut (store_of state.old) others → AreOut (store_of state.new) (others ++ view.opening.taken)) }
-    ensures noted { IfOk result (λ view. state.new ≡ record { state = noted system (next_tick state.old.state) (at_clock (next_tick state.old.state) state.old.state); layout = with_away (lent_in view.opening.taken) state.old.layout }) }
+    ensures noted { IfOk result (λ view. state.new ≡ record { state = noted system (params_of built.now system).reads (next_tick state.old.state) (ticked state.old.state); layout = with_away (lent_in view.opening.taken) state.old.layout }) }
     ensures spent { IsErrOf result RunFault.ClockSpent ↔ (has_tick state.old.state ≡ false) }
     ensures only { (f : RunFault) → result ≡ Err f → (f ≡ RunFault.ClockSpent) ⊎ (f ≡ RunFault.Memory) }
 {
@@ -78,7 +102,7 @@ fn prepare(
     let Ok(_) = state.next() else {
         unreachable!();
     };
-    state.note(system as usize, tick);
+    state.note(system as usize, params, tick);
     Ok(view)
 }
 

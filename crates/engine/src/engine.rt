@@ -9,6 +9,7 @@ ghost use Rattle.engine.specs.History.{history_of};
 
 use crate::coordinator::run_times;
 use crate::faults::{NewFault, RunFault};
+use crate::first_state::has_memories;
 use crate::fitting::{first_misfit, placed};
 use body::state::State;
 use body::system_body::Body;
@@ -45,8 +46,8 @@ impl<B: Body> Model for Engine<B> {
 }
 
 impl<B: Body> Engine<B> {
-    /// An engine that is not spoiled. It is refused with `Count` where the numbers of bodies or of memories differ from that of
-    /// systems, else with `Misfit` for the least system whose body doesn't fit its parameters; what was handed in is dropped.
+    /// An engine that is not spoiled. It is refused with `Count` where there isn't a body and a memory for each system and a memory for each
+    /// condition, each memory with a cursor for each event reader, else with `Misfit` for the least system whose body doesn't fit its parameters; what was handed in is dropped.
     pub fn new(alloc: Global, built: Built, bodies: Vec<B>, state: State) -> Result<Self, NewFault>
         ensures ok { IfOk result (λ engine. engine ≡ record { schedule = built; bodies = map Some bodies.items; state = state; spoiled = false }) }
         ensures count { IsErrOf result NewFault.Count ↔ Miscounts built (map Some bodies.items) state }
@@ -55,7 +56,7 @@ impl<B: Body> Engine<B> {
         if bodies.len() != built.count() as usize {
             return Err(NewFault::Count);
         }
-        if state.systems() != built.count() as usize {
+        if !has_memories(&built, &state) {
             return Err(NewFault::Count);
         }
         if let Some(system) = first_misfit(&built, &bodies) {

@@ -10,8 +10,8 @@ use thiserror::Error;
 /// Why an engine isn't made.
 #[derive(Clone, Copy, PartialEq, Eq, Debug, Error)]
 pub enum NewFault {
-    /// The numbers of bodies or of memories differ from that of systems.
-    #[error("the numbers of bodies and memories are not that of systems")]
+    /// The numbers of bodies, of memories, or of a memory's cursors are not those of the schedule.
+    #[error("the numbers of bodies, memories and cursors are not those of the schedule")]
     Count,
     /// The body of this system, the least such one, doesn't fit the system's parameters.
     #[error("the body of system {0} does not fit its parameters")]

@@ -5,6 +5,7 @@ mod coordinator;
 mod effects;
 pub mod engine;
 pub mod faults;
+pub mod first_state;
 mod fitting;
 pub mod turn;
 

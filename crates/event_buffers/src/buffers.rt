@@ -1,6 +1,6 @@
 // The kept events of every kind.
 
-ghost use Rattle.std.specs.Prelude.{◌≡◌, ◌↔◌, ◌++◌, ◌≤◌, false, IfOk, IsErrOf, OnOk, OnErr, map, replicate, length};
+ghost use Rattle.std.specs.Prelude.{◌≡◌, ◌↔◌, ◌++◌, ◌≤◌, false, IsErrOf, OnOk, OnErr, map, replicate, length};
 ghost use Rattle.kinds.specs.Res.{event_number};
 ghost use Rattle.model.specs.Lists.{update_at};
 ghost use Rattle.model.specs.state.State.{event_count, empty_queue, last_tick};
@@ -8,13 +8,13 @@ ghost use Rattle.model.specs.state.Events.{queue_of, send, send_all, can_send, u
 
 use crate::queue::{Queue, SendFault, Unread};
 use kinds::res::Event;
-use std::alloc::{AllocError, Global};
+use std::alloc::Global;
 use std::marker::Model;
 
 /// The kept events of every kind. Contracts see the queue of each, by number.
 #[derive(Drop, Debug)]
 pub struct Events {
-    queues: Vec<Queue>,
+    queues: [Queue; 4],
 }
 
 impl Model for Events {
@@ -23,21 +23,24 @@ impl Model for Events {
 
     ghost Value = { List EventQueue };
 
-    ghost view = { λ e. e.queues.items };
+    ghost view = { λ e. e.queues };
 
-    ghost invariant = { λ e. length e.queues.items ≡ event_count };
+    ghost invariant = { λ e. length e.queues ≡ event_count };
 }
 
 impl Events {
-    /// Events of which none was sent.
-    pub fn new(alloc: Global) -> Result<Self, AllocError>
-        ensures { IfOk result (λ events. events ≡ replicate event_count empty_queue) }
+    /// Events of which none was sent. Takes no memory.
+    pub fn new(alloc: Global) -> Self
+        ensures { result ≡ replicate event_count empty_queue }
     {
-        let mut queues = Vec::new(alloc);
-        for _number in 0..Event::COUNT {
-            queues.push(Queue::new(alloc))?;
+        Events {
+            queues: [
+                Queue::new(alloc),
+                Queue::new(alloc),
+                Queue::new(alloc),
+                Queue::new(alloc),
+            ],
         }
-        Ok(Events { queues })
     }
 
     /// There is a queue for each kind.

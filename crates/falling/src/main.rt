@@ -9,9 +9,9 @@ ghost use Rattle.falling.specs.Told.{IsTold};
 
 use access_set::params::Params;
 use archetype_store::store::World;
-use body::state::State;
 use body::system_body::Body;
 use change_ticks::clock::Clock;
+use engine::first_state::first_state;
 use engine::Engine;
 use kinds::component::{Position, Velocity};
 use kinds::kind::Kind;
@@ -80,8 +80,9 @@ fn world(alloc: Global) -> Option<World>
 fn engine(alloc: Global) -> Option<Engine<ScriptBody>> {
     let mut bodies = Vec::new(alloc);
     bodies.push(script(alloc)?).ok()?;
-    let state = State::new(alloc, world(alloc)?, 1).ok()?;
-    Engine::new(alloc, schedule(alloc)?, bodies, state).ok()
+    let built = schedule(alloc)?;
+    let state = first_state(alloc, &built, world(alloc)?).ok()?;
+    Engine::new(alloc, built, bodies, state).ok()
 }
 
 // The text of the world after so many runs of an engine. None where a run stops by a fault.

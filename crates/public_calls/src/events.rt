@@ -21,7 +21,7 @@ fn unread(
 
 #[test]
 fn two_buffers(rt: HostRuntime) -> Result<(), Fail> {
-    let mut events = Events::new(rt.alloc())?;
+    let mut events = Events::new(rt.alloc());
     assert_eq!(rt; events.send(Event::Hit, 4), Ok(()));
     assert_eq!(rt; events.send(Event::Hit, 5), Ok(()));
     events.update();
@@ -45,7 +45,7 @@ fn two_buffers(rt: HostRuntime) -> Result<(), Fail> {
 
 #[test]
 fn many_events(rt: HostRuntime) -> Result<(), Fail> {
-    let mut events = Events::new(rt.alloc())?;
+    let mut events = Events::new(rt.alloc());
     for _run in 0..3 {
         events.update();
         for value in 0..100_000 {

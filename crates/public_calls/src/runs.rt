@@ -4,6 +4,7 @@ use access_set::params::Params;
 use archetype_store::store::World;
 use body::state::State;
 use change_ticks::clock::{Clock, LAST_TICK, Tick};
+use engine::first_state::first_state;
 use engine::{Engine, NewFault, RunFault};
 use entity_table::Entity;
 use kinds::component::{Position, Velocity};
@@ -68,8 +69,8 @@ fn movement(alloc: Global) -> Result<Vec<ScriptBody>, Fail> {
     script(alloc, &moving(alloc)?, &texts)
 }
 
-// The state of one system over a world at a clock, with one entity, loaded at tick 1.
-fn state(alloc: Global, clock: Clock) -> Result<State, Fail> {
+// The state of a schedule over a world at a clock, with one entity, loaded at tick 1.
+fn state(alloc: Global, built: &Built, clock: Clock) -> Result<State, Fail> {
     // Tells that the clock isn't before tick 1.
     let _now = clock.now();
     let mut world = World::new(alloc, clock)?;
@@ -78,13 +79,14 @@ fn state(alloc: Global, clock: Clock) -> Result<State, Fail> {
     world.spawn_at(entity);
     world.insert(entity, Position { x: 0, y: 0 }, 1)?;
     world.insert(entity, Velocity { x: 1, y: -2 }, 1)?;
-    Ok(State::new(alloc, world, 1)?)
+    Ok(first_state(alloc, built, world)?)
 }
 
 // An engine of the system that moves, over such a state.
 fn engine(alloc: Global, clock: Clock) -> Result<Engine<ScriptBody>, Fail> {
-    let state = state(alloc, clock)?;
-    Ok(Engine::new(alloc, schedule(alloc)?, movement(alloc)?, state)?)
+    let built = schedule(alloc)?;
+    let state = state(alloc, &built, clock)?;
+    Ok(Engine::new(alloc, built, movement(alloc)?, state)?)
 }
 
 // The steps of so many runs, as they are debugged.
@@ -152,9 +154,10 @@ fn spoils(rt: HostRuntime) -> Result<(), Fail> {
 #[test]
 fn counts(rt: HostRuntime) -> Result<(), Fail> {
     let alloc = rt.alloc();
-    let state = state(alloc, Clock::at(1))?;
+    let built = schedule(alloc)?;
+    let state = state(alloc, &built, Clock::at(1))?;
     let none: Vec<ScriptBody> = Vec::new(alloc);
-    let fault = Engine::new(alloc, schedule(alloc)?, none, state)
+    let fault = Engine::new(alloc, built, none, state)
         .err()
         .ok_or("no fault")?;
     assert_eq!(rt; fault, NewFault::Count);
@@ -164,10 +167,11 @@ fn counts(rt: HostRuntime) -> Result<(), Fail> {
 #[test]
 fn misfits(rt: HostRuntime) -> Result<(), Fail> {
     let alloc = rt.alloc();
-    let state = state(alloc, Clock::at(1))?;
+    let built = schedule(alloc)?;
+    let state = state(alloc, &built, Clock::at(1))?;
     let turning = querying(alloc, &[Term::Mut(Kind::Velocity)])?;
     let bodies = script(alloc, &turning, &["mul Velocity.x -1"])?;
-    let fault = Engine::new(alloc, schedule(alloc)?, bodies, state)
+    let fault = Engine::new(alloc, built, bodies, state)
         .err()
         .ok_or("no fault")?;
     assert_eq!(rt; fault, NewFault::Misfit(0));

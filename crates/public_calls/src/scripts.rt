@@ -4,8 +4,8 @@ ghost use Rattle.archetype_store.specs.Layout.{AreAllHome};
 
 use access_set::params::Params;
 use archetype_store::store::World;
-use body::state::State;
 use change_ticks::clock::Clock;
+use engine::first_state::first_state;
 use engine::Engine;
 use kinds::component::{Health, Position, Velocity};
 use kinds::kind::Kind;
@@ -165,8 +165,9 @@ fn run_once(
     let mut desc = ScheduleDesc::new(alloc);
     let name = String::from_str(alloc, "script")?;
     desc.add_system(SystemDesc::new(alloc, name, params))?;
-    let state = State::new(alloc, world, 1)?;
-    let mut engine = Engine::new(alloc, build(alloc, desc)?, bodies, state)?;
+    let built = build(alloc, desc)?;
+    let state = first_state(alloc, &built, world)?;
+    let mut engine = Engine::new(alloc, built, bodies, state)?;
     engine.run(alloc, 1, &Single)?;
     Ok(engine)
 }

@@ -5,9 +5,9 @@ ghost use Rattle.std.specs.Prelude.{◌≤◌};
 use crate::gathering::{Answering, Gathering, Meeting};
 use access_set::params::Params;
 use archetype_store::store::World;
-use body::state::State;
 use body::system_body::Body;
 use change_ticks::clock::Clock;
+use engine::first_state::first_state;
 use engine::{Engine, RunFault};
 use executor_core::Trace;
 use schedule_builder::builder::build;
@@ -72,8 +72,9 @@ fn engine_of<B: Body>(alloc: Global, bodies: Vec<B>) -> Result<Engine<B>, Fail> 
         desc.add_system(SystemDesc::new(alloc, name, Params::new(alloc)))?;
     }
     let world = World::empty(alloc, Clock::at(1));
-    let state = State::new(alloc, world, bodies.len())?;
-    Ok(Engine::new(alloc, build(alloc, desc)?, bodies, state)?)
+    let built = build(alloc, desc)?;
+    let state = first_state(alloc, &built, world)?;
+    Ok(Engine::new(alloc, built, bodies, state)?)
 }
 
 // An engine of systems that touch nothing, each with one of these bodies.

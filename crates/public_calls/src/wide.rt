@@ -7,9 +7,9 @@ use crate::gathering::Answering;
 use crate::threads::run_on_threads;
 use access_set::params::Params;
 use archetype_store::store::World;
-use body::state::State;
 use body::system_body::Body;
 use change_ticks::clock::Clock;
+use engine::first_state::first_state;
 use engine::Engine;
 use kinds::component::{Charge, Damage, Health, Position, Score, Team, Timer, Velocity};
 use kinds::kind::Kind;
@@ -143,8 +143,9 @@ fn wide(alloc: Global) -> Result<Engine<ScriptBody>, Fail> {
         declare(alloc, &mut desc, name, after, query)?;
         bodies.push(script(alloc, query, first, second)?)?;
     }
-    let state = State::new(alloc, world(alloc)?, bodies.len())?;
-    Ok(Engine::new(alloc, build(alloc, desc)?, bodies, state)?)
+    let built = build(alloc, desc)?;
+    let state = first_state(alloc, &built, world(alloc)?)?;
+    Ok(Engine::new(alloc, built, bodies, state)?)
 }
 
 // Whether a world has this one entity.
@@ -194,8 +195,9 @@ fn is_moved_by<R: Threads + Wait + Copy + Send + Sync + 'static, B: Body + 'stat
     bodies: Vec<B>,
     on_threads: bool,
 ) -> Result<bool, Fail> {
-    let state = State::new(alloc, world(alloc)?, 2)?;
-    let mut engine = Engine::new(alloc, moving(alloc)?, bodies, state)?;
+    let built = moving(alloc)?;
+    let state = first_state(alloc, &built, world(alloc)?)?;
+    let mut engine = Engine::new(alloc, built, bodies, state)?;
     if on_threads {
         run_on_threads(runtime, &NoGate, alloc, 2, 3, &mut engine)?;
     } else {

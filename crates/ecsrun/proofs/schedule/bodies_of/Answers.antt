@@ -4,7 +4,7 @@ use Rattle.std.proofs.lemmas.Iterator.Adapters.{YieldsList-from_vec}
 use Rattle.std.proofs.lemmas.Iterator.Consumers.{YieldsList-turn}
 use Rattle.model.specs.access.Access.{Params}
 use Rattle.script.specs.Faults.{fits}
-use Rattle.ecsrun.proofs.Fitting.{fits-none, fits-more, params-at, readers-more}
+use Rattle.ecsrun.proofs.Fitting.{fits-none, fits-more, params-at}
 use Rattle.ecsrun.proofs.schedule.bodies_of.Goals as goal
 
 pub loop-code-preserved : goal.loop-code-preserved
@@ -23,6 +23,4 @@ loop-code-preserved c =
       count = ap length c.in_ok-push-in-Ok.ensures.items ∙ pushed ∙ ap (λ n. n + 1) c.loop-code.invariant.count ∙ sym (length_push c.loop-code.yielded c.in-Some.code);
       fit = fits-more c.args.built.now c.loop-code.bodies.items c.push.new.self.items c.in-Ok.body c.loop-code.invariant.fit
           (ap (λ (p : Params). fits p c.in-Ok.body) (sym here) ∙ ap (fits c.params-params.result.now) c.in-Ok.ensures.script ∙ fits-none c.params-params.result.now _ c.in-Ok.ensures.fault) c.in_ok-push-in-Ok.ensures.items;
-      readers = readers-more c.args.built.now (length c.loop-code.bodies.items) (length c.push.new.self.items) c.loop-code.invariant.readers
-          (ap (λ (p : Params). p.reads) (sym here ∙ c.law.ensures)) (ap length c.in_ok-push-in-Ok.ensures.items ∙ pushed);
     }

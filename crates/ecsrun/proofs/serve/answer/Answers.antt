@@ -1,7 +1,8 @@
 use Rattle.std.proofs.Common.{◌≡◌, map, ap, sym, ◌∙◌, subst, string_bytes}
 use Rattle.command_line.specs.declared.args.Work.{Work}
 use Rattle.ecsrun.specs.Load.{entity_given}
-use Rattle.ecsrun.specs.Setup.{meanings_of_scripts, start_of}
+use Rattle.engine.specs.FirstState.{first_state}
+use Rattle.ecsrun.specs.Setup.{meanings_of_scripts}
 use Rattle.ecsrun.specs.Checked.{IsCheckOf}
 use Rattle.ecsrun.specs.Recorded.{IsTextOfRuns}
 use Rattle.ecsrun.specs.Served.{IsAnswerTo, IsTextOfReport}
@@ -61,7 +62,7 @@ returns g c =
     let values = c.in_ok-resources.field-0.resources in
     let times = c.in-Run.times in
     let recorded = c.in-Run.recorded in
-    of-ok-two (λ answer. IsTextOfRuns width s (meanings_of_scripts s scripts) (start_of s c.in_ok-world.world.state) times recorded (string_bytes answer.text) (string_bytes answer.traces))
+    of-ok-two (λ answer. IsTextOfRuns width s (meanings_of_scripts s scripts) (first_state s c.in_ok-world.world.state) times recorded (string_bytes answer.text) (string_bytes answer.traces))
     (λ answer. answer.status ≡ 0) (λ answer. IsAnswerTo width c.args.work trace answer) c.run.result
     (λ answer h status. subst (λ (w : Work). IsAnswerTo width w trace answer) (sym c.in-Run.is) (
       status,
@@ -70,10 +71,10 @@ returns g c =
         schedule = s;
         built = schedule-of d s ok.buildable ok.systems ok.edges ok.levels ok.order ok.conditions;
         scripts = scripts;
-        fitting = c.in_ok-bodies.ensures.scripts;
+        fitting = c.in_ok-bodies.ensures;
         entities = entities;
         values = values;
-        runs = runs-loaded width s scripts c.in_ok-world.world.state entities values times recorded (string_bytes answer.text) (string_bytes answer.traces) ok.conditions
-            c.in_ok-bodies.ensures.readers c.in_ok-world.ensures.world h;
+        runs = runs-loaded width s scripts c.in_ok-world.world.state entities values times recorded (string_bytes answer.text) (string_bytes answer.traces)
+            c.in_ok-world.ensures.world h;
       },
     )) c.run.ensures.runs c.run.ensures.status

@@ -1,7 +1,17 @@
-use Rattle.std.proofs.Common.{Err, refl, ap, rules}
+use Rattle.std.proofs.Common.{Some, Err, inl, inr, refl, ◌∙◌, ap, rules}
+use Rattle.std.proofs.lemmas.List.{length-map}
 use denote.Param.Send.{sendable}
+use Rattle.engine.proofs.Beginning.{no_first_lacks}
 use Rattle.ecsrun.proofs.Serving.{no-misfit}
 use Rattle.ecsrun.proofs.serve.run.Goals as goal
+
+-- there is a script and a memory for each system, and a memory for each condition
+pub unreachable-requires-in-Err-Count : goal.unreachable-requires-in-Err-Count
+unreachable-requires-in-Err-Count g c =
+    elim (c.in-Err-Count.ensures.count.0 (ap Err c.in-Err-Count.field-0-is)) [
+      | inl few ↦ few (length-map c.args.bodies.items (λ x. Some x) ∙ c.requires.scripts.count)
+      | inr lacks ↦ no_first_lacks c.args.built c.in_ok-state.state c.args.world.state c.in_ok-state.ensures lacks
+    ]
 
 -- every script fits its system
 pub unreachable-requires-in-Err-Misfit : goal.unreachable-requires-in-Err-Misfit

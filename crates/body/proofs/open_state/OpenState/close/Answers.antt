@@ -25,9 +25,13 @@ invariant_of-self c =
     = c.keep_registers.ensures ∙ ap (λ (ms : List Memory). update_at n (with_registers registers) ms) c.deref_mut.ensures.value in
     let whole = with_items_is before c.keep_registers.new.memories (ap length after ∙ length-update_at n (with_registers registers) before.items ∙ sym before.ok.0) ∙ after in
     let now = c.close-registers.new.world.state.clock in
-    subst (λ (ms : List Memory). IsInTime now ms) (sym whole)
-    (subst (λ clock. IsInTime clock (update_at n (with_registers registers) before.items)) (sym (ap (λ (x : StoreValue). x.state.clock) c.close-registers.ensures.home))
-    (kept_in_time c.self.inside.world.state.clock n registers before.items c.self.invariant))
+    let clock_is = ap (λ (x : StoreValue). x.state.clock) c.close-registers.ensures.home in
+    record {
+      systems_in = subst (λ (ms : List Memory). IsInTime now ms) (sym whole)
+          (subst (λ clock. IsInTime clock (update_at n (with_registers registers) before.items)) (sym clock_is)
+          (kept_in_time c.self.inside.world.state.clock n registers before.items c.self.invariant.systems_in));
+      conditions_in = subst (λ clock. IsInTime clock c.self.inside.conditions.items) (sym clock_is) c.self.invariant.conditions_in;
+    }
 
 pub returns-clause-out : goal.returns-clause-out
 returns-clause-out c = λ front rest held.

@@ -1,11 +1,12 @@
-use Rattle.std.proofs.Common.{ℕ, ◌≡◌, ◌≤◌, List, length, ap, sym, ◌∙◌, subst, arith}
-use Rattle.std.proofs.lemmas.List.{with_items_is}
+use Rattle.std.proofs.Common.{ℕ, ◌≡◌, ◌≤◌, List, length, map, get_or, ap, sym, ◌∙◌, subst, arith}
+use Rattle.std.proofs.lemmas.List.{with_items_is, length-map}
 use Rattle.std.specs.List.{AllByRecursion}
-use Rattle.std.specs.Vec.{with_items}
+use Rattle.kinds.specs.Res.{event_number}
 use Rattle.model.specs.Lists.{update_at}
-use Rattle.model.specs.state.State.{Memory}
+use Rattle.model.specs.state.State.{Memory, no_memory}
+use Rattle.model.specs.runs.RunState.{memory_after_run}
 use Rattle.model.proofs.lists.Lists.{length-update_at}
-use Rattle.body.specs.Steps.{StateValue, IsInTime, memory_ran}
+use Rattle.body.specs.Steps.{StateValue, IsInTime}
 use Rattle.body.proofs.Times.{ran_in_time}
 use Rattle.body.proofs.open_state.OpenState.note.Goals as goal
 
@@ -14,10 +15,15 @@ invariant_of-self c =
     let n = c.args.system in
     let tick = c.args.tick in
     let before = c.self.inside.systems in
+    let reads = map event_number c.reads.result.now in
+    let queues = c.self.inside.events in
     let clock = c.self.inside.world.state.clock in
     let now : clock ≡ c.args.self.now.state.world.clock = ap (λ (s : StateValue). s.state.world.clock) c.self.view_is in
     let past : tick ≤ clock = let p = c.requires.past in omega arith in
-    let after : c.ran_at.new.memories ≡ update_at n (memory_ran tick) before.items
-    = c.ran_at.ensures ∙ ap (λ (ms : List Memory). update_at n (memory_ran tick) ms) c.deref_mut.ensures.value in
-    let whole = with_items_is before c.ran_at.new.memories (ap length after ∙ length-update_at n (memory_ran tick) before.items ∙ sym before.ok.0) ∙ after in
-    subst (λ (ms : List Memory). IsInTime clock ms) (sym whole) (ran_in_time clock tick n before.items c.self.invariant past)
+    let after : c.ran_at.new.memories ≡ update_at n (memory_after_run tick reads queues) before.items
+    = c.ran_at.ensures ∙ ap (λ (ms : List Memory). update_at n (memory_after_run tick reads queues) ms) c.deref_mut.ensures.value in
+    let whole = with_items_is before c.ran_at.new.memories (ap length after ∙ length-update_at n (memory_after_run tick reads queues) before.items ∙ sym before.ok.0) ∙ after in
+    record {
+      systems_in = subst (λ (ms : List Memory). IsInTime clock ms) (sym whole) (ran_in_time clock tick n reads queues before.items c.self.invariant.systems_in past);
+      conditions_in = c.self.invariant.conditions_in;
+    }

@@ -1,7 +1,7 @@
 use Rattle.std.proofs.Common.{◌≡◌, ◌<◌, ℕ, List, true, false, length, map, Some, Err, refl, sym, ap, ◌∙◌, subst, arith}
 use Rattle.std.proofs.lemmas.List.{length-map}
 use Rattle.engine.specs.declared.faults.NewFault.TheVariants.{Misfit}
-use Rattle.engine.specs.Meanings.{fits_at, Suits, IsFirstMisfit}
+use Rattle.engine.specs.Meanings.{fits_at, HasMemories, Suits, IsFirstMisfit}
 use Rattle.engine.proofs.Bodies.{unlike, one_misfit}
 use Rattle.engine.proofs.engine.Engine.new.Goals as goal
 
@@ -12,10 +12,10 @@ returns-in-Some-clause-misfit g c = λ n.
     let slots = map (λ x. Some x) c.args.bodies.items in
     let value = c.deref.ensures.value in
     let count : length slots ≡ length s.systems = length-map c.args.bodies.items (λ x. Some x) ∙ (let a = c.if-len-count.false in let b = c.len.ensures in let d = c.count.ensures in omega arith) in
-    let memories : length c.args.state.systems ≡ length s.systems = let a = c.if-systems-count.false in let b = c.systems.ensures in let d = c.count-2.ensures in omega arith in
+    let memories : HasMemories s c.args.state = c.if-has_memories.ensures in
     let found : IsFirstMisfit fits s slots c.args.state c.in-Some.system = record {
       body_count = count;
-      memory_count = memories;
+      memories = memories;
       known = c.in-Some.ensures.known;
       misfit = subst (λ xs. fits_at fits s (map (λ x. Some x) xs) c.in-Some.system ≡ false) value c.in-Some.ensures.misfit;
       least = λ m l. subst (λ xs. fits_at fits s (map (λ x. Some x) xs) m ≡ true) value (c.in-Some.ensures.least m l);
@@ -27,7 +27,7 @@ returns-in-Some-clause-misfit g c = λ n.
 pub invariant_of-result : goal.invariant_of-result
 invariant_of-result g c = λ e. record {
   body_count = ap length c.in-Ok.ensures ∙ length-map c.args.bodies.items (λ x. Some x) ∙ (let a = c.if-len-count.false in let b = c.len.ensures in let d = c.count.ensures in omega arith);
-  memory_count = let a = c.if-systems-count.false in let b = c.systems.ensures in let d = c.count-2.ensures in omega arith;
+  memories = c.if-has_memories.ensures;
   fit = λ n l. subst (λ xs. fits_at g.B.Body.fits c.args.built xs n ≡ true) (ap (map (λ x. Some x)) c.deref.ensures.value ∙ sym c.in-Ok.ensures) (c.in_default.ensures.none n l);
 }
 

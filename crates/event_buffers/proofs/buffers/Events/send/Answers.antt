@@ -1,4 +1,4 @@
-use Rattle.std.proofs.Common.{w64, set, ap, ap₂, ◌∙◌}
+use Rattle.std.proofs.Common.{w64, set, refl, ap, ap₂, ◌∙◌}
 use Rattle.std.proofs.lemmas.Int.{to_z-of_z}
 use Rattle.model.specs.state.Events.{send}
 use Rattle.model.specs.Lists.{update_at}
@@ -7,7 +7,7 @@ use Rattle.event_buffers.proofs.buffers.Events.send.Goals as goal
 
 pub returns-clause-ok : goal.returns-clause-ok
 returns-clause-ok c = on-ok _ _ c.send.result
-    (λ sent. ap (set c.self.inside.queues.items c.number.result) (sent ∙ ap₂ send (to_z-of_z w64 c.args.value c.ranges.value) c.index_mut-queue.ensures.value)
-    ∙ update_at-set (send c.args.value) _ c.self.inside.queues.items c.number.result
+    (λ sent. ap (set c.self.inside.queues c.number.result) (sent ∙ ap₂ send (to_z-of_z w64 c.args.value c.ranges.value) refl)
+    ∙ update_at-set (send c.args.value) _ c.self.inside.queues c.number.result
     ∙ ap₂ (λ n queues. update_at n (send c.args.value) queues) c.number.ensures c.self.view_is)
     c.send.ensures.ok

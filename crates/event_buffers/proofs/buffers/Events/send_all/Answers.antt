@@ -6,7 +6,7 @@ use Rattle.event_buffers.proofs.buffers.Events.send_all.Goals as goal
 
 pub returns-clause-ok : goal.returns-clause-ok
 returns-clause-ok c = on-ok _ _ c.send_all.result
-    (λ sent. ap (set c.self.inside.queues.items c.number.result) (sent ∙ ap (send_all c.args.values.now) c.index_mut-queue.ensures.value)
-    ∙ update_at-set (send_all c.args.values.now) _ c.self.inside.queues.items c.number.result
+    (λ sent. ap (set c.self.inside.queues c.number.result) sent
+    ∙ update_at-set (send_all c.args.values.now) _ c.self.inside.queues c.number.result
     ∙ ap₂ (λ n queues. update_at n (send_all c.args.values.now) queues) c.number.ensures c.self.view_is)
     c.send_all.ensures.ok
