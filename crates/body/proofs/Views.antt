@@ -4,10 +4,10 @@ use Rattle.std.specs.List.{AllByRecursion}
 use Rattle.std.proofs.lemmas.Option.{slice_get-get_or}
 use Rattle.std.proofs.lemmas.List.{get_or-map, length-map}
 use Rattle.model.specs.Lists.{update_at}
-use Rattle.model.specs.state.State.{Memory, World, State}
+use Rattle.model.specs.state.State.{EventQueue, Memory, World, State}
 use Rattle.model.specs.access.Query.{Term, writes as model_writes}
-use Rattle.model.specs.access.Access.{Params, no_params}
-use Rattle.model.specs.shown.Input.{rows_of, shown, value_of}
+use Rattle.model.specs.access.Access.{Params}
+use Rattle.model.specs.shown.Input.{rows_of, shown, value_of, unread_of}
 use Rattle.event_buffers.specs.Lists.{ListsValue}
 use Rattle.body.specs.Seen.{Seen, with_words, with_written}
 use Rattle.body.specs.Sheet.{Sheet}
@@ -45,21 +45,20 @@ seen_over-written tick qs us values unread sent q r k w d new l e n =
     })
 
 -- what a view that is opened shows
-pub seen_over-shown : (params : Params) (memory : Memory) (world : World) (queries : List (List Term)) (tick : ℕ) (qs : List Sheet) (values : ValuesSeen) (unread sent : ListsValue) → params ≡ record no_params { queries = queries; res = params.res; res_mut = params.res_mut } →
-    map (λ (s : Sheet). s.rows) qs ≡ map (λ query. rows_of query memory.last_run world.slots) queries → values ≡ first_values params world.resources memory.registers → unread.values ≡ [] →
-    (state : State) → state.world ≡ world → (seen_over tick qs values unread sent).shown ≡ shown params memory state []
+pub seen_over-shown : (params : Params) (memory : Memory) (events : List EventQueue) (world : World) (tick : ℕ) (qs : List Sheet) (values : ValuesSeen) (unread sent : ListsValue) →
+    map (λ (s : Sheet). s.rows) qs ≡ map (λ query. rows_of query memory.last_run world.slots) params.queries → values ≡ first_values params world.resources memory.registers → unread.values ≡ unread_of events params.reads memory.cursors →
+    (state : State) → state.world ≡ world → state.events ≡ events → (seen_over tick qs values unread sent).shown ≡ shown params memory state []
 unfolding shown
-seen_over-shown params memory world queries tick qs values unread sent e h v u state w =
+seen_over-shown params memory events world tick qs values unread sent h v u state w es =
     ap (λ (x : ValuesSeen). (seen_over tick qs x unread sent).shown) v
     ∙ (λ i. record {
-      rows = (h ∙ ap (λ (v : World). map (λ query. rows_of query memory.last_run v.slots) queries) (sym w)) i;
+      rows = (h ∙ ap (λ (v : World). map (λ query. rows_of query memory.last_run v.slots) params.queries) (sym w)) i;
       res = ap (λ (v : World). map (value_of v.resources) params.res) (sym w) i;
       res_mut = ap (λ (v : World). map (value_of v.resources) params.res_mut) (sym w) i;
-      unread = u i;
+      unread = (u ∙ ap (λ qs. unread_of qs params.reads memory.cursors) (sym es)) i;
       registers = memory.registers;
       granted = [];
     })
-    ∙ ap (λ p. shown p memory state []) (sym e)
 
 -- ---- the queries stay together as one of them is written
 

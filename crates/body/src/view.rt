@@ -28,6 +28,7 @@ use access_set::params::Params;
 use archetype_store::store::World;
 use change_ticks::clock::Tick;
 use entity_table::Entity;
+use event_buffers::buffers::Events;
 use event_buffers::lists::EventLists;
 use kinds::component::Component;
 use kinds::each_kind;
@@ -61,13 +62,14 @@ impl Model for View {
 }
 
 impl View {
-    /// What a system with these parameters and this memory is shown of a world, and nothing written: what it writes will count as changed at
+    /// What a system with these parameters and this memory is shown of a world and its events, and nothing written: what it writes will count as changed at
     /// a tick to come. The columns that it may write leave the world, by move, and those that it reads are shared. After an error the
     /// world is as it was.
     pub fn open(
         alloc: Global,
         params: &Params,
         memory: &Memory,
+        events: &Events,
         world: &mut World,
         tick: Tick,
     ) -> Result<Self, AllocError>
@@ -75,7 +77,7 @@ impl View {
         requires apart { ConflictWithin params.now → ⊥ }
         requires coming { world.old.state.clock < tick }
         ensures params { IfOk result (λ v. v.params ≡ params.now) }
-        ensures shown { IfOk result (λ v. (state : State) → state.world ≡ world.old.state → v.shown ≡ shown params.now memory.now state []) }
+        ensures shown { IfOk result (λ v. (state : State) → state.world ≡ world.old.state → state.events ≡ events.now → v.shown ≡ shown params.now memory.now state []) }
         ensures untouched { IfOk result (λ v. v.outcome ≡ untouched v.params v.shown) }
         ensures tick { IfOk result (λ v. v.opening.tick ≡ tick) }
         ensures written { IfOk result (λ v. AllByRecursion (IsWrittenBy params.now.queries world.old.layout) (lent_in v.opening.taken)) }
@@ -85,7 +87,7 @@ impl View {
         ensures err { OnErr result (world.new ≡ world.old) }
     {
         let values = ViewValues::open(params, memory, world);
-        let unread = EventLists::empty(alloc, params.reads())?;
+        let unread = EventLists::unread(alloc, params.reads(), memory.cursors(), events)?;
         let sent = EventLists::empty(alloc, params.writes())?;
         let queries = open_queries(alloc, params.queries(), world, memory.last_run(), tick)?;
         Ok(View {
@@ -114,13 +116,14 @@ impl View {
     }
 
     /// Brings the columns home, and so lays what was written over the world, and writes its resources. All else of the world stays. All that
-    /// was written is written in columns that the world lent. The registers, as they are in the end.
-    pub fn close(self, world: &mut World) -> [i64; 8]
+    /// was written is written in columns that the world lent. The registers, as they are in the end, and the events that were emitted.
+    pub fn close(self, world: &mut World) -> ([i64; 8], EventLists)
         requires lent { AreLent world.old self.opening.taken }
         requires past { self.opening.tick ≤ world.old.state.clock }
         ensures home { world.new ≡ record { state = world_after self.opening.tick self world.old.state; layout = with_back (lent_in self.opening.taken) world.old.layout } }
         ensures reach { AreReached world.old.layout (lent_in self.opening.taken) (words_written self.params.queries self.shown.rows self.outcome.cells) }
-        ensures registers { result ≡ self.outcome.registers }
+        ensures registers { result.0 ≡ self.outcome.registers }
+        ensures sent { result.1 ≡ record { kinds = self.params.writes; values = self.outcome.events } }
     {
         // Tell how the layout is that of the state, and that no stamp is above the clock.
         world.laid();
@@ -130,11 +133,11 @@ impl View {
             queries,
             values,
             unread: _unread,
-            sent: _sent,
+            sent,
         } = self;
         put_home(queries, world);
         values.lay(tick, world);
-        values.registers()
+        (values.registers(), sent)
     }
 
     /// How many rows a query has.
