@@ -161,6 +161,20 @@ impl Params {
         has_resource(self.res_mut(), resource)
     }
 
+    /// Whether the event kind is read.
+    pub fn reads_event(&self, event: Event) -> bool
+        ensures { result ≡ has (event_number event) self.now.reads }
+    {
+        has_event(self.reads(), event)
+    }
+
+    /// Whether the event kind is written.
+    pub fn writes_event(&self, event: Event) -> bool
+        ensures { result ≡ has (event_number event) self.now.writes }
+    {
+        has_event(self.writes(), event)
+    }
+
     /// Whether the event kind is read or written.
     pub fn names_event(&self, event: Event) -> bool
         ensures { result ≡ names_event self.now (event_number event) }

@@ -1,5 +1,5 @@
 -- What a body sees of its view: the parameters, what is shown, and the outcome so far. Reads and writes of one row, of a resource and of a
--- register.
+-- register, and events.
 use Rattle.std.specs.Prelude.{ℕ, ℤ, pos, ◌==◌, Bool, cond, List, [], ◌∷◌, get_or, set, Option, Some, None, unwrap_or}
 use Rattle.std.specs.List.{list_any}
 use Rattle.model.specs.Lists.{first_some, is_number, update_at}
@@ -7,7 +7,8 @@ use Rattle.model.specs.access.Query.{Term, written}
 pub use Rattle.model.specs.access.QueryFaults.{fetched}
 use Rattle.model.specs.access.Access.{Params}
 use Rattle.model.specs.shown.Input.{ShownRow, Shown}
-use Rattle.model.specs.shown.Outcome.{Outcome, words_in_row, value_written}
+use Rattle.model.specs.shown.Outcome.{Outcome, words_in_row, value_written, events_sent}
+use Rattle.event_buffers.specs.Lists.{with_event}
 use Rattle.body.specs.Columns.{Column}
 
 -- what a view was opened over: the columns of each query as they were taken, and the tick at which what is written there counts as
@@ -135,6 +136,27 @@ with_register seen register value = record {
     events = seen.outcome.events;
     commands = seen.outcome.commands;
     registers = set seen.outcome.registers register value;
+  };
+  opening = seen.opening;
+}
+
+-- ---- events
+
+-- the events that are shown of a kind: those of its first reader
+abbrev pub events_shown : Params → Shown → ℕ → List ℤ
+events_shown params shown kind = events_sent params.reads shown.unread kind
+
+-- a view with one more event of a kind sent
+abbrev pub with_emitted : Seen → ℕ → ℤ → Seen
+with_emitted seen kind value = record {
+  params = seen.params;
+  shown = seen.shown;
+  outcome = record {
+    cells = seen.outcome.cells;
+    res_mut = seen.outcome.res_mut;
+    events = with_event seen.params.writes kind value seen.outcome.events;
+    commands = seen.outcome.commands;
+    registers = seen.outcome.registers;
   };
   opening = seen.opening;
 }

@@ -164,7 +164,14 @@ impl OpenState {
         ensures back { IfOk result (λ view. with_back (lent_in view.opening.taken) self.new.layout ≡ self.old.layout) }
         ensures err { OnErr result (self.new ≡ self.old) }
     {
-        View::open(alloc, params, &self.systems[system], &mut self.world, tick)
+        View::open(
+            alloc,
+            params,
+            &self.systems[system],
+            &self.events,
+            &mut self.world,
+            tick,
+        )
     }
 
     /// Notes the run of a system with these parameters at a tick, which isn't above the clock: its last run is then, and its readers have been
@@ -228,7 +235,7 @@ impl OpenState {
         ensures out { (front rest : List (List Column)) → AreOut (store_of self.old) (front ++ (view.opening.taken ++ rest)) → AreOut (store_of self.new) (front ++ rest) }
     {
         self.world.laid();
-        let registers = view.close(&mut self.world);
+        let (registers, _sent) = view.close(&mut self.world);
         keep_registers(&mut self.systems, system, registers);
     }
 }

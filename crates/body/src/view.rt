@@ -1,13 +1,13 @@
 // A view: what a system is shown at its start, and its outcome so far, where the columns lie.
 
-ghost use Rattle.std.specs.Prelude.{◌≡◌, ◌<◌, ◌≤◌, [], length, get_or, pos, option_map, unwrap_or, IfOk, IsTrue, OnErr};
+ghost use Rattle.std.specs.Prelude.{◌≡◌, ◌<◌, ◌≤◌, [], length, get_or, pos, option_map, unwrap_or, IfOk, IsTrue, None, OnOk, OnErr};
 ghost use Rattle.std.specs.List.{AllByRecursion};
 ghost use Rattle.kinds.specs.Kind.{kind_number};
-ghost use Rattle.kinds.specs.Res.{res_number};
+ghost use Rattle.kinds.specs.Res.{res_number, event_number};
 ghost use Rattle.kinds.specs.Components.{widths};
 ghost use Rattle.model.specs.Lists.{has};
 ghost use Rattle.model.specs.state.State.{State, register_count};
-ghost use Rattle.model.specs.access.Access.{no_params, names_resource};
+ghost use Rattle.model.specs.access.Access.{names_resource};
 ghost use Rattle.model.specs.access.Query.{writes};
 ghost use Rattle.model.specs.access.SelfConflict.{ConflictWithin};
 ghost use Rattle.model.specs.shown.Input.{shown};
@@ -17,7 +17,7 @@ ghost use Rattle.archetype_store.specs.Overlays.{AreReached};
 ghost use Rattle.body.specs.Laid.{world_after};
 ghost use Rattle.body.specs.Lent.{AreLent, lent_in, with_away, with_back};
 ghost use Rattle.body.specs.Out.{IsWrittenBy};
-ghost use Rattle.body.specs.Seen.{query_at, rows_at, row_at, read_at, with_written, resource_read, with_resource, with_register};
+ghost use Rattle.body.specs.Seen.{query_at, rows_at, row_at, read_at, with_written, resource_read, with_resource, with_register, events_shown, with_emitted};
 
 use crate::closing::put_home;
 use crate::memory::Memory;
@@ -28,11 +28,13 @@ use access_set::params::Params;
 use archetype_store::store::World;
 use change_ticks::clock::Tick;
 use entity_table::Entity;
+use event_buffers::buffers::Events;
+use event_buffers::lists::EventLists;
 use kinds::component::Component;
 use kinds::each_kind;
 use kinds::fields::Fields;
 use kinds::kind::Kind;
-use kinds::res::Res;
+use kinds::res::{Event, Res};
 use std::alloc::{AllocError, Global};
 use std::marker::Model;
 
@@ -43,6 +45,8 @@ pub struct View {
     tick: Tick,
     queries: Vec<ViewQuery>,
     values: ViewValues,
+    unread: EventLists,
+    sent: EventLists,
 }
 
 impl Model for View {
@@ -52,19 +56,20 @@ impl Model for View {
 
     ghost use Rattle.body.specs.SeenOver.{seen_over, AreTogether};
 
-    ghost view = { λ v. seen_over v.tick v.queries.items v.values };
+    ghost view = { λ v. seen_over v.tick v.queries.items v.values v.unread v.sent };
 
     ghost invariant = { λ v. AreTogether v.tick v.queries.items };
 }
 
 impl View {
-    /// What a system with these parameters and this memory is shown of a world, and nothing written: what it writes will count as changed at
+    /// What a system with these parameters and this memory is shown of a world and its events, and nothing written: what it writes will count as changed at
     /// a tick to come. The columns that it may write leave the world, by move, and those that it reads are shared. After an error the
     /// world is as it was.
     pub fn open(
         alloc: Global,
         params: &Params,
         memory: &Memory,
+        events: &Events,
         world: &mut World,
         tick: Tick,
     ) -> Result<Self, AllocError>
@@ -72,7 +77,7 @@ impl View {
         requires apart { ConflictWithin params.now → ⊥ }
         requires coming { world.old.state.clock < tick }
         ensures params { IfOk result (λ v. v.params ≡ params.now) }
-        ensures shown { IfOk result (λ v. (state : State) → state.world ≡ world.old.state → v.shown ≡ shown params.now memory.now state []) }
+        ensures shown { IfOk result (λ v. (state : State) → state.world ≡ world.old.state → state.events ≡ events.now → v.shown ≡ shown params.now memory.now state []) }
         ensures untouched { IfOk result (λ v. v.outcome ≡ untouched v.params v.shown) }
         ensures tick { IfOk result (λ v. v.opening.tick ≡ tick) }
         ensures written { IfOk result (λ v. AllByRecursion (IsWrittenBy params.now.queries world.old.layout) (lent_in v.opening.taken)) }
@@ -82,18 +87,22 @@ impl View {
         ensures err { OnErr result (world.new ≡ world.old) }
     {
         let values = ViewValues::open(params, memory, world);
+        let unread = EventLists::unread(alloc, params.reads(), memory.cursors(), events)?;
+        let sent = EventLists::empty(alloc, params.writes())?;
         let queries = open_queries(alloc, params.queries(), world, memory.last_run(), tick)?;
         Ok(View {
             tick,
             queries,
             values,
+            unread,
+            sent,
         })
     }
 
-    /// What holds of every view: it shows rows for each query, is of a system without events and commands, and has no commands.
+    /// What holds of every view: it shows rows for each query, is of a system without commands, and has none.
     pub fn law(&self)
         ensures rows { length self.now.shown.rows ≡ length self.now.params.queries }
-        ensures alone { self.now.params ≡ record no_params { queries = self.now.params.queries; res = self.now.params.res; res_mut = self.now.params.res_mut } }
+        ensures alone { self.now.params.spawns ≡ None }
         ensures commands { self.now.outcome.commands ≡ [] }
     {
         let _tick = self.tick;
@@ -107,13 +116,14 @@ impl View {
     }
 
     /// Brings the columns home, and so lays what was written over the world, and writes its resources. All else of the world stays. All that
-    /// was written is written in columns that the world lent. The registers, as they are in the end.
-    pub fn close(self, world: &mut World) -> [i64; 8]
+    /// was written is written in columns that the world lent. The registers, as they are in the end, and the events that were emitted.
+    pub fn close(self, world: &mut World) -> ([i64; 8], EventLists)
         requires lent { AreLent world.old self.opening.taken }
         requires past { self.opening.tick ≤ world.old.state.clock }
         ensures home { world.new ≡ record { state = world_after self.opening.tick self world.old.state; layout = with_back (lent_in self.opening.taken) world.old.layout } }
         ensures reach { AreReached world.old.layout (lent_in self.opening.taken) (words_written self.params.queries self.shown.rows self.outcome.cells) }
-        ensures registers { result ≡ self.outcome.registers }
+        ensures registers { result.0 ≡ self.outcome.registers }
+        ensures sent { result.1 ≡ record { kinds = self.params.writes; values = self.outcome.events } }
     {
         // Tell how the layout is that of the state, and that no stamp is above the clock.
         world.laid();
@@ -122,10 +132,12 @@ impl View {
             tick,
             queries,
             values,
+            unread: _unread,
+            sent,
         } = self;
         put_home(queries, world);
         values.lay(tick, world);
-        values.registers()
+        (values.registers(), sent)
     }
 
     /// How many rows a query has.
@@ -183,6 +195,23 @@ impl View {
         ensures { self.new ≡ with_resource self.old (res_number resource) value }
     {
         self.values.set_res(resource, value);
+    }
+
+    /// The events that are shown of a kind that is read, oldest first. Where several readers are of the kind, those of the first.
+    pub fn events(&self, kind: Event) -> &[i64]
+        requires { IsTrue (has (event_number kind) self.now.params.reads) }
+        ensures { result.now ≡ events_shown self.now.params self.now.shown (event_number kind) }
+    {
+        self.unread.of_kind(kind)
+    }
+
+    /// Emits an event of a kind that is written. Where memory is wanting nothing changes.
+    pub fn emit(&mut self, kind: Event, value: i64) -> Result<(), AllocError>
+        requires { IsTrue (has (event_number kind) self.old.params.writes) }
+        ensures ok { OnOk result (self.new ≡ with_emitted self.old (event_number kind) value) }
+        ensures err { OnErr result (self.new ≡ self.old) }
+    {
+        self.sent.push(kind, value)
     }
 
     /// A register: what was put there last, else what is shown.

@@ -1,2 +1,3 @@
+pub mod EventLists
 pub mod Numbered
 pub mod Queues

@@ -1,6 +1,6 @@
 // The kept events of every kind.
 
-ghost use Rattle.std.specs.Prelude.{◌≡◌, ◌↔◌, ◌++◌, ◌≤◌, false, IsErrOf, OnOk, OnErr, map, replicate};
+ghost use Rattle.std.specs.Prelude.{◌≡◌, ◌↔◌, ◌++◌, ◌≤◌, false, IsErrOf, OnOk, OnErr, map, replicate, length};
 ghost use Rattle.kinds.specs.Res.{event_number};
 ghost use Rattle.model.specs.Lists.{update_at};
 ghost use Rattle.model.specs.state.State.{event_count, empty_queue, last_tick};
@@ -41,6 +41,13 @@ impl Events {
                 Queue::new(alloc),
             ],
         }
+    }
+
+    /// There is a queue for each kind.
+    pub fn law(&self)
+        ensures { length self.now ≡ event_count }
+    {
+        let _ = &self.queues;
     }
 
     /// The number of the next event of a kind.

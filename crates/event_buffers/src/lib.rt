@@ -2,4 +2,5 @@
 #![tactic(auto)]
 
 pub mod buffers;
+pub mod lists;
 pub mod queue;

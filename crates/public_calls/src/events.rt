@@ -1,6 +1,7 @@
 // The kept events of each kind.
 
 use event_buffers::buffers::Events;
+use event_buffers::lists::EventLists;
 use kinds::res::Event;
 use std::alloc::{AllocError, Global};
 use std::test::Fail;
@@ -57,5 +58,31 @@ fn many_events(rt: HostRuntime) -> Result<(), Fail> {
     assert_eq!(rt; unread.newer.len(), 100_000);
     assert_eq!(rt; unread.older[0], 50_000);
     assert_eq!(rt; events.next(Event::Spark), 300_000);
+    Ok(())
+}
+
+#[test]
+fn each_reader_from_its_own_cursor(rt: HostRuntime) -> Result<(), Fail> {
+    let mut events = Events::new(rt.alloc());
+    assert_eq!(rt; events.send(Event::Hit, 4), Ok(()));
+    events.update();
+    assert_eq!(rt; events.send(Event::Hit, 5), Ok(()));
+    let shown = EventLists::unread(rt.alloc(), &[Event::Hit, Event::Hit], &[1, 0], &events)?;
+    assert_eq!(rt; shown.of_kind(Event::Hit), [5].as_slice());
+    assert_eq!(rt; shown.of_kind(Event::Heal).len(), 0);
+    Ok(())
+}
+
+#[test]
+fn lists_are_sent(rt: HostRuntime) -> Result<(), Fail> {
+    let mut events = Events::new(rt.alloc());
+    let mut sent = EventLists::empty(rt.alloc(), &[Event::Heal])?;
+    sent.push(Event::Heal, 7)?;
+    sent.push(Event::Heal, 8)?;
+    assert_eq!(rt; sent.send(&mut events), Ok(()));
+    assert_eq!(rt;
+        unread(rt.alloc(), &events, Event::Heal, 0)?.as_slice(),
+        [7, 8].as_slice()
+    );
     Ok(())
 }

@@ -5,11 +5,11 @@ ghost use Rattle.archetype_store.specs.Layout.{AreAllHome};
 use access_set::params::Params;
 use archetype_store::store::World;
 use change_ticks::clock::Clock;
-use engine::first_state::first_state;
 use engine::Engine;
+use engine::first_state::first_state;
 use kinds::component::{Health, Position, Velocity};
 use kinds::kind::Kind;
-use kinds::res::Res;
+use kinds::res::{Event, Res};
 use query::{Query, Term};
 use schedule_builder::builder::build;
 use schedule_builder::desc::{ScheduleDesc, SystemDesc};
@@ -86,6 +86,19 @@ fn instructions_that_pass_over_others(rt: HostRuntime) -> Result<(), Fail> {
 }
 
 #[test]
+fn an_emission(rt: HostRuntime) -> Result<(), Fail> {
+    let emit = Instruction::read(rt.alloc(), "emit Hit event")?;
+    assert_eq!(rt;
+        emit,
+        Instruction::Emit {
+            event: Event::Hit,
+            source: Source::Event
+        }
+    );
+    Ok(())
+}
+
+#[test]
 fn other_texts_are_no_instruction(rt: HostRuntime) {
     for text in [
         "set Position.x +1",
@@ -103,6 +116,8 @@ fn other_texts_are_no_instruction(rt: HostRuntime) {
         "less 1 2",
         "has Total 1",
         "has Frozen r0",
+        "emit Total 1",
+        "set event 1",
         "",
     ] {
         assert_eq!(rt;
@@ -263,5 +278,35 @@ fn fits_its_own_parameters_alone(rt: HostRuntime) -> Result<(), Fail> {
     let script = ScriptBody::check(alloc, &params, adding(alloc, Axis::Y)?)?;
     assert!(rt; script.fits(&params));
     assert!(rt; !script.fits(&Params::new(alloc)));
+    Ok(())
+}
+
+// What is refused of a block of one instruction, for a system that names nothing.
+fn refused(alloc: Global, rounds: Rounds, text: &str) -> Result<CheckFault, Fail> {
+    let mut code = Vec::new(alloc);
+    code.push(Instruction::read(alloc, text)?)?;
+    let mut blocks = Vec::new(alloc);
+    blocks.push(Block { rounds, code })?;
+    let fault = ScriptBody::check(alloc, &Params::new(alloc), blocks).err();
+    Ok(fault.ok_or("no fault")?)
+}
+
+#[test]
+fn tells_events_that_are_not_declared(rt: HostRuntime) -> Result<(), Fail> {
+    for (rounds, text) in [
+        (Rounds::EachEvent(Event::Hit), "set r0 1"),
+        (Rounds::Once, "set r0 event"),
+        (Rounds::Once, "emit Hit 4"),
+    ] {
+        assert_eq!(rt;
+            refused(rt.alloc(), rounds, text)?,
+            CheckFault::Script(ScriptFault {
+                cause: Cause::NotDeclared,
+                block: 0,
+                instruction: 0
+            }),
+            "at {text}"
+        );
+    }
     Ok(())
 }

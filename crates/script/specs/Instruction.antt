@@ -1,6 +1,7 @@
 -- The text of an instruction: words with spaces between.
 use Rattle.std.specs.Prelude.{◌≡◌, ℕ, ◌<◌, List, [], ◌∷◌, codes}
 use Rattle.kinds.specs.Kind.{IsKind}
+use Rattle.kinds.specs.Res.{IsEvent}
 use Rattle.texts.specs.Integer.{IsNumber}
 use Rattle.texts.specs.Words.{ByWords}
 use Rattle.script.specs.declared.instruction.Operation.{Operation}
@@ -8,7 +9,7 @@ use Rattle.script.specs.declared.instruction.Operation.TheVariants.{Set, Add, Su
 use Rattle.script.specs.declared.instruction.Relation.{Relation}
 use Rattle.script.specs.declared.instruction.Relation.TheVariants.{Less, Equal, Greater}
 use Rattle.script.specs.declared.instruction.Instruction.{Instruction}
-use Rattle.script.specs.declared.instruction.Instruction.TheVariants.{Change, Compare, Has}
+use Rattle.script.specs.declared.instruction.Instruction.TheVariants.{Change, Compare, Has, Emit}
 use Rattle.script.specs.Operands.{IsTarget, IsSource}
 
 -- the word of an operation
@@ -36,11 +37,12 @@ IsRelation relation word = word ≡ relation_name relation
 abbrev pub IsCount : ℕ → List ℕ → Type 0
 IsCount n word = IsNumber n word × (0 < n)
 
--- the words of an instruction: operation, target, source; relation, two sources, a count; `has`, a kind, a count
+-- the words of an instruction: operation, target, source; relation, two sources, a count; `has`, a kind, a count; `emit`, an event kind, a source
 abbrev pub AreInstruction : Instruction → List (List ℕ) → Type 0
 AreInstruction (Change operation target source) (first ∷ second ∷ third ∷ []) = IsOperation operation first × IsTarget target second × IsSource source third
 AreInstruction (Compare relation left right passed) (first ∷ second ∷ third ∷ fourth ∷ []) = IsRelation relation first × IsSource left second × IsSource right third × IsCount passed fourth
 AreInstruction (Has kind passed) (first ∷ second ∷ third ∷ []) = (first ≡ codes "has") × IsKind kind second × IsCount passed third
+AreInstruction (Emit event source) (first ∷ second ∷ third ∷ []) = (first ≡ codes "emit") × IsEvent event second × IsSource source third
 AreInstruction i _ = ⊥
 
 -- the text is that of an instruction

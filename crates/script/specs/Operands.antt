@@ -34,9 +34,10 @@ IsTarget (target.Register n) word = IsRegister n word
 IsTarget (target.Field field) word = IsField field word
 IsTarget (target.Resource resource) word = IsRes resource word
 
--- a source: an integer, a register, a field, or a resource's name
+-- a source: an integer, a register, a field, a resource's name, or `event`
 abbrev pub IsSource : Source → List ℕ → Type 0
 IsSource (source.Integer z) word = IsInteger z word
 IsSource (source.Register n) word = IsRegister n word
 IsSource (source.Field field) word = IsField field word
 IsSource (source.Resource resource) word = IsRes resource word
+IsSource source.Event word = word ≡ codes "event"

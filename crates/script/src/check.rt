@@ -69,15 +69,16 @@ fn fetches(terms: &[Term], kind: Kind) -> bool
     any_fetches(terms, kind)
 }
 
-// What is wrong with a source.
-fn source_cause(params: &Params, terms: &[Term], source: Source) -> Option<Cause>
-    ensures { result ≡ source_cause params.now (map term_of terms.now) source }
+// What is wrong with a source, where there is an event at hand and where not.
+fn source_cause(params: &Params, terms: &[Term], event: bool, source: Source) -> Option<Cause>
+    ensures { result ≡ source_cause params.now (map term_of terms.now) event source }
 {
     match source {
         Source::Field(field) if !fetches(terms, field.kind) => Some(Cause::NotFetched),
         Source::Field(field) if !has_field(field) => Some(Cause::NoField),
         Source::Resource(resource) if !params.names_resource(resource) => Some(Cause::NotDeclared),
         Source::Register(number) if number >= REGISTERS => Some(Cause::NoRegister),
+        Source::Event if !event => Some(Cause::NotDeclared),
         _ => None,
     }
 }
@@ -105,19 +106,20 @@ fn count_cause(after: usize, passed: u32) -> Option<Cause>
     None
 }
 
-// The least fault of an instruction that so many come after, in a block of a query with these terms.
+// The least fault of an instruction that so many come after, in a block of a query with these terms, or of events.
 fn cause_of(
     params: &Params,
     terms: &[Term],
+    event: bool,
     after: usize,
     instruction: Instruction,
 ) -> Option<Cause>
-    ensures { result ≡ instruction_cause params.now (map term_of terms.now) after instruction }
+    ensures { result ≡ instruction_cause params.now (map term_of terms.now) event after instruction }
 {
     match instruction {
         Instruction::Change { target, source, .. } => Cause::least(
             target_cause(params, terms, target),
-            source_cause(params, terms, source),
+            source_cause(params, terms, event, source),
         ),
         Instruction::Compare {
             left,
@@ -126,14 +128,21 @@ fn cause_of(
             ..
         } => {
             let read = Cause::least(
-                source_cause(params, terms, left),
-                source_cause(params, terms, right),
+                source_cause(params, terms, event, left),
+                source_cause(params, terms, event, right),
             );
             Cause::least(read, count_cause(after, passed))
         }
         Instruction::Has { kind, passed } => {
             let asked = (!fetches(terms, kind)).then_some(Cause::NotFetched);
             Cause::least(asked, count_cause(after, passed))
+        }
+        Instruction::Emit {
+            event: kind,
+            source,
+        } => {
+            let written = (!params.writes_event(kind)).then_some(Cause::NotDeclared);
+            Cause::least(written, source_cause(params, terms, event, source))
         }
     }
 }
@@ -142,14 +151,15 @@ fn cause_of(
 pub(crate) fn check_code(
     params: &Params,
     terms: &[Term],
+    event: bool,
     block: usize,
     code: &[Instruction],
 ) -> Result<(), ScriptFault>
-    ensures { code_fault params.now (map term_of terms.now) block 0 code.now ≡ result_err result }
+    ensures { code_fault params.now (map term_of terms.now) event block 0 code.now ≡ result_err result }
 {
     for (instruction, there) in code.iter().enumerate() {
         let after = code.len() - instruction - 1;
-        if let Some(cause) = cause_of(params, terms, after, *there) {
+        if let Some(cause) = cause_of(params, terms, event, after, *there) {
             return Err(ScriptFault {
                 cause,
                 block,

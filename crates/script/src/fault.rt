@@ -13,7 +13,8 @@ pub enum Cause {
     /// X1: the block names no query of the system, a kind is not fetched by the query, or the target has no `mut` term.
     #[error("X1")]
     NotFetched,
-    /// X2: the system does not name a resource that is read, or does not write one that is a target.
+    /// X2: the system does not name a resource that is read, or does not write one that is a target; it doesn't read the events of the block, or
+    /// write those that are emitted; or there is no event at hand.
     #[error("X2")]
     NotDeclared,
     /// X3: the kind has no such field.

@@ -6,6 +6,7 @@ ghost use Rattle.script.specs.Instruction.{IsOperation, IsRelation, IsCount, Are
 
 use crate::operands::{Source, Target};
 use kinds::kind::Kind;
+use kinds::res::Event;
 use std::alloc::Global;
 use texts::integer::read_number;
 use texts::read_error::ReadError;
@@ -91,6 +92,11 @@ pub enum Instruction {
         kind: Kind,
         passed: u32,
     },
+    /// An event of the kind is emitted, with the value of the source.
+    Emit {
+        event: Event,
+        source: Source,
+    },
 }
 
 // Reads how many instructions are passed over: one at the least.
@@ -123,6 +129,7 @@ impl Instruction {
             [relation, left, right, passed] => Instruction::compare(relation, left, right, passed),
             [first, second, third] => match *first {
                 "has" => Instruction::has(second, third),
+                "emit" => Instruction::emit(second, third),
                 _ => Instruction::change(first, second, third),
             },
             _ => None,
@@ -131,7 +138,8 @@ impl Instruction {
 
     // The change that these words are.
     fn change(operation: &str, target: &str, source: &str) -> Option<Instruction>
-        requires { operation.now ≢ codes "has" }
+        requires has { operation.now ≢ codes "has" }
+        requires emit { operation.now ≢ codes "emit" }
         ensures { Reads AreInstruction (operation.now ∷ target.now ∷ source.now ∷ []) result }
     {
         Some(Instruction::Change {
@@ -160,6 +168,16 @@ impl Instruction {
         Some(Instruction::Has {
             kind: Kind::named(kind)?,
             passed: read_count(passed)?,
+        })
+    }
+
+    // The emission that these words are, after the first.
+    fn emit(event: &str, source: &str) -> Option<Instruction>
+        ensures { Reads AreInstruction (codes "emit" ∷ event.now ∷ source.now ∷ []) result }
+    {
+        Some(Instruction::Emit {
+            event: Event::named(event)?,
+            source: Source::read(source)?,
         })
     }
 }

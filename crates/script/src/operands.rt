@@ -96,13 +96,18 @@ pub enum Source {
     Field(Field),
     /// A resource.
     Resource(Res),
+    /// The value of the event at hand.
+    Event,
 }
 
 impl Source {
-    /// Reads a source: an integer, a register, a field, or a resource's name.
+    /// Reads a source: an integer, `event`, a register, a field, or a resource's name.
     pub fn read(word: &str) -> Option<Source>
         ensures { Reads IsSource word.now result }
     {
+        if word == "event" {
+            return Some(Source::Event);
+        }
         if let Some(value) = read_integer(word) {
             return Some(Source::Integer(value));
         }

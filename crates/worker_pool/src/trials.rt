@@ -14,6 +14,7 @@ use body::memory::Memory;
 use body::system_body::{Body, BodyFault};
 use body::view::View;
 use change_ticks::clock::Clock;
+use event_buffers::buffers::Events;
 use std::alloc::{AllocError, Global};
 use std::sync::{Condvar, Mutex, Wait};
 use std::test::Fail;
@@ -44,7 +45,14 @@ impl Body for Refusing {
 fn start_of(alloc: Global, number: u64, system: u32) -> Result<Start<Refusing>, AllocError> {
     let mut world = World::empty(alloc, Clock::at(1));
     let params = Params::new(alloc);
-    let view = View::open(alloc, &params, &Memory::new(alloc), &mut world, 2)?;
+    let view = View::open(
+        alloc,
+        &params,
+        &Memory::new(alloc),
+        &Events::new(alloc),
+        &mut world,
+        2,
+    )?;
     Ok(Start {
         number,
         system,

@@ -19,13 +19,13 @@ use Rattle.body.proofs.open_state.OpenState.close.Goals as goal
 pub invariant_of-self : goal.invariant_of-self
 invariant_of-self c =
     let n = c.args.system in
-    let registers = c.close-registers.result in
+    let registers = c.close-sent.result.0 in
     let before = c.self.inside.systems in
     let after : c.keep_registers.new.memories ≡ update_at n (with_registers registers) before.items
     = c.keep_registers.ensures ∙ ap (λ (ms : List Memory). update_at n (with_registers registers) ms) c.deref_mut.ensures.value in
     let whole = with_items_is before c.keep_registers.new.memories (ap length after ∙ length-update_at n (with_registers registers) before.items ∙ sym before.ok.0) ∙ after in
-    let now = c.close-registers.new.world.state.clock in
-    let clock_is = ap (λ (x : StoreValue). x.state.clock) c.close-registers.ensures.home in
+    let now = c.close-sent.new.world.state.clock in
+    let clock_is = ap (λ (x : StoreValue). x.state.clock) c.close-sent.ensures.home in
     record {
       systems_in = subst (λ (ms : List Memory). IsInTime now ms) (sym whole)
           (subst (λ clock. IsInTime clock (update_at n (with_registers registers) before.items)) (sym clock_is)
@@ -39,6 +39,6 @@ returns-clause-out c = λ front rest held.
     let w = c.self.inside.world in
     let words = words_written view.params.queries view.shown.rows view.outcome.cells in
     let closed : StoreValue = record { state = with_slots w.state (slots_after view.opening.tick words w.state.slots); layout = with_back (lent_in view.opening.taken) w.layout } in
-    out-same closed c.close-registers.new.world (front ++ rest) (ap (λ (x : StoreValue). x.state.slots) c.close-registers.ensures.home) (ap (λ (x : StoreValue). x.layout) c.close-registers.ensures.home)
-    (out-closed w view.opening.tick words front view.opening.taken rest c.laid.ensures c.close-registers.ensures.reach
+    out-same closed c.close-sent.new.world (front ++ rest) (ap (λ (x : StoreValue). x.state.slots) c.close-sent.ensures.home) (ap (λ (x : StoreValue). x.layout) c.close-sent.ensures.home)
+    (out-closed w view.opening.tick words front view.opening.taken rest c.laid.ensures c.close-sent.ensures.reach
     (subst (λ (s : StateValue). AreOut (store_of s) (front ++ (view.opening.taken ++ rest))) (sym c.self.view_is) held))

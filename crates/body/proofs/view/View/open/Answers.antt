@@ -1,6 +1,11 @@
-use Rattle.std.proofs.Common.{subst}
+use Rattle.std.proofs.Common.{◌≡◌, List, map, ap, ap₂, sym, ◌∙◌, subst}
+use Rattle.kinds.specs.Res.{event_number}
+use Rattle.event_buffers.specs.Lists.{ListsValue}
 use Rattle.model.specs.access.Conflict.Datum.{OfKind}
+use Rattle.model.specs.access.Query.{Term}
 use Rattle.model.specs.access.SelfConflict.{TwoConflictAt}
+use Rattle.model.specs.shown.Input.{rows_of, unread_of}
+use Rattle.body.specs.Sheet.{Sheet}
 use Rattle.body.proofs.Views.{seen_over-shown}
 use Rattle.body.proofs.view.View.open.Goals as goal
 
@@ -8,6 +13,11 @@ pub open_queries-requires-clause-apart : goal.open_queries-requires-clause-apart
 open_queries-requires-clause-apart c = λ kind two. c.requires.apart (OfKind kind, subst (λ qs. TwoConflictAt qs kind) c.queries.ensures.queries two)
 
 pub returns-clause-shown : goal.returns-clause-shown
-returns-clause-shown c = λ state w.
-    seen_over-shown c.args.params.now c.args.memory.now c.args.world.now.state c.queries.result.now c.args.tick c.in_ok-queries.queries.items c.open-values.result
-    c.queries.ensures.alone (rw c.last_run.ensures at c.in_ok-queries.ensures.rows) c.open-values.ensures state w
+returns-clause-shown c = λ state w es.
+    let params = c.args.params.now in
+    let memory = c.args.memory.now in
+    let world = c.args.world.now.state in
+    let unread = ap (λ (x : ListsValue). x.values) c.in_ok-unread.ensures ∙ ap₂ (λ ks cs. unread_of c.args.events.now ks cs) c.reads.ensures c.cursors.ensures in
+    seen_over-shown params memory c.args.events.now world c.args.tick c.in_ok-queries.queries.items c.open-values.result c.in_ok-unread.unread c.in_ok-sent.sent
+    (subst (λ (qs : List (List Term)). map (λ (s : Sheet). s.rows) c.in_ok-queries.queries.items ≡ map (λ query. rows_of query memory.last_run world.slots) qs) c.queries.ensures.queries (rw c.last_run.ensures at c.in_ok-queries.ensures.rows))
+    c.open-values.ensures unread state w es

@@ -1,0 +1,228 @@
+// Events of some kinds, a list for each.
+
+ghost use Rattle.std.specs.Prelude.{◌≡◌, ◌↔◌, false, IsErrOf, ◌==◌, ◌++◌, [], ◌∷◌, get_or, map, IfOk, IsTrue, OnOk, OnErr};
+ghost use Rattle.std.specs.List.{list_all};
+ghost use Rattle.kinds.specs.Res.{event_number};
+ghost use Rattle.model.specs.Lists.{has, update_at};
+ghost use Rattle.model.specs.state.Events.{queue_of, unread, can_send, send_all};
+ghost use Rattle.model.specs.shown.Input.{unread_of};
+ghost use Rattle.model.specs.shown.Outcome.{events_sent};
+ghost use Rattle.model.specs.shown.Overlay.{queues_after, has_event_numbers};
+ghost use Rattle.event_buffers.specs.Lists.{ListValue, lists_of, place_in, with_event};
+
+use crate::buffers::Events;
+use crate::queue::SendFault;
+use kinds::res::Event;
+use std::alloc::{AllocError, Global};
+use std::marker::Model;
+
+// The kinds of events, by number.
+const EVENTS: [Event; Event::COUNT] = [Event::Hit, Event::Heal, Event::Spark, Event::Done];
+
+/// Events of one kind, in order. Contracts see the kind by number, and the values.
+#[derive(Drop, Debug)]
+pub struct EventList {
+    kind: Event,
+    values: Vec<i64>,
+}
+
+impl Model for EventList {
+    ghost use Rattle.kinds.specs.Res.{event_number};
+    ghost use Rattle.event_buffers.specs.Lists.{ListValue};
+
+    ghost Value = { ListValue };
+
+    ghost view = { λ l. record { kind = event_number l.kind; values = l.values.items } };
+}
+
+impl EventList {
+    // No event of a kind.
+    fn empty(alloc: Global, kind: Event) -> Self
+        ensures { result ≡ record { kind = event_number kind; values = [] } }
+    {
+        EventList {
+            kind,
+            values: Vec::new(alloc),
+        }
+    }
+
+    // The kept events of a kind from a cursor on.
+    fn unread(alloc: Global, kind: Event, cursor: u64, events: &Events) -> Result<Self, AllocError>
+        ensures { IfOk result (λ list. list ≡ record { kind = event_number kind; values = unread (queue_of events.now (event_number kind)) cursor }) }
+    {
+        let unread = events.unread(kind, cursor);
+        let mut values = Vec::new(alloc);
+        values.extend_from_slice(unread.older)?;
+        values.extend_from_slice(unread.newer)?;
+        Ok(EventList { kind, values })
+    }
+
+    // Whether these are events of a kind.
+    fn is_of(&self, kind: Event) -> bool
+        ensures { result ≡ self.now.kind == event_number kind }
+    {
+        self.kind.number() == kind.number()
+    }
+
+    // The values.
+    fn values(&self) -> &[i64]
+        ensures { result.now ≡ self.now.values }
+    {
+        self.values.as_slice()
+    }
+
+    // Adds an event. A refused one changes nothing.
+    fn push(&mut self, value: i64) -> Result<(), AllocError>
+        ensures ok { OnOk result (self.new ≡ record { kind = self.old.kind; values = self.old.values ++ value ∷ [] }) }
+        ensures err { OnErr result (self.new ≡ self.old) }
+    {
+        self.values.push(value)?;
+        Ok(())
+    }
+}
+
+/// Events of some kinds, a list for each, in the order in which the kinds are named. Contracts see the kinds by number, and the lists.
+#[derive(Drop, Debug)]
+pub struct EventLists {
+    lists: Vec<EventList>,
+}
+
+impl Model for EventLists {
+    ghost use Rattle.event_buffers.specs.Lists.{ListsValue, lists_of};
+
+    ghost Value = { ListsValue };
+
+    ghost view = { λ e. lists_of e.lists.items };
+}
+
+impl EventLists {
+    /// An empty list for each of these kinds.
+    pub fn empty(alloc: Global, kinds: &[Event]) -> Result<Self, AllocError>
+        ensures { IfOk result (λ lists. lists ≡ record { kinds = map event_number kinds.now; values = map (λ kind. []) (map event_number kinds.now) }) }
+    {
+        let mut lists = Vec::with_capacity(alloc, kinds.len())?;
+        for kind in kinds {
+            lists.push(EventList::empty(alloc, *kind))?;
+        }
+        Ok(EventLists { lists })
+    }
+
+    /// For each of these kinds what is kept of it from a cursor on, in order. Where there is no cursor, from the first number on.
+    pub fn unread(
+        alloc: Global,
+        kinds: &[Event],
+        cursors: &[u64],
+        events: &Events,
+    ) -> Result<Self, AllocError>
+        ensures { IfOk result (λ lists. lists ≡ record { kinds = map event_number kinds.now; values = unread_of events.now (map event_number kinds.now) cursors.now }) }
+    {
+        let mut lists = Vec::with_capacity(alloc, kinds.len())?;
+        for (place, kind) in kinds.iter().enumerate() {
+            let cursor = cursor_at(cursors, place);
+            lists.push(EventList::unread(alloc, *kind, cursor, events)?)?;
+        }
+        Ok(EventLists { lists })
+    }
+
+    /// The events of a kind, by its first list. None where it has no list.
+    pub fn of_kind(&self, kind: Event) -> &[i64]
+        ensures { result.now ≡ events_sent self.now.kinds self.now.values (event_number kind) }
+    {
+        match place_of(self.lists.as_slice(), kind) {
+            Some(place) => self.lists[place].values(),
+            None => &[],
+        }
+    }
+
+    /// Adds an event to the first list of its kind. A refused one changes nothing.
+    pub fn push(&mut self, kind: Event, value: i64) -> Result<(), AllocError>
+        requires { IsTrue (has (event_number kind) self.old.kinds) }
+        ensures ok { OnOk result (self.new ≡ record { kinds = self.old.kinds; values = with_event self.old.kinds (event_number kind) value self.old.values }) }
+        ensures err { OnErr result (self.new ≡ self.old) }
+    {
+        match place_of(self.lists.as_slice(), kind) {
+            Some(place) => {
+                let list = &mut self.lists[place];
+                list.push(value)
+            }
+            None => unreachable!(),
+        }
+    }
+
+    /// Sends the events, of each kind those of its first list. Where one gets no number none is sent; where memory is wanting those of some
+    /// kinds may have been.
+    pub fn send(&self, events: &mut Events) -> Result<(), SendFault>
+        ensures ok { OnOk result (events.new ≡ queues_after (events_sent self.now.kinds self.now.values) events.old) }
+        ensures spent { IsErrOf result SendFault.NumbersSpent ↔ (has_event_numbers (events_sent self.now.kinds self.now.values) events.old ≡ false) }
+    {
+        if !self.can_send(events) {
+            return Err(SendFault::NumbersSpent);
+        }
+        match self.send_each(events) {
+            Ok(()) => Ok(()),
+            Err(_) => Err(SendFault::Memory),
+        }
+    }
+
+    // Whether the events of every kind get numbers.
+    fn can_send(&self, events: &Events) -> bool
+        ensures { result ≡ has_event_numbers (events_sent self.now.kinds self.now.values) events.now }
+    {
+        events.law();
+        self.can_send_each(&EVENTS, events)
+    }
+
+    // Whether the events of each of these kinds get numbers.
+    fn can_send_each(&self, kinds: &[Event], events: &Events) -> bool
+        ensures { result ≡ list_all (λ kind. can_send (events_sent self.now.kinds self.now.values (event_number kind)) (queue_of events.now (event_number kind))) kinds.now }
+    {
+        kinds.iter().all(|kind| self.can_send_of(*kind, events))
+    }
+
+    // Whether the events of a kind get numbers.
+    fn can_send_of(&self, kind: Event, events: &Events) -> bool
+        ensures { result ≡ can_send (events_sent self.now.kinds self.now.values (event_number kind)) (queue_of events.now (event_number kind)) }
+    {
+        events.can_send(kind, self.of_kind(kind))
+    }
+
+    // Sends the events of every kind.
+    fn send_each(&self, events: &mut Events) -> Result<(), SendFault>
+        ensures { OnOk result (events.new ≡ queues_after (events_sent self.now.kinds self.now.values) events.old) }
+    {
+        events.law();
+        self.send_of(Event::Hit, events)?;
+        self.send_of(Event::Heal, events)?;
+        self.send_of(Event::Spark, events)?;
+        self.send_of(Event::Done, events)
+    }
+
+    // Sends the events of a kind.
+    fn send_of(&self, kind: Event, events: &mut Events) -> Result<(), SendFault>
+        ensures { OnOk result (events.new ≡ update_at (event_number kind) (send_all (events_sent self.now.kinds self.now.values (event_number kind))) events.old) }
+    {
+        events.send_all(kind, self.of_kind(kind))
+    }
+}
+
+// The cursor at a place, 0 past the end.
+fn cursor_at(cursors: &[u64], place: usize) -> u64
+    ensures { result ≡ get_or cursors.now place 0 }
+{
+    match cursors.get(place) {
+        Some(cursor) => *cursor,
+        None => 0,
+    }
+}
+
+// The place of the first list of a kind.
+fn place_of(lists: &[EventList], kind: Event) -> Option<usize>
+    ensures { result ≡ place_in (map (λ (l : ListValue). l.kind) lists.now) (event_number kind) }
+{
+    for (place, list) in lists.iter().enumerate() {
+        if list.is_of(kind) {
+            return Some(place);
+        }
+    }
+    None
+}
