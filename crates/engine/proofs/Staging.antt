@@ -4,7 +4,7 @@ use Rattle.std.proofs.lemmas.Bool.{and_parts}
 use Rattle.std.proofs.lemmas.List.{length-reverse, reverse-append}
 use Rattle.std.specs.Option.{option_and_then}
 use Rattle.model.specs.declared.steps.Step.{Step}
-use Rattle.model.specs.declared.steps.Step.TheVariants.{Cond, Start, Skip, Finish, Sync}
+use Rattle.model.specs.declared.steps.Step.TheVariants.{Start, Finish, Sync}
 use Rattle.model.specs.declared.steps.Ready.TheVariants as ready
 use Rattle.model.specs.Lists.{has, first_some, IsIn}
 use Rattle.model.specs.state.State.{State}
@@ -13,12 +13,13 @@ use Rattle.model.specs.steps.Schedule.{Schedule}
 use Rattle.model.specs.steps.Lawful.{IsLawful, IsComplete, May, MayStart, MaySync, MaySkip, MayAsk, NoneRuns, runs}
 use Rattle.model.specs.steps.Ready.{IsReady}
 use Rattle.model.specs.steps.Widths.{IsWide, IsNextWide, without, running_after}
-use Rattle.model.specs.runs.RunState.{between, begin_run, has_tick, has_ids_to_start, answer_of}
+use Rattle.model.specs.runs.RunState.{between, begin_run, has_tick, has_ids_to_start}
 use Rattle.model.specs.runs.Meaning.{with_running_systems, interleaved, interleaved_step, IsTrueAnswer}
 use Rattle.model.specs.runs.Causes.{Cause, unless, interleaved_cause, interleaved_cause_of, interleaved_cause_at}
 use Rattle.model.specs.runs.Causes.Cause.{NoTick, NoIds}
 use Rattle.model.specs.runs.WideRuns.{IsWideRun, AreWideRuns, WideStops, IsWideStopped}
 use Rattle.model.proofs.lists.Members.{in-map}
+use Rattle.model.proofs.progress.Progress.{covered_known}
 use Rattle.model.proofs.progress.Ends.{lists_end}
 use Rattle.model.proofs.progress.Single.{wide_lawful}
 use Rattle.model.proofs.progress.Width.{running_is}
@@ -67,12 +68,6 @@ module _ {B : Type 0} (width : ℕ) (s : Schedule) (bodies : List BodyMeaning) (
         go [] e = refl
         go (x ∷ xs) e = absurd (omega (arith, e))
 
-    next-ask : (c : ℕ) (answer : Bool) → length out < width → IsReady s h (Some (ready.Ask c)) → IsNextWide width s h (Cond c answer)
-    next-ask c answer free is = ((let e = stage.running in omega arith), (ready.Ask c, answer, is, refl))
-
-    next-skip : (n : ℕ) → length out < width → IsReady s h (Some (ready.Skip n)) → IsNextWide width s h (Skip n)
-    next-skip n free is = ((let e = stage.running in omega arith), (ready.Skip n, false, is, refl))
-
     next-start : (n : ℕ) → length out < width → IsReady s h (Some (ready.Start n)) → IsNextWide width s h (Start n)
     next-start n free is = ((let e = stage.running in omega arith), (ready.Start n, false, is, refl))
 
@@ -92,27 +87,6 @@ module _ {B : Type 0} (width : ℕ) (s : Schedule) (bodies : List BodyMeaning) (
       room = omega arith;
       answers = (tt, stage.answers);
       meaning = ap (option_and_then (interleaved_step s bodies (Start n))) stage.meaning ∙ e;
-    }
-
-    -- after a condition was asked
-    pub stage_ask : (c : ℕ) (answer : Bool) (state' : State) → length out < width → IsReady s h (Some (ready.Ask c)) → MayAsk s h c → answer ≡ answer_of s c (between state) →
-        interleaved_step s bodies (Cond c answer) (woven state out) ≡ Some (woven state' out) → Stage width s bodies start (Cond c answer ∷ h) state' out
-    stage_ask c answer state' free is may told e = record {
-      wide = (may, next-ask c answer free is, stage.wide);
-      running = stage.running;
-      room = stage.room;
-      answers = (subst (IsTrueAnswer s (Cond c answer)) (sym stage.meaning) told, stage.answers);
-      meaning = ap (option_and_then (interleaved_step s bodies (Cond c answer))) stage.meaning ∙ e;
-    }
-
-    -- after a system was skipped
-    pub stage_skip : (n : ℕ) → length out < width → IsReady s h (Some (ready.Skip n)) → MaySkip s h n → Stage width s bodies start (Skip n ∷ h) state out
-    stage_skip n free is may = record {
-      wide = (may, next-skip n free is, stage.wide);
-      running = stage.running;
-      room = stage.room;
-      answers = (tt, stage.answers);
-      meaning = ap (option_and_then (interleaved_step s bodies (Skip n))) stage.meaning;
     }
 
     -- after a sync point
@@ -170,11 +144,6 @@ module _ {B : Type 0} (width : ℕ) (s : Schedule) (bodies : List BodyMeaning) (
     stops_start n free is may spent = stops-at (Start n) NoTick may (next-start n free is) tt
         (ap (λ t. first_some (unless t NoTick) (unless (has_ids_to_start s n (between state)) NoIds)) spent)
 
-    -- at a condition without a tick
-    pub stops_ask : (c : ℕ) → length out < width → IsReady s h (Some (ready.Ask c)) → MayAsk s h c → has_tick state ≡ false → WideStops width s bodies start NoTick
-    stops_ask c free is may spent = stops-at (Cond c (answer_of s c (between state))) NoTick may (next-ask c (answer_of s c (between state)) free is)
-        (subst (IsTrueAnswer s (Cond c (answer_of s c (between state)))) (sym stage.meaning) refl) (ap (λ t. unless t NoTick) spent)
-
     -- at a sync point without a tick
     pub stops_sync : (k : ℕ) → length out < width → IsReady s h (Some (ready.Sync k)) → MaySync s h k → has_tick state ≡ false → WideStops width s bodies start NoTick
     stops_sync k free is may spent = stops-at (Sync k) NoTick may (next-sync k free is) tt (ap (λ t. unless t NoTick) spent)
@@ -201,6 +170,13 @@ pub stopped : (width : ℕ) (s : Schedule) (bodies : List BodyMeaning) (times : 
 stopped width s bodies times w hs middle cause ran fewer stops = record { complete_runs = hs; fewer = fewer; middle = middle; ran = ran; stopped = stops }
 
 -- ---- a turn of the loop
+
+-- without conditions none is asked, and no system is skipped
+pub no_ask : (s : Schedule) (h : List Step) (c : ℕ) → s.conditions ≡ [] → MayAsk s h c → ⊥
+no_ask s h c none may = let known : c < length s.conditions = may.known in let e = ap length none in omega (arith, e)
+
+pub no_skip : (s : Schedule) (h : List Step) (n : ℕ) → s.conditions ≡ [] → MaySkip s h n → ⊥
+no_skip s h n none may = let known : may.refused.0 < length s.conditions = covered_known s may.refused.0 n may.refused.1 in let e = ap length none in omega (arith, e)
 
 -- the measure falls with each step
 pub falls : (core : Stand) (s : Schedule) (items longer : List Step) (step : Step) → core.schedule ≡ s → Stands core (step ∷ reverse items) → reverse longer ≡ step ∷ reverse items →

@@ -2,23 +2,22 @@
 use Rattle.std.proofs.Common.{ℕ, ◌<◌, ◌≤◌, Bool, true, false, ◌≡◌, ◌⊎◌, inl, inr, List, [], ◌∷◌, length, map, Option, Some, None, refl, sym, ◌∙◌, ap, subst, arith}
 use Rattle.std.specs.List.{AllByRecursion}
 use Rattle.model.specs.declared.steps.Step.{Step}
-use Rattle.model.specs.declared.steps.Step.TheVariants.{Cond, Sync}
+use Rattle.model.specs.declared.steps.Step.TheVariants.{Sync}
 use Rattle.model.specs.declared.steps.Ready.TheVariants as ready
 use Rattle.model.specs.Lists.{has}
 use Rattle.model.specs.access.Access.{Params}
 use Rattle.model.specs.state.State.{State}
 use Rattle.model.specs.shown.Outcome.{BodyMeaning}
-use Rattle.model.specs.steps.Schedule.{Schedule, params_of, access_of}
-use Rattle.model.specs.steps.Lawful.{MayAsk, MaySkip, MayStart, MaySync}
+use Rattle.model.specs.steps.Schedule.{Schedule, params_of}
+use Rattle.model.specs.steps.Lawful.{MayStart, MaySync}
 use Rattle.model.specs.steps.Ready.{IsReady}
 use Rattle.model.specs.runs.RunState.{has_tick, next_tick, opening}
 use Rattle.model.specs.runs.Meaning.{interleaved_step}
 use Rattle.archetype_store.specs.Layout.{Archetype, AreAllHome, IsLayoutOf}
-use Rattle.query_plan.specs.Standing.{ArePickedHome}
 use Rattle.body.specs.Lent.{lent_in}
 use Rattle.body.specs.Out.{IsApartFrom, IsWrittenBy}
-use Rattle.body.specs.Steps.{StateValue, asked_at, store_of, ticked}
-use Rattle.body.proofs.Outs.{out-same, all-home, home-apart}
+use Rattle.body.specs.Steps.{StateValue, store_of, ticked}
+use Rattle.body.proofs.Outs.{out-same, all-home}
 use Rattle.executor_core.specs.Stands.{Stand, Stands}
 use Rattle.worker_pool.specs.JobOut.{JobOut}
 use Rattle.engine.specs.declared.turn.Turn.{Turn}
@@ -28,20 +27,14 @@ use Rattle.engine.specs.Meanings.{meanings, HasMemories, Suits}
 use Rattle.engine.specs.Stage.{Stage, IsTake, IsTurn}
 use Rattle.engine.proofs.Placing.{start-free, apart-held, placed_first, suits_last, means_last}
 use Rattle.engine.proofs.Staging.{holds_there}
-use Rattle.engine.proofs.Remembering.{memories_at, memories_open, memories_asked}
-use Rattle.engine.proofs.Weaving.{ask_woven, sync_woven}
+use Rattle.engine.proofs.Remembering.{memories_at, memories_open}
+use Rattle.engine.proofs.Weaving.{sync_woven}
 
 -- ---- what is next, told of a core
 
 module _ (core : Stand) (s : Schedule) (h : List Step) (running width : ℕ) (next : Turn) (same : core.schedule ≡ s) (stands : Stands core h) (told : (x : List Step) → Stands core x → IsTurn core.schedule x running width (Some next)) where
   there : IsTurn s h running width (Some next)
   there = subst (λ (x : Schedule). IsTurn x h running width (Some next)) same (told h stands)
-
-  pub turn_ask : (c : ℕ) → next ≡ turn.Ask c → IsTake s h running width (ready.Ask c) (MayAsk s h c)
-  turn_ask c is = subst (λ t. IsTurn s h running width (Some t)) is there
-
-  pub turn_skip : (n : ℕ) → next ≡ turn.Skip n → IsTake s h running width (ready.Skip n) (MaySkip s h n)
-  turn_skip n is = subst (λ t. IsTurn s h running width (Some t)) is there
 
   pub turn_start : (n : ℕ) → next ≡ turn.Start n → IsTake s h running width (ready.Start n) (MayStart s h n)
   turn_start n is = subst (λ t. IsTurn s h running width (Some t)) is there
@@ -78,13 +71,6 @@ module _ {B : Type 0} (meaning : B → Params → BodyMeaning) (fits : B → Par
         apart = apart-held meaning fits where_is s bodies slots out w placed h holds (params_of s n) may.apart;
       }
 
-  -- the columns that a condition asks about are at home
-  pub ask_home : (width : ℕ) (start : State) (h : List Step) (c : ℕ) → Stage width s bodies start h w.state out → MayAsk s h c → IsLayoutOf w.state.world.slots w.layout →
-      AllByRecursion (λ query. ArePickedHome query w.layout) (access_of s c).queries
-  ask_home width start h c stage may laid =
-      home-apart (store_of w) (held_by out) (access_of s c) laid placed.held
-      (apart-held meaning fits where_is s bodies slots out w placed h (holds_there width s bodies start h w.state out stage) (access_of s c) may.apart)
-
   -- at a later tick, with other memories, which are those of the schedule too
   pub placed_moved : (later : StateValue) → HasMemories s later.state → w.state.world.clock ≤ later.state.world.clock → later.state.world.slots ≡ w.state.world.slots → later.layout ≡ w.layout →
       Placed meaning fits where_is s bodies slots out later
@@ -119,14 +105,6 @@ module _ {B : Type 0} (meaning : B → Params → BodyMeaning) (fits : B → Par
       (let e = ap (λ (x : StateValue). x.state.world.clock) is in omega arith)
       (ap (λ (x : StateValue). x.state.world.slots) is) (ap (λ (x : StateValue). x.layout) is)
 
-  -- after a condition was asked
-  pub placed_asked : (c : ℕ) (later : StateValue) → later ≡ record { state = asked_at c (access_of s c).reads (next_tick w.state) (ticked w.state); layout = w.layout } →
-      Placed meaning fits where_is s bodies slots out later
-  placed_asked c later is = placed_moved later
-      (subst (λ (x : StateValue). HasMemories s x.state) (sym is) (memories_asked s (ticked w.state) (memories_at s w.state placed.memories (next_tick w.state)) c (next_tick w.state)))
-      (let e = ap (λ (x : StateValue). x.state.world.clock) is in omega arith)
-      (ap (λ (x : StateValue). x.state.world.slots) is) (ap (λ (x : StateValue). x.layout) is)
-
   -- where none is out
   placed-none : length out ≡ 0 → Placed meaning fits where_is s bodies slots [] w
   placed-none none = subst (λ xs. Placed meaning fits where_is s bodies slots xs w) (no_elements out none) placed
@@ -152,12 +130,4 @@ pub sync_there : {B : Type 0} (s : Schedule) (bodies : List BodyMeaning) (k : �
     later ≡ record { state = ticked w.state; layout = w.layout } → interleaved_step s bodies (Sync k) (woven w.state out) ≡ Some (woven later.state out)
 sync_there s bodies k w later out tick is =
     sync_woven s bodies k w.state (map running_of out) tick
-    ∙ ap (λ (state : State). Some (woven state out)) (sym (ap (λ (x : StateValue). x.state) is))
-
--- a condition
-pub ask_there : {B : Type 0} (s : Schedule) (bodies : List BodyMeaning) (c : ℕ) (answer : Bool) (w later : StateValue) (out : List (JobOut B)) → has_tick w.state ≡ true →
-    later ≡ record { state = asked_at c (access_of s c).reads (next_tick w.state) (ticked w.state); layout = w.layout } →
-    interleaved_step s bodies (Cond c answer) (woven w.state out) ≡ Some (woven later.state out)
-ask_there s bodies c answer w later out tick is =
-    ask_woven s bodies c answer w.state (map running_of out) tick
     ∙ ap (λ (state : State). Some (woven state out)) (sym (ap (λ (x : StateValue). x.state) is))

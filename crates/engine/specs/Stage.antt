@@ -6,7 +6,7 @@ use Rattle.model.specs.declared.steps.Ready.TheVariants as ready
 use Rattle.model.specs.state.State.{State}
 use Rattle.model.specs.shown.Outcome.{BodyMeaning}
 use Rattle.model.specs.steps.Schedule.{Schedule}
-use Rattle.model.specs.steps.Lawful.{MayAsk, MaySkip, MayStart, MaySync, NoneRuns, IsComplete}
+use Rattle.model.specs.steps.Lawful.{MayStart, MaySync, NoneRuns, IsComplete}
 use Rattle.model.specs.steps.Ready.{IsReady}
 use Rattle.model.specs.steps.Widths.{IsWide, running_after}
 use Rattle.model.specs.runs.Meaning.{interleaved, HasTrueAnswers}
@@ -32,8 +32,6 @@ pub record IsTake (s : Schedule) (h : List Step) (running width : ℕ) (offer : 
 -- what is next: what is ready where there is room, else a job that comes back, and none where nothing is ready and nothing runs
 abbrev pub IsTurn : Schedule → List Step → ℕ → ℕ → Option Turn → Type 0
 IsTurn s h running width None = (running ≡ 0) × (NoneRuns h → IsComplete s h)
-IsTurn s h running width (Some (turn.Ask c)) = IsTake s h running width (ready.Ask c) (MayAsk s h c)
-IsTurn s h running width (Some (turn.Skip n)) = IsTake s h running width (ready.Skip n) (MaySkip s h n)
 IsTurn s h running width (Some (turn.Start n)) = IsTake s h running width (ready.Start n) (MayStart s h n)
 IsTurn s h running width (Some (turn.Sync k)) = IsTake s h running width (ready.Sync k) (MaySync s h k)
 IsTurn s h running width (Some turn.Collect) = (0 < running) × ((running ≡ width) ⊎ IsReady s h None)

@@ -10,7 +10,7 @@ ghost use Rattle.executor_core.specs.Stands.{Stands};
 ghost use Rattle.engine.specs.Meanings.{meanings, Suits};
 ghost use Rattle.engine.specs.History.{history_of};
 
-use crate::effects::{ask, finish, open, start, sync};
+use crate::effects::{finish, open, start, sync};
 use crate::faults::RunFault;
 use crate::turn::{Turn, next_turn};
 use body::open_state::OpenState;
@@ -95,6 +95,7 @@ fn run_turns<'s, M: Mode<'s>, B: Body + 's>(
     ensures meanings { OnOk result (meanings B.meaning built.now slots.new ≡ meanings B.meaning built.now slots.old) }
     ensures home { OnOk result (AreAllHome state.new.layout) }
 {
+    built.no_conditions();
     let width = mode.width();
     let mut core = Core::new(alloc, built)?;
     let mut steps = Vec::new(alloc);
@@ -111,11 +112,6 @@ fn run_turns<'s, M: Mode<'s>, B: Body + 's>(
                 sync(state)?;
                 take(&mut core, &mut steps, Step::Sync(point))?;
             }
-            Turn::Ask(condition) => {
-                let answer = ask(alloc, built, state, condition)?;
-                take(&mut core, &mut steps, Step::Cond(condition, answer))?;
-            }
-            Turn::Skip(system) => take(&mut core, &mut steps, Step::Skip(system))?,
             Turn::Collect => {
                 let system = finish(built, slots, state, pool, mode)?;
                 take(&mut core, &mut steps, Step::Finish(system))?;

@@ -7,9 +7,8 @@ ghost use Rattle.model.specs.Lists.{has, IsIn};
 ghost use Rattle.model.specs.access.Access.{no_params};
 ghost use Rattle.model.specs.shown.Input.{shown};
 ghost use Rattle.model.specs.shown.Outcome.{BodyMeaning, untouched};
-ghost use Rattle.model.specs.access.Condition.{holds};
-ghost use Rattle.model.specs.steps.Schedule.{params_of, access_of, condition_of};
-ghost use Rattle.model.specs.runs.RunState.{between, begin_run, opening, has_tick, next_tick, memory_of_condition, memory_of_system};
+ghost use Rattle.model.specs.steps.Schedule.{params_of};
+ghost use Rattle.model.specs.runs.RunState.{between, begin_run, opening, has_tick, next_tick, memory_of_system};
 ghost use Rattle.model.specs.runs.Meaning.{interleaved_step};
 ghost use Rattle.model.specs.runs.Causes.{interleaved_cause_of};
 ghost use Rattle.model.specs.runs.Causes.{Cause as cause};
@@ -18,7 +17,7 @@ ghost use Rattle.body.specs.declared.system_body.BodyFault.TheVariants.{Refused}
 ghost use Rattle.body.specs.Columns.{Column};
 ghost use Rattle.body.specs.Lent.{AreLent, lent_in, with_away, with_back};
 ghost use Rattle.body.specs.Out.{IsWrittenBy, AreOut, IsApartFrom};
-ghost use Rattle.body.specs.Steps.{asked_at, laid, noted, store_of, ticked};
+ghost use Rattle.body.specs.Steps.{laid, noted, store_of, ticked};
 ghost use Rattle.worker_pool.specs.JobOut.{JobOut};
 ghost use Rattle.engine.specs.Meanings.{body_at, HasMemories};
 ghost use Rattle.engine.specs.Jobs.{systems_of, held_by, woven, Placed};
@@ -48,31 +47,6 @@ pub(crate) fn sync(state: &mut OpenState) -> Result<(), ClockSpent>
 {
     state.next()?;
     Ok(())
-}
-
-/// A condition is asked: what it means on the state, at the tick to come, which becomes the clock.
-pub(crate) fn ask(
-    alloc: Global,
-    built: &Built,
-    state: &mut OpenState,
-    condition: u32,
-) -> Result<bool, RunFault>
-    requires known { condition < length built.now.conditions }
-    requires memories { HasMemories built.now state.old.state }
-    requires home { AllByRecursion (λ query. ArePickedHome query state.old.layout) (access_of built.now condition).queries }
-    ensures answer { IfOk result (λ answer. answer ≡ holds (condition_of built.now condition) (memory_of_condition state.old.state condition).last_run (memory_of_condition state.old.state condition).cursors state.old.state) }
-    ensures asked { OnOk result (state.new ≡ record { state = asked_at condition (access_of built.now condition).reads (next_tick state.old.state) (ticked state.old.state); layout = state.old.layout }) }
-    ensures spent { IsErrOf result RunFault.ClockSpent ↔ (has_tick state.old.state ≡ false) }
-    ensures only { (f : RunFault) → result ≡ Err f → (f ≡ RunFault.ClockSpent) ⊎ (f ≡ RunFault.Memory) }
-{
-    let asked = built.condition(condition);
-    state.coming()?;
-    let answer = state.ask(alloc, condition as usize, asked.cond())?;
-    let Ok(tick) = state.next() else {
-        unreachable!();
-    };
-    state.note_condition(condition as usize, asked.access(), tick);
-    Ok(answer)
 }
 
 // What a system is shown as it starts: its run is noted at the tick to come, which becomes the clock.

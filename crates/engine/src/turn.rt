@@ -1,6 +1,6 @@
 // The next turn of a run.
 
-ghost use Rattle.std.specs.Prelude.{◌<◌, ◌≤◌, List};
+ghost use Rattle.std.specs.Prelude.{◌≡◌, ◌<◌, ◌≤◌, [], List};
 ghost use Rattle.model.specs.declared.steps.Step.{Step as Action};
 ghost use Rattle.executor_core.specs.Stands.{Stands};
 ghost use Rattle.engine.specs.Stage.{IsTurn};
@@ -10,10 +10,6 @@ use executor_core::{Core, Ready};
 /// What a coordinator does next.
 #[derive(Clone, Copy, PartialEq, Eq, Debug)]
 pub enum Turn {
-    /// Asks this condition.
-    Ask(u32),
-    /// Skips this system.
-    Skip(u32),
     /// Starts this system.
     Start(u32),
     /// Does this sync point.
@@ -27,6 +23,7 @@ pub enum Turn {
 pub(crate) fn next_turn(core: &Core<'_>, running: usize, width: usize) -> Option<Turn>
     requires room { running ≤ width }
     requires some { 0 < width }
+    requires alone { core.now.schedule.conditions ≡ [] }
     requires stands { (h : List Action) × Stands core.now h }
     ensures { (h : List Action) → Stands core.now h → IsTurn core.now.schedule h running width result }
 {
@@ -40,9 +37,8 @@ pub(crate) fn next_turn(core: &Core<'_>, running: usize, width: usize) -> Option
         return Some(Turn::Collect);
     };
     match offer {
-        Ready::Ask(condition) => Some(Turn::Ask(condition)),
-        Ready::Skip(system) => Some(Turn::Skip(system)),
         Ready::Start(system) => Some(Turn::Start(system)),
         Ready::Sync(point) => Some(Turn::Sync(point)),
+        Ready::Ask(_) | Ready::Skip(_) => unreachable!(),
     }
 }
