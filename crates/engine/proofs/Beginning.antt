@@ -1,5 +1,5 @@
 -- The state with which a schedule begins has its memories, and no last run above the clock.
-use Rattle.std.proofs.Common.{ℕ, zero, suc, ◌<◌, ◌≤◌, ◌≡◌, ◌⊎◌, inl, inr, List, [], ◌∷◌, length, get_or, map, sym, subst, arith}
+use Rattle.std.proofs.Common.{ℕ, zero, suc, ◌<◌, ◌≤◌, ◌≡◌, ◌⊎◌, inl, inr, List, [], ◌∷◌, length, get_or, map, Option, sym, subst, arith}
 use Rattle.std.proofs.lemmas.List.{length-map}
 use Rattle.std.specs.List.{AllByRecursion}
 use Rattle.model.specs.access.Condition.{access_of_condition}
@@ -8,7 +8,7 @@ use Rattle.model.specs.state.State.{State, World, no_memory}
 use Rattle.model.specs.steps.Schedule.{Schedule, ScheduledCondition, ScheduledSystem}
 use Rattle.body.specs.Steps.{AreInTime}
 use Rattle.engine.specs.FirstState.{first_conditions, first_state, first_systems}
-use Rattle.engine.specs.Meanings.{HasMemories, LacksMemories}
+use Rattle.engine.specs.Meanings.{HasMemories, LacksMemories, Miscounts}
 
 -- as many cursors as readers
 first-readers : {A : Type 0} (reads : A → List ℕ) (xs : List A) (d : A) (n : ℕ) → n < length xs →
@@ -31,6 +31,11 @@ lacks-none s state has (inl differ) = differ has.systems
 lacks-none s state has (inr (inl differ)) = differ has.conditions
 lacks-none s state has (inr (inr (inl found))) = found.2 (has.system_readers found.0 found.1)
 lacks-none s state has (inr (inr (inr found))) = found.2 (has.condition_readers found.0 found.1)
+
+-- so the numbers are right
+pub counts_right : {B : Type 0} (s : Schedule) (slots : List (Option B)) (state : State) → length slots ≡ length s.systems → HasMemories s state → Miscounts s slots state → ⊥
+counts_right s slots state count has (inl differ) = differ count
+counts_right s slots state count has (inr lacks) = lacks-none s state has lacks
 
 -- so it doesn't lack them
 pub no_first_lacks : (s : Schedule) (state : State) (w : World) → state ≡ first_state s w → LacksMemories s state → ⊥

@@ -9,7 +9,7 @@ ghost use Rattle.engine.specs.History.{history_of};
 
 use crate::coordinator::run_times;
 use crate::faults::{NewFault, RunFault};
-use crate::first_state::has_memories;
+use crate::first_state::lacks_memories;
 use crate::fitting::{first_misfit, placed};
 use body::state::State;
 use body::system_body::Body;
@@ -56,7 +56,7 @@ impl<B: Body> Engine<B> {
         if bodies.len() != built.count() as usize {
             return Err(NewFault::Count);
         }
-        if !has_memories(&built, &state) {
+        if lacks_memories(&built, &state) {
             return Err(NewFault::Count);
         }
         if let Some(system) = first_misfit(&built, &bodies) {

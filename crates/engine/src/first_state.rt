@@ -53,8 +53,18 @@ fn conditions_of(alloc: Global, built: &Built) -> Result<Vec<Memory>, AllocError
     Ok(memories)
 }
 
-/// Whether a state has the memories of a schedule.
-pub(crate) fn has_memories(built: &Built, state: &State) -> bool
+/// Whether a state lacks memories of a schedule.
+pub(crate) fn lacks_memories(built: &Built, state: &State) -> bool
+    ensures { MatchBool result (LacksMemories built.now state.now) (HasMemories built.now state.now) }
+{
+    if has_memories(built, state) {
+        return false;
+    }
+    true
+}
+
+// Whether a state has the memories of a schedule.
+fn has_memories(built: &Built, state: &State) -> bool
     ensures { MatchBool result (HasMemories built.now state.now) (LacksMemories built.now state.now) }
 {
     if state.systems() != built.count() as usize {

@@ -1,9 +1,10 @@
-use Rattle.std.proofs.Common.{◌≡◌, ℕ, List, Option, Err, refl, sym, ap, ◌∙◌, subst}
+use Rattle.std.proofs.Common.{◌≡◌, ℕ, List, map, Option, Err, refl, sym, ap, ◌∙◌, subst}
 use Rattle.model.specs.state.State.{State}
 use Rattle.model.specs.runs.Causes.{Cause}
 use Rattle.model.specs.runs.Causes.Cause.{NoTick, Refused}
 use Rattle.model.specs.runs.Runs.{IsStopped}
-use Rattle.model.specs.runs.WideRuns.{IsWideStopped}
+use Rattle.model.specs.runs.WideRuns.{AreWideRuns, IsWideStopped}
+use Rattle.engine.specs.History.{history_of}
 use Rattle.engine.specs.EngineValue.{EngineValue}
 use Rattle.engine.specs.Meanings.{meanings, Suits}
 use Rattle.engine.proofs.Bodies.{stopped_else}
@@ -62,6 +63,21 @@ returns-in_err-traces-clause-single_refusal g c = λ k e one.
     c.wide_of_one_is_single.ensures.stops value.schedule bodies c.args.times value.state cause (subst (λ (n : ℕ). IsWideStopped n value.schedule bodies c.args.times value.state cause) one h) in
     single (Refused k) (stops (Refused k) (c.in_err-traces.ensures.refusal k (let q = c.from_residual.ensures in let p = rw e at q.1 in cc)))
 
+pub returns-in_err-traces-clause-single_clock : goal.returns-in_err-traces-clause-single_clock
+returns-in_err-traces-clause-single_clock g c = λ e one.
+    let meaning = g.B.Body.meaning in
+    let width = g.M.Mode.width c.args.mode.now in
+    let inside = c.engine.inside in
+    let value = c.args.engine.now in
+    let bodies = meanings meaning value.schedule value.bodies in
+    let stops = λ (cause : Cause) (h : IsWideStopped width inside.built (meanings meaning inside.built c.deref_mut.result.now) c.args.times c.into_open-state.result.state cause).
+    subst (λ (v : EngineValue g.row.B.Denot). IsWideStopped width v.schedule (meanings meaning v.schedule v.bodies) c.args.times v.state cause) c.engine.view_is
+    (subst (λ (slots : List (Option g.row.B.Denot)). IsWideStopped width inside.built (meanings meaning inside.built slots) c.args.times inside.state cause) c.deref_mut.ensures.value
+    (subst (λ (state : State). IsWideStopped width inside.built (meanings meaning inside.built c.deref_mut.result.now) c.args.times state cause) (c.into_open-state.ensures.state ∙ c.replace.ensures.value) h)) in
+    let single = λ (cause : Cause) (h : IsWideStopped width value.schedule bodies c.args.times value.state cause).
+    c.wide_of_one_is_single.ensures.stops value.schedule bodies c.args.times value.state cause (subst (λ (n : ℕ). IsWideStopped n value.schedule bodies c.args.times value.state cause) one h) in
+    single NoTick (stops NoTick (c.in_err-traces.ensures.clock (let q = c.from_residual.ensures in let p = rw e at q.1 in cc)))
+
 pub returns-in_err-traces-clause-defined : goal.returns-in_err-traces-clause-defined
 returns-in_err-traces-clause-defined g c = λ one has.
     let meaning = g.B.Body.meaning in
@@ -78,3 +94,19 @@ returns-in_err-traces-clause-defined g c = λ one has.
     stopped_else c.from_residual.result
     (λ e. c.single_runs_are_one.ensures.defined value.schedule bodies c.args.times value.state NoTick has (single NoTick (stops NoTick (c.in_err-traces.ensures.clock (let q = c.from_residual.ensures in let p = rw e at q.1 in cc)))))
     (λ k e. c.single_runs_are_one.ensures.defined value.schedule bodies c.args.times value.state (Refused k) has (single (Refused k) (stops (Refused k) (c.in_err-traces.ensures.refusal k (let q = c.from_residual.ensures in let p = rw e at q.1 in cc)))))
+
+pub returns-clause-sound : goal.returns-clause-sound
+returns-clause-sound g c =
+    let meaning = g.B.Body.meaning in
+    let width = g.M.Mode.width c.args.mode.now in
+    let inside = c.engine.inside in
+    let value = c.args.engine.now in
+    let bodies = meanings meaning value.schedule value.bodies in
+    let hs = map history_of c.in_ok-traces.traces.items in
+    let end = c.run_times-traces.new.state.state in
+    let ran = subst (λ (v : EngineValue g.row.B.Denot). AreWideRuns width v.schedule (meanings meaning v.schedule v.bodies) v.state hs end) c.engine.view_is
+    (subst (λ (slots : List (Option g.row.B.Denot)). AreWideRuns width inside.built (meanings meaning inside.built slots) inside.state hs end) c.deref_mut.ensures.value
+    (subst (λ (state : State). AreWideRuns width inside.built (meanings meaning inside.built c.deref_mut.result.now) state hs end) (c.into_open-state.ensures.state ∙ c.replace.ensures.value)
+    c.in_ok-traces.ensures.ran)) in
+    c.runs_are_sound.ensures.wide width value.schedule bodies value.state hs c.into_state.result
+    (subst (AreWideRuns width value.schedule bodies value.state hs) (sym c.into_state.ensures) ran)

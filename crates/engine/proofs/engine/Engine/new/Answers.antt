@@ -1,9 +1,31 @@
-use Rattle.std.proofs.Common.{◌≡◌, ◌<◌, ℕ, List, true, false, length, map, Some, Err, refl, sym, ap, ◌∙◌, subst, arith}
+use Rattle.std.proofs.Common.{◌≡◌, ◌<◌, ℕ, List, true, false, length, map, Some, Err, inr, refl, sym, ap, ◌∙◌, subst, arith}
 use Rattle.std.proofs.lemmas.List.{length-map}
 use Rattle.engine.specs.declared.faults.NewFault.TheVariants.{Misfit}
 use Rattle.engine.specs.Meanings.{fits_at, HasMemories, Suits, IsFirstMisfit}
+use Rattle.engine.proofs.Beginning.{counts_right}
 use Rattle.engine.proofs.Bodies.{unlike, one_misfit}
 use Rattle.engine.proofs.engine.Engine.new.Goals as goal
+
+pub returns-then-lacks_memories-clause-count : goal.returns-then-lacks_memories-clause-count
+returns-then-lacks_memories-clause-count g c = (λ e. inr c.if-lacks_memories.ensures, λ h. refl)
+
+pub returns-in-Some-clause-count : goal.returns-in-Some-clause-count
+returns-in-Some-clause-count g c =
+    let slots = map (λ x. Some x) c.args.bodies.items in
+    let count : length slots ≡ length c.args.built.systems = length-map c.args.bodies.items (λ x. Some x) ∙ (let a = c.if-len-count.false in let b = c.len.ensures in let d = c.count.ensures in omega arith) in
+    (λ e. absurd (cc), λ h. absurd (counts_right c.args.built slots c.args.state count c.if-lacks_memories.ensures h))
+
+pub returns-in_default-placed-clause-count : goal.returns-in_default-placed-clause-count
+returns-in_default-placed-clause-count g c =
+    let slots = map (λ x. Some x) c.args.bodies.items in
+    let count : length slots ≡ length c.args.built.systems = length-map c.args.bodies.items (λ x. Some x) ∙ (let a = c.if-len-count.false in let b = c.len.ensures in let d = c.count.ensures in omega arith) in
+    (λ e. absurd (cc), λ h. absurd (counts_right c.args.built slots c.args.state count c.if-lacks_memories.ensures h))
+
+pub returns-clause-count : goal.returns-clause-count
+returns-clause-count g c =
+    let slots = map (λ x. Some x) c.args.bodies.items in
+    let count : length slots ≡ length c.args.built.systems = length-map c.args.bodies.items (λ x. Some x) ∙ (let a = c.if-len-count.false in let b = c.len.ensures in let d = c.count.ensures in omega arith) in
+    (λ e. absurd (cc), λ h. absurd (counts_right c.args.built slots c.args.state count c.if-lacks_memories.ensures h))
 
 pub returns-in-Some-clause-misfit : goal.returns-in-Some-clause-misfit
 returns-in-Some-clause-misfit g c = λ n.
@@ -12,7 +34,7 @@ returns-in-Some-clause-misfit g c = λ n.
     let slots = map (λ x. Some x) c.args.bodies.items in
     let value = c.deref.ensures.value in
     let count : length slots ≡ length s.systems = length-map c.args.bodies.items (λ x. Some x) ∙ (let a = c.if-len-count.false in let b = c.len.ensures in let d = c.count.ensures in omega arith) in
-    let memories : HasMemories s c.args.state = c.if-has_memories.ensures in
+    let memories : HasMemories s c.args.state = c.if-lacks_memories.ensures in
     let found : IsFirstMisfit fits s slots c.args.state c.in-Some.system = record {
       body_count = count;
       memories = memories;
@@ -27,7 +49,7 @@ returns-in-Some-clause-misfit g c = λ n.
 pub invariant_of-result : goal.invariant_of-result
 invariant_of-result g c = λ e. record {
   body_count = ap length c.in-Ok.ensures ∙ length-map c.args.bodies.items (λ x. Some x) ∙ (let a = c.if-len-count.false in let b = c.len.ensures in let d = c.count.ensures in omega arith);
-  memories = c.if-has_memories.ensures;
+  memories = c.if-lacks_memories.ensures;
   fit = λ n l. subst (λ xs. fits_at g.B.Body.fits c.args.built xs n ≡ true) (ap (map (λ x. Some x)) c.deref.ensures.value ∙ sym c.in-Ok.ensures) (c.in_default.ensures.none n l);
 }
 
