@@ -64,6 +64,12 @@ fn the_examples_are_run(rt: HostRuntime) -> Result<(), Fail> {
             3,
             "0v1 Health 6 Score 3\n1v1 Health 5 Timer 7 Score 1 Frozen\n",
         ),
+        (
+            "ecsrun run examples/chain.toml --times 2",
+            "[[entity]]\nScore = [1]\n[[system]]\nname = \"cut\"\nquery = [\"mut Score\"]\n[[system.do]]\neach = 0\ncode = [\"min Score.v 25\"]\n[[system]]\nname = \"double\"\nquery = [\"mut Score\"]\n[[system.do]]\neach = 0\ncode = [\"mul Score.v 2\"]\n[[system]]\nname = \"earn\"\nquery = [\"mut Score\"]\n[[system.do]]\neach = 0\ncode = [\"add Score.v 3\"]\n[[chain]]\nitems = [\"earn\", \"double\", \"cut\"]\n",
+            2,
+            "0v1 Score 22\n",
+        ),
     ] {
         let text = world(rt.alloc(), runs, entities)?;
         let other = first_other(rt, rt.alloc(), line, file, text.as_str())?;

@@ -1,4 +1,4 @@
--- A state keeps the memories of its schedule: as a system starts or ends, as the clock goes on.
+-- A state keeps the memories of its schedule: as a system starts or ends, as a condition is asked, as the clock goes on.
 use Rattle.std.proofs.Common.{ℕ, ℤ, ◌<◌, Bool, true, false, ◌≡◌, ◌==◌, List, length, get_or, refl, sym, ◌∙◌, ap, subst, arith}
 use Rattle.std.proofs.lemmas.Bool.{eq-eqb, eqb-true, false≢true}
 use Rattle.std.proofs.lemmas.List.{length-map}
@@ -6,11 +6,11 @@ use Rattle.entity_table.proofs.Edits.{get_or-update_at}
 use Rattle.model.specs.Lists.{update_at}
 use Rattle.model.specs.state.State.{EventQueue, Memory, State, no_memory}
 use Rattle.model.specs.state.Events.{queue_of}
-use Rattle.model.specs.steps.Schedule.{Schedule, params_of}
+use Rattle.model.specs.steps.Schedule.{Schedule, params_of, access_of}
 use Rattle.model.specs.runs.RunState.{memory_after_run, next_tick, opening, with_registers}
 use Rattle.model.proofs.lists.Lists.{length-update_at, get_or-update_at_other, get_or-update_at-view}
 use Rattle.body.specs.Seen.{Seen}
-use Rattle.body.specs.Steps.{at_clock, laid, noted}
+use Rattle.body.specs.Steps.{asked_at, at_clock, laid, noted}
 use Rattle.engine.specs.Meanings.{HasMemories}
 
 -- there is a cursor for each reader after a run was noted, whose readers these are
@@ -45,6 +45,15 @@ module _ (s : Schedule) (state : State) (has : HasMemories s state) where
     conditions = has.conditions;
     system_readers = readers-noted (length s.systems) n tick (λ k. (params_of s k).reads) state.events state.systems has.systems has.system_readers;
     condition_readers = has.condition_readers;
+  }
+
+  -- after a condition was asked
+  pub memories_asked : (c tick : ℕ) → HasMemories s (asked_at c (access_of s c).reads tick state)
+  memories_asked c tick = record {
+    systems = has.systems;
+    conditions = length-update_at c (memory_after_run tick (access_of s c).reads state.events) state.conditions ∙ has.conditions;
+    system_readers = has.system_readers;
+    condition_readers = readers-noted (length s.conditions) c tick (λ k. (access_of s k).reads) state.events state.conditions has.conditions has.condition_readers;
   }
 
   -- after an outcome was laid over it

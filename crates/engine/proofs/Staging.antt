@@ -4,22 +4,21 @@ use Rattle.std.proofs.lemmas.Bool.{and_parts}
 use Rattle.std.proofs.lemmas.List.{length-reverse, reverse-append}
 use Rattle.std.specs.Option.{option_and_then}
 use Rattle.model.specs.declared.steps.Step.{Step}
-use Rattle.model.specs.declared.steps.Step.TheVariants.{Start, Finish, Sync}
+use Rattle.model.specs.declared.steps.Step.TheVariants.{Cond, Start, Skip, Finish, Sync}
 use Rattle.model.specs.declared.steps.Ready.TheVariants as ready
 use Rattle.model.specs.Lists.{has, first_some, IsIn}
 use Rattle.model.specs.state.State.{State}
 use Rattle.model.specs.shown.Outcome.{BodyMeaning}
 use Rattle.model.specs.steps.Schedule.{Schedule}
-use Rattle.model.specs.steps.Lawful.{IsLawful, IsComplete, May, MayStart, MaySync, MaySkip, MayAsk, NoneRuns, runs}
+use Rattle.model.specs.steps.Lawful.{IsLawful, IsComplete, May, MayStart, NoneRuns, runs}
 use Rattle.model.specs.steps.Ready.{IsReady}
 use Rattle.model.specs.steps.Widths.{IsWide, IsNextWide, without, running_after}
-use Rattle.model.specs.runs.RunState.{between, begin_run, has_tick, has_ids_to_start}
+use Rattle.model.specs.runs.RunState.{between, begin_run, has_tick, has_ids_to_start, answer_of}
 use Rattle.model.specs.runs.Meaning.{with_running_systems, interleaved, interleaved_step, IsTrueAnswer}
 use Rattle.model.specs.runs.Causes.{Cause, unless, interleaved_cause, interleaved_cause_of, interleaved_cause_at}
 use Rattle.model.specs.runs.Causes.Cause.{NoTick, NoIds}
 use Rattle.model.specs.runs.WideRuns.{IsWideRun, AreWideRuns, WideStops, IsWideStopped}
 use Rattle.model.proofs.lists.Members.{in-map}
-use Rattle.model.proofs.progress.Progress.{covered_known}
 use Rattle.model.proofs.progress.Ends.{lists_end}
 use Rattle.model.proofs.progress.Single.{wide_lawful}
 use Rattle.model.proofs.progress.Width.{running_is}
@@ -28,7 +27,13 @@ use Rattle.model.proofs.serial.Holding.{Holds, holds}
 use Rattle.executor_core.specs.Stands.{Stand, Stands, room}
 use Rattle.worker_pool.specs.JobOut.{JobOut}
 use Rattle.engine.specs.Jobs.{running_of, systems_of, woven}
-use Rattle.engine.specs.Stage.{Stage}
+use Rattle.body.specs.Steps.{ticked}
+use Rattle.engine.specs.declared.turn.Quiet.{Quiet}
+use Rattle.engine.specs.declared.turn.Quiet.TheVariants as quiet
+use Rattle.engine.specs.declared.turn.Turn.TheVariants as turn
+use Rattle.engine.specs.Quiets.{IsStepOf, TakesTick, after_quiet}
+use Rattle.engine.specs.Stage.{Stage, IsTurn}
+use Rattle.engine.proofs.Weaving.{ask_woven, sync_woven}
 
 -- ---- numbers that run
 
@@ -68,6 +73,12 @@ module _ {B : Type 0} (width : ℕ) (s : Schedule) (bodies : List BodyMeaning) (
         go [] e = refl
         go (x ∷ xs) e = absurd (omega (arith, e))
 
+    next-ask : (c : ℕ) (answer : Bool) → length out < width → IsReady s h (Some (ready.Ask c)) → IsNextWide width s h (Cond c answer)
+    next-ask c answer free is = ((let e = stage.running in omega arith), (ready.Ask c, answer, is, refl))
+
+    next-skip : (n : ℕ) → length out < width → IsReady s h (Some (ready.Skip n)) → IsNextWide width s h (Skip n)
+    next-skip n free is = ((let e = stage.running in omega arith), (ready.Skip n, false, is, refl))
+
     next-start : (n : ℕ) → length out < width → IsReady s h (Some (ready.Start n)) → IsNextWide width s h (Start n)
     next-start n free is = ((let e = stage.running in omega arith), (ready.Start n, false, is, refl))
 
@@ -89,16 +100,39 @@ module _ {B : Type 0} (width : ℕ) (s : Schedule) (bodies : List BodyMeaning) (
       meaning = ap (option_and_then (interleaved_step s bodies (Start n))) stage.meaning ∙ e;
     }
 
-    -- after a sync point
-    pub stage_sync : (k : ℕ) (state' : State) → length out < width → IsReady s h (Some (ready.Sync k)) → MaySync s h k →
-        interleaved_step s bodies (Sync k) (woven state out) ≡ Some (woven state' out) → Stage width s bodies start (Sync k ∷ h) state' out
-    stage_sync k state' free is may e = record {
-      wide = (may, next-sync k free is, stage.wide);
-      running = stage.running;
-      room = stage.room;
-      answers = (tt, stage.answers);
-      meaning = ap (option_and_then (interleaved_step s bodies (Sync k))) stage.meaning ∙ e;
-    }
+    -- after what needs no body
+    pub stage_quiet : (q : Quiet) (running : ℕ) (taken : Step) → running ≡ length out → IsTurn s h running width (Some (turn.Quiet q)) → IsStepOf s q state taken →
+        (TakesTick q → has_tick state ≡ true) → Stage width s bodies start (taken ∷ h) (after_quiet s q state) out
+    stage_quiet (quiet.Ask c) running taken many next is ticks =
+        subst (λ x. Stage width s bodies start (x ∷ h) (after_quiet s (quiet.Ask c) state) out) (sym is.1) (record {
+          wide = (next.allowed, next-ask c is.0 (let r = next.room in omega arith) next.is, stage.wide);
+          running = stage.running;
+          room = stage.room;
+          answers = (subst (IsTrueAnswer s (Cond c is.0)) (sym stage.meaning) is.2, stage.answers);
+          meaning = ap (option_and_then (interleaved_step s bodies (Cond c is.0))) stage.meaning ∙ ask_woven s bodies c is.0 state (map running_of out) (ticks tt);
+        })
+    stage_quiet (quiet.Skip n) running taken many next is ticks =
+        subst (λ x. Stage width s bodies start (x ∷ h) state out) (sym is) (record {
+          wide = (next.allowed, next-skip n (let r = next.room in omega arith) next.is, stage.wide);
+          running = stage.running;
+          room = stage.room;
+          answers = (tt, stage.answers);
+          meaning = ap (option_and_then (interleaved_step s bodies (Skip n))) stage.meaning;
+        })
+    stage_quiet (quiet.Sync k) running taken many next is ticks =
+        subst (λ x. Stage width s bodies start (x ∷ h) (ticked state) out) (sym is) (record {
+          wide = (next.allowed, next-sync k (let r = next.room in omega arith) next.is, stage.wide);
+          running = stage.running;
+          room = stage.room;
+          answers = (tt, stage.answers);
+          meaning = ap (option_and_then (interleaved_step s bodies (Sync k))) stage.meaning ∙ sync_woven s bodies k state (map running_of out) (ticks tt);
+        })
+
+    -- its step may come
+    pub may_quiet : (q : Quiet) (running : ℕ) (taken : Step) → IsTurn s h running width (Some (turn.Quiet q)) → IsStepOf s q state taken → May s h taken
+    may_quiet (quiet.Ask c) running taken next is = subst (May s h) (sym is.1) next.allowed
+    may_quiet (quiet.Skip n) running taken next is = subst (May s h) (sym is) next.allowed
+    may_quiet (quiet.Sync k) running taken next is = subst (May s h) (sym is) next.allowed
 
     -- after a finish
     pub stage_finish : (n : ℕ) (state' : State) (out' : List (JobOut B)) → (length out ≡ width) ⊎ IsReady s h None → runs h n ≡ true →
@@ -144,9 +178,13 @@ module _ {B : Type 0} (width : ℕ) (s : Schedule) (bodies : List BodyMeaning) (
     stops_start n free is may spent = stops-at (Start n) NoTick may (next-start n free is) tt
         (ap (λ t. first_some (unless t NoTick) (unless (has_ids_to_start s n (between state)) NoIds)) spent)
 
-    -- at a sync point without a tick
-    pub stops_sync : (k : ℕ) → length out < width → IsReady s h (Some (ready.Sync k)) → MaySync s h k → has_tick state ≡ false → WideStops width s bodies start NoTick
-    stops_sync k free is may spent = stops-at (Sync k) NoTick may (next-sync k free is) tt (ap (λ t. unless t NoTick) spent)
+    -- at what needs no body, without a tick
+    pub stops_quiet : (q : Quiet) (running : ℕ) → running ≡ length out → IsTurn s h running width (Some (turn.Quiet q)) → TakesTick q → has_tick state ≡ false → WideStops width s bodies start NoTick
+    stops_quiet (quiet.Ask c) running many next ticks spent = stops-at (Cond c (answer_of s c (between state))) NoTick next.allowed
+        (next-ask c (answer_of s c (between state)) (let r = next.room in omega arith) next.is)
+        (subst (IsTrueAnswer s (Cond c (answer_of s c (between state)))) (sym stage.meaning) refl) (ap (λ t. unless t NoTick) spent)
+    stops_quiet (quiet.Skip n) running many next ticks spent = absurd ticks
+    stops_quiet (quiet.Sync k) running many next ticks spent = stops-at (Sync k) NoTick next.allowed (next-sync k (let r = next.room in omega arith) next.is) tt (ap (λ t. unless t NoTick) spent)
 
     -- at the finish of a system that refuses
     pub stops_finish : (n : ℕ) (cause : Cause) → (length out ≡ width) ⊎ IsReady s h None → runs h n ≡ true → interleaved_cause_of s bodies (Finish n) (woven state out) ≡ Some cause → WideStops width s bodies start cause
@@ -170,13 +208,6 @@ pub stopped : (width : ℕ) (s : Schedule) (bodies : List BodyMeaning) (times : 
 stopped width s bodies times w hs middle cause ran fewer stops = record { complete_runs = hs; fewer = fewer; middle = middle; ran = ran; stopped = stops }
 
 -- ---- a turn of the loop
-
--- without conditions none is asked, and no system is skipped
-pub no_ask : (s : Schedule) (h : List Step) (c : ℕ) → s.conditions ≡ [] → MayAsk s h c → ⊥
-no_ask s h c none may = let known : c < length s.conditions = may.known in let e = ap length none in omega (arith, e)
-
-pub no_skip : (s : Schedule) (h : List Step) (n : ℕ) → s.conditions ≡ [] → MaySkip s h n → ⊥
-no_skip s h n none may = let known : may.refused.0 < length s.conditions = covered_known s may.refused.0 n may.refused.1 in let e = ap length none in omega (arith, e)
 
 -- the measure falls with each step
 pub falls : (core : Stand) (s : Schedule) (items longer : List Step) (step : Step) → core.schedule ≡ s → Stands core (step ∷ reverse items) → reverse longer ≡ step ∷ reverse items →

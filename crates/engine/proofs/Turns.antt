@@ -2,33 +2,33 @@
 use Rattle.std.proofs.Common.{ℕ, ◌<◌, ◌≤◌, Bool, true, false, ◌≡◌, ◌⊎◌, inl, inr, List, [], ◌∷◌, length, map, Option, Some, None, refl, sym, ◌∙◌, ap, subst, arith}
 use Rattle.std.specs.List.{AllByRecursion}
 use Rattle.model.specs.declared.steps.Step.{Step}
-use Rattle.model.specs.declared.steps.Step.TheVariants.{Sync}
 use Rattle.model.specs.declared.steps.Ready.TheVariants as ready
 use Rattle.model.specs.Lists.{has}
 use Rattle.model.specs.access.Access.{Params}
 use Rattle.model.specs.state.State.{State}
 use Rattle.model.specs.shown.Outcome.{BodyMeaning}
-use Rattle.model.specs.steps.Schedule.{Schedule, params_of}
-use Rattle.model.specs.steps.Lawful.{MayStart, MaySync}
+use Rattle.model.specs.steps.Schedule.{Schedule, params_of, access_of}
+use Rattle.model.specs.steps.Lawful.{MayStart}
 use Rattle.model.specs.steps.Ready.{IsReady}
-use Rattle.model.specs.runs.RunState.{has_tick, next_tick, opening}
-use Rattle.model.specs.runs.Meaning.{interleaved_step}
+use Rattle.model.specs.runs.RunState.{next_tick, opening}
 use Rattle.archetype_store.specs.Layout.{Archetype, AreAllHome, IsLayoutOf}
 use Rattle.body.specs.Lent.{lent_in}
 use Rattle.body.specs.Out.{IsApartFrom, IsWrittenBy}
 use Rattle.body.specs.Steps.{StateValue, store_of, ticked}
-use Rattle.body.proofs.Outs.{out-same, all-home}
+use Rattle.body.proofs.Outs.{out-same, all-home, home-apart}
 use Rattle.executor_core.specs.Stands.{Stand, Stands}
 use Rattle.worker_pool.specs.JobOut.{JobOut}
 use Rattle.engine.specs.declared.turn.Turn.{Turn}
 use Rattle.engine.specs.declared.turn.Turn.TheVariants as turn
+use Rattle.engine.specs.declared.turn.Quiet.{Quiet}
+use Rattle.engine.specs.declared.turn.Quiet.TheVariants as quiet
+use Rattle.engine.specs.Quiets.{IsAllowed as IsAllowedQuiet, after_quiet}
 use Rattle.engine.specs.Jobs.{running_of, systems_of, held_by, woven, Placed}
 use Rattle.engine.specs.Meanings.{meanings, HasMemories, Suits}
 use Rattle.engine.specs.Stage.{Stage, IsTake, IsTurn}
 use Rattle.engine.proofs.Placing.{start-free, apart-held, placed_first, suits_last, means_last}
 use Rattle.engine.proofs.Staging.{holds_there}
-use Rattle.engine.proofs.Remembering.{memories_at, memories_open}
-use Rattle.engine.proofs.Weaving.{sync_woven}
+use Rattle.engine.proofs.Remembering.{memories_at, memories_open, memories_asked}
 
 -- ---- what is next, told of a core
 
@@ -39,8 +39,8 @@ module _ (core : Stand) (s : Schedule) (h : List Step) (running width : ℕ) (ne
   pub turn_start : (n : ℕ) → next ≡ turn.Start n → IsTake s h running width (ready.Start n) (MayStart s h n)
   turn_start n is = subst (λ t. IsTurn s h running width (Some t)) is there
 
-  pub turn_sync : (k : ℕ) → next ≡ turn.Sync k → IsTake s h running width (ready.Sync k) (MaySync s h k)
-  turn_sync k is = subst (λ t. IsTurn s h running width (Some t)) is there
+  pub turn_quiet : (q : Quiet) → next ≡ turn.Quiet q → IsTurn s h running width (Some (turn.Quiet q))
+  turn_quiet q is = subst (λ t. IsTurn s h running width (Some t)) is there
 
   pub turn_collect : next ≡ turn.Collect → (0 < running) × ((running ≡ width) ⊎ IsReady s h None)
   turn_collect is = subst (λ t. IsTurn s h running width (Some t)) is there
@@ -71,6 +71,17 @@ module _ {B : Type 0} (meaning : B → Params → BodyMeaning) (fits : B → Par
         apart = apart-held meaning fits where_is s bodies slots out w placed h holds (params_of s n) may.apart;
       }
 
+  -- what needs no body may be done
+  pub quiet_allowed : (q : Quiet) (width running : ℕ) (start : State) (h : List Step) → Stage width s bodies start h w.state out → IsLayoutOf w.state.world.slots w.layout →
+      IsTurn s h running width (Some (turn.Quiet q)) → IsAllowedQuiet s w q
+  quiet_allowed (quiet.Ask c) width running start h stage laid next = record {
+    known = next.allowed.known;
+    home = home-apart (store_of w) (held_by out) (access_of s c) laid placed.held
+        (apart-held meaning fits where_is s bodies slots out w placed h (holds_there width s bodies start h w.state out stage) (access_of s c) next.allowed.apart);
+  }
+  quiet_allowed (quiet.Skip n) width running start h stage laid next = tt
+  quiet_allowed (quiet.Sync k) width running start h stage laid next = tt
+
   -- at a later tick, with other memories, which are those of the schedule too
   pub placed_moved : (later : StateValue) → HasMemories s later.state → w.state.world.clock ≤ later.state.world.clock → later.state.world.slots ≡ w.state.world.slots → later.layout ≡ w.layout →
       Placed meaning fits where_is s bodies slots out later
@@ -98,6 +109,18 @@ module _ {B : Type 0} (meaning : B → Params → BodyMeaning) (fits : B → Par
       (let e = ap (λ (x : StateValue). x.state.world.clock) is in omega arith)
       (ap (λ (x : StateValue). x.state.world.slots) is) (ap (λ (x : StateValue). x.layout) is)
 
+  -- after what needs no body
+  pub placed_quiet : (q : Quiet) (later : StateValue) → later ≡ record { state = after_quiet s q w.state; layout = w.layout } → Placed meaning fits where_is s bodies slots out later
+  placed_quiet (quiet.Ask c) later is = placed_moved later
+      (subst (λ (x : StateValue). HasMemories s x.state) (sym is) (memories_asked s (ticked w.state) (memories_at s w.state placed.memories (next_tick w.state)) c (next_tick w.state)))
+      (let e = ap (λ (x : StateValue). x.state.world.clock) is in omega arith)
+      (ap (λ (x : StateValue). x.state.world.slots) is) (ap (λ (x : StateValue). x.layout) is)
+  placed_quiet (quiet.Skip n) later is = placed_moved later
+      (subst (λ (x : StateValue). HasMemories s x.state) (sym is) placed.memories)
+      (let e = ap (λ (x : StateValue). x.state.world.clock) is in omega arith)
+      (ap (λ (x : StateValue). x.state.world.slots) is) (ap (λ (x : StateValue). x.layout) is)
+  placed_quiet (quiet.Sync k) later is = placed_later later is
+
   -- after the opening
   pub placed_opened : (later : StateValue) → later ≡ record { state = opening w.state; layout = w.layout } → Placed meaning fits where_is s bodies slots out later
   placed_opened later is = placed_moved later
@@ -124,10 +147,3 @@ pub placed_open : {B : Type 0} (meaning : B → Params → BodyMeaning) (fits : 
 placed_open meaning fits where_is s slots out w later none is suits home =
     subst (λ xs. Placed meaning fits where_is s (meanings meaning s slots) slots xs later) (sym none)
     (placed_opened meaning fits where_is s (meanings meaning s slots) slots [] w (placed_first meaning fits where_is s slots w suits home) later is)
-
--- a sync point
-pub sync_there : {B : Type 0} (s : Schedule) (bodies : List BodyMeaning) (k : ℕ) (w later : StateValue) (out : List (JobOut B)) → has_tick w.state ≡ true →
-    later ≡ record { state = ticked w.state; layout = w.layout } → interleaved_step s bodies (Sync k) (woven w.state out) ≡ Some (woven later.state out)
-sync_there s bodies k w later out tick is =
-    sync_woven s bodies k w.state (map running_of out) tick
-    ∙ ap (λ (state : State). Some (woven state out)) (sym (ap (λ (x : StateValue). x.state) is))

@@ -1,8 +1,8 @@
--- What a start, a finish and a sync point do to an interleaved run with nothing commanded or granted.
+-- What a start, a finish, a sync point and a condition do to an interleaved run with nothing commanded or granted.
 use Rattle.std.proofs.Common.{ℕ, ℤ, ◌≤◌, Bool, true, false, ◌≡◌, ◌↔◌, List, [], ◌∷◌, ◌++◌, length, Option, Some, None, Result, Ok, refl, sym, ◌∙◌, ap}
 use Rattle.std.proofs.lemmas.Bool.{true_from_ne_false}
 use Rattle.std.specs.Option.{unwrap_or, option_and_then}
-use Rattle.model.specs.declared.steps.Step.TheVariants.{Start, Finish, Sync}
+use Rattle.model.specs.declared.steps.Step.TheVariants.{Cond, Start, Finish, Sync}
 use Rattle.model.specs.Lists.{all_index, update_at, with_at, provided}
 use Rattle.model.specs.declared.entities.Entity.{Entity}
 use Rattle.model.specs.state.State.{Slot, Resource, EventQueue, Memory, State, empty_queue, most_indices}
@@ -12,13 +12,14 @@ use Rattle.model.specs.state.Ids.{grant, granted_ids}
 use Rattle.model.specs.shown.Input.{Shown, shown}
 use Rattle.model.specs.shown.Outcome.{Command, Outcome, BodyMeaning, words_written, value_written, events_sent}
 use Rattle.model.specs.shown.Overlay.{slots_after, resources_after, queues_after, has_event_numbers}
-use Rattle.model.specs.steps.Schedule.{Schedule, params_of}
-use Rattle.model.specs.runs.RunState.{RunState, RunningSystem, between, has_tick, next_tick, memory_of_system, with_registers, spawns_of, ids_of_start, can_start, started_system, after_start, can_finish, overlaid, body_of, finish, finish_with, after_sync}
+use Rattle.model.specs.access.Condition.{holds}
+use Rattle.model.specs.steps.Schedule.{Schedule, params_of, access_of, condition_of}
+use Rattle.model.specs.runs.RunState.{RunState, RunningSystem, between, has_tick, next_tick, memory_of_condition, memory_of_system, with_registers, spawns_of, ids_of_start, can_start, started_system, after_start, can_finish, overlaid, body_of, finish, finish_with, after_sync, after_condition, answer_of}
 use Rattle.model.specs.runs.Meaning.{Interleaved, running_system, without_system, with_running_systems, interleaved_step}
 use Rattle.model.proofs.lists.Lists.{map_index-id}
 use Rattle.model.proofs.serial.Engine.{grant-none, granted_ids-none, can_start-no_ids, started_run, memories_started, shown_with, after_sync-between, with_at-same}
 use Rattle.body.specs.Seen.{Seen}
-use Rattle.body.specs.Steps.{at_clock, laid, noted, ticked}
+use Rattle.body.specs.Steps.{asked_at, at_clock, laid, noted, ticked}
 
 -- a run of a state with these running systems
 abbrev pub over : State → List RunningSystem → Interleaved
@@ -155,6 +156,21 @@ pub sync_woven : (s : Schedule) (bodies : List BodyMeaning) (k : ℕ) (state : S
 sync_woven s bodies k state running tick =
     ap (λ b. provided b (let w : Interleaved = record { run = after_sync s k (between state); running_systems = running } in w)) tick
     ∙ ap (λ (run : RunState). Some (let w : Interleaved = record { run = run; running_systems = running } in w)) (after_sync-between s k state)
+
+-- ---- a condition
+
+-- to ask a condition moves the clock, and notes the asking at the new tick
+pub ask_woven : (s : Schedule) (bodies : List BodyMeaning) (c : ℕ) (answer : Bool) (state : State) (running : List RunningSystem) → has_tick state ≡ true →
+    interleaved_step s bodies (Cond c answer) (over state running) ≡ Some (over (asked_at c (access_of s c).reads (next_tick state) (ticked state)) running)
+unfolding after_condition
+ask_woven s bodies c answer state running tick =
+    ap (λ b. provided b (over (asked_at c (access_of s c).reads (next_tick state) (ticked state)) running)) tick
+
+-- what it answers
+pub answer_woven : (s : Schedule) (c : ℕ) (state : State) →
+    answer_of s c (between state) ≡ holds (condition_of s c) (memory_of_condition state c).last_run (memory_of_condition state c).cursors state
+unfolding answer_of
+answer_woven s c state = refl
 
 -- ---- ticks
 

@@ -4,3 +4,4 @@ pub mod EngineValue
 pub mod Jobs
 pub mod Stage
 pub mod FirstState
+pub mod Quiets

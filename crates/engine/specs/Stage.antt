@@ -6,7 +6,7 @@ use Rattle.model.specs.declared.steps.Ready.TheVariants as ready
 use Rattle.model.specs.state.State.{State}
 use Rattle.model.specs.shown.Outcome.{BodyMeaning}
 use Rattle.model.specs.steps.Schedule.{Schedule}
-use Rattle.model.specs.steps.Lawful.{MayStart, MaySync, NoneRuns, IsComplete}
+use Rattle.model.specs.steps.Lawful.{MayAsk, MaySkip, MayStart, MaySync, NoneRuns, IsComplete}
 use Rattle.model.specs.steps.Ready.{IsReady}
 use Rattle.model.specs.steps.Widths.{IsWide, running_after}
 use Rattle.model.specs.runs.Meaning.{interleaved, HasTrueAnswers}
@@ -14,6 +14,7 @@ use Rattle.worker_pool.specs.JobOut.{JobOut}
 use Rattle.engine.specs.Jobs.{woven}
 use Rattle.engine.specs.declared.turn.Turn.{Turn}
 use Rattle.engine.specs.declared.turn.Turn.TheVariants as turn
+use Rattle.engine.specs.declared.turn.Quiet.TheVariants as quiet
 
 -- after this history as many systems run as jobs are out, and the interleaved meaning is this state with these jobs out
 pub record Stage {B : Type 0} (width : ℕ) (s : Schedule) (bodies : List BodyMeaning) (start : State) (h : List Step) (state : State) (out : List (JobOut B)) : Type 0 where
@@ -33,5 +34,7 @@ pub record IsTake (s : Schedule) (h : List Step) (running width : ℕ) (offer : 
 abbrev pub IsTurn : Schedule → List Step → ℕ → ℕ → Option Turn → Type 0
 IsTurn s h running width None = (running ≡ 0) × (NoneRuns h → IsComplete s h)
 IsTurn s h running width (Some (turn.Start n)) = IsTake s h running width (ready.Start n) (MayStart s h n)
-IsTurn s h running width (Some (turn.Sync k)) = IsTake s h running width (ready.Sync k) (MaySync s h k)
+IsTurn s h running width (Some (turn.Quiet (quiet.Ask c))) = IsTake s h running width (ready.Ask c) (MayAsk s h c)
+IsTurn s h running width (Some (turn.Quiet (quiet.Skip n))) = IsTake s h running width (ready.Skip n) (MaySkip s h n)
+IsTurn s h running width (Some (turn.Quiet (quiet.Sync k))) = IsTake s h running width (ready.Sync k) (MaySync s h k)
 IsTurn s h running width (Some turn.Collect) = (0 < running) × ((running ≡ width) ⊎ IsReady s h None)

@@ -10,7 +10,7 @@ ghost use Rattle.executor_core.specs.Stands.{Stands};
 ghost use Rattle.engine.specs.Meanings.{meanings, Suits};
 ghost use Rattle.engine.specs.History.{history_of};
 
-use crate::effects::{finish, open, start, sync};
+use crate::effects::{do_quiet, finish, open, start};
 use crate::faults::RunFault;
 use crate::turn::{Turn, next_turn};
 use body::open_state::OpenState;
@@ -95,7 +95,6 @@ fn run_turns<'s, M: Mode<'s>, B: Body + 's>(
     ensures meanings { OnOk result (meanings B.meaning built.now slots.new ≡ meanings B.meaning built.now slots.old) }
     ensures home { OnOk result (AreAllHome state.new.layout) }
 {
-    built.no_conditions();
     let width = mode.width();
     let mut core = Core::new(alloc, built)?;
     let mut steps = Vec::new(alloc);
@@ -108,9 +107,10 @@ fn run_turns<'s, M: Mode<'s>, B: Body + 's>(
                 start(alloc, built, slots, state, pool, mode, system, number)?;
                 take(&mut core, &mut steps, Step::Start(system))?;
             }
-            Turn::Sync(point) => {
-                sync(state)?;
-                take(&mut core, &mut steps, Step::Sync(point))?;
+            Turn::Quiet(quiet) => {
+                state.law();
+                let step = do_quiet(alloc, built, state, quiet)?;
+                take(&mut core, &mut steps, step)?;
             }
             Turn::Collect => {
                 let system = finish(built, slots, state, pool, mode)?;

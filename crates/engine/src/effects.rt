@@ -1,4 +1,4 @@
-// What the opening, a start, a finish and a sync point do to the state, the bodies and the jobs that are out.
+// What the opening, a start, a finish and what needs no body do to the state, the bodies and the jobs that are out.
 
 ghost use Rattle.std.specs.Prelude.{◌≡◌, ◌<◌, ◌≤◌, ◌+◌, ◌↔◌, ◌⊎◌, ◌++◌, ℕ, List, [], true, false, length, set, Some, None, Ok, Err, is_some, IfOk, OnOk, OnErr, IsErr, IsErrOf};
 ghost use Rattle.std.specs.List.{AllByRecursion};
@@ -7,8 +7,9 @@ ghost use Rattle.model.specs.Lists.{has, IsIn};
 ghost use Rattle.model.specs.access.Access.{no_params};
 ghost use Rattle.model.specs.shown.Input.{shown};
 ghost use Rattle.model.specs.shown.Outcome.{BodyMeaning, untouched};
-ghost use Rattle.model.specs.steps.Schedule.{params_of};
-ghost use Rattle.model.specs.runs.RunState.{between, begin_run, opening, has_tick, next_tick, memory_of_system};
+ghost use Rattle.model.specs.access.Condition.{holds};
+ghost use Rattle.model.specs.steps.Schedule.{params_of, access_of, condition_of};
+ghost use Rattle.model.specs.runs.RunState.{between, begin_run, opening, has_tick, next_tick, memory_of_condition, memory_of_system};
 ghost use Rattle.model.specs.runs.Meaning.{interleaved_step};
 ghost use Rattle.model.specs.runs.Causes.{interleaved_cause_of};
 ghost use Rattle.model.specs.runs.Causes.{Cause as cause};
@@ -17,16 +18,19 @@ ghost use Rattle.body.specs.declared.system_body.BodyFault.TheVariants.{Refused}
 ghost use Rattle.body.specs.Columns.{Column};
 ghost use Rattle.body.specs.Lent.{AreLent, lent_in, with_away, with_back};
 ghost use Rattle.body.specs.Out.{IsWrittenBy, AreOut, IsApartFrom};
-ghost use Rattle.body.specs.Steps.{laid, noted, store_of, ticked};
+ghost use Rattle.body.specs.Steps.{asked_at, laid, noted, store_of, ticked};
 ghost use Rattle.worker_pool.specs.JobOut.{JobOut};
 ghost use Rattle.engine.specs.Meanings.{body_at, HasMemories};
+ghost use Rattle.engine.specs.Quiets.{IsAllowed, IsStepOf, TakesTick, after_quiet};
 ghost use Rattle.engine.specs.Jobs.{systems_of, held_by, woven, Placed};
 
 use crate::faults::RunFault;
+use crate::turn::Quiet;
 use body::open_state::OpenState;
 use body::system_body::{Body, BodyFault};
 use body::view::View;
 use change_ticks::clock::ClockSpent;
+use executor_core::Step;
 use schedule_builder::built::Built;
 use std::alloc::Global;
 use worker_pool::{Done, HandFault, Mode, Pool, Start};
@@ -40,13 +44,62 @@ pub(crate) fn open(state: &mut OpenState) -> Result<(), ClockSpent>
     state.begin()
 }
 
-/// A sync point.
-pub(crate) fn sync(state: &mut OpenState) -> Result<(), ClockSpent>
-    ensures moved { OnOk result (state.new ≡ record { state = ticked state.old.state; layout = state.old.layout }) }
-    ensures spent { IsErr result ↔ (has_tick state.old.state ≡ false) }
+/// Does what needs no body, and gives the step: a condition is asked, a system skipped, or a sync point done.
+pub(crate) fn do_quiet(
+    alloc: Global,
+    built: &Built,
+    state: &mut OpenState,
+    quiet: Quiet,
+) -> Result<Step, RunFault>
+    requires memories { HasMemories built.now state.old.state }
+    requires allowed { IsAllowed built.now state.old quiet }
+    ensures step { IfOk result (λ step. IsStepOf built.now quiet state.old.state step) }
+    ensures moved { OnOk result (state.new ≡ record { state = after_quiet built.now quiet state.old.state; layout = state.old.layout }) }
+    ensures ticked { OnOk result (TakesTick quiet → has_tick state.old.state ≡ true) }
+    ensures spent { result ≡ Err RunFault.ClockSpent → TakesTick quiet × (has_tick state.old.state ≡ false) }
+    ensures unspoiled { result ≡ Err RunFault.Spoiled → ⊥ }
+    ensures unworked { result ≡ Err RunFault.NoWorker → ⊥ }
+    ensures unrefused { (k : ℕ) → result ≡ Err (RunFault.BodyFault k) → ⊥ }
 {
-    state.next()?;
-    Ok(())
+    match quiet {
+        Quiet::Ask(condition) => {
+            let answer = ask(alloc, built, state, condition)?;
+            Ok(Step::Cond(condition, answer))
+        }
+        Quiet::Skip(system) => Ok(Step::Skip(system)),
+        Quiet::Sync(point) => {
+            state.next()?;
+            Ok(Step::Sync(point))
+        }
+    }
+}
+
+// A condition is asked: what it means on the state, at the tick to come, which becomes the clock.
+fn ask(
+    alloc: Global,
+    built: &Built,
+    state: &mut OpenState,
+    condition: u32,
+) -> Result<bool, RunFault>
+    requires known { condition < length built.now.conditions }
+    requires memories { HasMemories built.now state.old.state }
+    requires home { AllByRecursion (λ query. ArePickedHome query state.old.layout) (access_of built.now condition).queries }
+    ensures answer { IfOk result (λ answer. answer ≡ holds (condition_of built.now condition) (memory_of_condition state.old.state condition).last_run (memory_of_condition state.old.state condition).cursors state.old.state) }
+    ensures asked { OnOk result (state.new ≡ record { state = asked_at condition (access_of built.now condition).reads (next_tick state.old.state) (ticked state.old.state); layout = state.old.layout }) }
+    ensures ticked { OnOk result (has_tick state.old.state ≡ true) }
+    ensures spent { result ≡ Err RunFault.ClockSpent → has_tick state.old.state ≡ false }
+    ensures unspoiled { result ≡ Err RunFault.Spoiled → ⊥ }
+    ensures unworked { result ≡ Err RunFault.NoWorker → ⊥ }
+    ensures unrefused { (k : ℕ) → result ≡ Err (RunFault.BodyFault k) → ⊥ }
+{
+    let asked = built.condition(condition);
+    state.coming()?;
+    let answer = state.ask(alloc, condition as usize, asked.cond())?;
+    let Ok(tick) = state.next() else {
+        unreachable!();
+    };
+    state.note_condition(condition as usize, asked.access(), tick);
+    Ok(answer)
 }
 
 // What a system is shown as it starts: its run is noted at the tick to come, which becomes the clock.

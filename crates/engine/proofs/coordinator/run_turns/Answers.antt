@@ -1,17 +1,18 @@
 use Rattle.std.proofs.Common.{◌≡◌, ◌<◌, ◌∷◌, [], List, length, reverse, Some, Err, refl, sym, ap, ◌∙◌, subst, true, arith}
 use Rattle.engine.specs.declared.faults.RunFault.{RunFault}
+use Rattle.engine.specs.declared.turn.Turn.TheVariants as turn
 use Rattle.model.specs.declared.steps.Step.{Step}
-use Rattle.model.specs.declared.steps.Step.TheVariants.{Start, Finish, Sync}
+use Rattle.model.specs.declared.steps.Step.TheVariants.{Start, Finish}
 use Rattle.model.specs.runs.Causes.Cause.{Refused}
 use Rattle.model.specs.steps.Schedule.{Schedule}
-use Rattle.model.specs.steps.Lawful.{runs, IsComplete}
+use Rattle.model.specs.steps.Lawful.{runs, IsComplete, May}
+use Rattle.body.specs.Steps.{StateValue}
 use Rattle.executor_core.specs.Stands.{Stands}
 use Rattle.engine.specs.Meanings.{meanings}
-use Rattle.engine.specs.Stage.{Stage}
+use Rattle.engine.specs.Stage.{Stage, IsTurn}
 use Rattle.engine.proofs.Placing.{meanings_count}
-use Rattle.engine.proofs.Staging.{stage_open, stage_start, stage_sync, stage_finish, stage_end, running_there, none_there, stops_open, stops_start, stops_sync, stops_finish, falls}
-use Rattle.engine.proofs.Turns.{turn_start, turn_sync, turn_collect, waits, start_allowed, placed_later, placed_open, suits_end, means_end, home_end, sync_there}
-use Rattle.engine.proofs.Weaving.{has_tick_from}
+use Rattle.engine.proofs.Staging.{stage_open, stage_start, stage_quiet, may_quiet, stage_finish, stage_end, running_there, none_there, stops_open, stops_start, stops_quiet, stops_finish, falls}
+use Rattle.engine.proofs.Turns.{turn_start, turn_quiet, turn_collect, waits, start_allowed, quiet_allowed, placed_quiet, placed_open, suits_end, means_end, home_end}
 use Rattle.engine.proofs.coordinator.run_turns.Goals as goal
 
 pub loop-turn-init : goal.loop-turn-init
@@ -131,27 +132,11 @@ loop-turn-preserved-in-Continue-branch-4 g c =
       placed = started.placed bodies inv.placed;
     }
 
-pub returns-in_err-sync-in-Sync-clause-clock : goal.returns-in_err-sync-in-Sync-clause-clock
-returns-in_err-sync-in-Sync-clause-clock g c = λ e.
-    let meaning = g.B.Body.meaning in
-    let fits = g.B.Body.fits in
-    let there = g.M.Hosts.has_scope c.args.mode.now in
-    let width = g.M.Mode.width c.args.mode.now in
-    let s = c.args.built.now in
-    let bodies = meanings meaning s c.args.slots.now in
-    let start = c.args.state.now.state in
-    let inv = c.loop-turn.invariant in
-    let core = c.loop-turn.core in
-    let h = reverse c.loop-turn.steps.items in
-    let w = c.loop-turn.state in
-    let out = c.loop-turn.pool in
-    let next = turn_sync core s h c.count.result c.width-width.result c.in-Some.turn inv.schedule inv.stands c.in-Some.ensures c.in-Sync.point c.in-Sync.is in
-    let k = c.in-Sync.point in
-    let free : length out < width = let r = next.room in let a = c.count.ensures in let b = c.width-width.ensures.width in omega arith in
-    stops_sync width s bodies start h w.state out inv.stage k free next.is next.allowed (c.in_err-sync-in-Sync.ensures.spent.0 refl)
+pub do_quiet-requires-clause-memories : goal.do_quiet-requires-clause-memories
+do_quiet-requires-clause-memories g c = c.loop-turn.invariant.placed.memories
 
-pub take-requires-in-Sync-clause-may : goal.take-requires-in-Sync-clause-may
-take-requires-in-Sync-clause-may g c =
+pub do_quiet-requires-clause-allowed : goal.do_quiet-requires-clause-allowed
+do_quiet-requires-clause-allowed g c =
     let meaning = g.B.Body.meaning in
     let fits = g.B.Body.fits in
     let there = g.M.Hosts.has_scope c.args.mode.now in
@@ -164,7 +149,53 @@ take-requires-in-Sync-clause-may g c =
     let h = reverse c.loop-turn.steps.items in
     let w = c.loop-turn.state in
     let out = c.loop-turn.pool in
-    (turn_sync core core.schedule h c.count.result c.width-width.result c.in-Some.turn refl inv.stands c.in-Some.ensures c.in-Sync.point c.in-Sync.is).allowed
+    let q = c.in-Quiet.quiet in
+    let running = c.count.result in
+    let next = subst (λ room. IsTurn s h running room (Some (turn.Quiet q))) c.width-width.ensures.width
+    (turn_quiet core s h running c.width-width.result c.in-Some.turn inv.schedule inv.stands c.in-Some.ensures q c.in-Quiet.is) in
+    quiet_allowed meaning fits there s bodies c.loop-turn.slots out w inv.placed q width running start h inv.stage c.law.ensures.laid next
+
+pub returns-in_err-step-in-Quiet-clause-clock : goal.returns-in_err-step-in-Quiet-clause-clock
+returns-in_err-step-in-Quiet-clause-clock g c = λ e.
+    let cause = c.in_err-step-in-Quiet.ensures.spent (let q = c.from_residual-in_err-step-in-Quiet.ensures in let p = rw e at q.1 in ap (λ (f : RunFault). Err f) (sym p)) in
+    let meaning = g.B.Body.meaning in
+    let fits = g.B.Body.fits in
+    let there = g.M.Hosts.has_scope c.args.mode.now in
+    let width = g.M.Mode.width c.args.mode.now in
+    let s = c.args.built.now in
+    let bodies = meanings meaning s c.args.slots.now in
+    let start = c.args.state.now.state in
+    let inv = c.loop-turn.invariant in
+    let core = c.loop-turn.core in
+    let h = reverse c.loop-turn.steps.items in
+    let w = c.loop-turn.state in
+    let out = c.loop-turn.pool in
+    let q = c.in-Quiet.quiet in
+    let running = c.count.result in
+    let next = subst (λ room. IsTurn s h running room (Some (turn.Quiet q))) c.width-width.ensures.width
+    (turn_quiet core s h running c.width-width.result c.in-Some.turn inv.schedule inv.stands c.in-Some.ensures q c.in-Quiet.is) in
+    stops_quiet width s bodies start h w.state out inv.stage q running c.count.ensures next cause.0 cause.1
+
+pub take-requires-in-Quiet-clause-may : goal.take-requires-in-Quiet-clause-may
+take-requires-in-Quiet-clause-may g c =
+    let meaning = g.B.Body.meaning in
+    let fits = g.B.Body.fits in
+    let there = g.M.Hosts.has_scope c.args.mode.now in
+    let width = g.M.Mode.width c.args.mode.now in
+    let s = c.args.built.now in
+    let bodies = meanings meaning s c.args.slots.now in
+    let start = c.args.state.now.state in
+    let inv = c.loop-turn.invariant in
+    let core = c.loop-turn.core in
+    let h = reverse c.loop-turn.steps.items in
+    let w = c.loop-turn.state in
+    let out = c.loop-turn.pool in
+    let q = c.in-Quiet.quiet in
+    let running = c.count.result in
+    let next = subst (λ room. IsTurn s h running room (Some (turn.Quiet q))) c.width-width.ensures.width
+    (turn_quiet core s h running c.width-width.result c.in-Some.turn inv.schedule inv.stands c.in-Some.ensures q c.in-Quiet.is) in
+    subst (λ (x : Schedule). May x h c.in_ok-step-in-Quiet.step) (sym inv.schedule)
+    (may_quiet width s bodies start h w.state out inv.stage q running c.in_ok-step-in-Quiet.step next c.in_ok-step-in-Quiet.ensures.step)
 
 pub loop-turn-smaller-in-Continue-branch-6 : goal.loop-turn-smaller-in-Continue-branch-6
 loop-turn-smaller-in-Continue-branch-6 g c =
@@ -180,8 +211,8 @@ loop-turn-smaller-in-Continue-branch-6 g c =
     let h = reverse c.loop-turn.steps.items in
     let w = c.loop-turn.state in
     let out = c.loop-turn.pool in
-    let ok = c.in_ok-take-in-Sync.ensures in
-    falls c.take-in-Sync.new.core s c.loop-turn.steps.items c.take-in-Sync.new.steps.items (Sync c.in-Sync.point) (ok.schedule ∙ inv.schedule) ok.stands ok.taken
+    let ok = c.in_ok-take-in-Quiet.ensures in
+    falls c.take-in-Quiet.new.core s c.loop-turn.steps.items c.take-in-Quiet.new.steps.items c.in_ok-step-in-Quiet.step (ok.schedule ∙ inv.schedule) ok.stands ok.taken
 
 pub loop-turn-preserved-in-Continue-branch-6 : goal.loop-turn-preserved-in-Continue-branch-6
 loop-turn-preserved-in-Continue-branch-6 g c =
@@ -197,18 +228,20 @@ loop-turn-preserved-in-Continue-branch-6 g c =
     let h = reverse c.loop-turn.steps.items in
     let w = c.loop-turn.state in
     let out = c.loop-turn.pool in
-    let next = turn_sync core s h c.count.result c.width-width.result c.in-Some.turn inv.schedule inv.stands c.in-Some.ensures c.in-Sync.point c.in-Sync.is in
-    let k = c.in-Sync.point in
-    let free : length out < width = let r = next.room in let a = c.count.ensures in let b = c.width-width.ensures.width in omega arith in
-    let ok = c.in_ok-take-in-Sync.ensures in
-    let done = c.in_ok-sync-in-Sync.ensures in
-    let tick = has_tick_from w.state _ done.spent refl in
+    let q = c.in-Quiet.quiet in
+    let running = c.count.result in
+    let next = subst (λ room. IsTurn s h running room (Some (turn.Quiet q))) c.width-width.ensures.width
+    (turn_quiet core s h running c.width-width.result c.in-Some.turn inv.schedule inv.stands c.in-Some.ensures q c.in-Quiet.is) in
+    let ok = c.in_ok-take-in-Quiet.ensures in
+    let done = c.in_ok-step-in-Quiet.ensures in
+    let taken = c.in_ok-step-in-Quiet.step in
     record {
       schedule = ok.schedule ∙ inv.schedule;
-      stands = subst (λ (x : List Step). Stands c.take-in-Sync.new.core x) (sym ok.taken) ok.stands;
-      stage = subst (λ (x : List Step). Stage width s bodies start x c.sync.new.state.state out) (sym ok.taken)
-          (stage_sync width s bodies start h w.state out inv.stage k c.sync.new.state.state free next.is next.allowed (sync_there s bodies k w c.sync.new.state out tick done.moved));
-      placed = placed_later meaning fits there s bodies c.loop-turn.slots out w inv.placed c.sync.new.state done.moved;
+      stands = subst (λ (x : List Step). Stands c.take-in-Quiet.new.core x) (sym ok.taken) ok.stands;
+      stage = subst (λ (x : List Step). Stage width s bodies start x c.do_quiet.new.state.state out) (sym ok.taken)
+          (subst (λ (x : StateValue). Stage width s bodies start (taken ∷ h) x.state out) (sym done.moved)
+          (stage_quiet width s bodies start h w.state out inv.stage q running taken c.count.ensures next done.step done.ticked));
+      placed = placed_quiet meaning fits there s bodies c.loop-turn.slots out w inv.placed q c.do_quiet.new.state done.moved;
     }
 
 pub finish-requires : goal.finish-requires
@@ -382,4 +415,4 @@ returns-clause-home g c =
     let out = c.loop-turn.pool in
     let told = c.in_default.ensures h inv.stands in
     let none : length out ≡ 0 = let a = c.count.ensures in let b = told.0 in omega arith in
-    home_end meaning fits there s bodies c.loop-turn.slots out w inv.placed none c.law.ensures.laid
+    home_end meaning fits there s bodies c.loop-turn.slots out w inv.placed none c.law-2.ensures.laid

@@ -105,8 +105,8 @@ returns-clause-sound g c =
     let hs = map history_of c.in_ok-traces.traces.items in
     let end = c.run_times-traces.new.state.state in
     let ran = subst (λ (v : EngineValue g.row.B.Denot). AreWideRuns width v.schedule (meanings meaning v.schedule v.bodies) v.state hs end) c.engine.view_is
-        (subst (λ (slots : List (Option g.row.B.Denot)). AreWideRuns width inside.built (meanings meaning inside.built slots) inside.state hs end) c.deref_mut.ensures.value
-        (subst (λ (state : State). AreWideRuns width inside.built (meanings meaning inside.built c.deref_mut.result.now) state hs end) (c.into_open-state.ensures.state ∙ c.replace.ensures.value)
-        c.in_ok-traces.ensures.ran)) in
+    (subst (λ (slots : List (Option g.row.B.Denot)). AreWideRuns width inside.built (meanings meaning inside.built slots) inside.state hs end) c.deref_mut.ensures.value
+    (subst (λ (state : State). AreWideRuns width inside.built (meanings meaning inside.built c.deref_mut.result.now) state hs end) (c.into_open-state.ensures.state ∙ c.replace.ensures.value)
+    c.in_ok-traces.ensures.ran)) in
     c.runs_are_sound.ensures.wide width value.schedule bodies value.state hs c.into_state.result
     (subst (AreWideRuns width value.schedule bodies value.state hs) (sym c.into_state.ensures) ran)
