@@ -1,6 +1,6 @@
 // The schedule that a program file declares, and the scripts of its systems.
 
-ghost use Rattle.std.specs.Prelude.{◌≡◌, [], map, length, IfOk};
+ghost use Rattle.std.specs.Prelude.{◌≡◌, [], map, length, IfOk, OnOk};
 ghost use Rattle.ecsrun.specs.Served.{declared_names};
 ghost use Rattle.ecsrun.specs.Setup.{AreScriptsOf};
 
