@@ -188,6 +188,13 @@ fn moving(alloc: Global) -> Result<Built, Fail> {
     Ok(build(alloc, desc)?)
 }
 
+// An engine of these two systems with these bodies.
+fn moving_engine<B: Body>(alloc: Global, bodies: Vec<B>) -> Result<Engine<B>, Fail> {
+    let built = moving(alloc)?;
+    let state = first_state(alloc, &built, world(alloc)?)?;
+    Ok(Engine::new(alloc, built, bodies, state)?)
+}
+
 // Whether bodies for these two systems leave the moved entity, on one thread or on two.
 fn is_moved_by<R: Threads + Wait + Copy + Send + Sync + 'static, B: Body + 'static>(
     runtime: R,
@@ -195,9 +202,7 @@ fn is_moved_by<R: Threads + Wait + Copy + Send + Sync + 'static, B: Body + 'stat
     bodies: Vec<B>,
     on_threads: bool,
 ) -> Result<bool, Fail> {
-    let built = moving(alloc)?;
-    let state = first_state(alloc, &built, world(alloc)?)?;
-    let mut engine = Engine::new(alloc, built, bodies, state)?;
+    let mut engine = moving_engine(alloc, bodies)?;
     if on_threads {
         run_on_threads(runtime, &NoGate, alloc, 2, 3, &mut engine)?;
     } else {
