@@ -195,6 +195,12 @@ fn moving_engine<B: Body>(alloc: Global, bodies: Vec<B>) -> Result<Engine<B>, Fa
     Ok(Engine::new(alloc, built, bodies, state)?)
 }
 
+// Three runs of an engine on one thread.
+fn run_alone<B: Body>(alloc: Global, engine: &mut Engine<B>) -> Result<(), Fail> {
+    engine.run(alloc, 3, &Single)?;
+    Ok(())
+}
+
 // Whether bodies for these two systems leave the moved entity, on one thread or on two.
 fn is_moved_by<R: Threads + Wait + Copy + Send + Sync + 'static, B: Body + 'static>(
     runtime: R,
@@ -206,7 +212,7 @@ fn is_moved_by<R: Threads + Wait + Copy + Send + Sync + 'static, B: Body + 'stat
     if on_threads {
         run_on_threads(runtime, &NoGate, alloc, 2, 3, &mut engine)?;
     } else {
-        engine.run(alloc, 3, &Single)?;
+        run_alone(alloc, &mut engine)?;
     }
     is_left(alloc, &engine, MOVED)
 }

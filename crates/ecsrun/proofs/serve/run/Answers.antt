@@ -6,8 +6,8 @@ use Rattle.ecsrun.proofs.Serving.{no-misfit}
 use Rattle.ecsrun.proofs.serve.run.Goals as goal
 
 -- there is a script and a memory for each system, and a memory for each condition
-pub unreachable-requires-in-Err-Count : goal.unreachable-requires-in-Err-Count
-unreachable-requires-in-Err-Count g c =
+pub unreachable-requires : goal.unreachable-requires
+unreachable-requires g c =
     elim (c.in-Err-Count.ensures.count.0 (ap Err c.in-Err-Count.field-0-is)) [
       | inl few ↦ few (length-map c.args.bodies.items (λ x. Some x) ∙ c.requires.scripts.count)
       | inr lacks ↦ no_first_lacks c.args.built c.in_ok-state.state c.args.world.state c.in_ok-state.ensures lacks
