@@ -31,7 +31,7 @@ returns-in-Ambiguities g c =
         schedule = s;
         built = schedule-of d s ok.buildable ok.systems ok.edges ok.levels ok.order ok.conditions;
         report = subst (λ ns. IsTextOfReport ns s (string_bytes answer.text))
-            (ap (map (λ name. name.now)) c.as_slice-in-Ambiguities.ensures.value ∙ (c.in_ok-names.ensures ∙ (ap (map (λ code. code.name.now)) c.as_slice-3.ensures.value ∙ c.in_ok-desc.ensures.names))) h;
+            (ap (map (λ name. name.now)) c.as_slice-in-Ambiguities.ensures.value ∙ (c.in_ok-names.ensures ∙ (ap (map (λ code. code.name.now)) c.as_slice-4.ensures.value ∙ c.in_ok-desc.ensures.names))) h;
       },
     )) c.report_of.ensures.report c.report_of.ensures.status
 
@@ -58,7 +58,7 @@ returns g c =
     let s = c.in_ok-built.built in
     let ok = c.in_ok-built.ensures in
     let scripts = c.in_ok-bodies.bodies.items in
-    let entities = map entity_given c.as_slice-4.result.now in
+    let entities = map entity_given c.as_slice-5.result.now in
     let values = c.in_ok-resources.field-0.resources in
     let times = c.in-Run.times in
     let recorded = c.in-Run.recorded in
