@@ -6,7 +6,8 @@ ghost use Rattle.program_file.specs.Name.{IsName};
 
 use crate::fault::FileFault;
 use crate::keys::{
-    flag_at, integers_of, name_at, names_at, number_at, refuse_unknown, resources_at, tables_at, texts_at,
+    flag_at, integers_of, name_at, names_at, number_at, refuse_unknown, resources_at, tables_at,
+    texts_at,
 };
 use crate::place::Place;
 use crate::place_fault::PlaceFault;
@@ -176,9 +177,7 @@ fn chains_of<'a>(alloc: Global, tables: &[&'a Table]) -> Result<Vec<ChainTable<'
 {
     let mut chains = Vec::new(alloc);
     for (number, table) in tables.iter().enumerate() {
-        let chain = ChainTable::read(alloc, table).map_err(|fault| fault.at(Place::Chain(
-            number,
-        )))?;
+        let chain = ChainTable::read(alloc, table).map_err(|fault| fault.at(Place::Chain(number)))?;
         chains.push(chain)?;
     }
     Ok(chains)
@@ -416,8 +415,14 @@ mod tests {
             ("chain = [{ items = [\"a\"], ignore_deferred = true }]", ""),
             ("chain = [{ items = [] }, {}]", "refused P2 chain 1"),
             ("chain = [{ items = [\"A\"] }]", "refused P2 chain 0"),
-            ("chain = [{ items = [], ignore_deferred = 1 }]", "refused P2 chain 0"),
-            ("set = [{ name = \"a\", after_ignore_deferred = [\"a\"] }]", ""),
+            (
+                "chain = [{ items = [], ignore_deferred = 1 }]",
+                "refused P2 chain 0",
+            ),
+            (
+                "set = [{ name = \"a\", after_ignore_deferred = [\"a\"] }]",
+                "",
+            ),
             ("resources = { Tot = 1 }", "refused P2 resources"),
             ("resources = { Total = 1.5 }", "refused P2 resources"),
             ("entity = [{}, { Position = [1] }]", "refused P2 entity 1"),
