@@ -349,7 +349,12 @@ fn is_among(kind: Kind, kinds: &[Kind]) -> bool
 }
 
 // The column of a kind of the archetype of a number, which is to have one.
-fn named(alloc: Global, world: &World, archetype: usize, kind: Kind) -> Result<ColumnAt, Fail>
+pub(crate) fn named(
+    alloc: Global,
+    world: &World,
+    archetype: usize,
+    kind: Kind,
+) -> Result<ColumnAt, Fail>
     requires { AreAllHome world.now.layout }
     ensures archetype { IfOk result (λ at. at.archetype ≡ archetype) }
     ensures kind { IfOk result (λ at. at.kind ≡ kind) }
