@@ -1,8 +1,7 @@
 -- What a command leaves, from what its parts leave.
-use Rattle.std.proofs.Common.{◌≡◌, inl, inr, ℕ, zero, suc, ℤ, Bool, true, false, List, [], ◌∷◌, length, map, slice_get, Option, None, Some, Result, Ok, Err, IfOk, refl, ap, sym, ◌∙◌, subst, string_bytes}
+use Rattle.std.proofs.Common.{◌≡◌, inl, inr, ℕ, zero, suc, ℤ, Bool, true, false, List, [], ◌∷◌, map, slice_get, Option, None, Some, Result, Ok, Err, IfOk, refl, ap, sym, ◌∙◌, subst, string_bytes}
 use Rattle.std.specs.Io.KnownBytes.{Keeps}
 use Rattle.model.specs.state.Loaded.{Given, loaded}
-use Rattle.std.proofs.lemmas.List.{length-map}
 use Rattle.model.specs.access.Access.{Params}
 use Rattle.model.specs.declarations.Declarations.{Declared}
 use Rattle.model.specs.declarations.Refusals.{IsBuildable}
@@ -11,7 +10,7 @@ use Rattle.model.specs.steps.Schedule.{Schedule, params_of}
 use Rattle.model.specs.state.State.{State, World}
 use Rattle.script.specs.declared.script_body.ScriptBody.{ScriptBody}
 use Rattle.script.specs.Faults.{fits}
-use Rattle.engine.specs.Meanings.{body_at, Miscounts, IsFirstMisfit}
+use Rattle.engine.specs.Meanings.{body_at, IsFirstMisfit}
 use Rattle.engine.specs.Meanings as engine
 use Rattle.command_line.specs.declared.args.Work.{Work}
 use Rattle.command_line.specs.Args.{is_recorded}
@@ -25,12 +24,6 @@ use Rattle.ecsrun.specs.declared.fault.Fault.{Fault}
 use Rattle.ecsrun.specs.declared.fault.Fault.TheVariants.{Write}
 use Rattle.ecsrun.specs.Fault.{status_of}
 use Rattle.ecsrun.specs.Served.{IsAnswerTo, IsRecordKept, IsServed, HasGained, HasGainedFront, WritesRecord}
-
--- the numbers of scripts and memories are right
-pub no-miscount : (s : Schedule) (scripts : List ScriptBody) (w : World) (state : State) (count : ℕ) → AreScriptsOf s scripts → count ≡ length s.systems
-    → length state.systems ≡ count → Miscounts s (map Some scripts) state → ⊥
-no-miscount s scripts w state count fitting same memories (inl wrong) = wrong (length-map scripts (λ x. Some x) ∙ fitting.count)
-no-miscount s scripts w state count fitting same memories (inr wrong) = wrong (memories ∙ same)
 
 pub unlike : (a : Bool) → a ≡ true → a ≡ false → ⊥
 unlike a e f = absurd (let g : true ≡ false = sym e ∙ f in cc)
