@@ -28,7 +28,7 @@ pub struct Params {
 }
 
 impl Model for Params {
-    ghost use Rattle.std.specs.Prelude.{◌≡◌, [], map, None};
+    ghost use Rattle.std.specs.Prelude.{◌≡◌, map, None};
     ghost use Rattle.model.specs.access.Access as access;
     ghost use Rattle.kinds.specs.Res.{res_number, event_number};
     ghost use Rattle.access_set.specs.Footprints.{AreFootprints};
@@ -37,7 +37,7 @@ impl Model for Params {
 
     ghost view = { λ p. record { queries = p.queries.items; res = map res_number p.res.items; res_mut = map res_number p.res_mut.items; reads = map event_number p.reads.items; writes = map event_number p.writes.items; spawns = p.spawns } };
 
-    ghost invariant = { λ p. (p.reads.items ≡ []) × (p.writes.items ≡ []) × (p.spawns ≡ None) × AreFootprints p.queries.items p.footprints.items };
+    ghost invariant = { λ p. (p.spawns ≡ None) × AreFootprints p.queries.items p.footprints.items };
 }
 
 impl Params {
@@ -87,17 +87,35 @@ impl Params {
         Ok(())
     }
 
-    /// Queries and resources are all that there is yet: no events and no commands.
+    /// Adds a reader of events of a kind after the others. A kind that is named twice has two readers. Where memory is wanting the parameters
+    /// stay as they were.
+    pub fn add_reads(&mut self, event: Event) -> Result<(), AllocError>
+        ensures ok { OnOk result (self.new ≡ record self.old { reads = self.old.reads ++ event_number event ∷ [] }) }
+        ensures err { OnErr result (self.new ≡ self.old) }
+    {
+        self.reads.push(event)?;
+        Ok(())
+    }
+
+    /// Adds a writer of events of a kind after the others. Where memory is wanting the parameters stay as they were.
+    pub fn add_writes(&mut self, event: Event) -> Result<(), AllocError>
+        ensures ok { OnOk result (self.new ≡ record self.old { writes = self.old.writes ++ event_number event ∷ [] }) }
+        ensures err { OnErr result (self.new ≡ self.old) }
+    {
+        self.writes.push(event)?;
+        Ok(())
+    }
+
+    /// There are no commands yet.
     pub fn law(&self)
-        ensures { self.now ≡ record no_params { queries = self.now.queries; res = self.now.res; res_mut = self.now.res_mut } }
+        ensures { self.now.spawns ≡ None }
     {
         let _ = &self.spawns;
     }
 
-    /// The queries, in order. Beside them there are only resources yet.
+    /// The queries, in order.
     pub fn queries(&self) -> &[Query]
         ensures queries { result.now ≡ self.now.queries }
-        ensures alone { self.now ≡ record no_params { queries = result.now; res = self.now.res; res_mut = self.now.res_mut } }
     {
         self.queries.as_slice()
     }

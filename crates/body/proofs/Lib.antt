@@ -4,6 +4,7 @@ mod States
 mod Times
 pub mod Values
 pub mod Gets
+pub mod Keeps
 pub mod SheetWords
 pub mod Sheets
 pub mod SheetWrites

@@ -14,4 +14,5 @@ pub mod Picked
 pub mod Opened
 pub mod Lent
 pub mod Answers
+pub mod Keeps
 pub mod Out

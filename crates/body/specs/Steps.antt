@@ -6,6 +6,8 @@ use Rattle.archetype_store.specs.Store.{StoreValue}
 use Rattle.model.specs.Lists.{update_at}
 use Rattle.model.specs.state.State.{EventQueue, Memory, State, World}
 use Rattle.model.specs.runs.RunState.{memory_after_run, next_tick, with_registers}
+use Rattle.model.specs.shown.Outcome.{events_sent}
+use Rattle.model.specs.shown.Overlay.{queues_after}
 use Rattle.body.specs.Laid.{world_after}
 use Rattle.body.specs.Seen.{Seen}
 
@@ -43,11 +45,11 @@ asked_at c reads tick state = record {
   passed_over = state.passed_over;
 }
 
--- the state with what was written in a view of a system laid over it at a tick
+-- the state with what was written in a view of a system laid over it at a tick, and with the events sent that were emitted there
 abbrev pub laid : ℕ → ℕ → Seen → State → State
 laid n tick seen state = record {
   world = world_after tick seen state.world;
-  events = state.events;
+  events = queues_after (events_sent seen.params.writes seen.outcome.events) state.events;
   systems = update_at n (with_registers seen.outcome.registers) state.systems;
   conditions = state.conditions;
   passed_over = state.passed_over;

@@ -1,6 +1,6 @@
 // A state in a run: a tick, a system shown what it may see, an outcome laid over the world, a condition asked.
 
-ghost use Rattle.std.specs.Prelude.{◌≡◌, ◌<◌, ◌≤◌, ◌↔◌, ◌++◌, List, [], false, map, length, get_or, IfOk, OnOk, OnErr, IsErr};
+ghost use Rattle.std.specs.Prelude.{◌≡◌, ◌<◌, ◌≤◌, ◌↔◌, ◌++◌, List, [], false, map, length, get_or, IfOk, OnOk, OnErr, IsErr, IsErrOf};
 ghost use Rattle.std.specs.List.{AllByRecursion};
 ghost use Rattle.kinds.specs.Res.{event_number};
 ghost use Rattle.model.specs.state.State.{most_indices, no_memory};
@@ -9,6 +9,8 @@ ghost use Rattle.model.specs.access.Condition.{holds, queries_of};
 ghost use Rattle.model.specs.access.SelfConflict.{ConflictWithin};
 ghost use Rattle.model.specs.shown.Input as input;
 ghost use Rattle.model.specs.shown.Outcome as outcome;
+ghost use Rattle.model.specs.shown.Outcome.{events_sent};
+ghost use Rattle.model.specs.shown.Overlay.{has_event_numbers};
 ghost use Rattle.model.specs.runs.RunState.{has_tick, next_tick, opening, memory_after_run, memory_of_condition, memory_of_system, with_registers};
 ghost use Rattle.archetype_store.specs.Layout.{AreAllHome, IsLayoutOf};
 ghost use Rattle.query_plan.specs.Standing.{ArePickedHome};
@@ -25,6 +27,7 @@ use archetype_store::store::World;
 use asking::answer::ask;
 use change_ticks::clock::{ClockSpent, LAST_TICK, Tick};
 use event_buffers::buffers::Events;
+use event_buffers::queue::SendFault;
 use kinds::res::Event;
 use run_condition::Cond;
 use std::alloc::{AllocError, Global};
@@ -226,17 +229,21 @@ impl OpenState {
     }
 
     /// Brings the columns of a view of a system home, and so lays what was written over the state, at the tick of the view, which isn't above
-    /// the clock: components, resources, and the registers of the system. What other views hold stays away.
-    pub fn close(&mut self, view: View, system: usize)
+    /// the clock: components, resources, events, and the registers of the system. What other views hold stays away. Where an event gets no
+    /// number, or memory is wanting, the state is of no more use.
+    pub fn close(&mut self, view: View, system: usize) -> Result<(), SendFault>
         requires known { system < length self.old.state.systems }
         requires lent { AreLent (store_of self.old) view.opening.taken }
         requires past { view.opening.tick ≤ self.old.state.world.clock }
-        ensures laid { self.new ≡ record { state = laid system view.opening.tick view self.old.state; layout = with_back (lent_in view.opening.taken) self.old.layout } }
-        ensures out { (front rest : List (List Column)) → AreOut (store_of self.old) (front ++ (view.opening.taken ++ rest)) → AreOut (store_of self.new) (front ++ rest) }
+        ensures laid { OnOk result (self.new ≡ record { state = laid system view.opening.tick view self.old.state; layout = with_back (lent_in view.opening.taken) self.old.layout }) }
+        ensures out { OnOk result ((front rest : List (List Column)) → AreOut (store_of self.old) (front ++ (view.opening.taken ++ rest)) → AreOut (store_of self.new) (front ++ rest)) }
+        ensures spent { IsErrOf result SendFault.NumbersSpent ↔ (has_event_numbers (events_sent view.params.writes view.outcome.events) self.old.state.events ≡ false) }
     {
         self.world.laid();
-        let (registers, _sent) = view.close(&mut self.world);
+        let (registers, sent) = view.close(&mut self.world);
+        sent.send(&mut self.events)?;
         keep_registers(&mut self.systems, system, registers);
+        Ok(())
     }
 }
 

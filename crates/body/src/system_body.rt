@@ -5,6 +5,7 @@ ghost use Rattle.model.specs.access.Access.{Params as Uses};
 ghost use Rattle.model.specs.shown.Input.{Shown};
 ghost use Rattle.model.specs.shown.Outcome.{Outcome, untouched};
 ghost use Rattle.body.specs.Answers.{Answers};
+ghost use Rattle.body.specs.Keeps.{KeepsWithin};
 
 use crate::view::View;
 use access_set::params::Params;
@@ -28,9 +29,10 @@ pub trait Body: Send + Drop {
 
     ghost fits: { Self → Uses → Bool };
 
-    /// Whether the body keeps within these parameters.
+    /// Whether the body keeps within these parameters. If so, it can run with them, and each outcome that it means is within them.
     fn fits(&self, params: &Params) -> bool
-        ensures { result ≡ fits self.now params.now };
+        ensures exact { result ≡ fits self.now params.now }
+        ensures keeps { IsTrue result → KeepsWithin params.now (meaning self.now params.now) };
 
     /// Runs the body on a view in which nothing is written yet. What it leaves there is the outcome that it means by what it is shown, or it
     /// answers the refusal that it means. It may want memory at any time. Its meaning, and what it fits, stay.

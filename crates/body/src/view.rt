@@ -86,6 +86,8 @@ impl View {
         ensures back { IfOk result (λ v. with_back (lent_in v.opening.taken) world.new.layout ≡ world.old.layout) }
         ensures err { OnErr result (world.new ≡ world.old) }
     {
+        // Tell that there are no commands.
+        params.law();
         let values = ViewValues::open(params, memory, world);
         let unread = EventLists::unread(alloc, params.reads(), memory.cursors(), events)?;
         let sent = EventLists::empty(alloc, params.writes())?;

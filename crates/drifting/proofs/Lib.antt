@@ -1,2 +1,3 @@
 mod Moves
 mod Rows
+mod Keeping

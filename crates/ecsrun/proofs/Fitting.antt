@@ -1,5 +1,5 @@
 -- Scripts that fit their systems, one after the other.
-use Rattle.std.proofs.Common.{◌≡◌, ℕ, zero, suc, ◌<◌, true, List, [], ◌∷◌, ◌++◌, length, slice_get, get_or, None, refl, ap, sym, ◌∙◌, arith}
+use Rattle.std.proofs.Common.{◌≡◌, ℕ, zero, suc, ◌<◌, true, List, [], ◌∷◌, ◌++◌, length, map, slice_get, get_or, None, Some, refl, ap, sym, ◌∙◌, subst, arith}
 use Rattle.std.proofs.lemmas.List.{length-map}
 use Rattle.model.specs.access.Access.{Params, no_params}
 use Rattle.model.specs.declarations.Declarations.{Declared}
@@ -8,6 +8,13 @@ use Rattle.model.specs.declarations.ScheduleOrder.{HasDeclaredSystems}
 use Rattle.script.specs.declared.script_body.ScriptBody.{ScriptBody}
 use Rattle.script.specs.Script.{ScriptBlock}
 use Rattle.script.specs.Faults.{fits, script_fault}
+use Rattle.script.specs.declared.fault.ScriptFault.{ScriptFault}
+use Rattle.ecsrun.specs.declared.fault.Fault.{Fault}
+use Rattle.ecsrun.specs.declared.fault.Fault.TheVariants.{TooLong, Content, Build, Script, TraceTooLong, TraceLine, TraceOrder, ClockSpent, IdsSpent, BodyRefused, File, Write, Memory, NoWorker}
+use Rattle.ecsrun.specs.declared.schedule.Code.{Code}
+use Rattle.ecsrun.specs.Fault.{IsScriptFault}
+use Rattle.ecsrun.specs.Said.{script_said}
+use Rattle.ecsrun.specs.Refused.{IsScriptRefused, IsUnscripted}
 use Rattle.ecsrun.specs.Setup.{script_fits, fits_at}
 
 -- a script without a fault fits
@@ -41,3 +48,53 @@ params-at s k n systems system params l all same at is =
 -- a schedule has as many systems as are declared
 pub count-declared : (d : Declared) (s : Schedule) → HasDeclaredSystems d s → length s.systems ≡ length d.systems
 count-declared d s h = sym (length-map s.systems (λ x. x.params)) ∙ ap length h ∙ length-map d.systems (λ x. x.params)
+
+-- ---- scripts that are refused
+
+-- the name of the code at a place
+pub name-at : (codes : List Code) (n : ℕ) (code : Code) → n < length codes → code ≡ get_or codes n code → get_or (map (λ (x : Code). x.name.now) codes) n [] ≡ code.name.now
+name-at [] n code l e = absurd (omega arith)
+name-at (x ∷ codes) zero code l e = ap (λ (y : Code). y.name.now) (sym e)
+name-at (x ∷ codes) (suc n) code l e = name-at codes n code (omega arith) e
+
+-- its script
+pub script-at : (codes : List Code) (n : ℕ) (code : Code) → n < length codes → code ≡ get_or codes n code → get_or (map (λ (x : Code). script_said x.blocks) codes) n [] ≡ script_said code.blocks
+script-at [] n code l e = absurd (omega arith)
+script-at (x ∷ codes) zero code l e = ap (λ (y : Code). script_said y.blocks) (sym e)
+script-at (x ∷ codes) (suc n) code l e = script-at codes n code (omega arith) e
+
+-- the first fault of a script, as it is told
+pub script-refusal : (s : Schedule) (n : ℕ) (name : List ℕ) (fault : ScriptFault) (script : ScriptBody) (told : Fault) → IsScriptFault name fault told → script_fault (params_of s n) script ≡ Some fault → IsScriptRefused s n name script told
+script-refusal s n name fault script (Script cause system block instruction) is first =
+    (sym is.1, first ∙ ap (λ (f : ScriptFault). Some f) (λ i. record { cause = sym is.0 i; block = sym is.2 i; instruction = sym is.3 i }))
+script-refusal s n name fault script Memory is first = tt
+script-refusal s n name fault script TooLong is first = absurd is
+script-refusal s n name fault script (Content f) is first = absurd is
+script-refusal s n name fault script (Build f) is first = absurd is
+script-refusal s n name fault script TraceTooLong is first = absurd is
+script-refusal s n name fault script (TraceLine line) is first = absurd is
+script-refusal s n name fault script (TraceOrder line) is first = absurd is
+script-refusal s n name fault script ClockSpent is first = absurd is
+script-refusal s n name fault script IdsSpent is first = absurd is
+script-refusal s n name fault script BodyRefused is first = absurd is
+script-refusal s n name fault script File is first = absurd is
+script-refusal s n name fault script Write is first = absurd is
+script-refusal s n name fault script NoWorker is first = absurd is
+
+-- it is that of one of the systems
+pub unscripted : (s : Schedule) (names : List (List ℕ)) (scripts : List ScriptBody) (n : ℕ) (name : List ℕ) (script : ScriptBody) (told : Fault) → n < length s.systems → get_or names n [] ≡ name → get_or scripts n [] ≡ script →
+    IsScriptRefused s n name script told → IsUnscripted s names scripts told
+unscripted s names scripts n name script Memory known at is h = tt
+unscripted s names scripts n name script (Script cause system block instruction) known at is h = (n, known, (at ∙ h.0, ap (script_fault (params_of s n)) is ∙ h.1))
+unscripted s names scripts n name script TooLong known at is h = absurd h
+unscripted s names scripts n name script (Content f) known at is h = absurd h
+unscripted s names scripts n name script (Build f) known at is h = absurd h
+unscripted s names scripts n name script TraceTooLong known at is h = absurd h
+unscripted s names scripts n name script (TraceLine line) known at is h = absurd h
+unscripted s names scripts n name script (TraceOrder line) known at is h = absurd h
+unscripted s names scripts n name script ClockSpent known at is h = absurd h
+unscripted s names scripts n name script IdsSpent known at is h = absurd h
+unscripted s names scripts n name script BodyRefused known at is h = absurd h
+unscripted s names scripts n name script File known at is h = absurd h
+unscripted s names scripts n name script Write known at is h = absurd h
+unscripted s names scripts n name script NoWorker known at is h = absurd h

@@ -1,5 +1,5 @@
 -- What a command leaves, from what its parts leave.
-use Rattle.std.proofs.Common.{◌≡◌, inl, inr, ℕ, zero, suc, ℤ, Bool, true, false, List, [], ◌∷◌, map, slice_get, Option, None, Some, Result, Ok, Err, IfOk, refl, ap, sym, ◌∙◌, subst, string_bytes}
+use Rattle.std.proofs.Common.{◌≡◌, inl, inr, ℕ, zero, suc, ℤ, Bool, true, false, List, [], ◌∷◌, map, slice_get, Option, None, Some, Result, Ok, Err, IfOk, IfErr, IfSome, IsSome, is_some, refl, ap, sym, ◌∙◌, subst, string_bytes}
 use Rattle.std.specs.Io.KnownBytes.{Keeps}
 use Rattle.model.specs.state.Loaded.{Given, loaded}
 use Rattle.model.specs.access.Access.{Params}
@@ -14,16 +14,34 @@ use Rattle.engine.specs.Meanings.{body_at, IsFirstMisfit}
 use Rattle.engine.specs.Meanings as engine
 use Rattle.command_line.specs.declared.args.Work.{Work}
 use Rattle.command_line.specs.Args.{is_recorded}
-use Rattle.streams.specs.Writing.{WritesWhole}
+use Rattle.streams.specs.Writing.{WritesWhole, line_of}
 use Rattle.ecsrun.specs.Load.{loaded_world}
 use Rattle.engine.specs.FirstState.{first_state}
-use Rattle.ecsrun.specs.Setup.{IsScheduleOf, AreScriptsOf, script_fits, meanings_of_scripts}
+use Rattle.ecsrun.specs.Setup.{IsScheduleOf, AreScriptsOf, declared_names, script_fits, meanings_of_scripts}
 use Rattle.ecsrun.specs.Recorded.{IsTextOfRuns}
 use Rattle.ecsrun.specs.declared.answer.Answer.{Answer}
 use Rattle.ecsrun.specs.declared.fault.Fault.{Fault}
-use Rattle.ecsrun.specs.declared.fault.Fault.TheVariants.{Write}
-use Rattle.ecsrun.specs.Fault.{status_of}
-use Rattle.ecsrun.specs.Served.{IsAnswerTo, IsRecordKept, IsServed, HasGained, HasGainedFront, WritesRecord}
+use Rattle.ecsrun.specs.declared.fault.Fault.TheVariants.{TooLong, Content, Build, Script, TraceTooLong, TraceLine, TraceOrder, ClockSpent, IdsSpent, BodyRefused, File, Write, Memory, NoWorker}
+use Rattle.ecsrun.specs.Fault.{status_of, fault_of_build, fault_of_file}
+use Rattle.ecsrun.specs.Refused.{IsRefusedBy, IsStoppedRun, IsTraceUnread, IsUngiven, IsUnread, IsUnscripted}
+use Rattle.ecsrun.specs.Served.{IsAnswerTo, IsRecordKept, IsServed, HasGained, HasGainedFront, Tells, WritesRecord}
+use Rattle.program_file.specs.declared.program_file.ProgramFile.{ProgramFile}
+use Rattle.program_file.specs.declared.fault.FileFault.{FileFault}
+use Rattle.program_file.specs.declared.program_file.SystemTable.{SystemTable}
+use Rattle.ecsrun.specs.declared.schedule.Code.{Code}
+use Rattle.program_file.specs.Tables.{AreSetsIn, AreSystemsIn, AreChainsIn}
+use Rattle.toml.specs.Data.{Members}
+use Rattle.ecsrun.specs.Said.{IsFileOf, declared_by, script_said, scripts_by}
+use Rattle.program_file.specs.declared.fault.FileFault.TheVariants as file
+use Rattle.program_file.specs.PlaceFault.{IsOfBytes, IsOfPlace}
+use Rattle.std.specs.Result.{IsErrAnd}
+use Rattle.std.specs.Str.{IsUtf8}
+use Rattle.schedule_builder.specs.Answers.{IsAnswered}
+use Rattle.schedule_builder.specs.declared.fault.BuildFault.{BuildFault}
+use Rattle.schedule_builder.specs.declared.fault.BuildFault.TheVariants as build
+use Rattle.streams.proofs.Parts.{front_of_whole}
+use Rattle.toml.specs.Parse.{parse_document}
+use Rattle.command_line.specs.declared.args.Work.TheVariants as work
 
 pub unlike : (a : Bool) → a ≡ true → a ≡ false → ⊥
 unlike a e f = absurd (let g : true ≡ false = sym e ∙ f in cc)
@@ -50,6 +68,14 @@ pub schedule-of : (d : Declared) (s : Schedule) → IsBuildable d → HasDeclare
     → IsScheduleOf d s
 schedule-of d s buildable systems edges levels order conditions =
     record { buildable = buildable; systems = systems; edges = edges; levels = levels; order = order; conditions = conditions }
+
+map-twice : {A B C : Type 0} (f : A → B) (g : B → C) (xs : List A) → map g (map f xs) ≡ map (λ x. g (f x)) xs
+map-twice f g [] = refl
+map-twice f g (x ∷ xs) = ap (λ ys. g (f x) ∷ ys) (map-twice f g xs)
+
+-- the scripts of codes are those of the tables whose blocks they have
+pub scripts-same : (codes : List Code) (rows : List SystemTable) → map (λ (code : Code). code.blocks) codes ≡ map (λ (row : SystemTable). row.blocks) rows → map (λ (code : Code). script_said code.blocks) codes ≡ map (λ (row : SystemTable). script_said row.blocks) rows
+scripts-same codes rows e = sym (map-twice (λ (code : Code). code.blocks) script_said codes) ∙ ap (map script_said) e ∙ map-twice (λ (row : SystemTable). row.blocks) script_said rows
 
 -- what holds of an answer that is there
 pub of-ok : {T E : Type 0} (P Q : T → Type 0) (r : Result T E) → ((x : T) → P x → Q x) → IfOk r P → IfOk r Q
@@ -80,12 +106,17 @@ record-left work traces noted none = record { written = λ asked. absurd (unlike
 
 -- ---- what is left with the streams
 
+-- a line was told, or a beginning of it
+pub told-line : {T E : Type 0} (old new : Option (List ℕ)) (r : Result T E) (text : List ℕ) → WritesWhole old new r (line_of text) → HasGainedFront (old, new) (line_of text)
+told-line old new r text h = front_of_whole old new r (line_of text) h
+
 -- the file of the record failed
-pub record-failed : (width : ℕ) (work : Work) (trace : Option (List ℕ)) (status : ℕ) (fault : Fault) (out old new : Option (List ℕ)) (answer : Answer) (noted : List ℕ)
-    → IsAnswerTo width work trace answer → noted ≡ string_bytes answer.traces → is_recorded work ≡ true × HasGainedFront (old, new) noted → status ≡ status_of fault → fault ≡ Write
-    → IsServed width work trace status (out, out) (old, new)
-record-failed width work trace status fault out old new answer noted is same h told why = inr (inr (inl (record {
-  failure = told ∙ ap status_of why;
+pub record-failed : (width : ℕ) (work : Work) (bytes trace : Option (List ℕ)) (status : ℕ) (fault : Fault) (out old new : Option (List ℕ)) (faults : Option (List ℕ) × Option (List ℕ)) (answer : Answer) (noted : List ℕ)
+    → IsAnswerTo width work bytes trace answer → noted ≡ string_bytes answer.traces → is_recorded work ≡ true × HasGainedFront (old, new) noted → status ≡ status_of fault → Tells fault faults → fault ≡ Write
+    → IsServed width work bytes trace status (out, out) (old, new) faults
+record-failed width work bytes trace status fault out old new faults answer noted is same h ends told why = inr (inr (inl (record {
+  failure = ends ∙ ap status_of why;
+  told = subst (λ f. Tells f faults) why told;
   asked = h.0;
   answer = answer;
   is = is;
@@ -94,11 +125,12 @@ record-failed width work trace status fault out old new answer noted is same h t
 })))
 
 -- the output failed
-pub output-failed : (width : ℕ) (work : Work) (trace : Option (List ℕ)) (status : ℕ) (fault : Fault) (old new : Option (List ℕ)) (traces : Option (List ℕ) × Option (List ℕ)) (answer : Answer) (noted text : List ℕ)
-    → IsAnswerTo width work trace answer → noted ≡ string_bytes answer.traces → IsRecordKept work noted traces → text ≡ string_bytes answer.text → HasGainedFront (old, new) text
-    → status ≡ status_of fault → fault ≡ Write → IsServed width work trace status (old, new) traces
-output-failed width work trace status fault old new traces answer noted text is same kept here h told why = inr (inl (record {
-  failure = told ∙ ap status_of why;
+pub output-failed : (width : ℕ) (work : Work) (bytes trace : Option (List ℕ)) (status : ℕ) (fault : Fault) (old new : Option (List ℕ)) (traces faults : Option (List ℕ) × Option (List ℕ)) (answer : Answer) (noted text : List ℕ)
+    → IsAnswerTo width work bytes trace answer → noted ≡ string_bytes answer.traces → IsRecordKept work noted traces → text ≡ string_bytes answer.text → HasGainedFront (old, new) text
+    → status ≡ status_of fault → Tells fault faults → fault ≡ Write → IsServed width work bytes trace status (old, new) traces faults
+output-failed width work bytes trace status fault old new traces faults answer noted text is same kept here h ends told why = inr (inl (record {
+  failure = ends ∙ ap status_of why;
+  told = subst (λ f. Tells f faults) why told;
   answer = answer;
   is = is;
   recorded = subst (λ t. IsRecordKept work t traces) same kept;
@@ -106,13 +138,164 @@ output-failed width work trace status fault old new traces answer noted text is 
 }))
 
 -- both were written
-pub all-written : (width : ℕ) (work : Work) (trace : Option (List ℕ)) (old new : Option (List ℕ)) (traces : Option (List ℕ) × Option (List ℕ)) (answer : Answer) (noted text : List ℕ)
-    → IsAnswerTo width work trace answer → noted ≡ string_bytes answer.traces → IsRecordKept work noted traces → text ≡ string_bytes answer.text → HasGained (old, new) text
-    → IsServed width work trace answer.status (old, new) traces
-all-written width work trace old new traces answer noted text is same kept here h = inl (record {
+pub all-written : (width : ℕ) (work : Work) (bytes trace : Option (List ℕ)) (old new faults : Option (List ℕ)) (traces : Option (List ℕ) × Option (List ℕ)) (answer : Answer) (noted text : List ℕ)
+    → IsAnswerTo width work bytes trace answer → noted ≡ string_bytes answer.traces → IsRecordKept work noted traces → text ≡ string_bytes answer.text → HasGained (old, new) text
+    → IsServed width work bytes trace answer.status (old, new) traces (faults, faults)
+all-written width work bytes trace old new faults traces answer noted text is same kept here h = inl (record {
   answer = answer;
   is = is;
   ends = refl;
   recorded = subst (λ t. IsRecordKept work t traces) same kept;
   written = subst (λ t. HasGained (old, new) t) here h;
+  untold = keeps faults;
 })
+
+-- the work is refused
+pub refused-told : (width : ℕ) (work : Work) (bytes trace : Option (List ℕ)) (status : ℕ) (fault : Fault) (out traces : Option (List ℕ)) (faults : Option (List ℕ) × Option (List ℕ))
+    → IsRefusedBy bytes trace work fault → status ≡ status_of fault → Tells fault faults → IsServed width work bytes trace status (out, out) (traces, traces) faults
+refused-told width work bytes trace status fault out traces faults reason ends told = inr (inr (inr (record {
+  fault = fault;
+  reason = reason;
+  failure = ends;
+  told = told;
+  kept = keeps out;
+  untouched = keeps traces;
+})))
+
+-- ---- who refuses
+
+-- the reader of the file
+pub unread-refused : (bytes trace : Option (List ℕ)) (work : Work) (fault : Fault) → IsUnread bytes fault → IsRefusedBy bytes trace work fault
+unread-refused bytes trace work TooLong h = h
+unread-refused bytes trace work (Content fault) h = h
+unread-refused bytes trace work (Build fault) h = absurd h
+unread-refused bytes trace work (Script cause system block instruction) h = absurd h
+unread-refused bytes trace work TraceTooLong h = absurd h
+unread-refused bytes trace work (TraceLine line) h = absurd h
+unread-refused bytes trace work (TraceOrder line) h = absurd h
+unread-refused bytes trace work ClockSpent h = absurd h
+unread-refused bytes trace work IdsSpent h = absurd h
+unread-refused bytes trace work BodyRefused h = absurd h
+unread-refused bytes trace work File h = tt
+unread-refused bytes trace work Write h = absurd h
+unread-refused bytes trace work Memory h = tt
+unread-refused bytes trace work NoWorker h = absurd h
+
+-- a file that is read is a document
+is-document : (bytes : Option (List ℕ)) (v : Members) → IfSome bytes (λ text. parse_document text ≡ Some v) → IfSome bytes (λ text. IsSome (parse_document text))
+is-document None v read = tt
+is-document (Some text) v read = ap is_some read
+
+-- and it has the tables that are read
+pub is-file : (bytes : Option (List ℕ)) (v : Members) (tables : ProgramFile) → IfSome bytes (λ text. parse_document text ≡ Some v) → AreSetsIn v tables.sets.items → AreSystemsIn v tables.systems.items → AreChainsIn v tables.chains.items →
+    IfSome bytes (IsFileOf tables)
+is-file None v tables read sets systems chains = tt
+is-file (Some text) v tables read sets systems chains = record { document = v; parsed = read; sets = sets; systems = systems; chains = chains }
+
+-- what the tables of a document, and its texts, are refused for
+pub place-refused : (bytes trace : Option (List ℕ)) (work : Work) (v : Members) (fault : FileFault) → IfSome bytes (λ text. parse_document text ≡ Some v) → IsOfPlace fault → IsRefusedBy bytes trace work (fault_of_file fault)
+place-refused bytes trace work v file.Document read h = absurd h
+place-refused bytes trace work v (file.Value place) read h = is-document bytes v read
+place-refused bytes trace work v (file.Text place) read h = is-document bytes v read
+place-refused bytes trace work v file.Memory read h = tt
+
+-- the builder
+pub build-refused : (bytes trace : Option (List ℕ)) (work : Work) (tables : ProgramFile) (fault : BuildFault) → IfSome bytes (IsFileOf tables) → IsAnswered (declared_by tables) fault → IsRefusedBy bytes trace work (fault_of_build fault)
+build-refused bytes trace work tables build.Memory said h = tt
+build-refused bytes trace work tables (build.UnknownName name) said h = (tables, said, h)
+build-refused bytes trace work tables (build.DuplicateName name) said h = (tables, said, h)
+build-refused bytes trace work tables (build.HierarchyLoop name) said h = (tables, said, h)
+build-refused bytes trace work tables (build.HierarchyCycle names) said h = (tables, said, h)
+build-refused bytes trace work tables (build.DependencyLoop name) said h = (tables, said, h)
+build-refused bytes trace work tables (build.CrossDependency item holder) said h = (tables, said, h)
+build-refused bytes trace work tables (build.SetsIntersect first second system) said h = (tables, said, h)
+build-refused bytes trace work tables (build.DependencyCycle names) said h = (tables, said, h)
+build-refused bytes trace work tables (build.SelfConflict name) said h = (tables, said, h)
+build-refused bytes trace work tables (build.BadQuery owner query number) said h = (tables, said, h)
+build-refused bytes trace work tables (build.OverLimit limit) said h = (tables, said, h)
+
+-- a script
+pub script-refused : (bytes trace : Option (List ℕ)) (work : Work) (tables : ProgramFile) (s : Schedule) (fault : Fault) → IfSome bytes (IsFileOf tables) → IsScheduleOf (declared_by tables) s → IsUnscripted s (declared_names (declared_by tables)) (scripts_by tables) fault → IsRefusedBy bytes trace work fault
+script-refused bytes trace work tables s (Script cause system block instruction) said is h = (tables, said, s, is, h)
+script-refused bytes trace work tables s TooLong said is h = absurd h.2
+script-refused bytes trace work tables s (Content fault) said is h = absurd h.2
+script-refused bytes trace work tables s (Build fault) said is h = absurd h.2
+script-refused bytes trace work tables s TraceTooLong said is h = absurd h.2
+script-refused bytes trace work tables s (TraceLine line) said is h = absurd h.2
+script-refused bytes trace work tables s (TraceOrder line) said is h = absurd h.2
+script-refused bytes trace work tables s ClockSpent said is h = absurd h.2
+script-refused bytes trace work tables s IdsSpent said is h = absurd h.2
+script-refused bytes trace work tables s BodyRefused said is h = absurd h.2
+script-refused bytes trace work tables s File said is h = absurd h.2
+script-refused bytes trace work tables s Write said is h = absurd h.2
+script-refused bytes trace work tables s Memory said is h = tt
+script-refused bytes trace work tables s NoWorker said is h = absurd h.2
+
+-- the reader of a trace
+pub trace-refused : (bytes trace : Option (List ℕ)) (fault : Fault) → IsTraceUnread trace fault → IsRefusedBy bytes trace work.Check fault
+trace-refused bytes trace TraceTooLong h = h
+trace-refused bytes trace (TraceLine line) h = (refl, h)
+trace-refused bytes trace (TraceOrder line) h = (refl, h)
+trace-refused bytes trace File h = tt
+trace-refused bytes trace Memory h = tt
+trace-refused bytes trace TooLong h = absurd h
+trace-refused bytes trace (Content fault) h = absurd h
+trace-refused bytes trace (Build fault) h = absurd h
+trace-refused bytes trace (Script cause system block instruction) h = absurd h
+trace-refused bytes trace ClockSpent h = absurd h
+trace-refused bytes trace IdsSpent h = absurd h
+trace-refused bytes trace BodyRefused h = absurd h
+trace-refused bytes trace Write h = absurd h
+trace-refused bytes trace NoWorker h = absurd h
+
+-- the entities of a run
+pub given-refused : (bytes trace : Option (List ℕ)) (times workers : ℕ) (recorded : Bool) (fault : Fault) → IsUngiven fault → IsRefusedBy bytes trace (work.Run times workers recorded) fault
+given-refused bytes trace times workers recorded IdsSpent h = tt
+given-refused bytes trace times workers recorded Memory h = tt
+given-refused bytes trace times workers recorded TooLong h = absurd h
+given-refused bytes trace times workers recorded (Content fault) h = absurd h
+given-refused bytes trace times workers recorded (Build fault) h = absurd h
+given-refused bytes trace times workers recorded (Script cause system block instruction) h = absurd h
+given-refused bytes trace times workers recorded TraceTooLong h = absurd h
+given-refused bytes trace times workers recorded (TraceLine line) h = absurd h
+given-refused bytes trace times workers recorded (TraceOrder line) h = absurd h
+given-refused bytes trace times workers recorded ClockSpent h = absurd h
+given-refused bytes trace times workers recorded BodyRefused h = absurd h
+given-refused bytes trace times workers recorded File h = absurd h
+given-refused bytes trace times workers recorded Write h = absurd h
+given-refused bytes trace times workers recorded NoWorker h = absurd h
+
+-- the runs
+pub run-refused : (bytes trace : Option (List ℕ)) (times workers : ℕ) (recorded : Bool) (fault : Fault) → IsStoppedRun recorded fault → IsRefusedBy bytes trace (work.Run times workers recorded) fault
+run-refused bytes trace times workers recorded TraceTooLong h = h
+run-refused bytes trace times workers recorded ClockSpent h = tt
+run-refused bytes trace times workers recorded BodyRefused h = tt
+run-refused bytes trace times workers recorded Memory h = tt
+run-refused bytes trace times workers recorded NoWorker h = tt
+run-refused bytes trace times workers recorded TooLong h = absurd h
+run-refused bytes trace times workers recorded (Content fault) h = absurd h
+run-refused bytes trace times workers recorded (Build fault) h = absurd h
+run-refused bytes trace times workers recorded (Script cause system block instruction) h = absurd h
+run-refused bytes trace times workers recorded (TraceLine line) h = absurd h
+run-refused bytes trace times workers recorded (TraceOrder line) h = absurd h
+run-refused bytes trace times workers recorded IdsSpent h = absurd h
+run-refused bytes trace times workers recorded File h = absurd h
+run-refused bytes trace times workers recorded Write h = absurd h
+
+-- what is told of a fault that is there
+pub of-err : {T E : Type 0} (P Q : E → Type 0) (r : Result T E) → ((e : E) → P e → Q e) → IfErr r P → IfErr r Q
+of-err P Q (Ok x) f h = h
+of-err P Q (Err e) f h = f e h
+
+-- and of one that a conversion gave
+pub of-given : {T E : Type 0} (P Q : E → Type 0) (r : Result T E) → IsErrAnd r P → ((e : E) → P e → Q e) → IfErr r Q
+of-given P Q (Ok x) h f = absurd h
+of-given P Q (Err e) h f = f e h
+
+-- the reader of a document
+pub document-unread : (bytes : Option (List ℕ)) (text : List ℕ) (fault : FileFault) → IfSome bytes (λ all. text ≡ all) → IsOfBytes fault → (fault ≡ file.Document → IsUtf8 text → parse_document text ≡ None) → IsUnread bytes (fault_of_file fault)
+document-unread None text file.Document whole only none = tt
+document-unread (Some all) text file.Document whole only none = subst (λ xs. IsUtf8 xs → parse_document xs ≡ None) whole (none refl)
+document-unread bytes text file.Memory whole only none = tt
+document-unread bytes text (file.Value place) whole only none = absurd only
+document-unread bytes text (file.Text place) whole only none = absurd only

@@ -4,3 +4,5 @@ pub mod Load
 pub mod Recorded
 pub mod Served
 pub mod Setup
+pub mod Refused
+pub mod Said

@@ -1,8 +1,7 @@
 -- What a command leaves with its streams.
-use Rattle.std.specs.Prelude.{ℕ, ◌≡◌, ◌≢◌, ◌⊎◌, ◌↔◌, ℤ, Bool, true, List, map, Option, Result, MatchResult, string_bytes}
+use Rattle.std.specs.Prelude.{ℕ, ◌≡◌, ◌⊎◌, ◌↔◌, Bool, true, List, map, Option, Result, IfSome, MatchResult, string_bytes}
 use Rattle.std.specs.Io.KnownBytes.{Keeps, Appends}
-use Rattle.model.specs.declarations.Declarations.{Declared, DeclaredSystem}
-use Rattle.model.specs.state.Loaded.{Given, loaded}
+use Rattle.model.specs.state.Loaded.{loaded}
 use Rattle.model.specs.steps.Ambiguity.{Settled}
 use Rattle.model.specs.steps.Schedule.{Schedule}
 use Rattle.ambiguity_report.specs.declared.report.Pair.{Pair}
@@ -10,31 +9,31 @@ use Rattle.ambiguity_report.specs.Report.{IsReport}
 use Rattle.command_line.specs.declared.args.Work.{Work}
 use Rattle.command_line.specs.declared.args.Work.TheVariants.{Run, Ambiguities, Check}
 use Rattle.command_line.specs.Args.{is_recorded}
-use Rattle.script.specs.declared.script_body.ScriptBody.{ScriptBody}
+use Rattle.program_file.specs.declared.program_file.ProgramFile.{ProgramFile}
 use Rattle.ecsrun.specs.declared.answer.Answer.{Answer}
+use Rattle.ecsrun.specs.declared.fault.Fault.{Fault}
+use Rattle.ecsrun.specs.declared.fault.Fault.TheVariants.{Write, Memory}
+use Rattle.ecsrun.specs.Fault.{status_of, fault_text}
+use Rattle.ecsrun.specs.Refused.{IsRefusedBy}
 use Rattle.ecsrun.specs.Checked.{IsCheckOf}
+use Rattle.ecsrun.specs.Load.{entity_given}
+use Rattle.ecsrun.specs.Said.{IsFileOf, declared_by, scripts_by}
 use Rattle.ecsrun.specs.Recorded.{IsTextOfRuns}
-use Rattle.ecsrun.specs.Setup.{IsScheduleOf, AreScriptsOf, meanings_of_scripts}
-use Rattle.streams.specs.Writing.{AppendsFront}
+use Rattle.ecsrun.specs.Setup.{IsScheduleOf, AreScriptsOf, declared_names, meanings_of_scripts}
+use Rattle.streams.specs.Writing.{AppendsFront, line_of}
 use Rattle.output_text.specs.ReportText.{report_text}
 
 -- ---- answers
 
--- the text of a state that so many complete runs leave: of a schedule that the builder accepted, with a script for each system, from the
--- state of some entities and values of the resources as loaded. Where the runs are recorded, their record
-pub record IsRunText (width times : ℕ) (recorded : Bool) (text noted : List ℕ) : Type 0 where
-  pub declared : Declared
+-- the text of a state that so many complete runs leave: of the schedule that the tables of a file declare, which the builder accepted, with
+-- their script for each system, from the state of their entities and resources as loaded. Where the runs are recorded, their record
+pub record IsRunText (width times : ℕ) (recorded : Bool) (bytes : Option (List ℕ)) (text noted : List ℕ) : Type 0 where
+  pub tables : ProgramFile
+  pub read : IfSome bytes (IsFileOf tables)
   pub schedule : Schedule
-  pub built : IsScheduleOf declared schedule
-  pub scripts : List ScriptBody
-  pub fitting : AreScriptsOf schedule scripts
-  pub entities : List (List Given)
-  pub values : List ℤ
-  pub runs : IsTextOfRuns width schedule (meanings_of_scripts schedule scripts) (loaded schedule entities values) times recorded text noted
-
--- the names of declared systems, by number
-abbrev pub declared_names : Declared → List (List ℕ)
-declared_names d = map (λ (x : DeclaredSystem). x.item.name) d.systems
+  pub built : IsScheduleOf (declared_by tables) schedule
+  pub fitting : AreScriptsOf schedule (scripts_by tables)
+  pub runs : IsTextOfRuns width schedule (meanings_of_scripts schedule (scripts_by tables)) (loaded schedule (map entity_given tables.entities.items) tables.resources) times recorded text noted
 
 -- the text of the report of a schedule whose systems have these names: the pairs that race, and whether it is settled
 pub record IsTextOfReport (names : List (List ℕ)) (s : Schedule) (text : List ℕ) : Type 0 where
@@ -44,25 +43,27 @@ pub record IsTextOfReport (names : List (List ℕ)) (s : Schedule) (text : List 
   pub told : (settled ≡ true) ↔ Settled s
   pub same : text ≡ report_text names pairs settled
 
--- the text of a report of a schedule that the builder accepted, by the declared names
-pub record IsReportText (text : List ℕ) : Type 0 where
-  pub declared : Declared
+-- the text of a report of the schedule that the tables of a file declare, by the declared names
+pub record IsReportText (bytes : Option (List ℕ)) (text : List ℕ) : Type 0 where
+  pub tables : ProgramFile
+  pub read : IfSome bytes (IsFileOf tables)
   pub schedule : Schedule
-  pub built : IsScheduleOf declared schedule
-  pub report : IsTextOfReport (declared_names declared) schedule text
+  pub built : IsScheduleOf (declared_by tables) schedule
+  pub report : IsTextOfReport (declared_names (declared_by tables)) schedule text
 
--- the text of what a schedule that the builder accepted says of the runs of a trace, and the status
-pub record IsCheckText (trace : Option (List ℕ)) (status : ℕ) (text : List ℕ) : Type 0 where
-  pub declared : Declared
+-- the text of what the schedule that the tables of a file declare says of the runs of a trace, and the status
+pub record IsCheckText (bytes trace : Option (List ℕ)) (status : ℕ) (text : List ℕ) : Type 0 where
+  pub tables : ProgramFile
+  pub read : IfSome bytes (IsFileOf tables)
   pub schedule : Schedule
-  pub built : IsScheduleOf declared schedule
+  pub built : IsScheduleOf (declared_by tables) schedule
   pub check : IsCheckOf schedule trace status text
 
--- what is answered to some work, done with room for so many running systems, on a trace
-abbrev pub IsAnswerTo : ℕ → Work → Option (List ℕ) → Answer → Type 0
-IsAnswerTo width (Run times workers recorded) trace answer = (answer.status ≡ 0) × IsRunText width times recorded (string_bytes answer.text) (string_bytes answer.traces)
-IsAnswerTo width Ambiguities trace answer = (answer.status ≡ 0) × IsReportText (string_bytes answer.text)
-IsAnswerTo width Check trace answer = IsCheckText trace answer.status (string_bytes answer.text)
+-- what is answered to some work, done with room for so many running systems, on a file with these bytes and a trace
+abbrev pub IsAnswerTo : ℕ → Work → Option (List ℕ) → Option (List ℕ) → Answer → Type 0
+IsAnswerTo width (Run times workers recorded) bytes trace answer = (answer.status ≡ 0) × IsRunText width times recorded bytes (string_bytes answer.text) (string_bytes answer.traces)
+IsAnswerTo width Ambiguities bytes trace answer = (answer.status ≡ 0) × IsReportText bytes (string_bytes answer.text)
+IsAnswerTo width Check bytes trace answer = IsCheckText bytes trace answer.status (string_bytes answer.text)
 
 -- ---- streams, each by what it held before and what it holds then
 
@@ -87,38 +88,51 @@ pub record IsRecordKept (work : Work) (noted : List ℕ) (traces : Option (List 
 abbrev pub WritesRecord : {T E : Type 0} → Work → (Option (List ℕ) × Option (List ℕ)) → Result T E → List ℕ → Type 0
 WritesRecord work traces r noted = MatchResult r (λ _. IsRecordKept work noted traces) (λ _. (is_recorded work ≡ true) × HasGainedFront traces noted)
 
--- the work is done, and the output gained its text
-pub record IsDone (width : ℕ) (work : Work) (trace : Option (List ℕ)) (status : ℕ) (out traces : Option (List ℕ) × Option (List ℕ)) : Type 0 where
+-- a fault was told in its line, or a beginning of that; where memory is wanting for the line, that was told
+abbrev pub Tells : Fault → (Option (List ℕ) × Option (List ℕ)) → Type 0
+Tells fault faults = HasGainedFront faults (line_of (fault_text fault)) ⊎ HasGainedFront faults (line_of (fault_text Memory))
+
+-- the work is done: the output gained its text, and nothing is told
+pub record IsDone (width : ℕ) (work : Work) (bytes trace : Option (List ℕ)) (status : ℕ) (out traces faults : Option (List ℕ) × Option (List ℕ)) : Type 0 where
   pub answer : Answer
-  pub is : IsAnswerTo width work trace answer
+  pub is : IsAnswerTo width work bytes trace answer
   pub ends : status ≡ answer.status
   pub recorded : IsRecordKept work (string_bytes answer.traces) traces
   pub written : HasGained out (string_bytes answer.text)
+  pub untold : IsKept faults
 
--- the output failed, and gained a beginning of the text
-pub record IsCutOff (width : ℕ) (work : Work) (trace : Option (List ℕ)) (status : ℕ) (out traces : Option (List ℕ) × Option (List ℕ)) : Type 0 where
-  pub failure : status ≡ 3
+-- the output failed, which is told, and gained a beginning of the text
+pub record IsCutOff (width : ℕ) (work : Work) (bytes trace : Option (List ℕ)) (status : ℕ) (out traces faults : Option (List ℕ) × Option (List ℕ)) : Type 0 where
+  pub failure : status ≡ status_of Write
+  pub told : Tells Write faults
   pub answer : Answer
-  pub is : IsAnswerTo width work trace answer
+  pub is : IsAnswerTo width work bytes trace answer
   pub recorded : IsRecordKept work (string_bytes answer.traces) traces
   pub written : HasGainedFront out (string_bytes answer.text)
 
--- the file of the record failed, and gained a beginning of it, and nothing is printed
-pub record IsUnrecorded (width : ℕ) (work : Work) (trace : Option (List ℕ)) (status : ℕ) (out traces : Option (List ℕ) × Option (List ℕ)) : Type 0 where
-  pub failure : status ≡ 3
+-- the file of the record failed, which is told, and gained a beginning of it, and nothing is printed
+pub record IsUnrecorded (width : ℕ) (work : Work) (bytes trace : Option (List ℕ)) (status : ℕ) (out traces faults : Option (List ℕ) × Option (List ℕ)) : Type 0 where
+  pub failure : status ≡ status_of Write
+  pub told : Tells Write faults
   pub asked : is_recorded work ≡ true
   pub answer : Answer
-  pub is : IsAnswerTo width work trace answer
+  pub is : IsAnswerTo width work bytes trace answer
   pub recorded : HasGainedFront traces (string_bytes answer.traces)
   pub kept : IsKept out
 
--- the work is refused, and nothing was written
-pub record IsRefusal (status : ℕ) (out traces : Option (List ℕ) × Option (List ℕ)) : Type 0 where
-  pub failure : status ≢ 0
+-- the work is refused with a fault, by the reader that gives it: the fault is told, with its status, and nothing else was written
+pub record IsRefusal (work : Work) (bytes trace : Option (List ℕ)) (status : ℕ) (out traces faults : Option (List ℕ) × Option (List ℕ)) : Type 0 where
+  pub fault : Fault
+  pub reason : IsRefusedBy bytes trace work fault
+  pub failure : status ≡ status_of fault
+  pub told : Tells fault faults
   pub kept : IsKept out
   pub untouched : IsKept traces
 
--- what the output and the file of the record hold after a command, by its status
-abbrev pub IsServed : ℕ → Work → Option (List ℕ) → ℕ → (Option (List ℕ) × Option (List ℕ)) → (Option (List ℕ) × Option (List ℕ)) → Type 0
-IsServed width work trace status out traces =
-    IsDone width work trace status out traces ⊎ (IsCutOff width work trace status out traces ⊎ (IsUnrecorded width work trace status out traces ⊎ IsRefusal status out traces))
+-- what the output, the file of the record and the standard error hold after a command on a file with these bytes, by its status
+abbrev pub IsServed : ℕ → Work → Option (List ℕ) → Option (List ℕ) → ℕ → (Option (List ℕ) × Option (List ℕ)) → (Option (List ℕ) × Option (List ℕ)) → (Option (List ℕ) × Option (List ℕ)) → Type 0
+IsServed width work bytes trace status out traces faults =
+    IsDone width work bytes trace status out traces faults
+    ⊎ (IsCutOff width work bytes trace status out traces faults
+    ⊎ (IsUnrecorded width work bytes trace status out traces faults
+    ⊎ IsRefusal work bytes trace status out traces faults))

@@ -2,7 +2,7 @@
 use Rattle.std.specs.Prelude.{ℕ, ◌<◌, ◌≡◌, Bool, true, false, List, [], length, map, slice_get, Option, Some, None}
 use Rattle.model.specs.access.Access.{Params}
 use Rattle.model.specs.shown.Outcome.{BodyMeaning}
-use Rattle.model.specs.declarations.Declarations.{Declared}
+use Rattle.model.specs.declarations.Declarations.{Declared, DeclaredSystem}
 use Rattle.model.specs.declarations.Refusals.{IsBuildable}
 use Rattle.model.specs.steps.Schedule.{Schedule, params_of}
 use Rattle.model.specs.declarations.ScheduleOrder.{HasDeclaredSystems, HasDeclaredEdges, HasLevels, IsScheduleOrder}
@@ -10,6 +10,10 @@ use Rattle.script.specs.declared.script_body.ScriptBody.{ScriptBody}
 use Rattle.script.specs.Faults.{fits}
 use Rattle.script.specs.Script.{script_meaning}
 use Rattle.engine.specs.Meanings.{meanings}
+
+-- the names of declared systems, by number
+abbrev pub declared_names : Declared → List (List ℕ)
+declared_names d = map (λ (x : DeclaredSystem). x.item.name) d.systems
 
 -- the schedule is the one that declared items stand for, which have no fault
 pub record IsScheduleOf (d : Declared) (s : Schedule) : Type 0 where

@@ -1,10 +1,11 @@
 // What a schedule says of a trace that is read.
 
-ghost use Rattle.std.specs.Prelude.{◌≡◌, string_bytes, IfOk, IfSome};
+ghost use Rattle.std.specs.Prelude.{◌≡◌, string_bytes, IfOk, IfErr, IfSome};
 ghost use Rattle.std.specs.List.{list_all};
 ghost use Rattle.trace_checker.specs.Grammar.{AreFitting, steps_of, trace_text};
 ghost use Rattle.trace_checker.specs.Verdicts.{is_complete};
 ghost use Rattle.ecsrun.specs.Checked.{IsCheckOf};
+ghost use Rattle.ecsrun.specs.Refused.{IsTraceUnread};
 
 use crate::answer::Answer;
 use crate::fault::Fault;
@@ -22,7 +23,8 @@ pub const MOST_TRACE_BYTES: usize = 67_108_864;
 
 /// What a schedule says of each run of a trace, a line for each. The exit status is 0 where all of them are complete.
 pub fn check_trace<T: Read>(alloc: Global, built: &Built, trace: &mut T) -> Result<Answer, Fault>
-    ensures { IfOk result (λ answer. IsCheckOf built.now (T.remaining trace.old) answer.status (string_bytes answer.text)) }
+    ensures done { IfOk result (λ answer. IsCheckOf built.now (T.remaining trace.old) answer.status (string_bytes answer.text)) }
+    ensures refused { IfErr result (IsTraceUnread (T.remaining trace.old)) }
 {
     let traces = traces_of(alloc, trace)?;
     let verdicts = check_all(alloc, built, traces.as_slice())?;
@@ -43,6 +45,7 @@ pub fn check_trace<T: Read>(alloc: Global, built: &Built, trace: &mut T) -> Resu
 fn traces_of<T: Read>(alloc: Global, trace: &mut T) -> Result<Vec<Trace>, Fault>
     ensures fitting { IfOk result (λ traces. AreFitting (steps_of traces.items)) }
     ensures read { IfOk result (λ traces. IfSome (T.remaining trace.old) (λ bytes. bytes ≡ trace_text (steps_of traces.items))) }
+    ensures refused { IfErr result (IsTraceUnread (T.remaining trace.old)) }
 {
     let bytes = match read_whole(alloc, trace, MOST_TRACE_BYTES) {
         Ok(bytes) => bytes,

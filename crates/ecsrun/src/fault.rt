@@ -1,7 +1,7 @@
 // Why the program ends with another status than 0, each told by one line.
 
-ghost use Rattle.std.specs.Prelude.{◌≡◌, IfOk};
-ghost use Rattle.ecsrun.specs.Fault.{status_of, fault_of_read, fault_of_file, IsScriptFault};
+ghost use Rattle.std.specs.Prelude.{◌≡◌, Some};
+ghost use Rattle.ecsrun.specs.Fault.{status_of, fault_text, fault_of_read, fault_of_file, fault_of_build, fault_of_grant, fault_of_text, IsScriptFault};
 ghost use Rattle.ecsrun.specs.declared.fault.Fault.TheVariants.{Memory, Write};
 
 use archetype_store::fault::GrantFault;
@@ -9,25 +9,22 @@ use program_file::FileFault;
 use schedule_builder::fault::BuildFault;
 use script::fault::{Cause, ScriptFault};
 use std::alloc::{AllocError, AllocFailed, Global};
+use std::error::Error;
+use std::fmt;
 use streams::reading::ReadFault;
 use streams::writing::WriteFault;
-use thiserror::Error;
 use trace_checker::read::TextFault;
 
 /// Why the work is not done. It is printed as the line that the standard error gets, without its end.
-#[derive(Debug, Drop, Error)]
+#[derive(Debug, Drop)]
 pub enum Fault {
     /// The program file is longer than its limit.
-    #[error("refused P4")]
     TooLong,
     /// The program file is not read, for another cause than memory.
-    #[error("{0}")]
     Content(FileFault),
     /// The schedule is refused, for another cause than memory.
-    #[error("{0}")]
     Build(BuildFault),
     /// The script of a system is refused.
-    #[error("refused {cause} {system} {block} {instruction}")]
     Script {
         cause: Cause,
         system: String,
@@ -35,36 +32,56 @@ pub enum Fault {
         instruction: usize,
     },
     /// A trace is longer than its limit: one that is read, or one that would be written.
-    #[error("refused L3")]
     TraceTooLong,
     /// This line of a trace, counted from 1, is outside the grammar, or has no end.
-    #[error("refused L1 {0}")]
     TraceLine(usize),
     /// This line of a trace, counted from 1, begins another run than the next one, or is a step before any run.
-    #[error("refused L2 {0}")]
     TraceOrder(usize),
     /// The clock has no next tick.
-    #[error("refused E2")]
     ClockSpent,
     /// No ids are left for the entities of the file.
-    #[error("refused E3")]
     IdsSpent,
     /// The body of a system refused. No script does.
-    #[error("refused E6")]
     BodyRefused,
     /// A file can't be read.
-    #[error("error file")]
     File,
     /// A write failed.
-    #[error("error write")]
     Write,
     /// Memory is wanting.
-    #[error("error memory")]
     Memory,
     /// A worker's thread couldn't be started.
-    #[error("error worker")]
     NoWorker,
 }
+
+impl fmt::Display for Fault {
+    ghost output = { λ fault. Some (fault_text fault) };
+
+    fn fmt<W: fmt::Write>(&self, f: &mut fmt::Formatter<W>) -> fmt::Result {
+        match self {
+            Fault::TooLong => write!(f, "refused P4"),
+            Fault::Content(fault) => write!(f, "{fault}"),
+            Fault::Build(fault) => write!(f, "{fault}"),
+            Fault::Script {
+                cause,
+                system,
+                block,
+                instruction,
+            } => write!(f, "refused {cause} {system} {block} {instruction}"),
+            Fault::TraceTooLong => write!(f, "refused L3"),
+            Fault::TraceLine(line) => write!(f, "refused L1 {line}"),
+            Fault::TraceOrder(line) => write!(f, "refused L2 {line}"),
+            Fault::ClockSpent => write!(f, "refused E2"),
+            Fault::IdsSpent => write!(f, "refused E3"),
+            Fault::BodyRefused => write!(f, "refused E6"),
+            Fault::File => write!(f, "error file"),
+            Fault::Write => write!(f, "error write"),
+            Fault::Memory => write!(f, "error memory"),
+            Fault::NoWorker => write!(f, "error worker"),
+        }
+    }
+}
+
+impl Error for Fault {}
 
 impl Fault {
     /// The exit status: 1 where the content is refused, 3 where input, output, memory or a thread fail.
@@ -77,16 +94,19 @@ impl Fault {
         }
     }
 
-    /// The fault of the script of the system of this name.
-    pub fn of_script(alloc: Global, name: &str, fault: ScriptFault) -> Result<Fault, AllocError>
-        ensures { IfOk result (IsScriptFault name.now fault) }
+    /// The fault of the script of the system of this name. It is `Memory` where memory is wanting for the name.
+    pub fn of_script(alloc: Global, name: &str, fault: ScriptFault) -> Fault
+        ensures { IsScriptFault name.now fault result }
     {
-        Ok(Fault::Script {
-            cause: fault.cause,
-            system: String::from_str(alloc, name)?,
-            block: fault.block,
-            instruction: fault.instruction,
-        })
+        match String::from_str(alloc, name) {
+            Ok(system) => Fault::Script {
+                cause: fault.cause,
+                system,
+                block: fault.block,
+                instruction: fault.instruction,
+            },
+            Err(_) => Fault::Memory,
+        }
     }
 }
 
@@ -130,6 +150,8 @@ impl From<FileFault> for Fault {
 }
 
 impl From<BuildFault> for Fault {
+    ghost from_gives = { λ error fault. fault ≡ fault_of_build error };
+
     fn from(error: BuildFault) -> Fault {
         match error {
             BuildFault::Memory => Fault::Memory,
@@ -139,6 +161,8 @@ impl From<BuildFault> for Fault {
 }
 
 impl From<GrantFault> for Fault {
+    ghost from_gives = { λ error fault. fault ≡ fault_of_grant error };
+
     fn from(error: GrantFault) -> Fault {
         match error {
             GrantFault::IdsSpent => Fault::IdsSpent,
@@ -148,6 +172,8 @@ impl From<GrantFault> for Fault {
 }
 
 impl From<TextFault> for Fault {
+    ghost from_gives = { λ error fault. fault ≡ fault_of_text error };
+
     fn from(error: TextFault) -> Fault {
         match error {
             TextFault::Line(line) => Fault::TraceLine(line),
@@ -199,7 +225,7 @@ mod tests {
             block: 1,
             instruction: 2,
         };
-        let told = Fault::of_script(rt.alloc(), "move", fault)?.to_string(rt.alloc())?;
+        let told = Fault::of_script(rt.alloc(), "move", fault).to_string(rt.alloc())?;
         assert_eq!(rt; told.as_str(), "refused X1 move 1 2");
         Ok(())
     }

@@ -1,6 +1,7 @@
 // A program file as bytes.
 
-ghost use Rattle.std.specs.Prelude.{◌≡◌, ◌<◌, ◌≤◌, length, vec_len, IfOk, IfSome, IsErrOf};
+ghost use Rattle.std.specs.Prelude.{◌≡◌, ◌≤◌, vec_len, IfOk, IfErr, IfSome};
+ghost use Rattle.ecsrun.specs.Refused.{IsUnread};
 
 use crate::fault::Fault;
 use std::alloc::Global;
@@ -13,7 +14,7 @@ const MOST_BYTES: usize = 1_048_576;
 pub fn bytes_of<R: Read>(alloc: Global, reader: &mut R) -> Result<Vec<u8>, Fault>
     ensures within { IfOk result (λ bytes. vec_len bytes ≤ 1048576) }
     ensures whole { IfOk result (λ bytes. IfSome (R.remaining reader.old) (λ all. bytes.items ≡ all)) }
-    ensures long { IsErrOf result Fault.TooLong → IfSome (R.remaining reader.old) (λ all. 1048576 < length all) }
+    ensures refused { IfErr result (IsUnread (R.remaining reader.old)) }
 {
     match read_whole(alloc, reader, MOST_BYTES) {
         Ok(bytes) => Ok(bytes),

@@ -7,6 +7,8 @@ mod checking;
 mod code_tests;
 mod created;
 #[cfg(test)]
+mod event_tests;
+#[cfg(test)]
 mod fakes;
 mod fault;
 mod file;

@@ -1,7 +1,8 @@
 // The record of runs: the text of their traces.
 
-ghost use Rattle.std.specs.Prelude.{◌≡◌, ◌≤◌, ◌++◌, length, string_bytes, OnOk};
+ghost use Rattle.std.specs.Prelude.{◌≡◌, ◌≤◌, ◌++◌, true, length, string_bytes, IfErr, OnOk};
 ghost use Rattle.trace_checker.specs.Grammar.{lines_text, run_lines};
+ghost use Rattle.ecsrun.specs.Refused.{IsStoppedRun};
 
 use crate::checking::MOST_TRACE_BYTES;
 use crate::fault::Fault;
@@ -12,6 +13,7 @@ use trace_checker::write::push_run;
 pub fn note(text: &mut String, number: u32, trace: &Trace) -> Result<(), Fault>
     ensures noted { OnOk result (string_bytes text.new ≡ string_bytes text.old ++ lines_text (run_lines number trace.now.steps.items)) }
     ensures within { OnOk result (length (string_bytes text.new) ≤ 67108864) }
+    ensures refused { IfErr result (IsStoppedRun true) }
 {
     push_run(text, number, trace)?;
     if text.as_bytes().len() > MOST_TRACE_BYTES {

@@ -1,15 +1,18 @@
 // The work of a command line, on readers and writers.
 
-ghost use Rattle.std.specs.Prelude.{◌≡◌, ◌∷◌, [], map, length, string_bytes, IfOk, OnOk, IsFalse};
+ghost use Rattle.std.specs.Prelude.{◌≡◌, ◌∷◌, [], Bool, map, length, string_bytes, IfOk, IfErr, IfSome, Some, OnOk, IsFalse};
 ghost use Rattle.archetype_store.specs.Layout.{AreAllHome};
 ghost use Rattle.engine.specs.History.{history_of};
 ghost use Rattle.engine.specs.Meanings.{meanings};
 ghost use Rattle.ecsrun.specs.Fault.{status_of};
 ghost use Rattle.ecsrun.specs.Recorded.{HaveNoted, HaveRun, IsTextOfRuns};
-ghost use Rattle.ecsrun.specs.Served.{IsAnswerTo, IsServed, IsTextOfReport, WritesRecord};
+ghost use Rattle.ecsrun.specs.Refused.{IsRefusedBy, IsStoppedRun, IsUnread};
+ghost use Rattle.ecsrun.specs.Served.{HasGainedFront, IsAnswerTo, IsServed, IsTextOfReport, Tells, WritesRecord};
+ghost use Rattle.toml.specs.Parse.{parse_document};
+ghost use Rattle.toml.specs.View.{table_view};
 ghost use Rattle.engine.specs.FirstState.{first_state};
 ghost use Rattle.ecsrun.specs.Setup.{AreScriptsOf, meanings_of_scripts, script_means};
-ghost use Rattle.streams.specs.Writing.{GainsLine};
+ghost use Rattle.streams.specs.Writing.{line_of};
 
 use crate::answer::Answer;
 use crate::checking::check_trace;
@@ -33,11 +36,12 @@ use script::script_body::ScriptBody;
 use std::alloc::Global;
 use std::io::{Read, Write};
 use streams::writing::{WriteFault, write_line, write_whole};
+use toml::Table;
 use worker_pool::Mode;
 
 /// Does the work of a command line: reads the program file, and the trace where one is checked, and writes to `out` the world that so
 /// many runs of its schedule in the mode leave, the report of which of its systems race, or what it says of the trace. Runs that are
-/// recorded are written to `traces` first. What goes wrong is told to `faults` in one line. Gives the exit status: 0 where the work is
+/// recorded are written to `traces` first. What goes wrong is told to `faults` in one line, and nothing else is. Gives the exit status: 0 where the work is
 /// done, 1 where the content is refused or a run of the trace is not complete, 3 where input, output, memory or a thread fail.
 pub fn serve<'s, M: Mode<'s>, F: Read, T: Read, R: Write, O: Write, E: Write>(
     alloc: Global,
@@ -49,8 +53,7 @@ pub fn serve<'s, M: Mode<'s>, F: Read, T: Read, R: Write, O: Write, E: Write>(
     out: &mut O,
     faults: &mut E,
 ) -> u8
-    ensures output { IsServed (M.width mode.now) args.now.work (T.remaining trace.old) result (O.contents out.old, O.contents out.new) (R.contents traces.old, R.contents traces.new) }
-    ensures told { GainsLine (E.contents faults.old) (E.contents faults.new) }
+    ensures { IsServed (M.width mode.now) args.now.work (F.remaining file.old) (T.remaining trace.old) result (O.contents out.old, O.contents out.new) (R.contents traces.old, R.contents traces.new) (E.contents faults.old, E.contents faults.new) }
 {
     let answer = match answer(alloc, args.work, mode, file, trace) {
         Ok(answer) => answer,
@@ -73,11 +76,10 @@ fn answer<'s, M: Mode<'s>, F: Read, T: Read>(
     file: &mut F,
     trace: &mut T,
 ) -> Result<Answer, Fault>
-    ensures { IfOk result (λ answer. IsAnswerTo (M.width mode.now) work (T.remaining trace.old) answer) }
+    ensures done { IfOk result (λ answer. IsAnswerTo (M.width mode.now) work (F.remaining file.old) (T.remaining trace.old) answer) }
+    ensures refused { IfErr result (IsRefusedBy (F.remaining file.old) (T.remaining trace.old) work) }
 {
-    let bytes = bytes_of(alloc, file)?;
-    let document = document_of(alloc, bytes.as_slice())?;
-    drop(bytes);
+    let document = document_in(alloc, file)?;
     let ProgramFile {
         resources,
         entities,
@@ -107,10 +109,20 @@ fn answer<'s, M: Mode<'s>, F: Read, T: Read>(
     run(alloc, times, recorded, mode, built, bodies, world)
 }
 
+// The document that a file is.
+fn document_in<F: Read>(alloc: Global, file: &mut F) -> Result<Table, Fault>
+    ensures read { IfOk result (λ table. IfSome (F.remaining file.old) (λ text. parse_document text ≡ Some (table_view table))) }
+    ensures refused { IfErr result (IsUnread (F.remaining file.old)) }
+{
+    let bytes = bytes_of(alloc, file)?;
+    Ok(document_of(alloc, bytes.as_slice())?)
+}
+
 // The report of a schedule whose systems have these names.
 fn report_of(alloc: Global, built: &Built, names: &[&str]) -> Result<Answer, Fault>
     ensures report { IfOk result (λ answer. IsTextOfReport (map (λ name. name.now) names.now) built.now (string_bytes answer.text)) }
     ensures status { IfOk result (λ answer. answer.status ≡ 0) }
+    ensures memory { IfErr result (λ fault. fault ≡ Fault.Memory) }
 {
     let pairs = report(alloc, built)?;
     let settled = is_settled(built);
@@ -135,6 +147,7 @@ fn run<'s, M: Mode<'s>>(
     requires home { AreAllHome world.layout }
     ensures runs { IfOk result (λ answer. IsTextOfRuns (M.width mode.now) built (meanings_of_scripts built bodies.items) (first_state built world.state) times recorded (string_bytes answer.text) (string_bytes answer.traces)) }
     ensures status { IfOk result (λ answer. answer.status ≡ 0) }
+    ensures stopped { IfErr result (IsStoppedRun recorded) }
 {
     let state = first_state(alloc, &built, world)?;
     let mut engine = match Engine::new(alloc, built, bodies, state) {
@@ -162,7 +175,8 @@ fn run_times<'s, M: Mode<'s>>(
     mode: &M,
 ) -> Result<String, Fault>
     requires { IsFalse engine.old.spoiled }
-    ensures { IfOk result (λ text. HaveNoted (M.width mode.now) engine.old.schedule (meanings script_means engine.old.schedule engine.old.bodies) engine.old.state times recorded engine.new.state (string_bytes text)) }
+    ensures noted { IfOk result (λ text. HaveNoted (M.width mode.now) engine.old.schedule (meanings script_means engine.old.schedule engine.old.bodies) engine.old.state times recorded engine.new.state (string_bytes text)) }
+    ensures stopped { IfErr result (IsStoppedRun recorded) }
 {
     let mut text = String::new(alloc);
     for run in 0..times {
@@ -185,6 +199,7 @@ fn run_once<'s, M: Mode<'s>>(
     ensures schedule { engine.new.schedule ≡ engine.old.schedule }
     ensures meant { OnOk result (meanings script_means engine.old.schedule engine.new.bodies ≡ meanings script_means engine.old.schedule engine.old.bodies) }
     ensures sound { OnOk result (IsFalse engine.new.spoiled) }
+    ensures stopped { (recorded : Bool) → IfErr result (IsStoppedRun recorded) }
 {
     match engine.run(alloc, 1, mode) {
         Ok(mut traces) => match traces.pop() {
@@ -212,18 +227,19 @@ fn write_record<R: Write>(traces: &mut R, work: Work, text: &str) -> Result<(), 
 /// Tells of a fault in one line, and gives the exit status. The status stays where the line can't be written.
 pub fn tell<E: Write>(alloc: Global, faults: &mut E, fault: &Fault) -> u8
     ensures status { result ≡ status_of fault.now }
-    ensures line { GainsLine (E.contents faults.old) (E.contents faults.new) }
+    ensures line { Tells fault.now (E.contents faults.old, E.contents faults.new) }
 {
-    match fault.to_string(alloc) {
-        Ok(line) => tell_line(faults, line.as_str()),
-        Err(_) => tell_line(faults, "error memory"),
-    }
+    let Ok(line) = fault.to_string(alloc) else {
+        tell_line(faults, "error memory");
+        return fault.status();
+    };
+    tell_line(faults, line.as_str());
     fault.status()
 }
 
 // Writes the first line of a text, as far as the writer takes it.
 fn tell_line<E: Write>(faults: &mut E, text: &str)
-    ensures { GainsLine (E.contents faults.old) (E.contents faults.new) }
+    ensures { HasGainedFront (E.contents faults.old, E.contents faults.new) (line_of text.now) }
 {
     let _ = write_line(faults, text);
 }

@@ -210,6 +210,19 @@ fn a_long_chain_is_refused(rt: HostRuntime) -> Result<(), Fail> {
 }
 
 #[test]
+fn many_queries_are_refused(rt: HostRuntime) -> Result<(), Fail> {
+    let mut file = String::new(rt.alloc());
+    write!(file, "system = [{{name=\"a\",query=[")?;
+    for _query in 0..20_000u32 {
+        write!(file, "\"\",")?;
+    }
+    write!(file, "]}}]")?;
+    let answer = serve_file(rt.alloc(), "ecsrun run a.toml", file.as_str())?;
+    assert_eq!(rt; answer.faults.as_slice(), "refused B12 4\n".as_bytes());
+    Ok(())
+}
+
+#[test]
 fn a_file_that_fails_is_told(rt: HostRuntime) -> Result<(), Fail> {
     for reads in [0, 1] {
         let until = Until { reads, ..NEVER };

@@ -2,7 +2,6 @@
 
 ghost use Rattle.std.specs.Prelude.{◌≤◌};
 ghost use Rattle.ecsrun.specs.Served.{IsServed};
-ghost use Rattle.streams.specs.Writing.{GainsLine};
 
 use crate::serve::serve;
 use command_line::args::Args;
@@ -39,8 +38,7 @@ pub fn serve_in_scope<
     out: &mut O,
     faults: &mut E,
 ) -> u8
-    ensures output { 1 ≤ workers → workers ≤ 64 → IsServed workers args.now.work (T.remaining trace.old) result (O.contents out.old, O.contents out.new) (R.contents traces.old, R.contents traces.new) }
-    ensures told { GainsLine (E.contents faults.old) (E.contents faults.new) }
+    ensures { 1 ≤ workers → workers ≤ 64 → IsServed workers args.now.work (F.remaining file.old) (T.remaining trace.old) result (O.contents out.old, O.contents out.new) (R.contents traces.old, R.contents traces.new) (E.contents faults.old, E.contents faults.new) }
 {
     let count = workers.max(1).min(64) as usize;
     let mode = Workers::new(count, scope, runtime, &NO_GATE);

@@ -1,6 +1,6 @@
 // The world as a program file gives it: entity i of the file at index i with generation 1, all at tick 1.
 
-ghost use Rattle.std.specs.Prelude.{◌≡◌, ◌≤◌, [], map, length, replicate, true, IfOk, OnOk};
+ghost use Rattle.std.specs.Prelude.{◌≡◌, ◌≤◌, [], map, length, replicate, true, IfErr, IfOk, OnOk};
 ghost use Rattle.model.specs.state.Commands.{is_alive, with_row};
 ghost use Rattle.model.specs.state.Loaded.{slot_given};
 ghost use Rattle.model.specs.state.Rows.{insert_component};
@@ -9,6 +9,7 @@ ghost use Rattle.entity_table.specs.Ids.{IsGranted};
 ghost use Rattle.archetype_store.specs.Layout.{AreAllHome};
 ghost use Rattle.archetype_store.specs.Store.{with_slot};
 ghost use Rattle.kinds.specs.Value.{value_number, value_words};
+ghost use Rattle.ecsrun.specs.Refused.{IsUngiven};
 ghost use Rattle.ecsrun.specs.Load.{given_of, entity_given, loaded_world, with_resources, with_entities};
 
 use crate::fault::Fault;
@@ -33,6 +34,7 @@ pub fn world_of(
 ) -> Result<World, Fault>
     ensures world { IfOk result (λ world. world.state ≡ loaded_world (map entity_given entities.now) resources.now) }
     ensures home { IfOk result (λ world. AreAllHome world.layout) }
+    ensures refused { IfErr result IsUngiven }
 {
     let mut world = World::new(alloc, Clock::at(LOADING))?;
     give_resources(&mut world, resources);
@@ -59,6 +61,7 @@ fn give_entities(alloc: Global, world: &mut World, entities: &[Vec<Value>]) -> R
     requires home { AreAllHome world.old.layout }
     ensures given { OnOk result (world.new.state ≡ with_entities (map entity_given entities.now) world.old.state) }
     ensures home { AreAllHome world.new.layout }
+    ensures refused { IfErr result IsUngiven }
 {
     let Ok(count) = u32::try_from(entities.len()) else {
         return Err(Fault::IdsSpent);

@@ -24,6 +24,11 @@ one_misfit fits s slots state n m h k = go (n < m) (λ l. unlike (fits_at fits s
     go : Type 0 → (n < m → ⊥) → (m < n → ⊥) → n ≡ m
     go x below above = omega arith
 
+-- neither of two
+pub neither : {A B : Type 0} → (A → ⊥) → (B → ⊥) → A ⊎ B → ⊥
+neither f g (inl x) = f x
+neither f g (inr y) = g y
+
 -- a run that stopped neither for a tick nor for a refusal
 pub stopped_else : {T : Type 0} (r : Result T RunFault) → (r ≡ Err ClockSpent → ⊥) → ((k : ℕ) → r ≡ Err (BodyFault k) → ⊥) → IsOk r ⊎ IsErrOf r Memory ⊎ IsErrOf r NoWorker ⊎ IsErrOf r Spoiled
 stopped_else (Ok x) spent refused = inl refl

@@ -15,7 +15,7 @@ use Rattle.model.specs.steps.Schedule.{ScheduledSystem, Schedule, params_of}
 use Rattle.model.specs.runs.RunState.{RunningSystem, between, has_tick, next_tick, memory_of_system, with_registers, body_of}
 use Rattle.model.specs.runs.Meaning.{running_system, without_system, interleaved_step}
 use Rattle.model.specs.runs.Causes.{cause_of_answer, cause_of_running, interleaved_cause_of}
-use Rattle.model.specs.runs.Causes.Cause.{Refused}
+use Rattle.model.specs.runs.Causes.Cause.{Refused, NoEventNumber}
 use Rattle.model.proofs.lists.Each.{each-weaker}
 use Rattle.model.specs.declared.steps.Step.{Step}
 use Rattle.model.specs.steps.Lawful.{MayStart, MeetsRunning}
@@ -36,7 +36,7 @@ use Rattle.worker_pool.specs.JobOut.{JobOut}
 use Rattle.engine.specs.Meanings.{meaning_of, meanings_of, meanings, body_at, body_fits, HasMemories, Suits}
 use Rattle.engine.specs.Jobs.{running_of, systems_of, held_by, woven, IsJob, IsPlaced, AreDistinct, Placed}
 use Rattle.engine.proofs.Remembering.{memories_at, memories_noted, memories_laid}
-use Rattle.engine.proofs.Weaving.{HasNoEvents, IsAnswered, start_woven, finish_woven}
+use Rattle.engine.proofs.Weaving.{IsAnswered, numbers_of, start_woven, finish_woven, unsent_woven}
 
 -- ---- one of a list
 
@@ -150,7 +150,7 @@ pub record IsHanded {B : Type 0} (s : Schedule) (n : ℕ) (w : StateValue) (late
 
 module _ {B : Type 0} (meaning : B → Params → BodyMeaning) (fits : B → Params → Bool) (there : Bool) (s : Schedule) where
   -- the interleaved step
-  pub start_there : (bodies : List BodyMeaning) (n : ℕ) (w later : StateValue) (out : List (JobOut B)) (job : JobOut B) → HasNoEvents (params_of s n) → length w.state.world.slots ≤ most_indices → has_tick w.state ≡ true →
+  pub start_there : (bodies : List BodyMeaning) (n : ℕ) (w later : StateValue) (out : List (JobOut B)) (job : JobOut B) → (params_of s n).spawns ≡ None → length w.state.world.slots ≤ most_indices → has_tick w.state ≡ true →
       IsHanded s n w later job → interleaved_step s bodies (Start n) (woven w.state out) ≡ Some (woven later.state (out ++ job ∷ []))
   start_there bodies n w later out job alone few tick handed =
       let run : RunningSystem = record { system = n; tick = next_tick w.state; shown = shown (params_of s n) (memory_of_system w.state n) w.state [] } in
@@ -274,15 +274,20 @@ module _ {B : Type 0} (meaning : B → Params → BodyMeaning) (fits : B → Par
 
 -- ---- a finish
 
--- a job that came back with an outcome, and the state over which this is laid
-pub record IsReturned {B : Type 0} (meaning : B → Params → BodyMeaning) (fits : B → Params → Bool) (w later : StateValue) (job : JobOut B) (body : B) (seen : Seen) : Type 0 where
-  pub same_meaning : meaning body ≡ meaning job.body
-  pub same_fit : fits body ≡ fits job.body
+-- a job that came back with the outcome that its body means
+pub record IsOutcomeOf {B : Type 0} (meaning : B → Params → BodyMeaning) (job : JobOut B) (seen : Seen) : Type 0 where
   pub params : seen.params ≡ job.view.params
   pub shown_is : seen.shown ≡ job.view.shown
   pub opening : seen.opening ≡ job.view.opening
   pub answered : meaning job.body job.view.params job.view.shown ≡ Ok seen.outcome
   pub commands : seen.outcome.commands ≡ []
+
+-- and the state over which this is laid
+pub record IsReturned {B : Type 0} (meaning : B → Params → BodyMeaning) (fits : B → Params → Bool) (w later : StateValue) (job : JobOut B) (body : B) (seen : Seen) : Type 0 where
+  pub same_meaning : meaning body ≡ meaning job.body
+  pub same_fit : fits body ≡ fits job.body
+  pub outcome_is : IsOutcomeOf meaning job seen
+  pub numbers : numbers_of seen w.state ≡ true
   pub is_later : later ≡ record { state = laid job.system seen.opening.tick seen w.state; layout = with_back (lent_in seen.opening.taken) w.layout }
   pub held : (front rest : List (List Column)) → AreOut (store_of w) (front ++ (seen.opening.taken ++ rest)) → AreOut (store_of later) (front ++ rest)
 
@@ -311,7 +316,7 @@ module _ {B : Type 0} (meaning : B → Params → BodyMeaning) (fits : B → Par
       ∙ ap (λ answer. cause_of_answer s (running_of job) answer (between w.state))
       (ap (λ (m : BodyMeaning). m job.view.shown) (sym is-job.means) ∙ ap (λ p. meaning job.body p job.view.shown) (sym is-job.params) ∙ e)
 
-  module _ (later : StateValue) (body : B) (seen : Seen) (is : IsReturned meaning fits w later job body seen) where
+  module _ (seen : Seen) (is : IsOutcomeOf meaning job seen) where
     answered-there : IsAnswered s bodies job.system seen
     answered-there = record {
       params = is.params ∙ is-job.params;
@@ -319,11 +324,21 @@ module _ {B : Type 0} (meaning : B → Params → BodyMeaning) (fits : B → Par
       commands = is.commands;
     }
 
+    -- it runs
+    found-there : running_system job.system (map running_of (front ++ (job ∷ rest))) ≡ Some (record { system = job.system; tick = seen.opening.tick; shown = seen.shown })
+    found-there =
+        running-found job.system front rest job refl once.before
+        ∙ ap₂ (λ tick x. Some (record { system = job.system; tick = tick; shown = x })) (ap (λ (o : Opening). o.tick) (sym is.opening)) (sym is.shown_is)
+
+    -- where an event of its gets no number, the finish stops
+    pub unsent_there : numbers_of seen w.state ≡ false → interleaved_cause_of s bodies (Finish job.system) (woven w.state (front ++ (job ∷ rest))) ≡ Some NoEventNumber
+    unsent_there none = unsent_woven s bodies job.system seen.opening.tick w.state (map running_of (front ++ (job ∷ rest))) seen answered-there none found-there
+
+  module _ (later : StateValue) (body : B) (seen : Seen) (is : IsReturned meaning fits w later job body seen) where
     -- the interleaved step
-    pub finish_there : HasNoEvents (params_of s job.system) → interleaved_step s bodies (Finish job.system) (woven w.state (front ++ (job ∷ rest))) ≡ Some (woven later.state (front ++ rest))
-    finish_there alone =
-        finish_woven s bodies job.system seen.opening.tick w.state (map running_of (front ++ (job ∷ rest))) seen alone answered-there
-        (running-found job.system front rest job refl once.before ∙ ap₂ (λ tick x. Some (record { system = job.system; tick = tick; shown = x })) (ap (λ (o : Opening). o.tick) (sym is.opening)) (sym is.shown_is))
+    pub finish_there : interleaved_step s bodies (Finish job.system) (woven w.state (front ++ (job ∷ rest))) ≡ Some (woven later.state (front ++ rest))
+    finish_there =
+        finish_woven s bodies job.system seen.opening.tick w.state (map running_of (front ++ (job ∷ rest))) seen (answered-there seen is.outcome_is) is.numbers (found-there seen is.outcome_is)
         ∙ ap₂ (λ (state : State) running. Some (record { run = between state; running_systems = running })) (sym (ap (λ (x : StateValue). x.state) is.is_later)) (running-left job.system front rest job refl once.before)
 
     kept-job : (j : JobOut B) → IsJob meaning fits there s bodies w j → IsJob meaning fits there s bodies later j
@@ -366,7 +381,7 @@ module _ {B : Type 0} (meaning : B → Params → BodyMeaning) (fits : B → Par
       jobs = λ j i. kept-job j (placed.jobs j (within j (IsIn-append j front rest i)));
       distinct = subst AreDistinct (sym systems-left) once.others;
       held = subst (AreOut (store_of later)) (sym (held-left front rest))
-          (is.held (held_by front) (held_by rest) (subst (λ taken. AreOut (store_of w) (held_by front ++ (taken ++ held_by rest))) (ap (λ (o : Opening). o.taken) (sym is.opening)) (subst (AreOut (store_of w)) (held-around front rest job) placed.held)));
+          (is.held (held_by front) (held_by rest) (subst (λ taken. AreOut (store_of w) (held_by front ++ (taken ++ held_by rest))) (ap (λ (o : Opening). o.taken) (sym is.outcome_is.opening)) (subst (AreOut (store_of w)) (held-around front rest job) placed.held)));
     }
       where
         within : (j : JobOut B) → IsIn j front ⊎ IsIn j rest → IsIn j (front ++ (job ∷ rest))

@@ -1,14 +1,14 @@
 -- A job that has come back.
-use Rattle.std.proofs.Common.{ℕ, ◌<◌, ◌≤◌, Bool, true, ◌≡◌, List, [], ◌∷◌, ◌++◌, length, set, remove, slice_get, Option, Some, None, Result, Ok, Err, inl, refl, sym, ◌∙◌, ap, subst, arith}
+use Rattle.std.proofs.Common.{ℕ, ◌<◌, ◌≤◌, Bool, true, false, ◌≡◌, List, [], ◌∷◌, ◌++◌, length, set, remove, slice_get, Option, Some, None, Result, Ok, Err, inl, refl, sym, ◌∙◌, ap, subst, arith}
 use Rattle.std.specs.Option.{IsSomeAnd}
 use Rattle.model.specs.declared.steps.Step.TheVariants.{Finish}
 use Rattle.model.specs.Lists.{IsIn}
-use Rattle.model.specs.access.Access.{Params, no_params}
+use Rattle.model.specs.access.Access.{Params}
 use Rattle.model.specs.shown.Outcome.{BodyMeaning}
 use Rattle.model.specs.steps.Schedule.{Schedule, params_of}
 use Rattle.model.specs.runs.Meaning.{interleaved_step}
 use Rattle.model.specs.runs.Causes.{interleaved_cause_of}
-use Rattle.model.specs.runs.Causes.Cause.{Refused}
+use Rattle.model.specs.runs.Causes.Cause.{Refused, NoEventNumber}
 use Rattle.model.proofs.lists.Lists.{IsIn_right}
 use Rattle.body.specs.Answers.{Answers}
 use Rattle.body.specs.declared.system_body.BodyFault.{BodyFault}
@@ -22,8 +22,8 @@ use Rattle.body.specs.Steps.{StateValue, laid, store_of}
 use Rattle.worker_pool.specs.JobOut.{JobOut}
 use Rattle.worker_pool.specs.Ran.{Ran}
 use Rattle.engine.specs.Jobs.{woven, IsJob, Placed}
-use Rattle.engine.proofs.Placing.{around, IsReturned, lent-there, refused_there, finish_there, placed_finish}
-use Rattle.engine.proofs.Weaving.{no_events}
+use Rattle.engine.proofs.Placing.{around, IsOutcomeOf, IsReturned, lent-there, refused_there, unsent_there, finish_there, placed_finish}
+use Rattle.engine.proofs.Weaving.{numbers_of}
 
 -- of jobs that were out one came back, and its body has run
 pub record IsBack {B : Type 0} (meaning : B → Params → BodyMeaning) (fits : B → Params → Bool) (out later_out : List (JobOut B)) (system : ℕ) (body : B) (after : Seen) (answer : Result (Unit {0}) BodyFault) : Type 0 where
@@ -75,18 +75,31 @@ module _ {B : Type 0} (meaning : B → Params → BodyMeaning) (fits : B → Par
         ∙ refused_there meaning fits there s bodies slots back.front back.rest back.job w placed-around k
         (subst (λ (r : Result (Unit {0}) BodyFault). Answers (meaning back.job.body back.job.view.params back.job.view.shown) after r) e back.ran.answered)
 
-    module _ (later : StateValue) (ok : answer ≡ Ok tt) (alone : params_of s system ≡ record no_params { queries = (params_of s system).queries; res = (params_of s system).res; res_mut = (params_of s system).res_mut })
+    module _ (ok : answer ≡ Ok tt) (commands : after.outcome.commands ≡ []) where
+      outcome-back : IsOutcomeOf meaning back.job after
+      outcome-back = record {
+        params = back.ran.same_params;
+        shown_is = back.ran.same_shown;
+        opening = back.ran.same_opening;
+        answered = subst (λ (r : Result (Unit {0}) BodyFault). Answers (meaning back.job.body back.job.view.params back.job.view.shown) after r) ok back.ran.answered;
+        commands = commands;
+      }
+
+      -- where an event of the outcome gets no number, the finish stops
+      pub back_unsent : numbers_of after w.state ≡ false → interleaved_cause_of s bodies (Finish back.job.system) (woven w.state out) ≡ Some NoEventNumber
+      back_unsent none =
+          ap (λ xs. interleaved_cause_of s bodies (Finish back.job.system) (woven w.state xs)) back.whole
+          ∙ unsent_there meaning fits there s bodies slots back.front back.rest back.job w placed-around after outcome-back none
+
+    module _ (later : StateValue) (ok : answer ≡ Ok tt) (numbers : numbers_of after w.state ≡ true)
         (is_later : later ≡ record { state = laid system after.opening.tick after w.state; layout = with_back (lent_in after.opening.taken) w.layout })
         (held : (front rest : List (List Column)) → AreOut (store_of w) (front ++ (after.opening.taken ++ rest)) → AreOut (store_of later) (front ++ rest)) (commands : after.outcome.commands ≡ []) where
       returned : IsReturned meaning fits w later back.job body after
       returned = record {
         same_meaning = back.ran.same_meaning;
         same_fit = back.ran.same_fit;
-        params = back.ran.same_params;
-        shown_is = back.ran.same_shown;
-        opening = back.ran.same_opening;
-        answered = subst (λ (r : Result (Unit {0}) BodyFault). Answers (meaning back.job.body back.job.view.params back.job.view.shown) after r) ok back.ran.answered;
-        commands = commands;
+        outcome_is = outcome-back ok commands;
+        numbers = numbers;
         is_later = subst (λ n. later ≡ record { state = laid n after.opening.tick after w.state; layout = with_back (lent_in after.opening.taken) w.layout }) back.ran.same_system is_later;
         held = held;
       }
@@ -96,7 +109,6 @@ module _ {B : Type 0} (meaning : B → Params → BodyMeaning) (fits : B → Par
           ap (λ n. interleaved_step s bodies (Finish n) (woven w.state out)) back.ran.same_system
           ∙ ap (λ xs. interleaved_step s bodies (Finish back.job.system) (woven w.state xs)) back.whole
           ∙ finish_there meaning fits there s bodies slots back.front back.rest back.job w placed-around later body after returned
-          (no_events (params_of s back.job.system) (subst (λ n. params_of s n ≡ record no_params { queries = (params_of s n).queries; res = (params_of s n).res; res_mut = (params_of s n).res_mut }) back.ran.same_system alone))
           ∙ ap (λ xs. Some (woven later.state xs)) (sym back.left)
 
       pub back_placed : Placed meaning fits there s bodies (set slots system (Some body)) later_out later

@@ -3,11 +3,10 @@ use Rattle.std.proofs.Common.{ℕ, ℤ, ◌≤◌, Bool, true, false, ◌≡◌,
 use Rattle.std.proofs.lemmas.Bool.{true_from_ne_false}
 use Rattle.std.specs.Option.{unwrap_or, option_and_then}
 use Rattle.model.specs.declared.steps.Step.TheVariants.{Cond, Start, Finish, Sync}
-use Rattle.model.specs.Lists.{all_index, update_at, with_at, provided}
+use Rattle.model.specs.Lists.{update_at, with_at, provided}
 use Rattle.model.specs.declared.entities.Entity.{Entity}
-use Rattle.model.specs.state.State.{Slot, Resource, EventQueue, Memory, State, empty_queue, most_indices}
-use Rattle.model.specs.access.Access.{Params, no_params}
-use Rattle.model.specs.state.Events.{send_all}
+use Rattle.model.specs.state.State.{Slot, Resource, EventQueue, Memory, State, most_indices}
+use Rattle.model.specs.access.Access.{Params}
 use Rattle.model.specs.state.Ids.{grant, granted_ids}
 use Rattle.model.specs.shown.Input.{Shown, shown}
 use Rattle.model.specs.shown.Outcome.{Command, Outcome, BodyMeaning, words_written, value_written, events_sent}
@@ -16,7 +15,8 @@ use Rattle.model.specs.access.Condition.{holds}
 use Rattle.model.specs.steps.Schedule.{Schedule, params_of, access_of, condition_of}
 use Rattle.model.specs.runs.RunState.{RunState, RunningSystem, between, has_tick, next_tick, memory_of_condition, memory_of_system, with_registers, spawns_of, ids_of_start, can_start, started_system, after_start, can_finish, overlaid, body_of, finish, finish_with, after_sync, after_condition, answer_of}
 use Rattle.model.specs.runs.Meaning.{Interleaved, running_system, without_system, with_running_systems, interleaved_step}
-use Rattle.model.proofs.lists.Lists.{map_index-id}
+use Rattle.model.specs.runs.Causes.{unless, cause_of_answer, cause_of_running, interleaved_cause_of}
+use Rattle.model.specs.runs.Causes.Cause.{NoEventNumber}
 use Rattle.model.proofs.serial.Engine.{grant-none, granted_ids-none, can_start-no_ids, started_run, memories_started, shown_with, after_sync-between, with_at-same}
 use Rattle.body.specs.Seen.{Seen}
 use Rattle.body.specs.Steps.{asked_at, at_clock, laid, noted, ticked}
@@ -24,19 +24,6 @@ use Rattle.body.specs.Steps.{asked_at, at_clock, laid, noted, ticked}
 -- a run of a state with these running systems
 abbrev pub over : State → List RunningSystem → Interleaved
 over state running = record { run = between state; running_systems = running }
-
--- what is left of the parameters of a system without events and commands
-pub record HasNoEvents (params : Params) : Type 0 where
-  pub reads : params.reads ≡ []
-  pub writes : params.writes ≡ []
-  pub spawns : params.spawns ≡ None
-
-pub no_events : (params : Params) → params ≡ record no_params { queries = params.queries; res = params.res; res_mut = params.res_mut } → HasNoEvents params
-no_events params e = record {
-  reads = ap (λ (p : Params). p.reads) e;
-  writes = ap (λ (p : Params). p.writes) e;
-  spawns = ap (λ (p : Params). p.spawns) e;
-}
 
 -- ---- a start
 
@@ -57,13 +44,13 @@ grants-none : (n : ℕ) → with_at {A = List Entity} n [] (λ m. []) ≡ (let n
 grants-none n = with_at-same {A = List Entity} n (λ m. [])
 
 -- a start notes the run of the system at the next tick, and the system runs
-pub start_woven : (s : Schedule) (bodies : List BodyMeaning) (n : ℕ) (state : State) (running : List RunningSystem) → HasNoEvents (params_of s n) → length state.world.slots ≤ most_indices → has_tick state ≡ true →
+pub start_woven : (s : Schedule) (bodies : List BodyMeaning) (n : ℕ) (state : State) (running : List RunningSystem) → (params_of s n).spawns ≡ None → length state.world.slots ≤ most_indices → has_tick state ≡ true →
     interleaved_step s bodies (Start n) (over state running)
     ≡ Some (over (noted n (params_of s n).reads (next_tick state) (ticked state)) (running ++ record { system = n; tick = next_tick state; shown = shown (params_of s n) (memory_of_system state n) state [] } ∷ []))
 start_woven s bodies n state running alone few tick =
     let slots = state.world.slots in
     let memories = memories_started s n state in
-    let none : spawns_of s n ≡ 0 = ap (λ (o : Option ℕ). unwrap_or o 0) alone.spawns in
+    let none : spawns_of s n ≡ 0 = ap (λ (o : Option ℕ). unwrap_or o 0) alone in
     start-form s bodies n state running
     ∙ ap (λ can. start_form s n state running can (grant (spawns_of s n) slots) memories (granted_ids (spawns_of s n) slots)) (can_start-no_ids s n (between state) none few ∙ tick)
     ∙ ap (λ m. start_form s n state running true (grant m slots) memories (granted_ids m slots)) none
@@ -75,21 +62,6 @@ start_woven s bodies n state running alone few tick =
     })) (grants-none n)
 
 -- ---- a finish
-
--- no event is sent
-queues-none : (events : List (List ℤ)) (queues : List EventQueue) → queues_after (events_sent [] events) queues ≡ queues
-unfolding queues_after
-queues-none events queues = map_index-id (λ kind. send_all (events_sent [] events kind)) empty_queue queues (λ i. refl)
-
--- a test that is passed everywhere
-all_index-true : {A : Type 0} (xs : List A) → all_index (λ i x. true) xs ≡ true
-all_index-true [] = refl
-all_index-true (x ∷ xs) = all_index-true xs
-
--- no event wants a number
-numbers-none : (events : List (List ℤ)) (queues : List EventQueue) → has_event_numbers (events_sent [] events) queues ≡ true
-unfolding has_event_numbers
-numbers-none events queues = all_index-true queues
 
 -- a state of its parts that a finish changes
 abbrev finished_with : State → List Slot → List Resource → List EventQueue → List Memory → State
@@ -124,11 +96,19 @@ pub record IsAnswered (s : Schedule) (bodies : List BodyMeaning) (n : ℕ) (seen
   pub answered : body_of bodies n seen.shown ≡ Ok seen.outcome
   pub commands : seen.outcome.commands ≡ []
 
--- a finish lays the outcome over the state, and the system runs no more
-pub finish_woven : (s : Schedule) (bodies : List BodyMeaning) (n tick : ℕ) (state : State) (running : List RunningSystem) (seen : Seen) → HasNoEvents (params_of s n) → IsAnswered s bodies n seen →
+-- whether the events that were emitted in a view get numbers
+abbrev pub numbers_of : Seen → State → Bool
+numbers_of seen state = has_event_numbers (events_sent seen.params.writes seen.outcome.events) state.events
+
+-- those are the events of the system
+numbers-there : (s : Schedule) (n : ℕ) (seen : Seen) (state : State) → seen.params ≡ params_of s n → has_event_numbers (events_sent (params_of s n).writes seen.outcome.events) state.events ≡ numbers_of seen state
+numbers-there s n seen state e = ap (λ (p : Params). has_event_numbers (events_sent p.writes seen.outcome.events) state.events) (sym e)
+
+-- a finish lays the outcome over the state and sends its events, and the system runs no more
+pub finish_woven : (s : Schedule) (bodies : List BodyMeaning) (n tick : ℕ) (state : State) (running : List RunningSystem) (seen : Seen) → IsAnswered s bodies n seen → numbers_of seen state ≡ true →
     running_system n running ≡ Some (record { system = n; tick = tick; shown = seen.shown }) →
     interleaved_step s bodies (Finish n) (over state running) ≡ Some (over (laid n tick seen state) (without_system n running))
-finish_woven s bodies n tick state running seen alone is found =
+finish_woven s bodies n tick state running seen is numbers found =
     let left = without_system n running in
     let x = seen.shown in
     let o = seen.outcome in
@@ -140,14 +120,21 @@ finish_woven s bodies n tick state running seen alone is found =
     ap (option_and_then (λ p. with_running_systems left (finish s bodies p (between state)))) found
     ∙ ap (λ (answer : Result Outcome ℕ). with_running_systems left (finish_with s answer (record { system = n; tick = tick; shown = x }) (between state))) is.answered
     ∙ finish-form s n tick x o state left
-    ∙ ap (λ (can : Bool). finish_form state left can slots resources events systems buffers)
-    (ap (λ (ws : List ℕ). has_event_numbers (events_sent ws o.events) state.events) alone.writes ∙ numbers-none o.events state.events)
-    ∙ ap (λ (queues : List EventQueue). finish_form state left true slots resources queues systems buffers)
-    (ap (λ (ws : List ℕ). queues_after (events_sent ws o.events) state.events) alone.writes ∙ queues-none o.events state.events)
-    ∙ ap (λ (bs : ℕ → List Command). finish_form state left true slots resources state.events systems bs)
+    ∙ ap (λ (can : Bool). finish_form state left can slots resources events systems buffers) (numbers-there s n seen state is.params ∙ numbers)
+    ∙ ap (λ (bs : ℕ → List Command). finish_form state left true slots resources events systems bs)
     (ap (λ (cs : List Command). with_at n cs (λ m. [])) is.commands ∙ with_at-same {A = List Command} n (λ m. []))
-    ∙ ap (λ (p : Params). Some (over (finished_with state (slots_after tick (words_written p.queries x.rows o.cells) state.world.slots) (resources_after tick (value_written p.res_mut o.res_mut) state.world.resources) state.events systems) left))
+    ∙ ap (λ (p : Params). Some (over (finished_with state (slots_after tick (words_written p.queries x.rows o.cells) state.world.slots) (resources_after tick (value_written p.res_mut o.res_mut) state.world.resources) (queues_after (events_sent p.writes o.events) state.events) systems) left))
     (sym is.params)
+
+-- where an event gets no number it stops
+pub unsent_woven : (s : Schedule) (bodies : List BodyMeaning) (n tick : ℕ) (state : State) (running : List RunningSystem) (seen : Seen) → IsAnswered s bodies n seen → numbers_of seen state ≡ false →
+    running_system n running ≡ Some (record { system = n; tick = tick; shown = seen.shown }) →
+    interleaved_cause_of s bodies (Finish n) (over state running) ≡ Some NoEventNumber
+unfolding can_finish
+unsent_woven s bodies n tick state running seen is numbers found =
+    ap (λ o. cause_of_running s bodies o (between state)) found
+    ∙ ap (λ (answer : Result Outcome ℕ). cause_of_answer s (record { system = n; tick = tick; shown = seen.shown }) answer (between state)) is.answered
+    ∙ ap (λ (can : Bool). unless can NoEventNumber) (numbers-there s n seen state is.params ∙ numbers)
 
 -- ---- a sync point
 

@@ -1,4 +1,5 @@
 pub mod History
+pub mod Faults
 pub mod Meanings
 pub mod EngineValue
 pub mod Jobs

@@ -1,6 +1,6 @@
 // The turns of a run: what is ready is done while there is room for one more running system, else a job is waited for.
 
-ghost use Rattle.std.specs.Prelude.{◌≡◌, ◌<◌, ◌∷◌, [], ℕ, length, reverse, map, true, Some, Err, OnOk, IfOk};
+ghost use Rattle.std.specs.Prelude.{◌≡◌, ◌<◌, ◌⊎◌, ◌∷◌, [], ℕ, length, reverse, map, true, Some, Err, OnOk, IfOk};
 ghost use Rattle.model.specs.declared.steps.Step.{Step};
 ghost use Rattle.model.specs.steps.Lawful.{May};
 ghost use Rattle.model.specs.runs.Causes.{Cause};
@@ -33,7 +33,7 @@ pub(crate) fn run_times<'s, M: Mode<'s>, B: Body + 's>(
     requires home { AreAllHome state.old.layout }
     ensures count { IfOk result (λ traces. length traces.items ≡ times) }
     ensures ran { IfOk result (λ traces. AreWideRuns (M.width mode.now) built.now (meanings B.meaning built.now slots.old) state.old.state (map history_of traces.items) state.new.state) }
-    ensures clock { result ≡ Err RunFault.ClockSpent → IsWideStopped (M.width mode.now) built.now (meanings B.meaning built.now slots.old) times state.old.state Cause.NoTick }
+    ensures clock { result ≡ Err RunFault.ClockSpent → IsWideStopped (M.width mode.now) built.now (meanings B.meaning built.now slots.old) times state.old.state Cause.NoTick ⊎ IsWideStopped (M.width mode.now) built.now (meanings B.meaning built.now slots.old) times state.old.state Cause.NoEventNumber }
     ensures refusal { (k : ℕ) → result ≡ Err (RunFault.BodyFault k) → IsWideStopped (M.width mode.now) built.now (meanings B.meaning built.now slots.old) times state.old.state (Cause.Refused k) }
     ensures worker { result ≡ Err RunFault.NoWorker → M.has_scope mode.now ≡ true }
     ensures unspoiled { result ≡ Err RunFault.Spoiled → ⊥ }
@@ -60,7 +60,7 @@ fn run_once<'s, M: Mode<'s>, B: Body + 's>(
     requires suits { Suits B.fits built.now slots.old state.old.state }
     requires home { AreAllHome state.old.layout }
     ensures ran { IfOk result (λ trace. IsWideRun (M.width mode.now) built.now (meanings B.meaning built.now slots.old) state.old.state (history_of trace) state.new.state) }
-    ensures clock { result ≡ Err RunFault.ClockSpent → WideStops (M.width mode.now) built.now (meanings B.meaning built.now slots.old) state.old.state Cause.NoTick }
+    ensures clock { result ≡ Err RunFault.ClockSpent → WideStops (M.width mode.now) built.now (meanings B.meaning built.now slots.old) state.old.state Cause.NoTick ⊎ WideStops (M.width mode.now) built.now (meanings B.meaning built.now slots.old) state.old.state Cause.NoEventNumber }
     ensures refusal { (k : ℕ) → result ≡ Err (RunFault.BodyFault k) → WideStops (M.width mode.now) built.now (meanings B.meaning built.now slots.old) state.old.state (Cause.Refused k) }
     ensures worker { result ≡ Err RunFault.NoWorker → M.has_scope mode.now ≡ true }
     ensures unspoiled { result ≡ Err RunFault.Spoiled → ⊥ }
@@ -87,7 +87,7 @@ fn run_turns<'s, M: Mode<'s>, B: Body + 's>(
     requires home { AreAllHome state.old.layout }
     requires empty { pool.old ≡ [] }
     ensures ran { IfOk result (λ trace. IsWideRun (M.width mode.now) built.now (meanings B.meaning built.now slots.old) state.old.state (history_of trace) state.new.state) }
-    ensures clock { result ≡ Err RunFault.ClockSpent → WideStops (M.width mode.now) built.now (meanings B.meaning built.now slots.old) state.old.state Cause.NoTick }
+    ensures clock { result ≡ Err RunFault.ClockSpent → WideStops (M.width mode.now) built.now (meanings B.meaning built.now slots.old) state.old.state Cause.NoTick ⊎ WideStops (M.width mode.now) built.now (meanings B.meaning built.now slots.old) state.old.state Cause.NoEventNumber }
     ensures refusal { (k : ℕ) → result ≡ Err (RunFault.BodyFault k) → WideStops (M.width mode.now) built.now (meanings B.meaning built.now slots.old) state.old.state (Cause.Refused k) }
     ensures worker { result ≡ Err RunFault.NoWorker → M.has_scope mode.now ≡ true }
     ensures unspoiled { result ≡ Err RunFault.Spoiled → ⊥ }

@@ -4,9 +4,9 @@ ghost use Rattle.std.specs.Prelude.{◌≡◌, ◌<◌, ◌≤◌, ◌+◌, ◌�
 ghost use Rattle.std.specs.List.{AllByRecursion};
 ghost use Rattle.model.specs.declared.steps.Step.TheVariants.{Start as Begin, Finish, Sync};
 ghost use Rattle.model.specs.Lists.{has, IsIn};
-ghost use Rattle.model.specs.access.Access.{no_params};
 ghost use Rattle.model.specs.shown.Input.{shown};
-ghost use Rattle.model.specs.shown.Outcome.{BodyMeaning, untouched};
+ghost use Rattle.model.specs.shown.Outcome.{BodyMeaning, events_sent, untouched};
+ghost use Rattle.model.specs.shown.Overlay.{has_event_numbers};
 ghost use Rattle.model.specs.access.Condition.{holds};
 ghost use Rattle.model.specs.steps.Schedule.{params_of, access_of, condition_of};
 ghost use Rattle.model.specs.runs.RunState.{between, begin_run, opening, has_tick, next_tick, memory_of_condition, memory_of_system};
@@ -188,7 +188,8 @@ pub(crate) fn start<'s, M: Mode<'s>, B: Body + 's>(
     }
 }
 
-/// A finish: a job comes back, its body is put in its place, and its outcome is laid over the state. The system that has ended.
+/// A finish: a job comes back, its body is put in its place, its outcome is laid over the state, and its events are sent. The system that has
+/// ended.
 pub(crate) fn finish<'s, M: Mode<'s>, B: Body + 's>(
     built: &Built,
     slots: &mut [Option<B>],
@@ -204,7 +205,7 @@ pub(crate) fn finish<'s, M: Mode<'s>, B: Body + 's>(
     ensures shorter { OnOk result (length pool.new + 1 ≡ length pool.old) }
     ensures worker { result ≡ Err RunFault.NoWorker → M.has_scope mode.now ≡ true }
     ensures refused { (k : ℕ) → result ≡ Err (RunFault.BodyFault k) → (bodies : List BodyMeaning) → Placed B.meaning B.fits (M.has_scope mode.now) built.now bodies slots.old pool.old state.old → (job : JobOut B) × IsIn job pool.old × (interleaved_cause_of built.now bodies (Finish job.system) (woven state.old.state pool.old) ≡ Some (cause.Refused k)) }
-    ensures unspent { result ≡ Err RunFault.ClockSpent → ⊥ }
+    ensures spent { result ≡ Err RunFault.ClockSpent → (bodies : List BodyMeaning) → Placed B.meaning B.fits (M.has_scope mode.now) built.now bodies slots.old pool.old state.old → (job : JobOut B) × IsIn job pool.old × (interleaved_cause_of built.now bodies (Finish job.system) (woven state.old.state pool.old) ≡ Some cause.NoEventNumber) }
     ensures unspoiled { result ≡ Err RunFault.Spoiled → ⊥ }
 {
     let Some(done) = pool.bring_back(mode) else {
@@ -215,7 +216,7 @@ pub(crate) fn finish<'s, M: Mode<'s>, B: Body + 's>(
     Ok(system)
 }
 
-// A job that came back: its body is put in its place, and its outcome laid over the state.
+// A job that came back: its body is put in its place, its outcome laid over the state, and its events are sent.
 fn settle<B: Body>(
     built: &Built,
     slots: &mut [Option<B>],
@@ -227,14 +228,16 @@ fn settle<B: Body>(
     requires memory { done.system < length state.old.state.systems }
     requires lent { AreLent (store_of state.old) done.view.opening.taken }
     requires past { done.view.opening.tick ≤ state.old.state.world.clock }
-    ensures alone { OnOk result (params_of built.now done.system ≡ record no_params { queries = (params_of built.now done.system).queries; res = (params_of built.now done.system).res; res_mut = (params_of built.now done.system).res_mut }) }
+    ensures numbers { OnOk result (has_event_numbers (events_sent done.view.params.writes done.view.outcome.events) state.old.state.events ≡ true) }
     ensures answer { OnOk result (done.answer ≡ Ok tt) }
     ensures slots { OnOk result (slots.new ≡ set slots.old done.system (Some done.body)) }
     ensures laid { OnOk result (state.new ≡ record { state = laid done.system done.view.opening.tick done.view state.old.state; layout = with_back (lent_in done.view.opening.taken) state.old.layout }) }
     ensures held { OnOk result ((front rest : List (List Column)) → AreOut (store_of state.old) (front ++ (done.view.opening.taken ++ rest)) → AreOut (store_of state.new) (front ++ rest)) }
     ensures commands { done.view.outcome.commands ≡ [] }
     ensures refused { (k : ℕ) → result ≡ Err (RunFault.BodyFault k) → done.answer ≡ Err (Refused k) }
-    ensures only { (f : RunFault) → result ≡ Err f → (f ≡ RunFault.Memory) ⊎ ((k : ℕ) × (f ≡ RunFault.BodyFault k)) }
+    ensures spent { result ≡ Err RunFault.ClockSpent → (done.answer ≡ Ok tt) × (has_event_numbers (events_sent done.view.params.writes done.view.outcome.events) state.old.state.events ≡ false) }
+    ensures unspoiled { result ≡ Err RunFault.Spoiled → ⊥ }
+    ensures unworked { result ≡ Err RunFault.NoWorker → ⊥ }
 {
     let Done {
         system,
@@ -242,12 +245,11 @@ fn settle<B: Body>(
         view,
         answer,
     } = done;
-    built.params(system).law();
     view.law();
     slots[system as usize] = Some(body);
     match answer {
         Ok(()) => {
-            state.close(view, system as usize);
+            state.close(view, system as usize)?;
             Ok(())
         }
         Err(BodyFault::Memory) => Err(RunFault::Memory),

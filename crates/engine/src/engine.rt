@@ -75,7 +75,7 @@ impl<B: Body> Engine<B> {
 
     /// Runs the schedule so many times, in the mode: each run opens, does what is ready while fewer systems run than the mode has room for,
     /// waits for one that ends else, and answers its trace once all have ended. `Memory` where memory is wanting, `ClockSpent` where a step
-    /// has no next tick, `BodyFault` where a body refuses, `NoWorker` where a thread couldn't be started; each spoils the engine, and from
+    /// has no next tick or an event no number, `BodyFault` where a body refuses, `NoWorker` where a thread couldn't be started; each spoils the engine, and from
     /// then on every run answers `Spoiled` and changes nothing. What the state is after a fault isn't said: that of the run is gone.
     pub fn run<'s, M: Mode<'s>>(
         &mut self,
@@ -88,9 +88,9 @@ impl<B: Body> Engine<B> {
         ensures ran { IfOk result (λ traces. (length traces.items ≡ times) × AreWideRuns (M.width mode.now) self.old.schedule (meanings B.meaning self.old.schedule self.old.bodies) self.old.state (map history_of traces.items) self.new.state) }
         ensures sound { IfOk result (λ traces. AreSoundRuns self.old.schedule (meanings B.meaning self.old.schedule self.old.bodies) self.old.state (map history_of traces.items) self.new.state) }
         ensures single { IfOk result (λ traces. M.width mode.now ≡ 1 → AreSingleRuns self.old.schedule (meanings B.meaning self.old.schedule self.old.bodies) self.old.state (map history_of traces.items) self.new.state) }
-        ensures clock { result ≡ Err RunFault.ClockSpent → IsWideStopped (M.width mode.now) self.old.schedule (meanings B.meaning self.old.schedule self.old.bodies) times self.old.state Cause.NoTick }
+        ensures clock { result ≡ Err RunFault.ClockSpent → IsWideStopped (M.width mode.now) self.old.schedule (meanings B.meaning self.old.schedule self.old.bodies) times self.old.state Cause.NoTick ⊎ IsWideStopped (M.width mode.now) self.old.schedule (meanings B.meaning self.old.schedule self.old.bodies) times self.old.state Cause.NoEventNumber }
         ensures refusal { (k : ℕ) → result ≡ Err (RunFault.BodyFault k) → IsWideStopped (M.width mode.now) self.old.schedule (meanings B.meaning self.old.schedule self.old.bodies) times self.old.state (Cause.Refused k) }
-        ensures single_clock { result ≡ Err RunFault.ClockSpent → M.width mode.now ≡ 1 → IsStopped self.old.schedule (meanings B.meaning self.old.schedule self.old.bodies) times self.old.state Cause.NoTick }
+        ensures single_clock { result ≡ Err RunFault.ClockSpent → M.width mode.now ≡ 1 → IsStopped self.old.schedule (meanings B.meaning self.old.schedule self.old.bodies) times self.old.state Cause.NoTick ⊎ IsStopped self.old.schedule (meanings B.meaning self.old.schedule self.old.bodies) times self.old.state Cause.NoEventNumber }
         ensures single_refusal { (k : ℕ) → result ≡ Err (RunFault.BodyFault k) → M.width mode.now ≡ 1 → IsStopped self.old.schedule (meanings B.meaning self.old.schedule self.old.bodies) times self.old.state (Cause.Refused k) }
         ensures defined { M.width mode.now ≡ 1 → HasRuns self.old.schedule (meanings B.meaning self.old.schedule self.old.bodies) times self.old.state → IsOk result ⊎ IsErrOf result RunFault.Memory ⊎ IsErrOf result RunFault.NoWorker ⊎ IsErrOf result RunFault.Spoiled }
         ensures worker { result ≡ Err RunFault.NoWorker → M.has_scope mode.now ≡ true }
@@ -121,9 +121,9 @@ fn run_engine<'s, M: Mode<'s>, B: Body + 's>(
     ensures ran { IfOk result (λ traces. (length traces.items ≡ times) × AreWideRuns (M.width mode.now) engine.old.schedule (meanings B.meaning engine.old.schedule engine.old.bodies) engine.old.state (map history_of traces.items) engine.new.state) }
     ensures sound { IfOk result (λ traces. AreSoundRuns engine.old.schedule (meanings B.meaning engine.old.schedule engine.old.bodies) engine.old.state (map history_of traces.items) engine.new.state) }
     ensures single { IfOk result (λ traces. M.width mode.now ≡ 1 → AreSingleRuns engine.old.schedule (meanings B.meaning engine.old.schedule engine.old.bodies) engine.old.state (map history_of traces.items) engine.new.state) }
-    ensures clock { result ≡ Err RunFault.ClockSpent → IsWideStopped (M.width mode.now) engine.old.schedule (meanings B.meaning engine.old.schedule engine.old.bodies) times engine.old.state Cause.NoTick }
+    ensures clock { result ≡ Err RunFault.ClockSpent → IsWideStopped (M.width mode.now) engine.old.schedule (meanings B.meaning engine.old.schedule engine.old.bodies) times engine.old.state Cause.NoTick ⊎ IsWideStopped (M.width mode.now) engine.old.schedule (meanings B.meaning engine.old.schedule engine.old.bodies) times engine.old.state Cause.NoEventNumber }
     ensures refusal { (k : ℕ) → result ≡ Err (RunFault.BodyFault k) → IsWideStopped (M.width mode.now) engine.old.schedule (meanings B.meaning engine.old.schedule engine.old.bodies) times engine.old.state (Cause.Refused k) }
-    ensures single_clock { result ≡ Err RunFault.ClockSpent → M.width mode.now ≡ 1 → IsStopped engine.old.schedule (meanings B.meaning engine.old.schedule engine.old.bodies) times engine.old.state Cause.NoTick }
+    ensures single_clock { result ≡ Err RunFault.ClockSpent → M.width mode.now ≡ 1 → IsStopped engine.old.schedule (meanings B.meaning engine.old.schedule engine.old.bodies) times engine.old.state Cause.NoTick ⊎ IsStopped engine.old.schedule (meanings B.meaning engine.old.schedule engine.old.bodies) times engine.old.state Cause.NoEventNumber }
     ensures single_refusal { (k : ℕ) → result ≡ Err (RunFault.BodyFault k) → M.width mode.now ≡ 1 → IsStopped engine.old.schedule (meanings B.meaning engine.old.schedule engine.old.bodies) times engine.old.state (Cause.Refused k) }
     ensures defined { M.width mode.now ≡ 1 → HasRuns engine.old.schedule (meanings B.meaning engine.old.schedule engine.old.bodies) times engine.old.state → IsOk result ⊎ IsErrOf result RunFault.Memory ⊎ IsErrOf result RunFault.NoWorker ⊎ IsErrOf result RunFault.Spoiled }
     ensures worker { result ≡ Err RunFault.NoWorker → M.has_scope mode.now ≡ true }

@@ -2,8 +2,10 @@
 
 ghost use Rattle.std.specs.Prelude.{◌≡◌};
 ghost use Rattle.engine.specs.declared.faults.RunFault.TheVariants.{Memory, ClockSpent as Spent};
+ghost use Rattle.engine.specs.Faults.{fault_of_send};
 
 use change_ticks::clock::ClockSpent;
+use event_buffers::queue::SendFault;
 use std::alloc::{AllocError, AllocFailed};
 use thiserror::Error;
 
@@ -27,7 +29,7 @@ pub enum RunFault {
     /// Memory is wanting.
     #[error("out of memory")]
     Memory,
-    /// The clock gives no further tick.
+    /// The clock gives no further tick, or the events of a kind no further number.
     #[error("the clock is spent")]
     ClockSpent,
     /// An earlier run stopped.
@@ -62,5 +64,16 @@ impl From<ClockSpent> for RunFault {
 
     fn from(_error: ClockSpent) -> Self {
         RunFault::ClockSpent
+    }
+}
+
+impl From<SendFault> for RunFault {
+    ghost from_gives = { λ error fault. fault ≡ fault_of_send error };
+
+    fn from(error: SendFault) -> Self {
+        match error {
+            SendFault::NumbersSpent => RunFault::ClockSpent,
+            SendFault::Memory => RunFault::Memory,
+        }
     }
 }

@@ -1,3 +1,7 @@
 pub mod PlaceFault
 pub mod Name
+pub mod Keys
 pub mod Readings
+pub mod FaultText
+pub mod Rounds
+pub mod Tables

@@ -25,6 +25,12 @@ IsOfPlace (fault.Text place) = Unit {0}
 IsOfPlace fault.Memory = Unit {0}
 IsOfPlace _ = ⊥
 
+-- a fault of the file as bytes
+abbrev pub IsOfBytes : FileFault → Type 0
+IsOfBytes fault.Document = Unit {0}
+IsOfBytes fault.Memory = Unit {0}
+IsOfBytes _ = ⊥
+
 -- what is no fault of a grammar
 abbrev pub IsNoText : PlaceFault → Type 0
 IsNoText Value = Unit {0}

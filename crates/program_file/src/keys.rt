@@ -1,12 +1,15 @@
 // The keys of a table of a program file, each read by its type.
 
-ghost use Rattle.std.specs.Prelude.{◌≡◌, IfOk, IfErr, IsTrue, ◌↔◌, All};
+ghost use Rattle.std.specs.Prelude.{◌≡◌, IfOk, IfErr, IsTrue, ◌↔◌, All, map, option_map};
+ghost use Rattle.toml.specs.Data.{get_member, string};
+ghost use Rattle.toml.specs.View.{view, table_view};
+ghost use Rattle.program_file.specs.Keys.{HasItems, HasTables, HasNames, IsTable, HasResources, HasEvents, HasText, HasFlag};
 ghost use Rattle.program_file.specs.PlaceFault.{IsNoText};
 ghost use Rattle.program_file.specs.Name.{IsName, IsAmong};
 
 use crate::name::is_name;
 use crate::place_fault::PlaceFault;
-use kinds::res::Res;
+use kinds::res::{Event, Res};
 use std::alloc::Global;
 use toml::{Table, Value};
 
@@ -28,11 +31,20 @@ fn is_among(text: &str, known: &[&str]) -> bool
     known.iter().any(|name| *name == text)
 }
 
+/// The value at a key.
+#[tactic(auto, using(toml::proofs::Views::table_get))]
+pub fn value_at<'a>(table: &'a Table, key: &str) -> Option<&'a Value>
+    ensures { option_map (λ value. view value.now) result ≡ get_member key.now (table_view table.now) }
+{
+    table.get(key)
+}
+
 /// The array at a key. One that isn't there is empty.
 pub fn items_at<'a>(table: &'a Table, key: &str) -> Result<&'a [Value], PlaceFault>
-    ensures { IfErr result (λ fault. fault ≡ PlaceFault.Value) }
+    ensures ok { IfOk result (λ items. HasItems key.now (map view items.now) (table_view table.now)) }
+    ensures err { IfErr result (λ fault. fault ≡ PlaceFault.Value) }
 {
-    match table.get(key) {
+    match value_at(table, key) {
         None => Ok(&[]),
         Some(value) => match value.as_array() {
             Some(items) => Ok(items.as_slice()),
@@ -47,29 +59,48 @@ pub fn tables_at<'a>(
     table: &'a Table,
     key: &str,
 ) -> Result<Vec<&'a Table>, PlaceFault>
-    ensures { IfErr result IsNoText }
+    ensures ok { IfOk result (λ tables. HasTables key.now (map (λ inner. table_view inner.now) tables.items) (table_view table.now)) }
+    ensures err { IfErr result IsNoText }
 {
     let mut tables = Vec::new(alloc);
     for item in items_at(table, key)? {
-        tables.push(item.as_table().ok_or(PlaceFault::Value)?)?;
+        tables.push(table_of(item)?)?;
     }
     Ok(tables)
 }
 
+// The table that a value is.
+fn table_of(value: &Value) -> Result<&Table, PlaceFault>
+    ensures ok { IfOk result (λ inner. IsTable (table_view inner.now) (view value.now)) }
+    ensures err { IfErr result (λ fault. fault ≡ PlaceFault.Value) }
+{
+    value.as_table().ok_or(PlaceFault::Value)
+}
+
 /// The texts of the array at a key. Another value there is `Value`.
 pub fn texts_at<'a>(alloc: Global, table: &'a Table, key: &str) -> Result<Vec<&'a str>, PlaceFault>
-    ensures { IfErr result IsNoText }
+    ensures ok { IfOk result (λ texts. HasNames key.now texts.items (table_view table.now)) }
+    ensures err { IfErr result IsNoText }
 {
     let mut texts = Vec::new(alloc);
     for item in items_at(table, key)? {
-        texts.push(item.as_str().ok_or(PlaceFault::Value)?)?;
+        texts.push(text_of(item)?)?;
     }
     Ok(texts)
 }
 
+// The text that a value is.
+fn text_of(value: &Value) -> Result<&str, PlaceFault>
+    ensures ok { IfOk result (λ text. view value.now ≡ string text.now) }
+    ensures err { IfErr result (λ fault. fault ≡ PlaceFault.Value) }
+{
+    value.as_str().ok_or(PlaceFault::Value)
+}
+
 /// The names of the array at a key.
 pub fn names_at<'a>(alloc: Global, table: &'a Table, key: &str) -> Result<Vec<&'a str>, PlaceFault>
-    ensures { IfOk result (λ names. All (λ name. IsName name.now) names.items) }
+    ensures names { IfOk result (λ names. All (λ name. IsName name.now) names.items) }
+    ensures said { IfOk result (λ names. HasNames key.now names.items (table_view table.now)) }
 {
     let names = texts_at(alloc, table, key)?;
     if are_names(names.as_slice()) {
@@ -88,7 +119,8 @@ fn are_names(texts: &[&str]) -> bool
 
 /// The resources of the array at a key, by their names.
 pub fn resources_at(alloc: Global, table: &Table, key: &str) -> Result<Vec<Res>, PlaceFault>
-    ensures { IfErr result IsNoText }
+    ensures ok { IfOk result (λ resources. HasResources key.now resources.items (table_view table.now)) }
+    ensures err { IfErr result IsNoText }
 {
     let mut resources = Vec::new(alloc);
     for name in texts_at(alloc, table, key)? {
@@ -97,12 +129,25 @@ pub fn resources_at(alloc: Global, table: &Table, key: &str) -> Result<Vec<Res>,
     Ok(resources)
 }
 
+/// The event kinds of the array at a key, by their names.
+pub fn events_at(alloc: Global, table: &Table, key: &str) -> Result<Vec<Event>, PlaceFault>
+    ensures ok { IfOk result (λ events. HasEvents key.now events.items (table_view table.now)) }
+    ensures err { IfErr result IsNoText }
+{
+    let mut events = Vec::new(alloc);
+    for name in texts_at(alloc, table, key)? {
+        events.push(Event::named(name).ok_or(PlaceFault::Value)?)?;
+    }
+    Ok(events)
+}
+
 /// The name at a key that has to be there.
 pub fn name_at<'a>(table: &'a Table, key: &str) -> Result<&'a str, PlaceFault>
-    ensures { IfOk result (λ name. IsName name.now) }
+    ensures name { IfOk result (λ name. IsName name.now) }
+    ensures said { IfOk result (λ name. HasText key.now name.now (table_view table.now)) }
 {
-    let name = match table.get(key) {
-        Some(value) => value.as_str().ok_or(PlaceFault::Value)?,
+    let name = match value_at(table, key) {
+        Some(value) => text_of(value)?,
         None => return Err(PlaceFault::Value),
     };
     if is_name(name) {
@@ -123,23 +168,12 @@ pub fn integers_of(alloc: Global, value: &Value) -> Result<Vec<i64>, PlaceFault>
     Ok(integers)
 }
 
-/// The number of 32 bits at a key that has to be there. Another value, or none, is `Value`.
-pub fn number_at(table: &Table, key: &str) -> Result<u32, PlaceFault>
-    ensures { IfErr result (λ fault. fault ≡ PlaceFault.Value) }
-{
-    match table.get(key) {
-        Some(value) => u32::try_from(value.as_integer().ok_or(PlaceFault::Value)?).map_err(
-            |_| PlaceFault::Value,
-        ),
-        None => Err(PlaceFault::Value),
-    }
-}
-
 /// The truth value at a key. One that isn't there is `false`.
 pub fn flag_at(table: &Table, key: &str) -> Result<bool, PlaceFault>
-    ensures { IfErr result (λ fault. fault ≡ PlaceFault.Value) }
+    ensures ok { IfOk result (λ flag. HasFlag key.now flag (table_view table.now)) }
+    ensures err { IfErr result (λ fault. fault ≡ PlaceFault.Value) }
 {
-    match table.get(key) {
+    match value_at(table, key) {
         None => Ok(false),
         Some(value) => value.as_bool().ok_or(PlaceFault::Value),
     }

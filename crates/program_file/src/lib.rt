@@ -9,6 +9,7 @@ mod place;
 mod place_fault;
 mod program_file;
 mod readings;
+mod rounds;
 
 pub use document::document_of;
 pub use fault::FileFault;

@@ -1,5 +1,8 @@
 // The places of a program file.
 
+ghost use Rattle.std.specs.Prelude.{Some};
+ghost use Rattle.program_file.specs.FaultText.{place_text};
+
 use std::fmt;
 
 /// A place of a program file, by which a refusal is told. Entities, sets, systems and chains are numbered from 0 in the
@@ -21,6 +24,8 @@ pub enum Place {
 }
 
 impl fmt::Display for Place {
+    ghost output = { λ place. Some (place_text place) };
+
     fn fmt<W: fmt::Write>(&self, f: &mut fmt::Formatter<W>) -> fmt::Result {
         match self {
             Place::Top => write!(f, "top"),

@@ -26,6 +26,7 @@ impl Body for Answering {
 
     ghost fits = { λ _ _. true };
 
+    #[tactic(auto, using(crate::proofs::Keeping::answered_keeps))]
     fn fits(&self, _params: &Params) -> bool {
         true
     }
@@ -109,6 +110,7 @@ impl<R: Wait + Clock + Send + Sync + Drop> Body for Meeting<R> {
 
     ghost fits = { λ _ _. true };
 
+    #[tactic(auto, using(body::proofs::Keeps::keeps_untouched))]
     fn fits(&self, _params: &Params) -> bool {
         true
     }

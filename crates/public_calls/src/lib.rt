@@ -6,6 +6,8 @@ mod conflicts;
 #[cfg(test)]
 mod events;
 #[cfg(test)]
+mod filling;
+#[cfg(test)]
 mod gathering;
 #[cfg(test)]
 mod plans;

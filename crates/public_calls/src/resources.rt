@@ -29,6 +29,7 @@ impl Body for Tally {
 
     ghost fits = { λ _ params. may_tally params };
 
+    #[tactic(auto, using(crate::proofs::Keeping::tallied_keeps))]
     fn fits(&self, params: &Params) -> bool {
         params.writes_resource(Res::Total) && params.names_resource(Res::Step)
     }

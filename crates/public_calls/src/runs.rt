@@ -1,7 +1,7 @@
 // Runs of one system that moves what has a velocity, and what an engine refuses.
 
+use crate::filling::{put, world_of_one};
 use access_set::params::Params;
-use archetype_store::store::World;
 use body::state::State;
 use change_ticks::clock::{Clock, LAST_TICK, Tick};
 use engine::first_state::first_state;
@@ -71,14 +71,9 @@ fn movement(alloc: Global) -> Result<Vec<ScriptBody>, Fail> {
 
 // The state of a schedule over a world at a clock, with one entity, loaded at tick 1.
 fn state(alloc: Global, built: &Built, clock: Clock) -> Result<State, Fail> {
-    // Tells that the clock isn't before tick 1.
-    let _now = clock.now();
-    let mut world = World::new(alloc, clock)?;
-    let granted = world.grant(alloc, 1)?;
-    let entity = *granted.first().ok_or("no id")?;
-    world.spawn_at(entity);
-    world.insert(entity, Position { x: 0, y: 0 }, 1)?;
-    world.insert(entity, Velocity { x: 1, y: -2 }, 1)?;
+    let (mut world, entity) = world_of_one(alloc, clock)?;
+    put(&mut world, entity, Position { x: 0, y: 0 })?;
+    put(&mut world, entity, Velocity { x: 1, y: -2 })?;
     Ok(first_state(alloc, built, world)?)
 }
 

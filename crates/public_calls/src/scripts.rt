@@ -2,6 +2,7 @@
 
 ghost use Rattle.archetype_store.specs.Layout.{AreAllHome};
 
+use crate::filling::{put, world_of_one};
 use access_set::params::Params;
 use archetype_store::store::World;
 use change_ticks::clock::Clock;
@@ -189,12 +190,9 @@ fn run_once(
 
 // The place of an entity after one run of the two additions.
 fn moved(alloc: Global, place: Position, step: Velocity) -> Result<Option<Position>, Fail> {
-    let mut world = World::new(alloc, Clock::at(2))?;
-    let granted = world.grant(alloc, 1)?;
-    let entity = *granted.first().ok_or("no id")?;
-    world.spawn_at(entity);
-    world.insert(entity, place, 1)?;
-    world.insert(entity, step, 1)?;
+    let (mut world, entity) = world_of_one(alloc, Clock::at(2))?;
+    put(&mut world, entity, place)?;
+    put(&mut world, entity, step)?;
     let params = moving(alloc)?;
     let engine = run_once(alloc, params, adding(alloc, Axis::Y)?, world)?;
     Ok(engine.state().world().get::<Position>(entity))
@@ -232,11 +230,8 @@ fn healed(alloc: Global, health: Health, text: &str) -> Result<Option<Health>, F
         rounds: Rounds::EachRow(0),
         code,
     })?;
-    let mut world = World::new(alloc, Clock::at(2))?;
-    let granted = world.grant(alloc, 1)?;
-    let entity = *granted.first().ok_or("no id")?;
-    world.spawn_at(entity);
-    world.insert(entity, health, 1)?;
+    let (mut world, entity) = world_of_one(alloc, Clock::at(2))?;
+    put(&mut world, entity, health)?;
     let engine = run_once(alloc, params, blocks, world)?;
     Ok(engine.state().world().get::<Health>(entity))
 }

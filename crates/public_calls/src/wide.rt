@@ -3,6 +3,7 @@
 ghost use Rattle.std.specs.Prelude.{◌≤◌, IfOk};
 ghost use Rattle.archetype_store.specs.Layout.{AreAllHome};
 
+use crate::filling::{put, world_of_one};
 use crate::gathering::Answering;
 use crate::threads::run_on_threads;
 use access_set::params::Params;
@@ -40,18 +41,15 @@ const MOVED: &str =
 fn world(alloc: Global) -> Result<World, Fail>
     ensures { IfOk result (λ world. AreAllHome world.layout) }
 {
-    let mut world = World::new(alloc, Clock::at(1))?;
-    let granted = world.grant(alloc, 1)?;
-    let entity = *granted.first().ok_or("no id")?;
-    world.spawn_at(entity);
-    world.insert(entity, Position { x: 0, y: 0 }, 1)?;
-    world.insert(entity, Velocity { x: 1, y: -2 }, 1)?;
-    world.insert(entity, Health { v: 100 }, 1)?;
-    world.insert(entity, Damage { v: 1 }, 1)?;
-    world.insert(entity, Team { v: 2 }, 1)?;
-    world.insert(entity, Timer { v: 0 }, 1)?;
-    world.insert(entity, Score { v: 0 }, 1)?;
-    world.insert(entity, Charge { v: 0 }, 1)?;
+    let (mut world, entity) = world_of_one(alloc, Clock::at(1))?;
+    put(&mut world, entity, Position { x: 0, y: 0 })?;
+    put(&mut world, entity, Velocity { x: 1, y: -2 })?;
+    put(&mut world, entity, Health { v: 100 })?;
+    put(&mut world, entity, Damage { v: 1 })?;
+    put(&mut world, entity, Team { v: 2 })?;
+    put(&mut world, entity, Timer { v: 0 })?;
+    put(&mut world, entity, Score { v: 0 })?;
+    put(&mut world, entity, Charge { v: 0 })?;
     Ok(world)
 }
 

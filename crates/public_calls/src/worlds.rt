@@ -10,6 +10,7 @@ ghost use Rattle.archetype_store.specs.Layout.{archetype_at, column_home, AreAll
 ghost use Rattle.archetype_store.specs.Lending.{CanTake};
 ghost use Rattle.archetype_store.specs.Store.{IsPast};
 
+use crate::filling::put;
 use archetype_store::fault::{GrantFault, StoreFault};
 use archetype_store::laws::kinds_are_home;
 use archetype_store::store::{ColumnAt, World};
@@ -63,10 +64,10 @@ fn three(alloc: Global) -> Result<World, Fail>
 {
     let mut world = World::new(alloc, Clock::at(4))?;
     spawn(alloc, &mut world, 3)?;
-    world.insert(FIRST, Frozen, 1)?;
-    world.insert(SECOND, Health { v: 3 }, 1)?;
-    world.insert(THIRD, Health { v: 4 }, 1)?;
-    world.insert(THIRD, Frozen, 1)?;
+    put(&mut world, FIRST, Frozen)?;
+    put(&mut world, SECOND, Health { v: 3 })?;
+    put(&mut world, THIRD, Health { v: 4 })?;
+    put(&mut world, THIRD, Frozen)?;
     Ok(world)
 }
 
@@ -112,8 +113,8 @@ fn one(alloc: Global) -> Result<World, Fail>
 {
     let mut world = World::new(alloc, Clock::at(4))?;
     spawn(alloc, &mut world, 1)?;
-    world.insert(FIRST, Velocity { x: 0, y: 1 }, 1)?;
-    world.insert(FIRST, Position { x: 3, y: 5 }, 1)?;
+    put(&mut world, FIRST, Velocity { x: 0, y: 1 })?;
+    put(&mut world, FIRST, Position { x: 3, y: 5 })?;
     Ok(world)
 }
 

@@ -1,30 +1,26 @@
 // Why a script is refused.
 
-ghost use Rattle.std.specs.Prelude.{◌≡◌};
-ghost use Rattle.script.specs.Faults.{cause_number, least};
+ghost use Rattle.std.specs.Prelude.{◌≡◌, Some};
+ghost use Rattle.script.specs.Faults.{cause_number, cause_text, least};
 ghost use Rattle.script.specs.declared.fault.CheckFault.TheVariants as check_fault;
 
 use std::alloc::AllocError;
+use std::fmt;
 use thiserror::Error;
 
 /// What is wrong with a block or an instruction. Printed as the program tells it.
-#[derive(Clone, Copy, PartialEq, Eq, Debug, Error)]
+#[derive(Clone, Copy, PartialEq, Eq, Debug)]
 pub enum Cause {
     /// X1: the block names no query of the system, a kind is not fetched by the query, or the target has no `mut` term.
-    #[error("X1")]
     NotFetched,
     /// X2: the system does not name a resource that is read, or does not write one that is a target; it doesn't read the events of the block, or
     /// write those that are emitted; or there is no event at hand.
-    #[error("X2")]
     NotDeclared,
     /// X3: the kind has no such field.
-    #[error("X3")]
     NoField,
     /// X4: more instructions are passed over than come after in the block.
-    #[error("X4")]
     PastEnd,
     /// X5: there is no such register.
-    #[error("X5")]
     NoRegister,
 }
 
@@ -51,6 +47,14 @@ impl Cause {
             (Some(cause), _) => Some(cause),
             (None, other) => other,
         }
+    }
+}
+
+impl fmt::Display for Cause {
+    ghost output = { λ cause. Some (cause_text cause) };
+
+    fn fmt<W: fmt::Write>(&self, f: &mut fmt::Formatter<W>) -> fmt::Result {
+        write!(f, "X{}", self.number())
     }
 }
 

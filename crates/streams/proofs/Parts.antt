@@ -1,11 +1,10 @@
 -- Texts that a writer takes in parts.
 use Rattle.std.specs.Prelude.{Option, None, Some}
-use Rattle.std.proofs.Common.{◌≡◌, ℕ, List, [], ◌∷◌, ◌++◌, ◌-◌, length, take, drop, append_assoc, arith, length-drop, Result, Ok, Err, refl, ap, sym, ◌∙◌, subst, Bool, false, zero, suc, ◌<◌, ◌≤◌, ◌==◌, get_or}
-use Rattle.std.proofs.lemmas.List.{take-append-drop, take_all, append-nil, get_or-take}
-use Rattle.std.proofs.lemmas.List.Sums.{fails_before_first}
-use Rattle.std.specs.List.{position_or_len, before_first}
+use Rattle.std.proofs.Common.{◌≡◌, ℕ, List, [], ◌∷◌, ◌++◌, ◌-◌, length, take, drop, append_assoc, arith, length-drop, Result, Ok, Err, refl, ap, sym, ◌∙◌, ◌==◌}
+use Rattle.std.proofs.lemmas.List.{take-append-drop, take_all, append-nil}
+use Rattle.std.specs.List.{position_or_len}
 use Rattle.std.specs.Io.KnownBytes.{Appends}
-use Rattle.streams.specs.Writing.{AppendsFront, WritesWhole, GainsLine, first_line_of}
+use Rattle.streams.specs.Writing.{AppendsFront, WritesWhole, first_line_of}
 
 -- two texts that are taken in turn are taken as one
 pub appends_more : (old mid new : Option (List ℕ)) (front more : List ℕ) → Appends old mid front → Appends mid new more → Appends old new (front ++ more)
@@ -40,27 +39,6 @@ pub both_written : {T E : Type 0} (old mid new : Option (List ℕ)) (r : Result 
 both_written old mid new (Ok x) text more h k = appends_more old mid new text more h k
 both_written old mid new (Err e) text more h k = front_of_second old mid new text more h k
 
-no-end : (byte : ℕ) → (byte == 10) ≡ false → byte ≡ 10 → ⊥
-no-end byte h e = absurd (let f : (10 == 10) ≡ false = subst (λ b. (b == 10) ≡ false) e h in cc)
-
-few : (n : ℕ) (xs : List ℕ) → length (take n xs) ≤ n
-few zero xs = omega arith
-few (suc n) [] = omega arith
-few (suc n) (x ∷ xs) = let e = few n xs in omega arith
-
--- no line ends before the first end of a line
-pub none_before : (text line : List ℕ) → line ≡ before_first (λ b. b == 10) text → (k d : ℕ) → k < length line → get_or line k d ≡ 10 → ⊥
-none_before text line is k d l h =
-    let p : ℕ → Bool = λ b. b == 10 in
-    let long : length line ≤ position_or_len p text = subst (λ xs. length xs ≤ position_or_len p text) (sym is) (few (position_or_len p text) text) in
-    let inside : k < position_or_len p text = omega arith in
-    no-end (get_or text k d) (fails_before_first p text k d inside)
-    (sym (get_or-take (position_or_len p text) text k d inside) ∙ ap (λ xs. get_or xs k d) (sym is) ∙ h)
-
 -- a text without the end of a line is its first line
 pub whole_line : (text : List ℕ) → position_or_len (λ b. b == 10) text ≡ length text → text ≡ first_line_of text
 whole_line text e = sym (take_all (position_or_len (λ b. b == 10) text) text (omega arith))
-
--- what is written of a line is a front of one line
-pub gains_line : {T E : Type 0} (old new : Option (List ℕ)) (r : Result T E) (text : List ℕ) → WritesWhole old new r (first_line_of text ++ 10 ∷ []) → GainsLine old new
-gains_line old new r text h = record { line = first_line_of text; one = none_before text (first_line_of text) refl; written = front_of_whole old new r (first_line_of text ++ 10 ∷ []) h }

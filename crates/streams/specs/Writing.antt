@@ -1,6 +1,6 @@
 -- What a text that is written leaves with a writer.
-use Rattle.std.specs.Prelude.{◌≡◌, ◌≢◌, ◌==◌, ℕ, List, [], ◌∷◌, ◌++◌, Option, Result, MatchResult}
-use Rattle.std.specs.List.{All, before_first}
+use Rattle.std.specs.Prelude.{◌≡◌, ◌==◌, ℕ, List, [], ◌∷◌, ◌++◌, Option, Result, MatchResult}
+use Rattle.std.specs.List.{before_first}
 use Rattle.std.specs.Io.KnownBytes.{Appends}
 
 -- a writer took a beginning of the text
@@ -15,8 +15,6 @@ WritesWhole old new r text = MatchResult r (λ _. Appends old new text) (λ _. A
 abbrev pub first_line_of : List ℕ → List ℕ
 first_line_of text = before_first (λ byte. byte == 10) text
 
--- a writer took one line, or a beginning of one
-pub record GainsLine (old new : Option (List ℕ)) : Type 0 where
-  pub line : List ℕ
-  pub one : All (λ byte. byte ≢ 10) line
-  pub written : AppendsFront old new (line ++ 10 ∷ [])
+-- the first line of a text, with its end
+abbrev pub line_of : List ℕ → List ℕ
+line_of text = first_line_of text ++ 10 ∷ []

@@ -1,7 +1,7 @@
 // Texts written whole.
 
-ghost use Rattle.std.specs.Prelude.{◌≡◌, ◌∷◌, ◌++◌, []};
-ghost use Rattle.streams.specs.Writing.{WritesWhole, first_line_of};
+ghost use Rattle.std.specs.Prelude.{◌≡◌};
+ghost use Rattle.streams.specs.Writing.{WritesWhole, first_line_of, line_of};
 
 use std::io::Write;
 use thiserror::Error;
@@ -33,7 +33,7 @@ pub fn write_whole<W: Write>(writer: &mut W, text: &str) -> Result<(), WriteFaul
 /// it holds a beginning of that.
 #[tactic(auto, using(crate::proofs::Parts::front_of_first, crate::proofs::Parts::both_written))]
 pub fn write_line<W: Write>(writer: &mut W, text: &str) -> Result<(), WriteFault>
-    ensures { WritesWhole (W.contents writer.old) (W.contents writer.new) result (first_line_of text.now ++ 10 ∷ []) }
+    ensures { WritesWhole (W.contents writer.old) (W.contents writer.new) result (line_of text.now) }
 {
     write_whole(writer, first_line(text))?;
     write_whole(writer, "\n")

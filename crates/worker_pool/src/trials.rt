@@ -32,6 +32,7 @@ impl Body for Refusing {
 
     ghost fits = { λ _ _. true };
 
+    #[tactic(auto, using(body::proofs::Keeps::keeps_refusing))]
     fn fits(&self, _params: &Params) -> bool {
         true
     }

@@ -1,10 +1,12 @@
-use Rattle.std.proofs.Common.{◌≡◌, map, length}
-use Rattle.ecsrun.specs.Served.{declared_names}
+use Rattle.std.proofs.Common.{◌≡◌, [], map}
+use Rattle.ecsrun.specs.Said.{item_said, system_said}
+use Rattle.ecsrun.specs.Setup.{declared_names}
 use Rattle.ecsrun.proofs.schedule.declare.Given as goal
 
--- as many codes as systems so far, with their names
+-- what the tables so far say: the systems that they declare, and a code for each, with its name and its blocks
 abbrev pub invariant-loop-row : goal.invariant-loop-row
 invariant-loop-row l = record {
-  count : length l.codes.items ≡ length l.desc.systems;
+  said : l.desc ≡ record { sets = map item_said l.sets; systems = map system_said l.yielded; chains = [] };
+  blocks : map (λ code. code.blocks) l.codes.items ≡ map (λ row. row.blocks) l.yielded;
   names : map (λ code. code.name.now) l.codes.items ≡ declared_names l.desc;
 }

@@ -1,5 +1,7 @@
-use Rattle.std.proofs.Common.{◌≡◌, []}
+use Rattle.std.proofs.Common.{◌≡◌, [], map, take}
+use Rattle.ecsrun.specs.Said.{item_said}
 use Rattle.ecsrun.proofs.schedule.declare_sets.Given as goal
 
+-- the sets so far, and nothing else
 abbrev pub invariant-loop-set : goal.invariant-loop-set
-invariant-loop-set l = l.desc.systems ≡ []
+invariant-loop-set l = l.desc ≡ record { sets = map item_said (take l.set-index l.sets); systems = []; chains = [] }

@@ -1,12 +1,8 @@
-use Rattle.std.proofs.Common.{◌≡◌}
+use Rattle.std.proofs.Common.{◌≡◌, take}
+use Rattle.model.specs.declarations.Declarations.{plain_item}
+use Rattle.ecsrun.specs.Said.{names_said}
 use Rattle.ecsrun.proofs.schedule.item_of.Given as goal
 
--- the item keeps its name
+-- the sets so far, and nothing else
 abbrev pub invariant-loop-name : goal.invariant-loop-name
-invariant-loop-name l = l.item.name ≡ l.table.name.now
-
-abbrev pub invariant-loop-name-2 : goal.invariant-loop-name-2
-invariant-loop-name-2 l = l.item.name ≡ l.table.name.now
-
-abbrev pub invariant-loop-name-3 : goal.invariant-loop-name-3
-invariant-loop-name-3 l = l.item.name ≡ l.table.name.now
+invariant-loop-name l = l.item ≡ record (plain_item l.table.name.now) { inside = names_said (take l.name-index l.name-items) }

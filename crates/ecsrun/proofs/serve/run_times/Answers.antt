@@ -4,7 +4,8 @@ use Rattle.engine.specs.History.{history_of}
 use Rattle.engine.specs.Meanings.{meanings}
 use Rattle.ecsrun.specs.Setup.{script_means}
 use Rattle.ecsrun.proofs.Noting.{next-noted, none-noted, record-more}
-use Rattle.ecsrun.proofs.Serving.{unlike}
+use Rattle.ecsrun.specs.Refused.{IsStoppedRun}
+use Rattle.ecsrun.proofs.Serving.{of-given, unlike}
 use Rattle.ecsrun.proofs.serve.run_times.Goals.{then-recorded+in_ok-note, else-recorded}
 use Rattle.ecsrun.proofs.serve.run_times.Goals as goal
 
@@ -38,3 +39,9 @@ loop-run-preserved g c =
             | else-recorded w ↦ λ hs many kept asked. absurd (unlike c.args.recorded asked w.if-recorded.false)
           ]);
     }
+
+-- the run that stops
+pub returns-in_err-trace-clause-stopped : goal.returns-in_err-trace-clause-stopped
+returns-in_err-trace-clause-stopped g c =
+    of-given (λ fault. fault ≡ c.in_err-trace.field-0.0) (IsStoppedRun c.args.recorded) c.from_residual.result c.from_residual.ensures.1
+    (λ fault is. subst (IsStoppedRun c.args.recorded) (sym is) (c.in_err-trace.ensures.stopped c.args.recorded))

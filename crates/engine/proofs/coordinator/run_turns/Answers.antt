@@ -1,9 +1,9 @@
-use Rattle.std.proofs.Common.{◌≡◌, ◌<◌, ◌∷◌, [], List, length, reverse, Some, Err, refl, sym, ap, ◌∙◌, subst, true, arith}
+use Rattle.std.proofs.Common.{◌≡◌, ◌<◌, inl, inr, ◌∷◌, [], List, length, reverse, Some, Err, refl, sym, ap, ◌∙◌, subst, true, arith}
 use Rattle.engine.specs.declared.faults.RunFault.{RunFault}
 use Rattle.engine.specs.declared.turn.Turn.TheVariants as turn
 use Rattle.model.specs.declared.steps.Step.{Step}
 use Rattle.model.specs.declared.steps.Step.TheVariants.{Start, Finish}
-use Rattle.model.specs.runs.Causes.Cause.{Refused}
+use Rattle.model.specs.runs.Causes.Cause.{Refused, NoEventNumber}
 use Rattle.model.specs.steps.Schedule.{Schedule}
 use Rattle.model.specs.steps.Lawful.{runs, IsComplete, May}
 use Rattle.body.specs.Steps.{StateValue}
@@ -69,8 +69,7 @@ returns-in_err-start-in-Start-clause-clock g c = λ e.
     let next = turn_start core s h c.count.result c.width-width.result c.in-Some.turn inv.schedule inv.stands c.in-Some.ensures c.in-Start.system c.in-Start.is in
     let n = c.in-Start.system in
     let free : length out < width = let r = next.room in let a = c.count.ensures in let b = c.width-width.ensures.width in omega arith in
-    stops_start width s bodies start h w.state out inv.stage n free next.is next.allowed
-    cause
+    inl (stops_start width s bodies start h w.state out inv.stage n free next.is next.allowed cause)
 
 pub take-requires-clause-may : goal.take-requires-clause-may
 take-requires-clause-may g c =
@@ -174,7 +173,7 @@ returns-in_err-step-in-Quiet-clause-clock g c = λ e.
     let running = c.count.result in
     let next = subst (λ room. IsTurn s h running room (Some (turn.Quiet q))) c.width-width.ensures.width
     (turn_quiet core s h running c.width-width.result c.in-Some.turn inv.schedule inv.stands c.in-Some.ensures q c.in-Quiet.is) in
-    stops_quiet width s bodies start h w.state out inv.stage q running c.count.ensures next cause.0 cause.1
+    inl (stops_quiet width s bodies start h w.state out inv.stage q running c.count.ensures next cause.0 cause.1)
 
 pub take-requires-in-Quiet-clause-may : goal.take-requires-in-Quiet-clause-may
 take-requires-in-Quiet-clause-may g c =
@@ -281,6 +280,26 @@ returns-in_err-system-in-Collect-clause-refusal g c = λ k e.
     let wait = waits s h c.count.result c.width-width.result (length out) width c.count.ensures c.width-width.ensures.width next.1 in
     let told = cause bodies inv.placed in
     stops_finish width s bodies start h w.state out inv.stage told.0.system (Refused k) wait (running_there width s bodies start h w.state out inv.stage told.0 told.1) told.2
+
+pub returns-in_err-system-in-Collect-clause-clock : goal.returns-in_err-system-in-Collect-clause-clock
+returns-in_err-system-in-Collect-clause-clock g c = λ e.
+    let cause = c.in_err-system-in-Collect.ensures.spent (let q = c.from_residual-in_err-system-in-Collect.ensures in let p = rw e at q.1 in ap (λ (f : RunFault). Err f) (sym p)) in
+    let meaning = g.B.Body.meaning in
+    let fits = g.B.Body.fits in
+    let there = g.M.Hosts.has_scope c.args.mode.now in
+    let width = g.M.Mode.width c.args.mode.now in
+    let s = c.args.built.now in
+    let bodies = meanings meaning s c.args.slots.now in
+    let start = c.args.state.now.state in
+    let inv = c.loop-turn.invariant in
+    let core = c.loop-turn.core in
+    let h = reverse c.loop-turn.steps.items in
+    let w = c.loop-turn.state in
+    let out = c.loop-turn.pool in
+    let next = turn_collect core s h c.count.result c.width-width.result c.in-Some.turn inv.schedule inv.stands c.in-Some.ensures c.in-Collect.is in
+    let wait = waits s h c.count.result c.width-width.result (length out) width c.count.ensures c.width-width.ensures.width next.1 in
+    let told = cause bodies inv.placed in
+    inr (stops_finish width s bodies start h w.state out inv.stage told.0.system NoEventNumber wait (running_there width s bodies start h w.state out inv.stage told.0 told.1) told.2)
 
 pub take-requires-in-Collect-clause-may : goal.take-requires-in-Collect-clause-may
 take-requires-in-Collect-clause-may g c =

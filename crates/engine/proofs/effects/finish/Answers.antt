@@ -1,6 +1,6 @@
 use Rattle.std.proofs.Common.{sym, subst}
 use Rattle.engine.specs.Jobs.{Placed}
-use Rattle.engine.proofs.Returning.{back_from, back_in, back_known, back_slot, back_memory, back_lent, back_past, back_refused, back_finished, back_placed, job_there}
+use Rattle.engine.proofs.Returning.{back_from, back_in, back_known, back_slot, back_memory, back_lent, back_past, back_refused, back_unsent, back_finished, back_placed, job_there}
 use Rattle.engine.proofs.effects.finish.Goals as goal
 
 pub settle-requires-clause-known : goal.settle-requires-clause-known
@@ -104,7 +104,7 @@ returns-clause-finished g c = λ bodies placed.
     let ran = c.in-Some.ensures.ran in
     let back = back_from meaning fits out left done.system done.body done.view done.answer ran.0 ran.1 ran.2 in
     let ok = c.in_ok-settle.ensures in
-    back_finished meaning fits out left done.system done.body done.view done.answer there s bodies c.args.slots.now c.args.state.now back placed c.settle.new.state ok.answer ok.alone ok.laid ok.held ok.commands
+    back_finished meaning fits out left done.system done.body done.view done.answer there s bodies c.args.slots.now c.args.state.now back placed c.settle.new.state ok.answer ok.numbers ok.laid ok.held ok.commands
 
 pub returns-clause-placed : goal.returns-clause-placed
 returns-clause-placed g c = λ bodies placed.
@@ -119,7 +119,7 @@ returns-clause-placed g c = λ bodies placed.
     let back = back_from meaning fits out left done.system done.body done.view done.answer ran.0 ran.1 ran.2 in
     let ok = c.in_ok-settle.ensures in
     subst (λ slots. Placed meaning fits there s bodies slots left c.settle.new.state) (sym ok.slots)
-    (back_placed meaning fits out left done.system done.body done.view done.answer there s bodies c.args.slots.now c.args.state.now back placed c.settle.new.state ok.answer ok.alone ok.laid ok.held ok.commands)
+    (back_placed meaning fits out left done.system done.body done.view done.answer there s bodies c.args.slots.now c.args.state.now back placed c.settle.new.state ok.answer ok.numbers ok.laid ok.held ok.commands)
 
 pub returns-in_err-settle-clause-refused : goal.returns-in_err-settle-clause-refused
 returns-in_err-settle-clause-refused g c = λ k e bodies placed.
@@ -136,4 +136,21 @@ returns-in_err-settle-clause-refused g c = λ k e bodies placed.
       back.job,
       back_in meaning fits out left done.system done.body done.view done.answer there s bodies c.args.slots.now c.args.state.now back placed,
       back_refused meaning fits out left done.system done.body done.view done.answer there s bodies c.args.slots.now c.args.state.now back placed k answer,
+    )
+
+pub returns-in_err-settle-clause-spent : goal.returns-in_err-settle-clause-spent
+returns-in_err-settle-clause-spent g c = λ e bodies placed.
+    let done = c.in-Some.done in
+    let meaning = g.B.Body.meaning in
+    let fits = g.B.Body.fits in
+    let there = g.M.Hosts.has_scope c.args.mode.now in
+    let s = c.args.built.now in
+    let out = c.args.pool.now in
+    let left = c.bring_back.new.self in
+    let ran = c.in-Some.ensures.ran in
+    let back = back_from meaning fits out left done.system done.body done.view done.answer ran.0 ran.1 ran.2 in
+    let spent = c.in_err-settle.ensures.spent (let q = c.from_residual.ensures in let p = rw e at q.1 in cc) in (
+      back.job,
+      back_in meaning fits out left done.system done.body done.view done.answer there s bodies c.args.slots.now c.args.state.now back placed,
+      back_unsent meaning fits out left done.system done.body done.view done.answer there s bodies c.args.slots.now c.args.state.now back placed spent.0 c.in_err-settle.ensures.commands spent.1,
     )

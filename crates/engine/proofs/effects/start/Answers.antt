@@ -1,7 +1,7 @@
-use Rattle.std.proofs.Common.{◌≡◌, ◌∷◌, ◌++◌, [], List, Some, refl, sym, subst}
+use Rattle.std.proofs.Common.{◌≡◌, ◌∷◌, ◌++◌, [], List, None, Some, refl, sym, subst}
 use Rattle.std.proofs.lemmas.Bool.{true_from_ne_false}
 use Rattle.model.specs.declared.steps.Step.TheVariants.{Start as Begin}
-use Rattle.model.specs.access.Access.{Params, no_params}
+use Rattle.model.specs.access.Access.{Params}
 use Rattle.model.specs.runs.Meaning.{interleaved_step}
 use Rattle.model.specs.runs.RunState.{has_tick}
 use Rattle.model.specs.steps.Schedule.{params_of}
@@ -10,7 +10,6 @@ use Rattle.body.proofs.Outs.{home-apart}
 use Rattle.worker_pool.specs.JobOut.{JobOut}
 use Rattle.engine.specs.Jobs.{held_by, woven, Placed}
 use Rattle.engine.proofs.Placing.{IsHanded, start_there, placed_start}
-use Rattle.engine.proofs.Weaving.{no_events}
 use Rattle.engine.proofs.effects.start.Goals as goal
 
 pub prepare-requires-clause-home : goal.prepare-requires-clause-home
@@ -24,7 +23,7 @@ returns-in-Ok-clause-started g c = λ bodies.
     let job : JobOut g.row.B.Denot = record { number = c.args.number; system = n; body = c.take_body-body.result; view = c.in_ok-view.view; there = g.M.Hosts.has_scope c.args.mode.now } in
     let ok = c.in_ok-view.ensures in
     let handed : IsHanded s n c.args.state.now c.prepare.new.state job = record { system = refl; params = ok.params; shown_there = ok.shown; tick = ok.tick; written = ok.written; held = ok.held; is_later = ok.noted } in
-    let alone = no_events (params_of s n) (subst (λ (p : Params). p ≡ record no_params { queries = p.queries; res = p.res; res_mut = p.res_mut }) c.params.ensures c.law.ensures) in
+    let alone = subst (λ (p : Params). p.spawns ≡ None) c.params.ensures c.law.ensures in
     subst (λ (out : List (JobOut g.row.B.Denot)). interleaved_step s bodies (Begin n) (woven c.args.state.now.state c.args.pool.now) ≡ Some (woven c.prepare.new.state.state out)) (sym c.in-Ok.ensures.ok)
     (start_there g.B.Body.meaning g.B.Body.fits job.there s bodies n c.args.state.now c.prepare.new.state c.args.pool.now job alone c.law-2.ensures.few (true_from_ne_false (has_tick c.args.state.now.state) (λ e. absurd (let clash = ok.spent.1 e in cc))) handed)
 

@@ -1,13 +1,14 @@
 use Rattle.std.proofs.Common.{◌≡◌, ℕ, List, map, Option, Err, refl, sym, ap, ◌∙◌, subst}
+use Rattle.std.proofs.Math.Logic.{⊎_map}
 use Rattle.model.specs.state.State.{State}
 use Rattle.model.specs.runs.Causes.{Cause}
-use Rattle.model.specs.runs.Causes.Cause.{NoTick, Refused}
+use Rattle.model.specs.runs.Causes.Cause.{NoTick, NoEventNumber, Refused}
 use Rattle.model.specs.runs.Runs.{IsStopped}
 use Rattle.model.specs.runs.WideRuns.{AreWideRuns, IsWideStopped}
 use Rattle.engine.specs.History.{history_of}
 use Rattle.engine.specs.EngineValue.{EngineValue}
 use Rattle.engine.specs.Meanings.{meanings, Suits}
-use Rattle.engine.proofs.Bodies.{stopped_else}
+use Rattle.engine.proofs.Bodies.{neither, stopped_else}
 use Rattle.engine.proofs.engine.run_engine.Goals as goal
 
 pub run_times-traces-requires : goal.run_times-traces-requires
@@ -34,6 +35,17 @@ run_times-traces-requires g c = λ lifetimes.
         ),
       ),
     )
+
+pub returns-in_err-traces-clause-clock : goal.returns-in_err-traces-clause-clock
+returns-in_err-traces-clause-clock g c = λ e.
+    let meaning = g.B.Body.meaning in
+    let width = g.M.Mode.width c.args.mode.now in
+    let inside = c.engine.inside in
+    let stops = λ (cause : Cause) (h : IsWideStopped width inside.built (meanings meaning inside.built c.deref_mut.result.now) c.args.times c.into_open-state.result.state cause).
+    subst (λ (v : EngineValue g.row.B.Denot). IsWideStopped width v.schedule (meanings meaning v.schedule v.bodies) c.args.times v.state cause) c.engine.view_is
+    (subst (λ (slots : List (Option g.row.B.Denot)). IsWideStopped width inside.built (meanings meaning inside.built slots) c.args.times inside.state cause) c.deref_mut.ensures.value
+    (subst (λ (state : State). IsWideStopped width inside.built (meanings meaning inside.built c.deref_mut.result.now) c.args.times state cause) (c.into_open-state.ensures.state ∙ c.replace.ensures.value) h)) in
+    ⊎_map (stops NoTick) (stops NoEventNumber) (c.in_err-traces.ensures.clock (let q = c.from_residual.ensures in let p = rw e at q.1 in cc))
 
 pub returns-in_err-traces-clause-refusal : goal.returns-in_err-traces-clause-refusal
 returns-in_err-traces-clause-refusal g c = λ k e.
@@ -76,7 +88,7 @@ returns-in_err-traces-clause-single_clock g c = λ e one.
     (subst (λ (state : State). IsWideStopped width inside.built (meanings meaning inside.built c.deref_mut.result.now) c.args.times state cause) (c.into_open-state.ensures.state ∙ c.replace.ensures.value) h)) in
     let single = λ (cause : Cause) (h : IsWideStopped width value.schedule bodies c.args.times value.state cause).
     c.wide_of_one_is_single.ensures.stops value.schedule bodies c.args.times value.state cause (subst (λ (n : ℕ). IsWideStopped n value.schedule bodies c.args.times value.state cause) one h) in
-    single NoTick (stops NoTick (c.in_err-traces.ensures.clock (let q = c.from_residual.ensures in let p = rw e at q.1 in cc)))
+    ⊎_map (λ h. single NoTick (stops NoTick h)) (λ h. single NoEventNumber (stops NoEventNumber h)) (c.in_err-traces.ensures.clock (let q = c.from_residual.ensures in let p = rw e at q.1 in cc))
 
 pub returns-in_err-traces-clause-defined : goal.returns-in_err-traces-clause-defined
 returns-in_err-traces-clause-defined g c = λ one has.
@@ -92,7 +104,9 @@ returns-in_err-traces-clause-defined g c = λ one has.
     let single = λ (cause : Cause) (h : IsWideStopped width value.schedule bodies c.args.times value.state cause).
     c.wide_of_one_is_single.ensures.stops value.schedule bodies c.args.times value.state cause (subst (λ (n : ℕ). IsWideStopped n value.schedule bodies c.args.times value.state cause) one h) in
     stopped_else c.from_residual.result
-    (λ e. c.single_runs_are_one.ensures.defined value.schedule bodies c.args.times value.state NoTick has (single NoTick (stops NoTick (c.in_err-traces.ensures.clock (let q = c.from_residual.ensures in let p = rw e at q.1 in cc)))))
+    (λ e. neither (λ h. c.single_runs_are_one.ensures.defined value.schedule bodies c.args.times value.state NoTick has (single NoTick (stops NoTick h)))
+    (λ h. c.single_runs_are_one.ensures.defined value.schedule bodies c.args.times value.state NoEventNumber has (single NoEventNumber (stops NoEventNumber h)))
+    (c.in_err-traces.ensures.clock (let q = c.from_residual.ensures in let p = rw e at q.1 in cc)))
     (λ k e. c.single_runs_are_one.ensures.defined value.schedule bodies c.args.times value.state (Refused k) has (single (Refused k) (stops (Refused k) (c.in_err-traces.ensures.refusal k (let q = c.from_residual.ensures in let p = rw e at q.1 in cc)))))
 
 pub returns-clause-sound : goal.returns-clause-sound

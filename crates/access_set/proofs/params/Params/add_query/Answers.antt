@@ -11,9 +11,7 @@ invariant_of-self-in_default c =
     let queries : List (List Term) = c.self.inside.queries.items in
     let query : List Term = c.args.query in (
       was.0,
-      was.1,
-      was.2,
       subst (λ (qs : List (List Term)). AreFootprints qs c.push.new.self.items) (sym c.in_default.ensures.items)
           (subst (λ (fs : List Footprint). AreFootprints (queries ++ query ∷ []) fs) (sym c.in_ok-push.ensures.items)
-          (footprints_more queries c.self.inside.footprints.items query c.of_query.result was.3 c.of_query.ensures)),
+          (footprints_more queries c.self.inside.footprints.items query c.of_query.result was.1 c.of_query.ensures)),
     )

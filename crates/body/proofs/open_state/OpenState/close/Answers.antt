@@ -16,8 +16,8 @@ use Rattle.body.proofs.Outs.{out-closed, out-same}
 use Rattle.body.proofs.Times.{kept_in_time}
 use Rattle.body.proofs.open_state.OpenState.close.Goals as goal
 
-pub invariant_of-self : goal.invariant_of-self
-invariant_of-self c =
+pub invariant_of-self-2 : goal.invariant_of-self-2
+invariant_of-self-2 c =
     let n = c.args.system in
     let registers = c.close-sent.result.0 in
     let before = c.self.inside.systems in
@@ -42,3 +42,11 @@ returns-clause-out c = λ front rest held.
     out-same closed c.close-sent.new.world (front ++ rest) (ap (λ (x : StoreValue). x.state.slots) c.close-sent.ensures.home) (ap (λ (x : StoreValue). x.layout) c.close-sent.ensures.home)
     (out-closed w view.opening.tick words front view.opening.taken rest c.laid.ensures c.close-sent.ensures.reach
     (subst (λ (s : StateValue). AreOut (store_of s) (front ++ (view.opening.taken ++ rest))) (sym c.self.view_is) held))
+
+pub invariant_of-self : goal.invariant_of-self
+invariant_of-self c =
+    let clock_is = ap (λ (x : StoreValue). x.state.clock) c.close-sent.ensures.home in
+    record {
+      systems_in = subst (λ clock. IsInTime clock c.self.inside.systems.items) (sym clock_is) c.self.invariant.systems_in;
+      conditions_in = subst (λ clock. IsInTime clock c.self.inside.conditions.items) (sym clock_is) c.self.invariant.conditions_in;
+    }

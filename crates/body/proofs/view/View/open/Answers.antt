@@ -6,6 +6,7 @@ use Rattle.model.specs.access.Query.{Term}
 use Rattle.model.specs.access.SelfConflict.{TwoConflictAt}
 use Rattle.model.specs.shown.Input.{rows_of, unread_of}
 use Rattle.body.specs.Sheet.{Sheet}
+use Rattle.body.specs.Values.{ValuesSeen}
 use Rattle.body.proofs.Views.{seen_over-shown}
 use Rattle.body.proofs.view.View.open.Goals as goal
 
@@ -21,3 +22,13 @@ returns-clause-shown c = λ state w es.
     seen_over-shown params memory c.args.events.now world c.args.tick c.in_ok-queries.queries.items c.open-values.result c.in_ok-unread.unread c.in_ok-sent.sent
     (subst (λ (qs : List (List Term)). map (λ (s : Sheet). s.rows) c.in_ok-queries.queries.items ≡ map (λ query. rows_of query memory.last_run world.slots) qs) c.queries.ensures.queries (rw c.last_run.ensures at c.in_ok-queries.ensures.rows))
     c.open-values.ensures unread state w es
+
+pub returns-clause-params : goal.returns-clause-params
+returns-clause-params c = λ i. record {
+  queries = (c.in_ok-queries.ensures.terms ∙ c.queries.ensures.queries) i;
+  res = ap (λ (x : ValuesSeen). x.res) c.open-values.ensures i;
+  res_mut = ap (λ (x : ValuesSeen). x.res_mut) c.open-values.ensures i;
+  reads = (ap (λ (x : ListsValue). x.kinds) c.in_ok-unread.ensures ∙ c.reads.ensures) i;
+  writes = (ap (λ (x : ListsValue). x.kinds) c.in_ok-sent.ensures ∙ c.writes.ensures) i;
+  spawns = sym c.law.ensures i;
+}

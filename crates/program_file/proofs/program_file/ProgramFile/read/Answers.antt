@@ -1,0 +1,29 @@
+use Rattle.std.proofs.Common.{map, rules}
+use Rattle.toml.specs.View.{table_view}
+use Rattle.program_file.specs.Tables.{IsItemIn, IsSystemIn, IsChainIn}
+use Rattle.program_file.proofs.Blocks.{zip-map}
+use Rattle.program_file.proofs.program_file.ProgramFile.read.Goals as goal
+
+-- each set has its table
+pub returns-clause-sets : goal.returns-clause-sets
+returns-clause-sets c = record {
+  tables = map (λ inner. table_view inner.now) c.in_ok-top.top.sets.items;
+  there = search rules;
+  each = zip-map IsItemIn (λ inner. table_view inner.now) c.in_ok-top.top.sets.items _ (search rules);
+}
+
+-- each system has its table
+pub returns-clause-systems : goal.returns-clause-systems
+returns-clause-systems c = record {
+  tables = map (λ inner. table_view inner.now) c.in_ok-top.top.systems.items;
+  there = search rules;
+  each = zip-map IsSystemIn (λ inner. table_view inner.now) c.in_ok-top.top.systems.items _ (search rules);
+}
+
+-- each chain has its table
+pub returns-clause-chains : goal.returns-clause-chains
+returns-clause-chains c = record {
+  tables = map (λ inner. table_view inner.now) c.in_ok-top.top.chains.items;
+  there = search rules;
+  each = zip-map IsChainIn (λ inner. table_view inner.now) c.in_ok-top.top.chains.items _ (search rules);
+}

@@ -1,0 +1,53 @@
+-- What is at the keys of a table.
+use Rattle.std.specs.Prelude.{◌≡◌, ℕ, Bool, false, List, map, Option, Some, None}
+use Rattle.std.specs.Borrow.{Bor}
+use Rattle.toml.specs.Data.{Data, Items, Members, no_items, get_member, string, table, as_array, as_bool}
+use Rattle.toml.specs.View.{items_of}
+use Rattle.kinds.specs.declared.res.Res.{Res}
+use Rattle.kinds.specs.declared.res.Event.{Event}
+use Rattle.kinds.specs.Res.{res_name, event_name}
+
+-- the items of an array, none where there is no value
+abbrev pub items_in : Option Data → Option Items
+items_in None = Some no_items
+items_in (Some value) = as_array value
+
+-- a truth value, false where there is no value
+abbrev pub flag_in : Option Data → Option Bool
+flag_in None = Some false
+flag_in (Some value) = as_bool value
+
+-- an array of these values is at the key, or no value and there is none of these
+abbrev pub HasItems : List ℕ → List Data → Members → Type 0
+HasItems key values owner = items_in (get_member key owner) ≡ Some (items_of values)
+
+-- an array of these texts
+abbrev pub HasTexts : List ℕ → List (List ℕ) → Members → Type 0
+HasTexts key texts owner = HasItems key (map string texts) owner
+
+-- the same of texts that are lent
+abbrev pub HasNames : List ℕ → List (Bor (List ℕ)) → Members → Type 0
+HasNames key names owner = HasTexts key (map (λ name. name.now) names) owner
+
+-- the value is a table with these members
+abbrev pub IsTable : Members → Data → Type 0
+IsTable members value = value ≡ table members
+
+-- an array of tables with these members
+abbrev pub HasTables : List ℕ → List Members → Members → Type 0
+HasTables key tables owner = HasItems key (map table tables) owner
+
+-- an array of the names of these resources, and of these event kinds
+abbrev pub HasResources : List ℕ → List Res → Members → Type 0
+HasResources key resources owner = HasTexts key (map res_name resources) owner
+
+abbrev pub HasEvents : List ℕ → List Event → Members → Type 0
+HasEvents key events owner = HasTexts key (map event_name events) owner
+
+-- this text is at the key
+abbrev pub HasText : List ℕ → List ℕ → Members → Type 0
+HasText key text owner = get_member key owner ≡ Some (string text)
+
+-- this truth value is at the key, or none and it is false
+abbrev pub HasFlag : List ℕ → Bool → Members → Type 0
+HasFlag key flag owner = flag_in (get_member key owner) ≡ Some flag

@@ -1,0 +1,95 @@
+-- What the tables of a document say of items, chains and systems.
+use Rattle.std.specs.Prelude.{◌≡◌, ℕ, List, map, codes}
+use Rattle.std.specs.List.{AllZip}
+use Rattle.toml.specs.Data.{Members}
+use Rattle.query.specs.Grammar.{IsQuery}
+use Rattle.query.specs.declared.query.Query.{Query}
+use Rattle.script.specs.Instruction.{IsInstruction}
+use Rattle.script.specs.declared.script_body.Block.{Block}
+use Rattle.program_file.specs.Keys.{HasTables, HasTexts, HasNames, HasResources, HasEvents, HasText, HasFlag}
+use Rattle.program_file.specs.Readings.{AreSpelled}
+use Rattle.program_file.specs.Rounds.{SaysRounds, block_keys}
+use Rattle.program_file.specs.declared.program_file.BlockTexts.{BlockTexts}
+use Rattle.program_file.specs.declared.program_file.ChainTable.{ChainTable}
+use Rattle.program_file.specs.declared.program_file.ItemTable.{ItemTable}
+use Rattle.program_file.specs.declared.program_file.SystemTable.{SystemTable}
+
+-- a set, or what a system has besides its queries and blocks: each list is that of its key, in order
+pub record IsItemIn (table : Members) (item : ItemTable) : Type 0 where
+  pub name : HasText (codes "name") item.name.now table
+  pub inside : HasNames (codes "in") item.inside.items table
+  pub before : HasNames (codes "before") item.before.items table
+  pub after : HasNames (codes "after") item.after.items table
+  pub before_ignore_deferred : HasNames (codes "before_ignore_deferred") item.before_ignore_deferred.items table
+  pub after_ignore_deferred : HasNames (codes "after_ignore_deferred") item.after_ignore_deferred.items table
+
+-- a chain
+pub record IsChainIn (table : Members) (chain : ChainTable) : Type 0 where
+  pub items : HasNames (codes "items") chain.items.items table
+  pub ignores_deferred : HasFlag (codes "ignore_deferred") chain.ignores_deferred table
+
+-- the resources and the event kinds of a system
+pub record IsTouchedIn (table : Members) (system : SystemTable) : Type 0 where
+  pub res : HasResources (codes "res") system.res.items table
+  pub res_mut : HasResources (codes "res_mut") system.res_mut.items table
+  pub reads : HasEvents (codes "reads") system.reads.items table
+  pub writes : HasEvents (codes "writes") system.writes.items table
+
+-- queries, each the only one that its text spells
+pub record AreQueriesIn (table : Members) (queries : List Query) : Type 0 where
+  pub texts : List (List ℕ)
+  pub there : HasTexts (codes "query") texts table
+  pub spelled : AreSpelled IsQuery queries texts
+
+-- a block: how often it runs, and its code, each instruction the only one that its text spells
+pub record IsBlockIn (table : Members) (block : Block) : Type 0 where
+  pub rounds : SaysRounds block.rounds (block_keys table)
+  pub texts : List (List ℕ)
+  pub there : HasTexts (codes "code") texts table
+  pub spelled : AreSpelled IsInstruction block.code.items texts
+
+-- blocks, each by its own table
+pub record AreBlocksIn (table : Members) (blocks : List Block) : Type 0 where
+  pub tables : List Members
+  pub there : HasTables (codes "do") tables table
+  pub each : AllZip IsBlockIn tables blocks
+
+-- a system
+pub record IsSystemIn (table : Members) (system : SystemTable) : Type 0 where
+  pub item : IsItemIn table system.item
+  pub queries : AreQueriesIn table system.queries.items
+  pub touched : IsTouchedIn table system
+  pub blocks : AreBlocksIn table system.blocks.items
+
+-- sets, systems and chains, each by its own table
+pub record AreSetsIn (document : Members) (sets : List ItemTable) : Type 0 where
+  pub tables : List Members
+  pub there : HasTables (codes "set") tables document
+  pub each : AllZip IsItemIn tables sets
+
+pub record AreSystemsIn (document : Members) (systems : List SystemTable) : Type 0 where
+  pub tables : List Members
+  pub there : HasTables (codes "system") tables document
+  pub each : AllZip IsSystemIn tables systems
+
+pub record AreChainsIn (document : Members) (chains : List ChainTable) : Type 0 where
+  pub tables : List Members
+  pub there : HasTables (codes "chain") tables document
+  pub each : AllZip IsChainIn tables chains
+
+-- ---- on the way: all keys are looked at before a text is read
+
+-- a block whose code is texts
+pub record IsBlockTextsIn (table : Members) (block : BlockTexts) : Type 0 where
+  pub rounds : SaysRounds block.rounds (block_keys table)
+  pub code : HasNames (codes "code") block.code.items table
+
+pub record AreBlockTextsIn (table : Members) (blocks : List BlockTexts) : Type 0 where
+  pub tables : List Members
+  pub there : HasTables (codes "do") tables table
+  pub each : AllZip IsBlockTextsIn tables blocks
+
+-- the same block with its code read
+pub record IsRead (texts : BlockTexts) (block : Block) : Type 0 where
+  pub rounds : block.rounds ≡ texts.rounds
+  pub code : AreSpelled IsInstruction block.code.items (map (λ text. text.now) texts.code.items)
