@@ -111,3 +111,24 @@ fn orders_reach_members(rt: HostRuntime) -> Result<(), Fail> {
     assert_eq!(rt; hierarchy.sharing(alloc, &shared)?, Some(found));
     Ok(())
 }
+
+#[test]
+fn items_cover_their_members(rt: HostRuntime) -> Result<(), Fail> {
+    let alloc = rt.alloc();
+    let mut hierarchy = SetHierarchy::new(alloc, 4, 3);
+    hierarchy.put(0, 2)?;
+    hierarchy.put(6, 2)?;
+    hierarchy.put(4, 0)?;
+    hierarchy.put(5, 1)?;
+    let items = [2, 4, 3, 0];
+    let mut told = Vec::new(alloc);
+    for members in hierarchy.coverage(alloc, items.as_slice())? {
+        told.push(members.into_numbers())?;
+    }
+    assert_eq!(rt; told.len(), 4);
+    assert_eq!(rt; told[0].as_slice(), [0, 2].as_slice());
+    assert_eq!(rt; told[1].as_slice(), [0].as_slice());
+    assert_eq!(rt; told[2].as_slice(), [].as_slice());
+    assert_eq!(rt; told[3].as_slice(), [0].as_slice());
+    Ok(())
+}
