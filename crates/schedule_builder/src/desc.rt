@@ -172,6 +172,13 @@ impl ItemDesc {
     {
         self.conditions.as_slice()
     }
+
+    /// The conditions alone.
+    pub fn into_conditions(self) -> Vec<Cond>
+        ensures { result.items ≡ self.conditions }
+    {
+        self.conditions
+    }
 }
 
 /// A declared system: an item with parameters.
@@ -234,6 +241,14 @@ impl SystemDesc {
         self.item.add_after(name)
     }
 
+    /// Declares that the system runs on this condition, besides those that it has. Where memory is wanting nothing is declared.
+    pub fn add_condition(&mut self, condition: Cond) -> Result<(), AllocError>
+        ensures ok { OnOk result (self.new ≡ record self.old { item = record self.old.item { conditions = self.old.item.conditions ++ condition ∷ [] } }) }
+        ensures err { OnErr result (self.new ≡ self.old) }
+    {
+        self.item.add_condition(condition)
+    }
+
     /// What it has besides its parameters.
     pub fn item(&self) -> &ItemDesc
         ensures { result.now ≡ self.now.item }
@@ -248,11 +263,11 @@ impl SystemDesc {
         &self.params
     }
 
-    /// The parameters alone.
-    pub fn into_params(self) -> Params
-        ensures { result ≡ self.params }
+    /// The item and the parameters.
+    pub fn into_parts(self) -> (ItemDesc, Params)
+        ensures { result ≡ (self.item, self.params) }
     {
-        self.params
+        (self.item, self.params)
     }
 }
 
@@ -417,10 +432,11 @@ impl ScheduleDesc {
         }
     }
 
-    /// The systems alone, in declared order.
-    pub fn into_systems(self) -> Vec<SystemDesc>
-        ensures { result.items ≡ self.systems }
+    /// The sets and the systems, each in declared order.
+    pub fn into_items(self) -> (Vec<ItemDesc>, Vec<SystemDesc>)
+        ensures sets { result.0.items ≡ self.sets }
+        ensures systems { result.1.items ≡ self.systems }
     {
-        self.systems
+        (self.sets, self.systems)
     }
 }

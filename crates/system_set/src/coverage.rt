@@ -25,10 +25,10 @@ impl Model for Members {
 
 impl Members {
     /// The numbers.
-    pub fn into_numbers(self) -> Vec<u32>
-        ensures { result.items ≡ self }
+    pub fn numbers(&self) -> &[u32]
+        ensures { result.now ≡ self.now }
     {
-        self.numbers
+        self.numbers.as_slice()
     }
 }
 

@@ -4,7 +4,7 @@ use Rattle.schedule_builder.specs.Rows.{IsBefore, IsRival, AreRows}
 use Rattle.schedule_builder.specs.Conditions.{IsClash}
 use Rattle.schedule_builder.proofs.Counted.{has_counts}
 use Rattle.schedule_builder.proofs.Listings.{has_condition_rows}
-use Rattle.schedule_builder.proofs.built.Built.with_conditions.Goals as goal
+use Rattle.schedule_builder.proofs.built.Built.of_parts.Goals as goal
 
 pub invariant_of-result : goal.invariant_of-result
 invariant_of-result c =
@@ -16,7 +16,6 @@ invariant_of-result c =
     = subst (λ (xs : List ScheduledSystem). AreRows (length xs) (length xs) (IsRival xs) c.in_ok-rivals.rivals.items) c.as_slice-2.ensures.value c.in_ok-rivals.ensures in
     let sizes = rw c.as_slice-5.ensures.value at c.in_ok-sizes.ensures.each in
     let conditions : List ScheduledCondition = c.args.conditions.items in (
-      c.requires.none,
       c.requires.built,
       has_condition_rows systems conditions c.in_ok-asked_by.asked_by.items c.in_ok-clashes.clashes.items
           (rw c.as_slice-6.ensures.value at c.in_ok-asked_by.ensures.long)
