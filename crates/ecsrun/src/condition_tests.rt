@@ -230,20 +230,27 @@ fn conditions_are_refused(rt: HostRuntime) -> Result<(), Fail> {
     Ok(())
 }
 
-// A file of a system with so many conditions.
-fn conditioned(alloc: Global, count: u32) -> Result<String, Fail> {
+// A file of 256 systems, each with two conditions, and of a set with so many more.
+fn conditioned(alloc: Global, more: u32) -> Result<String, Fail> {
     let mut file = String::new(alloc);
-    write!(file, "system = [{{name=\"a\",if=[")?;
-    for _condition in 0..count {
+    write!(file, "set = [{{name=\"g\",if=[")?;
+    for _condition in 0..more {
         write!(file, "\"run_once\",")?;
     }
-    write!(file, "],res_mut=[\"Total\"],do=[{{code=[\"add Total 1\"]}}]}}]")?;
+    write!(file, "]}}]\nsystem = [{{name=\"s\",if=[\"run_once\",\"not(on_event(Hit))\"],res_mut=[\"Total\"],do=[{{code=[\"add Total 1\"]}}]}}")?;
+    for number in 1..256u32 {
+        write!(
+            file,
+            ",{{name=\"s{number}\",if=[\"run_once\",\"resource_equals(Seed, 0)\"]}}"
+        )?;
+    }
+    write!(file, "]")?;
     Ok(file)
 }
 
 #[test]
 fn so_many_conditions_may_be_declared(rt: HostRuntime) -> Result<(), Fail> {
-    let file = conditioned(rt.alloc(), 512)?;
+    let file = conditioned(rt.alloc(), 0)?;
     let wrong = first_wrong(
         rt,
         rt.alloc(),
@@ -252,7 +259,7 @@ fn so_many_conditions_may_be_declared(rt: HostRuntime) -> Result<(), Fail> {
         [(2, 0, 1)].as_slice(),
     )?;
     assert_eq!(rt; wrong, None);
-    let file = conditioned(rt.alloc(), 513)?;
+    let file = conditioned(rt.alloc(), 1)?;
     let answer = serve_file(rt.alloc(), "ecsrun run a.toml", file.as_str())?;
     assert_eq!(rt; answer.faults.as_slice(), "refused B12 3\n".as_bytes());
     Ok(())
