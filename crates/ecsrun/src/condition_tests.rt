@@ -1,6 +1,6 @@
 // Command lines over files whose sets and systems run on conditions.
 
-use crate::served::{first_other, serve_file};
+use crate::served::{NEVER, first_other, serve_file, serve_until};
 use std::alloc::{AllocError, Global};
 use std::fmt::Write;
 use std::sync::Wait;
@@ -145,6 +145,41 @@ fn each_condition_is_asked(rt: HostRuntime) -> Result<(), Fail> {
             [(3, 3, total)].as_slice(),
         )?;
         assert_eq!(rt; wrong, None, "at {condition}");
+    }
+    Ok(())
+}
+
+// A file of one system that runs once.
+const ONCE: &str = "system = [{ name = \"a\", if = [\"run_once\"] }]";
+
+#[test]
+fn answers_are_recorded(rt: HostRuntime) -> Result<(), Fail> {
+    let answer = serve_file(
+        rt.alloc(),
+        "ecsrun run a.toml --times 2 --trace b.txt",
+        ONCE,
+    )?;
+    assert_eq!(rt; answer.status, 0);
+    assert_eq!(rt;
+        answer.record.as_slice(),
+        "R 1\nC 0 1\nS 0\nF 0\nY 0\nR 2\nC 0 0\nK 0\nY 0\n".as_bytes()
+    );
+    for (trace, line) in [
+        ("R 1\nC 0 0\nK 0\nY 0\n", "run 1 complete\n"),
+        ("R 1\nC 0 1\nK 0\nY 0\n", "run 1 bad 2 S6\n"),
+        ("R 1\nC 0 0\nS 0\nF 0\nY 0\n", "run 1 bad 2 S5\n"),
+        ("R 1\nS 0\nF 0\nY 0\n", "run 1 bad 1 S4\n"),
+        ("R 1\nC 0 1\nC 0 1\n", "run 1 bad 2 S2\n"),
+        ("R 1\nC 1 1\n", "run 1 bad 1 S1\n"),
+    ] {
+        let answer = serve_until(
+            rt.alloc(),
+            "ecsrun check a.toml b.txt",
+            ONCE,
+            trace.as_bytes(),
+            NEVER,
+        )?;
+        assert_eq!(rt; answer.out.as_slice(), line.as_bytes(), "at {trace}");
     }
     Ok(())
 }
