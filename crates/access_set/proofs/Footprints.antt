@@ -1,23 +1,27 @@
 -- The kinds at which two queries conflict are those of which the words of both say so.
-use Rattle.std.proofs.Common.{ℕ, ◌+◌, ◌<◌, ◌≡◌, ◌≢◌, Bool, true, false, not, ◌==◌, ◌||◌, ◌&&◌, min, max, cond, ◌*◌, ◌%◌, ◌^◌, inl, inr, List, [], ◌∷◌, ◌++◌, refl, sym, ap, ◌∙◌, subst, arith}
+use Rattle.std.proofs.Common.{ℕ, ◌+◌, ◌<◌, ◌≡◌, ◌≢◌, Bool, true, false, not, ◌==◌, ◌||◌, ◌&&◌, min, max, cond, ◌*◌, ◌%◌, ◌^◌, inl, inr, zero, suc, List, [], ◌∷◌, ◌++◌, length, get_or, refl, sym, ap, ◌∙◌, subst, arith}
 use Rattle.std.specs.Int.{bit_at, w64}
 use Rattle.std.specs.Prelude.{bit_or, bit_and, bit_xor}
 use Rattle.std.specs.List.{list_any}
-use Rattle.std.proofs.lemmas.Bool.{eqb-true, eq-eqb, ne_eqb, both_ways, false≢true, false_from_ne_true, true_from_ne_false, and_parts, and_from, and_left, and_right, or_cases, or_left, or_right, or_from, not-true, not_from_false, not_from_true}
+use Rattle.std.specs.Bool.{MatchBool}
+use Rattle.std.proofs.lemmas.List.{get_or_past}
+use Rattle.std.proofs.lemmas.Bool.{eqb-true, eq-eqb, ne_eqb, both_ways, false≢true, false_from_ne_true, true_from_ne_false, and_parts, and_from, and_left, and_right, or_cases, or_left, or_right, or_from, not-true, not_from_false, not_from_true, cases_lt}
 use Rattle.std.proofs.lemmas.Bool.Decides.{eqb_tells}
 use Rattle.std.proofs.lemmas.Nat.Bits.{bit_at_and, bit_at_or, bit_at_xor, bit_at-zero, bit_at-lt, bit_at_set_same, bit_at_set_other, same_from_bits}
 use Rattle.model.specs.Lists.{is_number}
 use Rattle.model.specs.access.Query.{Term, admits, matches, touches, writes}
 use Rattle.model.specs.access.Query.Term.{Entity, Read, Mut, Opt, With, Without, Added, Changed}
 use Rattle.model.specs.access.Conflict.{required, requires_kind, least_kinds, queries_conflict_at, QueriesConflictAt}
-use Rattle.model.specs.access.SelfConflict.{queries_meet, two_meet}
+use Rattle.model.specs.access.Access.{Params, no_params}
+use Rattle.model.specs.access.Conflict.Datum.{OfKind, OfResource, OfEvent}
+use Rattle.model.specs.access.SelfConflict.{queries_meet, two_meet, TwoConflictAt, ConflictWithin, conflict_within}
 use Rattle.model.specs.access.QueryFaults.{excluded, excludes_kind}
 use Rattle.model.proofs.lists.Lists.{same_tests, list_any-IsIn, IsIn_from_any, list_all-IsIn, list_all_from}
 use Rattle.model.proofs.lists.Members.{number-is}
 use Rattle.model.proofs.serial.ConflictTests.{test-queries}
-use Rattle.model.proofs.serial.SelfConflicts.{queries_meet_from, conflict_from_queries_meet}
+use Rattle.model.proofs.serial.SelfConflicts.{queries_meet_from, conflict_from_queries_meet, within_tested}
 use Rattle.access_set.specs.declared.footprint.Footprint.{Footprint}
-use Rattle.access_set.specs.Footprints.{has_bit, IsFootprint, AreFootprints, kinds_shared, kinds_excluded, kinds_met, footprints_meet, two_footprints_meet}
+use Rattle.access_set.specs.Footprints.{has_bit, IsFootprint, AreFootprints, kinds_shared, kinds_excluded, kinds_met, footprints_meet, is_writing, no_kinds, HasMeetingWriter}
 
 -- ---- bits of words
 
@@ -247,10 +251,109 @@ any_meet_at (q ∷ queries) others (f ∷ footprints) more k are them =
     ap (λ b. b || list_any (λ g. list_any (λ h. has_bit (kinds_met g h) k) more) footprints) (some_meet_at q f others more k are.0 them)
     ∙ ap (λ b. list_any (λ r. queries_conflict_at q r k) others || b) (any_meet_at queries others footprints more k are.1 them)
 
--- whether two of the queries conflict
-pub two_meet_is : (queries : List (List Term)) (footprints : List Footprint) → AreFootprints queries footprints → two_footprints_meet footprints ≡ two_meet queries
-two_meet_is [] [] are = refl
-two_meet_is [] (f ∷ footprints) are = absurd are
-two_meet_is (q ∷ queries) [] are = absurd are
-two_meet_is (q ∷ queries) (f ∷ footprints) are =
-    ap (λ b. b || two_footprints_meet footprints) (some_meet q f queries footprints are.0 are.1) ∙ ap (λ b. list_any (queries_meet q) queries || b) (two_meet_is queries footprints are.1)
+-- ---- queries that write
+
+-- what a pair of queries means says that the first one may match, and that it writes where it does so at the kind
+writer_of : (q r : List Term) (f g : Footprint) → IsFootprint q f → IsFootprint r g → (k : ℕ) → QueriesConflictAt q r k → writes q k ≡ true → is_writing f ≡ true
+writer_of q r f g is other k c w =
+    let tested : queries_conflict_at q r k ≡ true = test-queries q r k c in
+    let met : has_bit (kinds_met f g) k ≡ true = conflict_met q r f g is other k tested in
+    let none : bit_and (bit_or f.required g.required) (kinds_excluded f g) ≡ 0 = none_both (bit_and (bit_or f.required g.required) (kinds_excluded f g) == 0) refl met in
+    let apart : bit_and f.required f.excluded ≡ 0 = no_bits (bit_and f.required f.excluded) (λ j h.
+    let both = and_parts (has_bit f.required j) (has_bit f.excluded j) (sym (bit_of_both f.required f.excluded j) ∙ h) in
+    both_ways (has_bit 0 j) (no_bit j) (subst (λ (word : ℕ). has_bit word j ≡ true) none
+    (bit_of_both (bit_or f.required g.required) (kinds_excluded f g) j ∙ and_from (has_bit (bit_or f.required g.required) j) (has_bit (kinds_excluded f g) j)
+    (bit_of_either f.required g.required j ∙ or_left (has_bit f.required j) (has_bit g.required j) both.0)
+    (bit_of_either f.excluded g.excluded j ∙ or_left (has_bit f.excluded j) (has_bit g.excluded j) both.1)))) in
+    and_from (not (f.written == 0)) (bit_and f.required f.excluded == 0)
+    (not_from_false (f.written == 0) (false_from_ne_true (f.written == 0) (λ z. both_ways (has_bit 0 k) (no_bit k) (subst (λ (word : ℕ). has_bit word k ≡ true) (eqb-true f.written 0 z) (is.written k ∙ w)))))
+    (eq-eqb (bit_and f.required f.excluded) 0 apart)
+  where
+    none_both : (none : Bool) → (bit_and (bit_or f.required g.required) (kinds_excluded f g) == 0) ≡ none →
+        has_bit (cond none (bit_xor (kinds_shared f g) (bit_and (kinds_shared f g) (kinds_excluded f g))) 0) k ≡ true → bit_and (bit_or f.required g.required) (kinds_excluded f g) ≡ 0
+    none_both true e h = eqb-true (bit_and (bit_or f.required g.required) (kinds_excluded f g)) 0 e
+    none_both false e h = absurd (both_ways (has_bit 0 k) (no_bit k) h)
+
+-- the same two the other way round
+turned : (q r : List Term) (k : ℕ) → QueriesConflictAt q r k → QueriesConflictAt r q k
+turned q r k c = record {
+  kinds = c.kinds;
+  first_matches = c.second_matches;
+  second_matches = c.first_matches;
+  holds = c.holds;
+  first_touches = c.second_touches;
+  second_touches = c.first_touches;
+  one_writes = elim (or_cases (writes q k) (writes r k) c.one_writes) [
+    | inl first ↦ or_right (writes r k) (writes q k) first
+    | inr second ↦ or_left (writes r k) (writes q k) second
+  ];
+}
+
+footprints_long : (queries : List (List Term)) (footprints : List Footprint) → AreFootprints queries footprints → length footprints ≡ length queries
+footprints_long [] [] are = refl
+footprints_long [] (f ∷ footprints) are = absurd are
+footprints_long (q ∷ queries) [] are = absurd are
+footprints_long (q ∷ queries) (f ∷ footprints) are = ap suc (footprints_long queries footprints are.1)
+
+footprint_at : (queries : List (List Term)) (footprints : List Footprint) → AreFootprints queries footprints → (n : ℕ) → n < length footprints → IsFootprint (get_or queries n []) (get_or footprints n no_kinds)
+footprint_at [] [] are n low = absurd (omega arith)
+footprint_at [] (f ∷ footprints) are n low = absurd are
+footprint_at (q ∷ queries) [] are n low = absurd are
+footprint_at (q ∷ queries) (f ∷ footprints) are zero low = are.0
+footprint_at (q ∷ queries) (f ∷ footprints) are (suc n) low = footprint_at queries footprints are.1 n (omega arith)
+
+-- a query that touches a kind is there
+touching_known : (queries : List (List Term)) (n kind : ℕ) → touches (get_or queries n []) kind ≡ true → n < length queries
+touching_known queries n kind e = elim (cases_lt n (length queries)) [
+  | inl low ↦ low
+  | inr past ↦ absurd (false≢true (sym (ap (λ (q : List Term). touches q kind) (get_or_past queries n [] past)) ∙ e))
+]
+
+-- parameters of these queries alone
+abbrev of_queries : List (List Term) → Params
+of_queries queries = record no_params { queries = queries }
+
+two_of : (queries : List (List Term)) → ConflictWithin (of_queries queries) → (kind : ℕ) × TwoConflictAt queries kind
+two_of queries (OfKind kind, c) = (kind, c)
+two_of queries (OfResource number, inl c) = absurd c
+two_of queries (OfResource number, inr c) = absurd (false≢true c.0)
+two_of queries (OfEvent kind, inl c) = absurd c
+two_of queries (OfEvent kind, inr c) = absurd (false≢true c.0)
+
+-- a query that writes conflicts with another exactly where two conflict
+pub writer_tested : (queries : List (List Term)) (footprints : List Footprint) → AreFootprints queries footprints → HasMeetingWriter footprints → two_meet queries ≡ true
+writer_tested queries footprints are (n, low, writing, (m, below, differ, meet)) =
+    let first = footprint_at queries footprints are n low in
+    let second = footprint_at queries footprints are m below in
+    let at = conflict_from_queries_meet (get_or queries n []) (get_or queries m []) (sym (meet_is (get_or queries n []) (get_or queries m []) (get_or footprints n no_kinds) (get_or footprints m no_kinds) first second) ∙ meet) in
+    let within : ConflictWithin (of_queries queries) = (OfKind at.0, record { first = n; second = m; differ = differ; conflict = at.1 }) in
+    only_queries (two_meet queries) ((within_tested (of_queries queries)).1 within)
+  where
+    only_queries : (b : Bool) → ((b || false) || false) ≡ true → b ≡ true
+    only_queries true e = refl
+    only_queries false e = e
+
+pub writer_found : (queries : List (List Term)) (footprints : List Footprint) → AreFootprints queries footprints → two_meet queries ≡ true → HasMeetingWriter footprints
+writer_found queries footprints are e =
+    let tested : conflict_within (of_queries queries) ≡ true = or_left (two_meet queries || false) false (or_left (two_meet queries) false e) in
+    let two = two_of queries ((within_tested (of_queries queries)).0 tested) in
+    let c = two.1 in
+    let long = footprints_long queries footprints are in
+    let low : c.first < length footprints = omega (arith, long, touching_known queries c.first two.0 c.conflict.first_touches) in
+    let below : c.second < length footprints = omega (arith, long, touching_known queries c.second two.0 c.conflict.second_touches) in
+    let q : List Term = get_or queries c.first [] in
+    let r : List Term = get_or queries c.second [] in
+    let f : Footprint = get_or footprints c.first no_kinds in
+    let g : Footprint = get_or footprints c.second no_kinds in
+    let first : IsFootprint q f = footprint_at queries footprints are c.first low in
+    let second : IsFootprint r g = footprint_at queries footprints are c.second below in
+    elim (or_cases (writes q two.0) (writes r two.0) c.conflict.one_writes) [
+      | inl w ↦ (c.first, low, writer_of q r f g first second two.0 c.conflict w, (c.second, below, c.differ, meet_is q r f g first second ∙ queries_meet_from q r two.0 c.conflict))
+      | inr w ↦
+          let back = turned q r two.0 c.conflict in
+          (c.second, below, writer_of r q g f second first two.0 back w, (c.first, low, (λ same. c.differ (sym same)), meet_is r q g f second first ∙ queries_meet_from r q two.0 back))
+    ]
+
+pub writer_tells : (b : Bool) (queries : List (List Term)) (footprints : List Footprint) → AreFootprints queries footprints → MatchBool b (HasMeetingWriter footprints) (HasMeetingWriter footprints → ⊥) → b ≡ two_meet queries
+writer_tells true queries footprints are h = sym (writer_tested queries footprints are h)
+writer_tells false queries footprints are h = sym (false_from_ne_true (two_meet queries) (λ e. h (writer_found queries footprints are e)))

@@ -1,7 +1,6 @@
 -- The least datum of a conflict, from the least number of each sort; and that what parameters name has the number of something.
-use Rattle.std.proofs.Common.{ℕ, zero, suc, ◌+◌, ◌<◌, ◌≤◌, Bool, true, false, ◌≡◌, ◌||◌, ◌==◌, inl, inr, List, [], ◌∷◌, length, map, get_or, Option, Some, None, subst, sym, ap, ◌∙◌, arith, eqb-true, ltb-true}
+use Rattle.std.proofs.Common.{ℕ, zero, suc, ◌+◌, ◌<◌, ◌≤◌, true, ◌≡◌, ◌==◌, inl, inr, List, [], ◌∷◌, length, map, get_or, Some, None, subst, sym, arith, eqb-true, ltb-true}
 use Rattle.std.proofs.lemmas.Bool.{false≢true, or_cases, cases_lt}
-use Rattle.kinds.specs.declared.kind.Kind.{Kind}
 use Rattle.kinds.specs.declared.res.Res.{Res}
 use Rattle.kinds.specs.declared.res.Res.TheVariants.{Round, Gravity, Total, Seed, Limit, Alarm, Mode, Step}
 use Rattle.kinds.specs.declared.res.Event.{Event}
@@ -14,7 +13,7 @@ use Rattle.query.specs.Term.{term_of}
 use Rattle.model.specs.Lists.{has, is_number, IsIn}
 use Rattle.model.specs.access.Query.{Term as ModelTerm, touched, touches}
 use Rattle.model.specs.access.Access.{Params, names_resource, names_event}
-use Rattle.model.specs.access.Conflict.{Datum, ConflictAt, Conflict, is_below, IsLeastDatum}
+use Rattle.model.specs.access.Conflict.{Datum, ConflictAt, is_below, IsLeastDatum}
 use Rattle.model.specs.access.Conflict.Datum.{OfKind, OfResource, OfEvent}
 use Rattle.access_set.specs.Datum.{IsLeastAt, AreKnownKinds}
 

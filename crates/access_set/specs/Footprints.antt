@@ -1,6 +1,5 @@
 -- The kinds that a query touches, writes, requires and excludes, as the bits of words; and the kinds at which two queries conflict.
-use Rattle.std.specs.Prelude.{ℕ, Bool, false, not, ◌==◌, ◌≡◌, ◌||◌, cond, List, [], ◌∷◌, bit_and, bit_or, bit_xor}
-use Rattle.std.specs.List.{list_any}
+use Rattle.std.specs.Prelude.{ℕ, Bool, true, not, ◌<◌, ◌==◌, ◌≡◌, ◌≢◌, ◌&&◌, cond, List, [], ◌∷◌, length, get_or, bit_and, bit_or, bit_xor}
 use Rattle.std.specs.Int.{bit_at}
 use Rattle.model.specs.access.Query.{Term, touches, writes}
 use Rattle.model.specs.access.Conflict.{requires_kind}
@@ -43,7 +42,18 @@ kinds_met f g = cond (bit_and (bit_or f.required g.required) (kinds_excluded f g
 abbrev pub footprints_meet : Footprint → Footprint → Bool
 footprints_meet f g = not (kinds_met f g == 0)
 
--- whether two of the queries conflict
-abbrev pub two_footprints_meet : List Footprint → Bool
-two_footprints_meet [] = false
-two_footprints_meet (f ∷ footprints) = list_any (footprints_meet f) footprints || two_footprints_meet footprints
+-- whether a query can match, and writes
+abbrev pub is_writing : Footprint → Bool
+is_writing f = not (f.written == 0) && (bit_and f.required f.excluded == 0)
+
+-- the words of the query that touches nothing
+abbrev pub no_kinds : Footprint
+no_kinds = record { touched = 0; written = 0; required = 0; excluded = 0 }
+
+-- a query conflicts with another
+abbrev pub MeetsBeside : List Footprint → ℕ → Type 0
+MeetsBeside footprints n = (m : ℕ) × (m < length footprints) × (n ≢ m) × (footprints_meet (get_or footprints n no_kinds) (get_or footprints m no_kinds) ≡ true)
+
+-- a query that writes conflicts with another
+abbrev pub HasMeetingWriter : List Footprint → Type 0
+HasMeetingWriter footprints = (n : ℕ) × (n < length footprints) × (is_writing (get_or footprints n no_kinds) ≡ true) × MeetsBeside footprints n

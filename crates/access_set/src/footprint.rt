@@ -8,7 +8,7 @@ ghost use Rattle.model.specs.Lists.{is_number};
 ghost use Rattle.model.specs.access.Query.{touched, written};
 ghost use Rattle.model.specs.access.Conflict.{required};
 ghost use Rattle.model.specs.access.QueryFaults.{excluded};
-ghost use Rattle.access_set.specs.Footprints.{has_bit, kinds_met, footprints_meet, IsFootprint};
+ghost use Rattle.access_set.specs.Footprints.{has_bit, kinds_met, footprints_meet, is_writing, IsFootprint};
 
 use kinds::kind::{Kind, kinds_are_apart};
 use query::{Query, Term};
@@ -75,6 +75,13 @@ impl Footprint {
         ensures { result ≡ footprints_meet self other }
     {
         self.kinds_met(other) != 0
+    }
+
+    /// Whether a query of this footprint can match, and writes.
+    pub(crate) fn is_writing(self) -> bool
+        ensures { result ≡ is_writing self }
+    {
+        self.written != 0 && self.required & self.excluded == 0
     }
 
     /// Whether they conflict at the kind.

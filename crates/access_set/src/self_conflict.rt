@@ -1,20 +1,21 @@
 // When the parameters of one system conflict among themselves.
 
-ghost use Rattle.std.specs.Prelude.{◌≡◌, ◌↔◌, IsTrue, map};
+ghost use Rattle.std.specs.Prelude.{◌≡◌, ◌<◌, ◌↔◌, IsTrue, map, length};
+ghost use Rattle.std.specs.Bool.{MatchBool};
 ghost use Rattle.std.specs.List.{list_any};
 ghost use Rattle.kinds.specs.Res.{res_number, event_number};
 ghost use Rattle.model.specs.Lists.{has};
 ghost use Rattle.model.specs.access.QueryFaults.{has_twice};
 ghost use Rattle.model.specs.access.SelfConflict.{ConflictWithin, two_meet, writes_beside, conflict_within};
-ghost use Rattle.access_set.specs.Footprints.{two_footprints_meet};
+ghost use Rattle.access_set.specs.Footprints.{MeetsBeside, HasMeetingWriter};
 
-use crate::conflict::meets_any;
 use crate::footprint::Footprint;
 use crate::params::{Params, has_event, has_resource};
 use kinds::res::{Event, Res};
 
-/// Whether two parameters conflict: two of the queries, or two that name a resource or an event kind that one of them writes.
-/// A draft: each query is compared with all behind it, so the time grows with the square of their number.
+/// Whether two parameters conflict: two of the queries, or two that name a resource or an event kind that one of them writes. A query
+/// that writes is compared with all others; as soon as two conflict no more are. Queries that write a kind and don't conflict match
+/// different sets of kinds, of which there are 4,096, so the time grows with the number of queries alone.
 pub fn conflicts_within(params: &Params) -> bool
     ensures { IsTrue result ↔ ConflictWithin params.now }
 {
@@ -38,19 +39,30 @@ fn conflict_within(params: &Params) -> bool
 fn two_meet(params: &Params) -> bool
     ensures { result ≡ two_meet params.now.queries }
 {
-    two_footprints_meet(params.footprints())
+    has_meeting_writer(params.footprints())
 }
 
-// Whether two of these footprints meet.
-fn two_footprints_meet(footprints: &[Footprint]) -> bool
-    ensures { result ≡ two_footprints_meet footprints.now }
+// Whether one of these that writes meets another.
+fn has_meeting_writer(footprints: &[Footprint]) -> bool
+    ensures { MatchBool result (HasMeetingWriter footprints.now) (HasMeetingWriter footprints.now → ⊥) }
 {
-    let mut rest = footprints;
-    while let Some((footprint, others)) = rest.split_first() {
-        if meets_any(*footprint, others) {
+    for number in 0..footprints.len() {
+        if footprints[number].is_writing() && meets_beside(footprints, number) {
             return true;
         }
-        rest = others;
+    }
+    false
+}
+
+// Whether one of these meets another.
+fn meets_beside(footprints: &[Footprint], number: usize) -> bool
+    requires { number < length footprints.now }
+    ensures { MatchBool result (MeetsBeside footprints.now number) (MeetsBeside footprints.now number → ⊥) }
+{
+    for other in 0..footprints.len() {
+        if number != other && footprints[number].meets(footprints[other]) {
+            return true;
+        }
     }
     false
 }

@@ -1,2 +1,5 @@
 pub mod Reaching
+pub mod Backwards
+pub mod Members
 pub mod Reporting
+pub mod Settling

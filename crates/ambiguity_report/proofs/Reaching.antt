@@ -1,18 +1,17 @@
 -- Which systems a path of edges leads to, found in the schedule order.
 use Rattle.std.proofs.Common.{ℕ, suc, ◌+◌, ◌<◌, ◌≤◌, ◌≡◌, ◌↔◌, ◌⊎◌, inl, inr, Bool, true, false, ◌||◌, ◌==◌, List, [], ◌∷◌, ◌++◌, length, take, drop, get_or, refl, sym, ap, ◌∙◌, subst, arith, eqb-true, eq-eqb, drop-cons}
 use Rattle.std.proofs.Math.ListN.{set}
-use Rattle.std.proofs.lemmas.Bool.{or_cases, or_left, or_right, false≢true}
+use Rattle.std.proofs.lemmas.Bool.{or_cases, or_left, or_right}
 use Rattle.std.proofs.lemmas.Bool.Decides.{eqb_tells}
 use Rattle.std.proofs.lemmas.List.{take_more, take_all, get_or-set_same, get_or-set_other, take-append-drop}
 use Rattle.std.specs.List.{list_any}
 use Rattle.model.specs.Lists.{has, IsIn}
-use Rattle.model.specs.steps.Schedule.{Schedule, system_at, has_edge, level_of}
+use Rattle.model.specs.steps.Schedule.{Schedule, system_at, has_edge}
 use Rattle.model.specs.steps.Built.{IsBuilt}
-use Rattle.model.specs.steps.Ambiguity.{Reaches, Before}
+use Rattle.model.specs.steps.Ambiguity.{Reaches}
 use Rattle.model.specs.steps.Ambiguity.Reaches.{Edge, Onward}
-use Rattle.model.specs.steps.Ambiguity.Before.{ByPath, ByLevel}
 use Rattle.model.proofs.lists.Lists.{list_any-IsIn, IsIn_from_any, has-IsIn, IsIn_from_has, IsIn-append, IsIn_right}
-use Rattle.ambiguity_report.specs.Reached.{AreReached}
+use Rattle.ambiguity_report.specs.Paths.{AreReached}
 
 -- ---- paths
 
@@ -62,11 +61,11 @@ reached_by s first n front reached marks after = (found, tested)
     ]
 
 -- a list of a front, an element and what is behind it
-parted : (xs : List ℕ) (i : ℕ) → i < length xs → xs ≡ take i xs ++ get_or xs i 0 ∷ drop (suc i) xs
+pub parted : (xs : List ℕ) (i : ℕ) → i < length xs → xs ≡ take i xs ++ get_or xs i 0 ∷ drop (suc i) xs
 parted xs i low = sym (take-append-drop i xs) ∙ ap (λ (ys : List ℕ). take i xs ++ ys) (drop-cons xs i 0 low)
 
 -- a list has the element at a place of it
-has_at : (xs : List ℕ) (i : ℕ) → i < length xs → has (get_or xs i 0) xs ≡ true
+pub has_at : (xs : List ℕ) (i : ℕ) → i < length xs → has (get_or xs i 0) xs ≡ true
 has_at xs i low = has-IsIn (get_or xs i 0) xs
     (subst (λ (ys : List ℕ). IsIn (get_or xs i 0) ys) (sym (parted xs i low)) (IsIn_right (get_or xs i 0) (take i xs) (get_or xs i 0 ∷ drop (suc i) xs) (inl refl)))
 
@@ -114,22 +113,8 @@ marked_step s built order same first i reached predecessors next low room read t
     (subst (λ (b : Bool). AreMarked s first (take (i + 1) s.order) (set reached (get_or s.order i 0) b)) (sym told)
     (marked_more s built first i reached (omega arith) room marks))
 
--- the marks of no system
-pub marked_none : (s : Schedule) (first : ℕ) (reached : List Bool) → AreMarked s first [] reached
-marked_none s first reached = record { marked = λ n h. absurd (false≢true h) }
-
 -- the marks of every system
 pub marked_all : (s : Schedule) → IsBuilt s → (first i : ℕ) (reached : List Bool) → length s.order ≤ i → AreMarked s first (take i s.order) reached → AreReached s first reached
 marked_all s built first i reached past marks = record {
   marked = λ n known. marks.marked n (subst (λ (xs : List ℕ). has n xs ≡ true) (sym (take_all i s.order past)) (built.listed n known));
 }
-
--- ---- before
-
--- a system of a level that is not below is before another by a path alone
-pub before_by_path : (s : Schedule) (m n : ℕ) (b : Bool) → level_of s n ≤ level_of s m → (b ≡ true) ↔ Reaches s m n → (b ≡ true) ↔ Before s m n
-before_by_path s m n b high tells = ((λ e. ByPath (tells.0 e)), back)
-  where
-    back : Before s m n → b ≡ true
-    back (ByPath path) = tells.1 path
-    back (ByLevel low) = absurd (omega arith)

@@ -1,2 +1,3 @@
-pub mod Reached
+pub mod Paths
+pub mod Races
 pub mod Report

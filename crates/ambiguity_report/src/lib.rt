@@ -1,7 +1,8 @@
-// Which systems of a built schedule race: those that conflict with neither before the other.
+// What races in a built schedule: systems that conflict with neither before the other, and conditions with systems outside them.
 #![tactic(auto)]
 
 mod before;
+mod races;
 pub mod report;
 #[cfg(test)]
 mod tests;

@@ -1,55 +1,68 @@
-// The report: each pair of systems that race, and whether there is none.
+// The report: each two that race, and whether a schedule is settled.
 
 ghost use Rattle.std.specs.Prelude.{◌≡◌, ◌<◌, ◌+◌, ◌↔◌, ℕ, length, Some, IfOk, OnOk, MatchOption, IsTrue};
 ghost use Rattle.std.specs.Option.{is_some};
 ghost use Rattle.model.specs.access.Conflict.{IsLeastDatum};
 ghost use Rattle.model.specs.steps.Schedule.{params_of};
-ghost use Rattle.model.specs.steps.Ambiguity.{AmbiguousSystems, Before, Settled};
+ghost use Rattle.model.specs.steps.Ambiguity.{Settled};
 ghost use Rattle.access_set.specs.Datum.{datum_of};
-ghost use Rattle.ambiguity_report.specs.Reached.{AreReached};
+ghost use Rattle.ambiguity_report.specs.declared.races.Racer.{Racer};
+ghost use Rattle.ambiguity_report.specs.declared.races.Racer.TheVariants.{System, Condition};
+ghost use Rattle.ambiguity_report.specs.Paths.{ArePaths, AreAllPaths};
+ghost use Rattle.ambiguity_report.specs.Races.{IsKnown, IsRace, access_of_racer};
 ghost use Rattle.ambiguity_report.specs.Report.{IsReport, IsReportTo};
 
-use crate::before::{is_before, reached_from};
+use crate::before::{Paths, all_paths, paths_of};
+pub use crate::races::Racer;
 use access_set::datum::{Datum, why};
 use access_set::params::Params;
 use schedule_builder::built::Built;
 use std::alloc::{AllocError, Global};
 
-/// Two systems that race, by number, the lower first, and the least datum on which they conflict.
+/// A system and what races with it, and the least datum on which they conflict. Of two systems the lower comes first.
 #[derive(Clone, Copy, PartialEq, Eq, Debug)]
 pub struct Pair {
-    /// The number of the one system.
-    pub first: u32,
-    /// The number of the other system, which is above.
+    /// What races with the system.
+    pub first: Racer,
+    /// The number of the system.
     pub second: u32,
     /// What both touch and one writes.
     pub datum: Datum,
+    /// Whether the two are systems that are declared to be ambiguous with one another.
+    pub silenced: bool,
 }
 
-/// The pairs of systems that conflict with neither before the other: each once, in rising order of their numbers. Fails only for
-/// want of memory.
-#[tactic(auto, using(crate::proofs::Reporting::report_start, crate::proofs::Reporting::report_whole))]
+/// The pairs of systems that conflict with neither before the other, and those of a condition and a system that conflict, where the
+/// system is no member of the condition, nor before every member, nor after any: each once, first the pairs of systems and then those
+/// with a condition, in rising order of their numbers. Fails only for want of memory.
 pub fn report(alloc: Global, built: &Built) -> Result<Vec<Pair>, AllocError>
     ensures { IfOk result (λ pairs. IsReport built.now pairs.items) }
 {
+    let all = all_paths(alloc, built)?;
     let mut pairs = Vec::new(alloc);
-    for first in 0..built.count() {
-        add_pairs(&mut pairs, built, first)?;
+    for system in 0..built.count() {
+        add_pairs(&mut pairs, built, Racer::System(system), all.as_slice())?;
+    }
+    for condition in 0..built.condition_count() {
+        add_pairs(
+            &mut pairs,
+            built,
+            Racer::Condition(condition),
+            all.as_slice(),
+        )?;
     }
     Ok(pairs)
 }
 
-/// Whether a schedule is settled: no two of its systems race, it has no condition that a system races with, and none of its
-/// systems has commands.
+/// Whether a schedule is settled: nothing races with any of its systems, and none of them has commands.
 pub fn is_settled(built: &Built) -> bool
     ensures { IsTrue result ↔ Settled built.now }
 {
-    built.no_conditions();
-    for first in 0..built.count() {
-        if has_commands(built.params(first)) {
+    for system in 0..built.count() {
+        if has_commands(built.params(system)) {
             return false;
         }
-        if has_pair(built, first) {
+        if has_race(built, system) {
             return false;
         }
     }
@@ -63,39 +76,44 @@ fn has_commands(params: &Params) -> bool
     params.spawns().is_some()
 }
 
-// Adds the pairs of a first system to those of the systems below it.
-fn add_pairs(pairs: &mut Vec<Pair>, built: &Built, first: u32) -> Result<(), AllocError>
-    requires known { first < length built.now.systems }
-    requires below { IsReportTo built.now first 0 pairs.old.items }
-    ensures { OnOk result (IsReportTo built.now (first + 1) 0 pairs.new.items) }
+// Adds the pairs of what races with systems, where those ahead of it are there.
+fn add_pairs(
+    pairs: &mut Vec<Pair>,
+    built: &Built,
+    first: Racer,
+    all: &[Paths],
+) -> Result<(), AllocError>
+    requires known { IsKnown built.now first }
+    requires paths { AreAllPaths built.now (length built.now.systems) all.now }
+    requires ahead { IsReportTo built.now first 0 pairs.old.items }
+    ensures { OnOk result (IsReportTo built.now first (length built.now.systems) pairs.new.items) }
 {
-    let count = built.count();
-    let reached = reached_from(built, first);
-    for second in first + 1..count {
-        add_pair(pairs, built, first, second, &reached)?;
+    for second in 0..built.count() {
+        add_pair(pairs, built, first, second, &all[second as usize])?;
     }
     Ok(())
 }
 
-// Adds a pair where the two systems race.
+// Adds a pair where it races with the system of these paths.
 fn add_pair(
     pairs: &mut Vec<Pair>,
     built: &Built,
-    first: u32,
+    first: Racer,
     second: u32,
-    reached: &[bool],
+    paths: &Paths,
 ) -> Result<(), AllocError>
-    requires rising { first < second }
-    requires known { second < length built.now.systems }
-    requires reached { AreReached built.now first reached.now }
-    requires below { IsReportTo built.now first second pairs.old.items }
+    requires first { IsKnown built.now first }
+    requires second { second < length built.now.systems }
+    requires paths { ArePaths built.now second paths.now }
+    requires ahead { IsReportTo built.now first second pairs.old.items }
     ensures { OnOk result (IsReportTo built.now first (second + 1) pairs.new.items) }
 {
-    if let Some(datum) = ambiguity(built, first, second, reached) {
+    if let Some(datum) = datum_between(built, first, second, paths) {
         let pair = Pair {
             first,
             second,
             datum,
+            silenced: first.is_silenced(built, second),
         };
         pairs.push(pair)?;
         return Ok(());
@@ -103,60 +121,59 @@ fn add_pair(
     Ok(())
 }
 
-// Whether a system races with one above it.
-fn has_pair(built: &Built, first: u32) -> bool
-    requires { first < length built.now.systems }
-    ensures { IsTrue result ↔ ((n : ℕ) × (first < n) × AmbiguousSystems built.now first n) }
-{
-    let count = built.count();
-    let reached = reached_from(built, first);
-    for second in first + 1..count {
-        if is_ambiguous(built, first, second, &reached) {
-            return true;
-        }
-    }
-    false
-}
-
-// The least datum on which two systems conflict, where they race.
-fn ambiguity(built: &Built, first: u32, second: u32, reached: &[bool]) -> Option<Datum>
-    requires rising { first < second }
-    requires known { second < length built.now.systems }
-    requires reached { AreReached built.now first reached.now }
+// The least datum on which it conflicts with the system of these paths, where they race.
+fn datum_between(built: &Built, first: Racer, second: u32, paths: &Paths) -> Option<Datum>
+    requires first { IsKnown built.now first }
+    requires second { second < length built.now.systems }
+    requires paths { ArePaths built.now second paths.now }
     ensures { MatchOption result
-        (AmbiguousSystems built.now first second → ⊥)
-        (λ datum. AmbiguousSystems built.now first second × IsLeastDatum (params_of built.now first) (params_of built.now second) (Some (datum_of datum))) }
+        (IsRace built.now first second → ⊥)
+        (λ datum. IsRace built.now first second × IsLeastDatum (access_of_racer built.now first) (params_of built.now second) (Some (datum_of datum))) }
 {
-    if is_ambiguous(built, first, second, reached) {
-        let one = built.params(first);
+    if first.is_racing(built, second, paths) {
+        let one = first.access(built);
         let other = built.params(second);
         return why(one, other);
     }
     None
 }
 
-// Whether two systems race: they conflict, and neither is before the other.
-fn is_ambiguous(built: &Built, first: u32, second: u32, reached: &[bool]) -> bool
-    requires rising { first < second }
-    requires known { second < length built.now.systems }
-    requires reached { AreReached built.now first reached.now }
-    ensures { IsTrue result ↔ AmbiguousSystems built.now first second }
+// Whether a system races with one below it, or with a condition.
+fn has_race(built: &Built, system: u32) -> bool
+    requires { system < length built.now.systems }
+    ensures { IsTrue result ↔ ((first : Racer) × IsRace built.now first system) }
 {
-    if built.rivals(second).contains(first) {
-        return is_unordered(built, first, second, reached);
+    let paths = paths_of(built, system);
+    if has_race_below(built, system, &paths) {
+        return true;
+    }
+    has_race_with_condition(built, system, &paths)
+}
+
+// Whether the system of these paths races with one below it.
+fn has_race_below(built: &Built, system: u32, paths: &Paths) -> bool
+    requires known { system < length built.now.systems }
+    requires paths { ArePaths built.now system paths.now }
+    ensures { IsTrue result ↔ ((m : ℕ) × IsRace built.now (System m) system) }
+{
+    for first in 0..system {
+        if Racer::System(first).is_racing(built, system, paths) {
+            return true;
+        }
     }
     false
 }
 
-// Whether neither of two systems is before the other.
-fn is_unordered(built: &Built, first: u32, second: u32, reached: &[bool]) -> bool
-    requires first { first < length built.now.systems }
-    requires second { second < length built.now.systems }
-    requires reached { AreReached built.now first reached.now }
-    ensures { IsTrue result ↔ ((Before built.now first second → ⊥) × (Before built.now second first → ⊥)) }
+// Whether the system of these paths races with a condition.
+fn has_race_with_condition(built: &Built, system: u32, paths: &Paths) -> bool
+    requires known { system < length built.now.systems }
+    requires paths { ArePaths built.now system paths.now }
+    ensures { IsTrue result ↔ ((c : ℕ) × IsRace built.now (Condition c) system) }
 {
-    if is_before(built, first, second, reached) {
-        return false;
+    for condition in 0..built.condition_count() {
+        if Racer::Condition(condition).is_racing(built, system, paths) {
+            return true;
+        }
     }
-    !is_before(built, second, first, &reached_from(built, second))
+    false
 }

@@ -5,7 +5,7 @@ use Rattle.model.specs.state.Loaded.{Given, loaded}
 use Rattle.model.specs.access.Access.{Params}
 use Rattle.model.specs.declarations.Declarations.{Declared}
 use Rattle.model.specs.declarations.Refusals.{IsBuildable}
-use Rattle.model.specs.declarations.ScheduleOrder.{HasDeclaredSystems, HasDeclaredEdges, HasLevels, IsScheduleOrder}
+use Rattle.model.specs.declarations.ScheduleOrder.{HasDeclaredSystems, HasDeclaredEdges, HasLevels, HasDeclaredConditions, HasDeclaredSilences, IsScheduleOrder}
 use Rattle.model.specs.steps.Schedule.{Schedule, params_of}
 use Rattle.model.specs.state.State.{State, World}
 use Rattle.script.specs.declared.script_body.ScriptBody.{ScriptBody}
@@ -64,10 +64,10 @@ runs-loaded width s scripts world entities values times recorded text noted is h
     subst (λ (start : State). IsTextOfRuns width s (meanings_of_scripts s scripts) start times recorded text noted) (ap (first_state s) is) h
 
 -- what is built is the schedule of what is declared
-pub schedule-of : (d : Declared) (s : Schedule) → IsBuildable d → HasDeclaredSystems d s → HasDeclaredEdges d s → HasLevels d s → IsScheduleOrder s → s.conditions ≡ []
-    → IsScheduleOf d s
-schedule-of d s buildable systems edges levels order conditions =
-    record { buildable = buildable; systems = systems; edges = edges; levels = levels; order = order; conditions = conditions }
+pub schedule-of : (d : Declared) (s : Schedule) → IsBuildable d → HasDeclaredSystems d s → HasDeclaredEdges d s → HasLevels d s → IsScheduleOrder s → HasDeclaredConditions d s
+    → HasDeclaredSilences d s → IsScheduleOf d s
+schedule-of d s buildable systems edges levels order conditions silences =
+    record { buildable = buildable; systems = systems; edges = edges; levels = levels; order = order; conditions = conditions; silences = silences }
 
 map-twice : {A B C : Type 0} (f : A → B) (g : B → C) (xs : List A) → map g (map f xs) ≡ map (λ x. g (f x)) xs
 map-twice f g [] = refl
@@ -212,6 +212,8 @@ build-refused bytes trace work tables (build.SetsIntersect first second system) 
 build-refused bytes trace work tables (build.DependencyCycle names) said h = (tables, said, h)
 build-refused bytes trace work tables (build.SelfConflict name) said h = (tables, said, h)
 build-refused bytes trace work tables (build.BadQuery owner query number) said h = (tables, said, h)
+build-refused bytes trace work tables (build.BadConditionQuery condition query number) said h = (tables, said, h)
+build-refused bytes trace work tables (build.ConditionWrites condition) said h = (tables, said, h)
 build-refused bytes trace work tables (build.OverLimit limit) said h = (tables, said, h)
 
 -- a script

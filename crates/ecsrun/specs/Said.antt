@@ -1,5 +1,5 @@
 -- What the tables of a program file say: what is declared, and what the systems do.
-use Rattle.std.specs.Prelude.{ℕ, ◌≡◌, List, [], map, None, Some, Vec}
+use Rattle.std.specs.Prelude.{ℕ, ◌≡◌, List, map, None, Some, Vec}
 use Rattle.std.specs.Borrow.{Bor}
 use Rattle.std.specs.declared.alloc.Global.{Global}
 use Rattle.toml.specs.Data.{Members}
@@ -29,7 +29,8 @@ item_said t = record {
   after = names_said t.after.items;
   before_ignore_deferred = names_said t.before_ignore_deferred.items;
   after_ignore_deferred = names_said t.after_ignore_deferred.items;
-  ambiguous_with = [];
+  ambiguous_with = names_said t.ambiguous_with.items;
+  conditions = t.conditions.items;
 }
 
 -- the parameters of a system

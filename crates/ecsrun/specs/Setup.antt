@@ -1,11 +1,11 @@
 -- A schedule that the builder accepted, with a script for each system.
-use Rattle.std.specs.Prelude.{ℕ, ◌<◌, ◌≡◌, Bool, true, false, List, [], length, map, slice_get, Option, Some, None}
+use Rattle.std.specs.Prelude.{ℕ, ◌<◌, ◌≡◌, Bool, true, false, List, length, map, slice_get, Option, Some, None}
 use Rattle.model.specs.access.Access.{Params}
 use Rattle.model.specs.shown.Outcome.{BodyMeaning}
 use Rattle.model.specs.declarations.Declarations.{Declared, DeclaredSystem}
 use Rattle.model.specs.declarations.Refusals.{IsBuildable}
 use Rattle.model.specs.steps.Schedule.{Schedule, params_of}
-use Rattle.model.specs.declarations.ScheduleOrder.{HasDeclaredSystems, HasDeclaredEdges, HasLevels, IsScheduleOrder}
+use Rattle.model.specs.declarations.ScheduleOrder.{HasDeclaredSystems, HasDeclaredEdges, HasLevels, HasDeclaredConditions, HasDeclaredSilences, IsScheduleOrder}
 use Rattle.script.specs.declared.script_body.ScriptBody.{ScriptBody}
 use Rattle.script.specs.Faults.{fits}
 use Rattle.script.specs.Script.{script_meaning}
@@ -22,7 +22,8 @@ pub record IsScheduleOf (d : Declared) (s : Schedule) : Type 0 where
   pub edges : HasDeclaredEdges d s
   pub levels : HasLevels d s
   pub order : IsScheduleOrder s
-  pub conditions : s.conditions ≡ []
+  pub conditions : HasDeclaredConditions d s
+  pub silences : HasDeclaredSilences d s
 
 -- whether there is a script, and it fits these parameters
 abbrev pub script_fits : Option ScriptBody → Params → Bool

@@ -5,6 +5,8 @@ mod answer;
 mod checking;
 #[cfg(test)]
 mod code_tests;
+#[cfg(test)]
+mod condition_tests;
 mod created;
 #[cfg(test)]
 mod event_tests;

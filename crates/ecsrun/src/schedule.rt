@@ -14,6 +14,7 @@ use access_set::params::Params;
 use kinds::res::{Event, Res};
 use program_file::{ChainTable, ItemTable, SystemTable};
 use query::Query;
+use run_condition::Cond;
 use schedule_builder::built::Built;
 use schedule_builder::desc::{ChainDesc, ItemDesc, ScheduleDesc, SystemDesc};
 use script::fault::CheckFault;
@@ -32,11 +33,11 @@ pub struct Code<'a> {
 /// The schedule that these sets, systems and chains declare, and what each of the systems does.
 pub fn declare<'a>(
     alloc: Global,
-    sets: &[ItemTable<'a>],
+    sets: Vec<ItemTable<'a>>,
     rows: Vec<SystemTable<'a>>,
     chains: &[ChainTable<'a>],
 ) -> Result<(ScheduleDesc, Vec<Code<'a>>), AllocError>
-    ensures said { IfOk result (λ declared. declared.0 ≡ declared_said sets.now rows.entry.items chains.now) }
+    ensures said { IfOk result (λ declared. declared.0 ≡ declared_said sets.entry.items rows.entry.items chains.now) }
     ensures blocks { IfOk result (λ declared. map (λ code. code.blocks) declared.1.items ≡ map (λ row. row.blocks) rows.entry.items) }
     ensures count { IfOk result (λ declared. length declared.1.items ≡ length declared.0.systems) }
     ensures names { IfOk result (λ declared. map (λ code. code.name.now) declared.1.items ≡ declared_names declared.0) }
@@ -78,8 +79,8 @@ fn chain_of(alloc: Global, table: &ChainTable<'_>) -> Result<ChainDesc, AllocErr
 }
 
 // The schedule of these sets, without systems and chains yet.
-fn declare_sets(alloc: Global, sets: &[ItemTable<'_>]) -> Result<ScheduleDesc, AllocError>
-    ensures { IfOk result (λ desc. desc ≡ record { sets = map item_said sets.now; systems = []; chains = [] }) }
+fn declare_sets(alloc: Global, sets: Vec<ItemTable<'_>>) -> Result<ScheduleDesc, AllocError>
+    ensures { IfOk result (λ desc. desc ≡ record { sets = map item_said sets.entry.items; systems = []; chains = [] }) }
 {
     let mut desc = ScheduleDesc::new(alloc);
     for set in sets {
@@ -97,28 +98,39 @@ fn system_of<'a>(
     ensures name { IfOk result (λ declared. declared.1.name ≡ table.entry.item.name) }
     ensures blocks { IfOk result (λ declared. declared.1.blocks ≡ table.entry.blocks) }
 {
-    let item = item_of(alloc, &table.item)?;
+    let name = table.item.name;
+    let item = item_of(alloc, table.item)?;
     let mut params = params_of(alloc, table.queries)?;
     add_resources(&mut params, table.res.as_slice(), table.res_mut.as_slice())?;
     add_events(&mut params, table.reads.as_slice(), table.writes.as_slice())?;
     let code = Code {
-        name: table.item.name,
+        name,
         blocks: table.blocks,
     };
     Ok((SystemDesc::of_item(item, params), code))
 }
 
 // A declared item.
-fn item_of(alloc: Global, table: &ItemTable<'_>) -> Result<ItemDesc, AllocError>
-    ensures { IfOk result (λ item. item ≡ item_said table.now) }
+fn item_of(alloc: Global, table: ItemTable<'_>) -> Result<ItemDesc, AllocError>
+    ensures { IfOk result (λ item. item ≡ item_said table.entry) }
 {
     let mut item = ItemDesc::new(alloc, String::from_str(alloc, table.name)?);
+    add_sets(alloc, &table, &mut item)?;
+    add_orders(alloc, &table, &mut item)?;
+    add_ignoring(alloc, &table, &mut item)?;
+    add_ambiguities(alloc, &table, &mut item)?;
+    add_conditions(table.conditions, &mut item)?;
+    Ok(item)
+}
+
+// Declares the sets that an item is in.
+fn add_sets(alloc: Global, table: &ItemTable<'_>, item: &mut ItemDesc) -> Result<(), AllocError>
+    ensures { OnOk result (item.new ≡ record item.old { inside = item.old.inside ++ names_said table.now.inside.items }) }
+{
     for name in &table.inside {
         item.add_in(String::from_str(alloc, name)?)?;
     }
-    add_orders(alloc, table, &mut item)?;
-    add_ignoring(alloc, table, &mut item)?;
-    Ok(item)
+    Ok(())
 }
 
 // Declares the orders of an item that wait for commands.
@@ -143,6 +155,30 @@ fn add_ignoring(alloc: Global, table: &ItemTable<'_>, item: &mut ItemDesc) -> Re
     }
     for name in &table.after_ignore_deferred {
         item.add_after_ignore_deferred(String::from_str(alloc, name)?)?;
+    }
+    Ok(())
+}
+
+// Declares with which items an item may be ambiguous.
+fn add_ambiguities(
+    alloc: Global,
+    table: &ItemTable<'_>,
+    item: &mut ItemDesc,
+) -> Result<(), AllocError>
+    ensures { OnOk result (item.new ≡ record item.old { ambiguous_with = item.old.ambiguous_with ++ names_said table.now.ambiguous_with.items }) }
+{
+    for name in &table.ambiguous_with {
+        item.add_ambiguous_with(String::from_str(alloc, name)?)?;
+    }
+    Ok(())
+}
+
+// Declares that an item runs on these conditions.
+fn add_conditions(conditions: Vec<Cond>, item: &mut ItemDesc) -> Result<(), AllocError>
+    ensures { OnOk result (item.new ≡ record item.old { conditions = item.old.conditions ++ conditions.items }) }
+{
+    for condition in conditions {
+        item.add_condition(condition)?;
     }
     Ok(())
 }

@@ -87,8 +87,7 @@ fn answer<'s, M: Mode<'s>, F: Read, T: Read>(
         systems,
         chains,
     } = ProgramFile::read(alloc, &document)?;
-    let (desc, codes) = declare(alloc, sets.as_slice(), systems, chains.as_slice())?;
-    drop(sets);
+    let (desc, codes) = declare(alloc, sets, systems, chains.as_slice())?;
     drop(chains);
     let built = build(alloc, desc)?;
     let names = names_of(alloc, codes.as_slice())?;

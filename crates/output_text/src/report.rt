@@ -1,13 +1,14 @@
 // The text of an ambiguity report.
 
 ghost use Rattle.std.specs.Prelude.{◌≡◌, ◌++◌, [], map, get_or, flat_map, OnOk, IfOk, string_bytes};
-ghost use Rattle.output_text.specs.ReportText.{pair_line, settled_line, report_text};
+ghost use Rattle.output_text.specs.ReportText.{racer_text, pair_line, settled_line, report_text};
 
-use ambiguity_report::report::Pair;
+use ambiguity_report::report::{Pair, Racer};
 use std::alloc::{AllocError, Global};
 
-/// The text of an ambiguity report, of systems with these names by number: each pair of systems that race, with the datum on which
-/// they conflict, and whether the schedule is settled, a line for each.
+/// The text of an ambiguity report, of systems with these names by number: each pair of what races and a system, a condition by its number
+/// behind `#`, with the datum on which they conflict and `silenced` where that is declared, and whether the schedule is settled, a line
+/// for each.
 pub fn text_of_report(
     alloc: Global,
     names: &[&str],
@@ -36,10 +37,26 @@ fn push_pairs(text: &mut String, names: &[&str], pairs: &[Pair]) -> Result<(), A
 fn push_pair(text: &mut String, names: &[&str], pair: Pair) -> Result<(), AllocError>
     ensures { OnOk result (string_bytes text.new ≡ string_bytes text.old ++ pair_line (map (λ name. name.now) names.now) pair) }
 {
-    let first = name_of(names, pair.first);
+    push_racer(text, names, pair.first)?;
     let second = name_of(names, pair.second);
     let datum = pair.datum;
-    writeln!(text, "{first} {second} {datum}")
+    if pair.silenced {
+        return writeln!(text, " {second} {datum} silenced");
+    }
+    writeln!(text, " {second} {datum}")
+}
+
+// Adds what races: the name of a system, or the number of a condition.
+fn push_racer(text: &mut String, names: &[&str], racer: Racer) -> Result<(), AllocError>
+    ensures { OnOk result (string_bytes text.new ≡ string_bytes text.old ++ racer_text (map (λ name. name.now) names.now) racer) }
+{
+    match racer {
+        Racer::System(system) => {
+            let name = name_of(names, system);
+            write!(text, "{name}")
+        }
+        Racer::Condition(condition) => write!(text, "#{condition}"),
+    }
 }
 
 // The name of a system, and no text where there is none.
@@ -74,21 +91,29 @@ mod tests {
     fn reports_are_printed(rt: HostRuntime) -> Result<(), Fail> {
         let pairs = [
             Pair {
-                first: 0,
+                first: Racer::System(0),
                 second: 2,
                 datum: Datum::Kind(Kind::Health),
+                silenced: true,
             },
             Pair {
-                first: 1,
+                first: Racer::System(1),
                 second: 2,
                 datum: Datum::Resource(Res::Gravity),
+                silenced: false,
+            },
+            Pair {
+                first: Racer::Condition(11),
+                second: 0,
+                datum: Datum::Resource(Res::Round),
+                silenced: false,
             },
         ];
         let names = ["burn", "fall", "heal"];
         let text = text_of_report(rt.alloc(), &names, &pairs, false)?;
         assert_eq!(rt;
             text.as_str(),
-            "burn heal Health\nfall heal Gravity\nsettled no\n"
+            "burn heal Health silenced\nfall heal Gravity\n#11 burn Round\nsettled no\n"
         );
         let text = text_of_report(rt.alloc(), &names, &[], true)?;
         assert_eq!(rt; text.as_str(), "settled yes\n");

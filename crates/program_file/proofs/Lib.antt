@@ -1,2 +1,4 @@
 pub mod Blocks
+pub mod Items
+pub mod Mapped
 pub mod Spelled

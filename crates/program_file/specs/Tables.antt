@@ -4,6 +4,8 @@ use Rattle.std.specs.List.{AllZip}
 use Rattle.toml.specs.Data.{Members}
 use Rattle.query.specs.Grammar.{IsQuery}
 use Rattle.query.specs.declared.query.Query.{Query}
+use Rattle.run_condition.specs.Grammar.{IsCondition}
+use Rattle.run_condition.specs.declared.cond.Cond.{Cond}
 use Rattle.script.specs.Instruction.{IsInstruction}
 use Rattle.script.specs.declared.script_body.Block.{Block}
 use Rattle.program_file.specs.Keys.{HasTables, HasTexts, HasNames, HasResources, HasEvents, HasText, HasFlag}
@@ -12,7 +14,14 @@ use Rattle.program_file.specs.Rounds.{SaysRounds, block_keys}
 use Rattle.program_file.specs.declared.program_file.BlockTexts.{BlockTexts}
 use Rattle.program_file.specs.declared.program_file.ChainTable.{ChainTable}
 use Rattle.program_file.specs.declared.program_file.ItemTable.{ItemTable}
+use Rattle.program_file.specs.declared.program_file.ItemTexts.{ItemTexts}
 use Rattle.program_file.specs.declared.program_file.SystemTable.{SystemTable}
+
+-- conditions, each the only one that its text spells
+pub record AreConditionsIn (table : Members) (conditions : List Cond) : Type 0 where
+  pub texts : List (List ℕ)
+  pub there : HasTexts (codes "if") texts table
+  pub spelled : AreSpelled IsCondition conditions texts
 
 -- a set, or what a system has besides its queries and blocks: each list is that of its key, in order
 pub record IsItemIn (table : Members) (item : ItemTable) : Type 0 where
@@ -22,6 +31,8 @@ pub record IsItemIn (table : Members) (item : ItemTable) : Type 0 where
   pub after : HasNames (codes "after") item.after.items table
   pub before_ignore_deferred : HasNames (codes "before_ignore_deferred") item.before_ignore_deferred.items table
   pub after_ignore_deferred : HasNames (codes "after_ignore_deferred") item.after_ignore_deferred.items table
+  pub ambiguous_with : HasNames (codes "ambiguous_with") item.ambiguous_with.items table
+  pub conditions : AreConditionsIn table item.conditions.items
 
 -- a chain
 pub record IsChainIn (table : Members) (chain : ChainTable) : Type 0 where
@@ -78,6 +89,28 @@ pub record AreChainsIn (document : Members) (chains : List ChainTable) : Type 0 
   pub each : AllZip IsChainIn tables chains
 
 -- ---- on the way: all keys are looked at before a text is read
+
+-- an item whose conditions are texts
+pub record IsItemTextsIn (table : Members) (item : ItemTexts) : Type 0 where
+  pub name : HasText (codes "name") item.name.now table
+  pub inside : HasNames (codes "in") item.inside.items table
+  pub before : HasNames (codes "before") item.before.items table
+  pub after : HasNames (codes "after") item.after.items table
+  pub before_ignore_deferred : HasNames (codes "before_ignore_deferred") item.before_ignore_deferred.items table
+  pub after_ignore_deferred : HasNames (codes "after_ignore_deferred") item.after_ignore_deferred.items table
+  pub ambiguous_with : HasNames (codes "ambiguous_with") item.ambiguous_with.items table
+  pub conditions : HasNames (codes "if") item.conditions.items table
+
+-- the same item with its conditions read
+pub record IsItemRead (texts : ItemTexts) (item : ItemTable) : Type 0 where
+  pub name : item.name ≡ texts.name
+  pub inside : item.inside ≡ texts.inside
+  pub before : item.before ≡ texts.before
+  pub after : item.after ≡ texts.after
+  pub before_ignore_deferred : item.before_ignore_deferred ≡ texts.before_ignore_deferred
+  pub after_ignore_deferred : item.after_ignore_deferred ≡ texts.after_ignore_deferred
+  pub ambiguous_with : item.ambiguous_with ≡ texts.ambiguous_with
+  pub conditions : AreSpelled IsCondition item.conditions.items (map (λ text. text.now) texts.conditions.items)
 
 -- a block whose code is texts
 pub record IsBlockTextsIn (table : Members) (block : BlockTexts) : Type 0 where

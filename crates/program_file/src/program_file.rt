@@ -4,7 +4,7 @@ ghost use Rattle.std.specs.Prelude.{◌≤◌, IfOk, IfErr, All, vec_len, map, c
 ghost use Rattle.program_file.specs.PlaceFault.{IsOfPlace};
 ghost use Rattle.program_file.specs.Name.{IsName};
 ghost use Rattle.program_file.specs.Keys.{HasTables};
-ghost use Rattle.program_file.specs.Tables.{IsSystemIn, AreSetsIn, AreSystemsIn, AreChainsIn, IsItemIn, IsChainIn, IsTouchedIn, AreQueriesIn, AreBlocksIn, IsBlockTextsIn, AreBlockTextsIn, IsRead};
+ghost use Rattle.program_file.specs.Tables.{IsSystemIn, AreSetsIn, AreSystemsIn, AreChainsIn, IsItemIn, IsChainIn, IsBlockTextsIn, AreBlockTextsIn, IsRead, IsItemTextsIn, IsItemRead};
 ghost use Rattle.std.specs.List.{AllZip};
 ghost use Rattle.toml.specs.View.{table_view};
 
@@ -15,12 +15,13 @@ use crate::keys::{
 };
 use crate::place::Place;
 use crate::place_fault::PlaceFault;
-use crate::readings::{instructions_of, queries_of};
+use crate::readings::{conditions_of, instructions_of, queries_of};
 use crate::rounds::rounds_of;
 use kinds::kind::Kind;
 use kinds::res::{Event, Res};
 use kinds::value::Value;
 use query::Query;
+use run_condition::Cond;
 use script::script_body::{Block, Rounds};
 use std::alloc::Global;
 use toml::Table;
@@ -55,6 +56,10 @@ pub struct ItemTable<'a> {
     pub before_ignore_deferred: Vec<&'a str>,
     /// The names of the items that it runs after whatever commands are deferred.
     pub after_ignore_deferred: Vec<&'a str>,
+    /// The names of the items with which it may be ambiguous.
+    pub ambiguous_with: Vec<&'a str>,
+    /// The conditions on which it runs, in order.
+    pub conditions: Vec<Cond>,
 }
 
 /// A chain of a program file.
@@ -85,6 +90,19 @@ pub struct SystemTable<'a> {
     pub blocks: Vec<Block>,
 }
 
+// A set, or what a system has besides its queries and blocks, whose conditions are texts.
+#[derive(Drop)]
+struct ItemTexts<'a> {
+    name: &'a str,
+    inside: Vec<&'a str>,
+    before: Vec<&'a str>,
+    after: Vec<&'a str>,
+    before_ignore_deferred: Vec<&'a str>,
+    after_ignore_deferred: Vec<&'a str>,
+    ambiguous_with: Vec<&'a str>,
+    conditions: Vec<&'a str>,
+}
+
 // A block whose instructions are texts.
 #[derive(Drop)]
 struct BlockTexts<'a> {
@@ -94,22 +112,26 @@ struct BlockTexts<'a> {
 
 const TOP_KEYS: [&str; 5] = ["resources", "entity", "set", "system", "chain"];
 
-const SET_KEYS: [&str; 6] = [
+const SET_KEYS: [&str; 8] = [
     "name",
     "in",
     "before",
     "after",
     "before_ignore_deferred",
     "after_ignore_deferred",
+    "ambiguous_with",
+    "if",
 ];
 
-const SYSTEM_KEYS: [&str; 12] = [
+const SYSTEM_KEYS: [&str; 14] = [
     "name",
     "in",
     "before",
     "after",
     "before_ignore_deferred",
     "after_ignore_deferred",
+    "ambiguous_with",
+    "if",
     "query",
     "res",
     "res_mut",
@@ -209,7 +231,7 @@ fn set_of<'a>(alloc: Global, table: &'a Table) -> Result<ItemTable<'a>, PlaceFau
 }
 
 impl<'a> ItemTable<'a> {
-    /// Reads what a set and a system both have in their tables.
+    /// Reads what a set and a system both have in their tables: all its keys, then its texts.
     pub fn read(alloc: Global, table: &'a Table) -> Result<ItemTable<'a>, PlaceFault>
         ensures named { IfOk result (λ item. IsName item.name.now) }
         ensures inside { IfOk result (λ item. All (λ name. IsName name.now) item.inside.items) }
@@ -217,15 +239,47 @@ impl<'a> ItemTable<'a> {
         ensures after { IfOk result (λ item. All (λ name. IsName name.now) item.after.items) }
         ensures said { IfOk result (IsItemIn (table_view table.now)) }
     {
-        Ok(ItemTable {
+        read_item(alloc, ItemTexts::read(alloc, table)?)
+    }
+}
+
+impl<'a> ItemTexts<'a> {
+    // Reads the keys that a set and a system both have.
+    fn read(alloc: Global, table: &'a Table) -> Result<ItemTexts<'a>, PlaceFault>
+        ensures named { IfOk result (λ item. IsName item.name.now) }
+        ensures inside { IfOk result (λ item. All (λ name. IsName name.now) item.inside.items) }
+        ensures before { IfOk result (λ item. All (λ name. IsName name.now) item.before.items) }
+        ensures after { IfOk result (λ item. All (λ name. IsName name.now) item.after.items) }
+        ensures said { IfOk result (IsItemTextsIn (table_view table.now)) }
+    {
+        Ok(ItemTexts {
             name: name_at(table, "name")?,
             inside: names_at(alloc, table, "in")?,
             before: names_at(alloc, table, "before")?,
             after: names_at(alloc, table, "after")?,
             before_ignore_deferred: names_at(alloc, table, "before_ignore_deferred")?,
             after_ignore_deferred: names_at(alloc, table, "after_ignore_deferred")?,
+            ambiguous_with: names_at(alloc, table, "ambiguous_with")?,
+            conditions: texts_at(alloc, table, "if")?,
         })
     }
+}
+
+// The same item, its conditions read.
+fn read_item<'a>(alloc: Global, texts: ItemTexts<'a>) -> Result<ItemTable<'a>, PlaceFault>
+    ensures { IfOk result (IsItemRead texts.entry) }
+{
+    let conditions = conditions_of(alloc, texts.conditions.as_slice())?;
+    Ok(ItemTable {
+        name: texts.name,
+        inside: texts.inside,
+        before: texts.before,
+        after: texts.after,
+        before_ignore_deferred: texts.before_ignore_deferred,
+        after_ignore_deferred: texts.after_ignore_deferred,
+        ambiguous_with: texts.ambiguous_with,
+        conditions,
+    })
 }
 
 impl<'a> ChainTable<'a> {
@@ -252,13 +306,10 @@ impl<'a> SystemTable<'a> {
         ensures inside { IfOk result (λ system. All (λ name. IsName name.now) system.item.inside.items) }
         ensures before { IfOk result (λ system. All (λ name. IsName name.now) system.item.before.items) }
         ensures after { IfOk result (λ system. All (λ name. IsName name.now) system.item.after.items) }
-        ensures item { IfOk result (λ system. IsItemIn (table_view table.now) system.item) }
-        ensures queries { IfOk result (λ system. AreQueriesIn (table_view table.now) system.queries.items) }
-        ensures touched { IfOk result (IsTouchedIn (table_view table.now)) }
-        ensures blocks { IfOk result (λ system. AreBlocksIn (table_view table.now) system.blocks.items) }
+        ensures said { IfOk result (IsSystemIn (table_view table.now)) }
     {
         refuse_unknown(table, SYSTEM_KEYS.as_slice())?;
-        let item = ItemTable::read(alloc, table)?;
+        let item = ItemTexts::read(alloc, table)?;
         let queries = texts_at(alloc, table, "query")?;
         let res = resources_at(alloc, table, "res")?;
         let res_mut = resources_at(alloc, table, "res_mut")?;
@@ -266,7 +317,7 @@ impl<'a> SystemTable<'a> {
         let writes = events_at(alloc, table, "writes")?;
         let blocks = blocks_of(alloc, table)?;
         Ok(SystemTable {
-            item,
+            item: read_item(alloc, item)?,
             queries: queries_of(alloc, queries.as_slice())?,
             res,
             res_mut,
@@ -384,274 +435,4 @@ fn read_block(alloc: Global, block: &BlockTexts<'_>) -> Result<Block, PlaceFault
 }
 
 #[cfg(test)]
-mod tests {
-    use super::*;
-    use crate::document::document_of;
-    use query::Term;
-    use script::instruction::Instruction;
-    use std::test::Fail;
-
-    // What is told of a file, nothing where it is read.
-    fn told(alloc: Global, text: &str) -> Result<String, Fail> {
-        let document = match document_of(alloc, text.as_bytes()) {
-            Ok(document) => document,
-            Err(fault) => return Ok(fault.to_string(alloc)?),
-        };
-        match ProgramFile::read(alloc, &document) {
-            Ok(_) => Ok(String::new(alloc)),
-            Err(fault) => Ok(fault.to_string(alloc)?),
-        }
-    }
-
-    #[test]
-    fn files_are_read(rt: HostRuntime) -> Result<(), Fail> {
-        let text =
-            "resources = { Total = -3 }\n[[entity]]\nPosition = [0, 0]\nVelocity = [1, -2]\n[[entity]]\n[[system]]\nname = \"move\"\nin = [\"g\"]\nbefore = [\"b\", \"c\"]\nquery = [\"mut Position, read Velocity\"]\n[[system.do]]\neach = 0\ncode = [\"add Position.x Velocity.x\"]\n[[set]]\nname = \"g\"\nafter = [\"b\"]\n";
-        let document = document_of(rt.alloc(), text.as_bytes())?;
-        let tree = ProgramFile::read(rt.alloc(), &document)?;
-        assert_eq!(rt; tree.resources, [0, 0, -3, 0, 0, 0, 0, 0]);
-        assert_eq!(rt; tree.entities.len(), 2);
-        assert_eq!(rt;
-            tree.entities[0].as_slice(),
-            [
-                Value::of(Kind::Position, &[0, 0]),
-                Value::of(Kind::Velocity, &[1, -2])
-            ]
-            .as_slice()
-        );
-        assert_eq!(rt; tree.entities[1].len(), 0);
-        assert_eq!(rt; tree.systems.len(), 1);
-        let system = &tree.systems[0];
-        assert_eq!(rt; system.item.name, "move");
-        assert_eq!(rt; system.item.inside.as_slice(), ["g"].as_slice());
-        assert_eq!(rt; system.item.before.as_slice(), ["b", "c"].as_slice());
-        assert_eq!(rt; system.item.after.len(), 0);
-        assert_eq!(rt; tree.sets.len(), 1);
-        assert_eq!(rt; tree.sets[0].name, "g");
-        assert_eq!(rt; tree.sets[0].after.as_slice(), ["b"].as_slice());
-        assert_eq!(rt; system.queries.len(), 1);
-        assert_eq!(rt;
-            system.queries[0].terms(),
-            [Term::Mut(Kind::Position), Term::Read(Kind::Velocity)].as_slice()
-        );
-        assert_eq!(rt; system.blocks.len(), 1);
-        let block = &system.blocks[0];
-        assert_eq!(rt; block.rounds, Rounds::EachRow(0));
-        assert_eq!(rt;
-            block.code.as_slice(),
-            [Instruction::read(rt.alloc(), "add Position.x Velocity.x")?].as_slice()
-        );
-        Ok(())
-    }
-
-    #[test]
-    fn events_are_read(rt: HostRuntime) -> Result<(), Fail> {
-        let text =
-            "[[system]]\nname = \"a\"\nwrites = [\"Done\"]\nreads = [\"Spark\", \"Hit\"]\n[[system.do]]\nevents = \"Spark\"\ncode = [\"emit Done event\"]\n[[system.do]]\ncode = []\n";
-        let document = document_of(rt.alloc(), text.as_bytes())?;
-        let tree = ProgramFile::read(rt.alloc(), &document)?;
-        assert_eq!(rt; tree.systems.len(), 1);
-        let system = &tree.systems[0];
-        assert_eq!(rt;
-            system.reads.as_slice(),
-            [Event::Spark, Event::Hit].as_slice()
-        );
-        assert_eq!(rt; system.writes.as_slice(), [Event::Done].as_slice());
-        assert_eq!(rt; system.blocks.len(), 2);
-        assert_eq!(rt; system.blocks[0].rounds, Rounds::EachEvent(Event::Spark));
-        assert_eq!(rt; system.blocks[1].rounds, Rounds::Once);
-        Ok(())
-    }
-
-    // Files, and what is told of each: nothing where it is read.
-    const FILES: [(&str, &str); 68] = [
-        ("", ""),
-        ("resources", "refused P1"),
-        ("resources = { Total = 9223372036854775808 }", "refused P1"),
-        ("entity = []\nentity = []", "refused P1"),
-        ("world = 3", "refused P2 top"),
-        ("entity = 3", "refused P2 top"),
-        ("system = [1]", "refused P2 top"),
-        ("chain = []", ""),
-        ("chain = [3]", "refused P2 top"),
-        ("chain = [{ items = [\"a\"], ignore_deferred = true }]", ""),
-        ("chain = [{ items = [] }, {}]", "refused P2 chain 1"),
-        ("chain = [{ items = [\"A\"] }]", "refused P2 chain 0"),
-        (
-            "chain = [{ items = [], ignore_deferred = 1 }]",
-            "refused P2 chain 0",
-        ),
-        (
-            "set = [{ name = \"a\", after_ignore_deferred = [\"a\"] }]",
-            "",
-        ),
-        ("resources = { Tot = 1 }", "refused P2 resources"),
-        ("resources = { Total = 1.5 }", "refused P2 resources"),
-        ("entity = [{}, { Position = [1] }]", "refused P2 entity 1"),
-        ("entity = [{ Mana = [1] }]", "refused P2 entity 0"),
-        ("entity = [{ health = [1] }]", "refused P2 entity 0"),
-        ("entity = [{ Health = [1] }]", ""),
-        ("entity = [{ Health = [1, 2] }]", "refused P2 entity 0"),
-        ("entity = [{ Health = [] }]", "refused P2 entity 0"),
-        ("entity = [{}, {}, { Hidden = [0] }]", "refused P2 entity 2"),
-        ("entity = [{ Velocity = [1, 2, 3] }]", "refused P2 entity 0"),
-        ("entity = [{ Frozen = true }]", "refused P2 entity 0"),
-        (
-            "entity = [{ Position = [1, \"2\"] }]",
-            "refused P2 entity 0",
-        ),
-        (
-            "set = [{ name = \"a\" }, { name = \"b\", in = [\"a\"] }]",
-            "",
-        ),
-        ("set = [{ name = \"a\" }, {}]", "refused P2 set 1"),
-        ("set = [{ name = \"a\", query = [] }]", "refused P2 set 0"),
-        ("set = [{ name = \"a\", in = \"b\" }]", "refused P2 set 0"),
-        ("system = [{}]\n[[set]]\nname = \"A\"", "refused P2 set 0"),
-        ("system = [{ name = \"a\" }]", ""),
-        ("system = [{ name = \"A\" }]", "refused P2 system 0"),
-        ("system = [{}]", "refused P2 system 0"),
-        (
-            "system = [{ name = \"a\", before = [\"b \"] }]",
-            "refused P2 system 0",
-        ),
-        (
-            "system = [{ name = \"a\", query = [\"\", \"mut Positio\"] }]",
-            "refused P3 system 0",
-        ),
-        (
-            "system = [{ name = \"a\", if = [] }]",
-            "refused P2 system 0",
-        ),
-        ("system = [{ name = \"a\", do = [{ code = [] }] }]", ""),
-        (
-            "system = [{ name = \"a\", res = [\"Total\"], res_mut = [\"Round\", \"Round\"] }]",
-            "",
-        ),
-        (
-            "system = [{ name = \"a\", res = [\"total\"] }]",
-            "refused P2 system 0",
-        ),
-        (
-            "system = [{ name = \"a\", res_mut = \"Total\" }]",
-            "refused P2 system 0",
-        ),
-        (
-            "system = [{ name = \"a\", do = [{ code = [\"less r0 1 0\"] }] }]",
-            "refused P3 system 0",
-        ),
-        (
-            "system = [{ name = \"a\", do = [{ each = 0 }] }]",
-            "refused P2 system 0",
-        ),
-        (
-            "system = [{ name = \"a\", do = [{ each = -1, code = [] }] }]",
-            "refused P2 system 0",
-        ),
-        (
-            "system = [{ name = \"a\" }, { name = \"b\", do = [{ each = 4294967296, code = [] }] }]",
-            "refused P2 system 1",
-        ),
-        (
-            "system = [{ name = \"a\", query = [\"read\\tPosition\"] }]",
-            "refused P3 system 0",
-        ),
-        (
-            "system = [{ name = \"a\", query = [\" read Position  , mut  Velocity \"] }]",
-            "",
-        ),
-        (
-            "system = [{ name = \"a\", query = [\"read Position,\"] }]",
-            "refused P3 system 0",
-        ),
-        (
-            "system = [{ name = \"a\", query = [\"x\"], do = 3 }]",
-            "refused P2 system 0",
-        ),
-        (
-            "system = [{ name = \"a\", query = [\"x\"] }, {}]",
-            "refused P3 system 0",
-        ),
-        (
-            "system = [{ name = \"a\", do = [{ each = 0, code = [\"set Position.x 9223372036854775808\"] }] }]",
-            "refused P3 system 0",
-        ),
-        (
-            "system = [{ name = \"a\", do = [{ each = 0, code = [\"  set  Position.x -9223372036854775808 \"] }] }]",
-            "",
-        ),
-        (
-            "system = [{ name = \"a\", do = [{ each = 0, code = [\"set\\tPosition.x 1\"] }] }]",
-            "refused P3 system 0",
-        ),
-        (
-            "system = [{ name = \"a\", do = [{ each = 0, code = [\"set Position.x +1\"] }] }]",
-            "refused P3 system 0",
-        ),
-        (
-            "system = [{ name = \"a\", reads = [\"Hit\", \"Hit\"], writes = [\"Done\"] }]",
-            "",
-        ),
-        (
-            "system = [{ name = \"a\", reads = [\"hit\"] }]",
-            "refused P2 system 0",
-        ),
-        (
-            "system = [{ name = \"a\" }, { name = \"b\", writes = [\"Total\"] }]",
-            "refused P2 system 1",
-        ),
-        (
-            "system = [{ name = \"a\", reads = \"Hit\" }]",
-            "refused P2 system 0",
-        ),
-        (
-            "system = [{ name = \"a\", writes = [1] }]",
-            "refused P2 system 0",
-        ),
-        (
-            "set = [{ name = \"a\", reads = [\"Hit\"] }]",
-            "refused P2 set 0",
-        ),
-        (
-            "system = [{ name = \"a\", do = [{ events = \"Hit\", code = [\"set r0 event\"] }] }]",
-            "",
-        ),
-        (
-            "system = [{ name = \"a\", do = [{ events = [\"Hit\"], code = [] }] }]",
-            "refused P2 system 0",
-        ),
-        (
-            "system = [{ name = \"a\", do = [{ events = \"Hits\", code = [] }] }]",
-            "refused P2 system 0",
-        ),
-        (
-            "system = [{ name = \"a\", do = [{ events = \"Hit\" }] }]",
-            "refused P2 system 0",
-        ),
-        (
-            "system = [{ name = \"a\", query = [\"\"], do = [{ code = [] }, { each = 0, events = \"Hit\", code = [] }] }]",
-            "refused P2 system 0",
-        ),
-        (
-            "system = [{ name = \"a\", do = [{ each = true, events = 1, code = [\"x\"] }] }]",
-            "refused P2 system 0",
-        ),
-        (
-            "system = [{ name = \"a\", do = [{ code = [\"emit Hit 1\"] }, { code = [\"emit Total 1\"] }] }]",
-            "refused P3 system 0",
-        ),
-        (
-            "system = [{ name = \"a\", do = [{ code = [\"set event 1\"] }] }]",
-            "refused P3 system 0",
-        ),
-    ];
-
-    #[test]
-    fn files_are_refused(rt: HostRuntime) -> Result<(), Fail> {
-        for (text, line) in FILES {
-            let found = told(rt.alloc(), text)?;
-            assert_eq!(rt; found.as_str(), line, "at {text}");
-        }
-        Ok(())
-    }
-}
+mod tests;

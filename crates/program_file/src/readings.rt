@@ -3,11 +3,13 @@
 ghost use Rattle.std.specs.Prelude.{◌≡◌, length, vec_len, map, Any, IfOk, IsErrOf};
 ghost use Rattle.texts.specs.Reads.{SpellsNone};
 ghost use Rattle.query.specs.Grammar.{IsQuery};
+ghost use Rattle.run_condition.specs.Grammar.{IsCondition};
 ghost use Rattle.script.specs.Instruction.{IsInstruction};
 ghost use Rattle.program_file.specs.Readings.{AreSpelled};
 
 use crate::place_fault::PlaceFault;
 use query::Query;
+use run_condition::Cond;
 use script::instruction::Instruction;
 use std::alloc::Global;
 
@@ -22,6 +24,18 @@ pub fn queries_of(alloc: Global, texts: &[&str]) -> Result<Vec<Query>, PlaceFaul
         queries.push(Query::read(alloc, text)?)?;
     }
     Ok(queries)
+}
+
+/// The conditions that texts spell, in order. `Text` tells of one that spells none.
+pub fn conditions_of(alloc: Global, texts: &[&str]) -> Result<Vec<Cond>, PlaceFault>
+    ensures ok { IfOk result (λ conditions. AreSpelled IsCondition conditions.items (map (λ text. text.now) texts.now)) }
+    ensures outside { IsErrOf result PlaceFault.Text → Any (λ text. SpellsNone IsCondition text.now) texts.now }
+{
+    let mut conditions = Vec::new(alloc);
+    for text in texts {
+        conditions.push(Cond::read(alloc, text)?)?;
+    }
+    Ok(conditions)
 }
 
 /// The instructions that texts spell, in order. `Text` tells of one that spells none.

@@ -3,7 +3,9 @@
 use access_set::params::Params;
 use executor_core::{Core, Ready, Step, StepFault};
 use kinds::kind::Kind;
+use kinds::res::Res;
 use query::{Query, Term};
+use run_condition::Cond;
 use schedule_builder::builder::build;
 use schedule_builder::built::Built;
 use schedule_builder::desc::{ScheduleDesc, SystemDesc};
@@ -58,5 +60,63 @@ fn rivals_run_in_turn(rt: HostRuntime) -> Result<(), Fail> {
     assert_eq!(rt; core.step(Step::Sync(0)), Ok(()));
     assert_eq!(rt; core.ready(), None);
     assert!(rt; core.complete());
+    Ok(())
+}
+
+// One system that runs on a condition.
+fn conditional(alloc: Global) -> Result<Built, BuildFault> {
+    let mut desc = ScheduleDesc::new(alloc);
+    let mut system = SystemDesc::new(alloc, String::from_str(alloc, "a")?, Params::new(alloc));
+    system.add_condition(Cond::run_once())?;
+    desc.add_system(system)?;
+    build(alloc, desc)
+}
+
+#[test]
+fn a_condition_is_answered_first(rt: HostRuntime) -> Result<(), Fail> {
+    let built = conditional(rt.alloc())?;
+    let mut core = Core::new(rt.alloc(), &built)?;
+    assert_eq!(rt; core.ready(), Some(Ready::Ask(0)));
+    for (step, answer) in [
+        (Step::Start(1), Err(StepFault::Unknown)),
+        (Step::Start(0), Err(StepFault::ConditionOpen)),
+        (Step::Skip(0), Err(StepFault::ConditionOpen)),
+        (Step::Cond(0, false), Ok(())),
+        (Step::Cond(0, true), Err(StepFault::Repeated)),
+        (Step::Start(0), Err(StepFault::ConditionFalse)),
+        (Step::Sync(0), Err(StepFault::LevelOpen)),
+        (Step::Skip(0), Ok(())),
+        (Step::Finish(0), Err(StepFault::NotRunning)),
+        (Step::Skip(0), Err(StepFault::Repeated)),
+        (Step::Sync(0), Ok(())),
+    ] {
+        assert_eq!(rt; core.may(step), answer, "may {step:?}");
+        assert_eq!(rt; core.step(step), answer, "{step:?}");
+    }
+    assert!(rt; core.complete());
+    Ok(())
+}
+
+// A system that writes a resource, and one that runs on a condition which reads it.
+fn watched(alloc: Global) -> Result<Built, BuildFault> {
+    let mut params = Params::new(alloc);
+    params.add_res_mut(Res::Round)?;
+    let mut desc = ScheduleDesc::new(alloc);
+    desc.add_system(SystemDesc::new(alloc, String::from_str(alloc, "w")?, params))?;
+    let mut system = SystemDesc::new(alloc, String::from_str(alloc, "a")?, Params::new(alloc));
+    system.add_condition(Cond::resource_at_least(Res::Round, 0))?;
+    desc.add_system(system)?;
+    build(alloc, desc)
+}
+
+#[test]
+fn a_condition_waits_for_who_writes(rt: HostRuntime) -> Result<(), Fail> {
+    let built = watched(rt.alloc())?;
+    let mut core = Core::new(rt.alloc(), &built)?;
+    assert_eq!(rt; core.step(Step::Start(0)), Ok(()));
+    assert_eq!(rt; core.step(Step::Cond(0, true)), Err(StepFault::Conflict));
+    assert_eq!(rt; core.step(Step::Finish(0)), Ok(()));
+    assert_eq!(rt; core.step(Step::Cond(0, true)), Ok(()));
+    assert_eq!(rt; core.step(Step::Start(1)), Ok(()));
     Ok(())
 }

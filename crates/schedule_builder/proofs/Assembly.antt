@@ -1,16 +1,17 @@
 -- The systems of a schedule with their predecessors, and what is lawful of a built schedule.
-use Rattle.std.proofs.Common.{◌≡◌, ℕ, zero, suc, ◌<◌, ◌≤◌, ◌+◌, ◌^◌, inl, inr, Bool, true, false, cond, eqb, List, [], ◌∷◌, ◌++◌, length, map, get_or, arith, subst, sym, ap, ◌∙◌}
+use Rattle.std.proofs.Common.{◌≡◌, ℕ, zero, suc, ◌<◌, ◌≤◌, ◌+◌, ◌^◌, inl, inr, Bool, true, false, cond, eqb, List, [], ◌∷◌, ◌++◌, length, map, get_or, arith, refl, subst, sym, ap, ◌∙◌}
 use Rattle.std.specs.List.{filter}
 use Rattle.std.proofs.lemmas.Bool.{false≢true, or_cases, or_left, or_right, eqb-true, eq-eqb, cases_lt}
 use Rattle.std.proofs.lemmas.Bool.Decides.{eqb_tells}
 use Rattle.std.proofs.lemmas.List.{same_lists, get_or-map, length-map, get_or_push, get_or_append_left, length_push, get_or_past, get_or_default, length-append}
-use Rattle.model.specs.Lists.{has}
+use Rattle.model.specs.Lists.{has, IsIn}
+use Rattle.model.specs.access.Query.{Term, writes}
 use Rattle.model.specs.access.Access.{Params, no_params}
 use Rattle.model.specs.access.SelfConflict.{ConflictWithin}
 use Rattle.model.specs.declarations.Declarations.{Declared, DeclaredSystem, plain_item, items_of, hierarchy_of, declared_orders}
 use Rattle.model.specs.declarations.Edges.{IsFollowed}
 use Rattle.model.specs.declarations.Refusals.{HasNoSelfConflict}
-use Rattle.model.specs.steps.Schedule.{Schedule, ScheduledSystem, has_edge, level_of}
+use Rattle.model.specs.steps.Schedule.{ScheduledSystem, ScheduledCondition, has_edge, level_of, covers, access_of}
 use Rattle.model.specs.steps.Ambiguity.{Reaches, Before}
 use Rattle.model.specs.declarations.ScheduleOrder.{IsScheduleOrder, IsDeclaredEdge, HasDeclaredEdges, HasDeclaredSystems}
 use Rattle.schedule_builder.proofs.ScheduleOrders.{split_at}
@@ -22,7 +23,7 @@ use Rattle.system_set.proofs.Reaching.{held_of_step, step_of_held}
 use Rattle.system_set.proofs.EdgeLists.{member_known}
 use Rattle.cycle_search.specs.Cycles.{IsStep, IsRankable}
 use Rattle.schedule_builder.specs.Rows.{AreApart}
-use Rattle.schedule_builder.specs.ScheduleOrder.{schedule_of, items_before, scheduled, IsEdge, HasSourcesBelow, AreRising, AreScheduled}
+use Rattle.schedule_builder.specs.ScheduleOrder.{schedule_with, schedule_of, system_with, items_before, scheduled, IsEdge, HasSourcesBelow, AreRising, AreScheduled}
 
 -- ---- predecessors
 
@@ -82,7 +83,7 @@ read_again : (orders : List Order) (k : ℕ) (o : Order) → k < length orders �
 read_again orders k o low = sym (get_or_default orders k o (get_or orders k o) low)
 
 -- how many items there are
-items_count : (d : Declared) → length (items_of d) ≡ length d.sets + length d.systems
+pub items_count : (d : Declared) → length (items_of d) ≡ length d.sets + length d.systems
 items_count d = length-append d.sets (map (λ (s : DeclaredSystem). s.item) d.systems) ∙ ap (λ (k : ℕ). length d.sets + k) (length-map d.systems (λ (s : DeclaredSystem). s.item))
 
 -- an edge is of two systems
@@ -150,15 +151,14 @@ flat_rises edges systems built a m n e = omega (arith, flat_levels edges systems
 
 -- ---- a built schedule
 
--- a schedule of these systems in this order, with so many sync points
-abbrev pub with_syncs : List ScheduledSystem → ℕ → List ℕ → Schedule
-with_syncs systems syncs order = record { systems = systems; conditions = []; syncs = syncs; order = order }
-
-pub is_built : {levels : List ℕ} (edges : List Order) (d : Declared) (built : List ScheduledSystem) (syncs : ℕ) (order : List ℕ) → AreEdges (hierarchy_of d) (declared_orders d) edges → AreScheduled edges levels d.systems built → length d.systems ≤ 256
-    → IsScheduleOrder (schedule_of built order) → AreRising built → ((n : ℕ) → n < length built → level_of (schedule_of built []) n < syncs) → syncs ≤ 257 → IsBuilt (with_syncs built syncs order)
-is_built edges d built syncs order are a few s rising below few_syncs = record {
+pub is_built : {levels : List ℕ} (edges : List Order) (d : Declared) (built : List ScheduledSystem) (conditions : List ScheduledCondition) (syncs : ℕ) (order : List ℕ) (silences : List (List ℕ)) → AreEdges (hierarchy_of d) (declared_orders d) edges
+    → AreScheduled edges levels d.systems built → length d.systems ≤ 256 → length conditions ≤ 512 → IsScheduleOrder (schedule_of built order) → AreRising built → ((n : ℕ) → n < length built → level_of (schedule_of built []) n < syncs) → syncs ≤ 257
+    → ((c n : ℕ) → covers (schedule_with built conditions syncs order silences) c n ≡ true → n < length d.systems)
+    → ((c : ℕ) (query : List Term) → IsIn query (access_of (schedule_with built conditions syncs order silences) c).queries → (kind : ℕ) → writes query kind ≡ false)
+    → IsBuilt (schedule_with built conditions syncs order silences)
+is_built edges d built conditions syncs order silences are a few few_conditions s rising below few_syncs covered reading = record {
   few_systems = omega (arith, a.long);
-  few_conditions = omega arith;
+  few_conditions = few_conditions;
   few_syncs = few_syncs;
   sources = edges_from edges d built are a;
   rising = λ m n e. rising m n e;
@@ -167,8 +167,8 @@ is_built edges d built syncs order are a few s rising below few_syncs = record {
   known = λ n h. let p = split_at n order h in (s.next p.0 p.1 n p.2).placeable.known;
   once = λ front rest n e. (s.next front rest n e).placeable.open_yet;
   after = λ front rest n e m edge. (s.next front rest n e).placeable.after m (edges_from edges d built are a m n edge) (Before.ByPath (Reaches.Edge m n edge));
-  covered = λ c n h. absurd (false≢true h);
-  reading = λ c query i kind. absurd i;
+  covered = λ c n h. let known : n < length d.systems = covered c n h in omega (arith, a.long, known);
+  reading = reading;
 }
 
 -- systems whose parameters don't conflict among themselves as declared don't in the schedule
@@ -178,6 +178,21 @@ are_apart edges d built a none = record {
       let low : n < length d.systems = omega (arith, a.long) in
       none n low (subst (λ (p : Params). ConflictWithin p) (ap (λ (s : ScheduledSystem). s.params) (a.each n low)) h);
 }
+
+-- systems without their names have the same schedule
+pub scheduled_as : (edges : List Order) (systems : List DeclaredSystem) (built : List ScheduledSystem) → AreScheduled edges [] (map system_with (map (λ s. s.params) systems)) built → AreScheduled edges [] systems built
+scheduled_as edges systems built a =
+    let params : List Params = map (λ (s : DeclaredSystem). s.params) systems in
+    let long : length (map system_with params) ≡ length systems = length-map params system_with ∙ length-map systems (λ (s : DeclaredSystem). s.params) in
+    record {
+      long = a.long ∙ long;
+      each = λ n low. a.each n (omega (arith, long)) ∙ ap (λ (p : Params). scheduled edges n p 0) (params_at systems n low);
+    }
+  where
+    params_at : (systems : List DeclaredSystem) (n : ℕ) → n < length systems → (get_or (map system_with (map (λ s. s.params) systems)) n (system_with no_params)).params ≡ (get_or systems n (system_with no_params)).params
+    params_at [] n low = absurd (omega arith)
+    params_at (s ∷ systems) zero low = refl
+    params_at (s ∷ systems) (suc n) low = params_at systems n (omega arith)
 
 -- ---- one more system
 

@@ -9,15 +9,15 @@ use Rattle.model.specs.declarations.Declarations.{Declared, DeclaredItem, Declar
 use Rattle.model.specs.declarations.Edges.{IsEdge as IsEdgeOf, IsFollowed}
 use Rattle.model.specs.declarations.ScheduleOrder.{IsScheduleOrder, IsDeclaredEdge, IsDeferring, HasPath, IsLevel, HasLevels}
 use Rattle.model.specs.declarations.ScheduleOrder.HasPath.{Begins, Goes, Defers}
-use Rattle.model.specs.steps.Schedule.{ScheduledSystem, level_of}
+use Rattle.model.specs.steps.Schedule.{ScheduledSystem, ScheduledCondition, level_of}
 use Rattle.model.specs.steps.Ambiguity.{Reaches, Before}
 use Rattle.cycle_search.specs.declared.order.Order.{Order}
 use Rattle.cycle_search.specs.Cycles.{IsRankable}
 use Rattle.system_set.specs.Pairs.{pairs_of}
 use Rattle.system_set.specs.Edges.{AreEdges}
-use Rattle.schedule_builder.specs.ScheduleOrder.{schedule_of, IsEdge, AreRising, AreScheduled}
+use Rattle.schedule_builder.specs.ScheduleOrder.{schedule_with, schedule_of, IsEdge, AreRising, AreScheduled}
 use Rattle.schedule_builder.specs.Levels.{has_commands, deferring_before, AreLevels, AreSyncs, AreLevelledBy}
-use Rattle.schedule_builder.proofs.Assembly.{edge_known, declared_edges, levels_are, with_syncs}
+use Rattle.schedule_builder.proofs.Assembly.{edge_known, declared_edges, levels_are}
 
 -- ---- plain orders are orders
 
@@ -207,8 +207,8 @@ levels_below edges d built levels syncs b long s n l =
     let low : get_or levels n 0 < syncs = s.below n (omega (arith, b.long, long)) in
     omega (arith, levels_are edges levels d.systems built b n (omega (arith, b.long)))
 
-pub has_levels : (edges plain : List Order) (d : Declared) (flat built : List ScheduledSystem) (levels order : List ℕ) (syncs : ℕ) → AreEdges (hierarchy_of d) (declared_orders d) edges → AreScheduled edges [] d.systems flat → AreEdges (hierarchy_of d) (plain_orders d) plain
-    → IsRankable (IsFollowed (hierarchy_of d) (declared_orders d)) → AreLevels flat plain levels → AreScheduled edges levels d.systems built → AreSyncs levels syncs → HasLevels d (with_syncs built syncs order)
+pub has_levels : {conditions : List ScheduledCondition} {silences : List (List ℕ)} (edges plain : List Order) (d : Declared) (flat built : List ScheduledSystem) (levels order : List ℕ) (syncs : ℕ) → AreEdges (hierarchy_of d) (declared_orders d) edges → AreScheduled edges [] d.systems flat → AreEdges (hierarchy_of d) (plain_orders d) plain
+    → IsRankable (IsFollowed (hierarchy_of d) (declared_orders d)) → AreLevels flat plain levels → AreScheduled edges levels d.systems built → AreSyncs levels syncs → HasLevels d (schedule_with built conditions syncs order silences)
 has_levels edges plain d flat built levels order syncs all a are r h b s =
     let found = declared_levels edges plain d flat levels all a are h in
     let level : ℕ → ℕ = λ n. get_or levels n 0 in
@@ -231,29 +231,29 @@ has_levels edges plain d flat built levels order syncs all a are r h b s =
     }
 
 -- the schedule order doesn't depend on how many sync points there are
-reaches_with : (systems : List ScheduledSystem) (syncs : ℕ) (order : List ℕ) (m n : ℕ) → Reaches (with_syncs systems syncs order) m n → Reaches (schedule_of systems order) m n
+reaches_with : {conditions : List ScheduledCondition} {silences : List (List ℕ)} (systems : List ScheduledSystem) (syncs : ℕ) (order : List ℕ) (m n : ℕ) → Reaches (schedule_with systems conditions syncs order silences) m n → Reaches (schedule_of systems order) m n
 reaches_with systems syncs order m n (Reaches.Edge i j e) = Reaches.Edge i j e
 reaches_with systems syncs order m n (Reaches.Onward i j k e rest) = Reaches.Onward i j k e (reaches_with systems syncs order j k rest)
 
-reaches_without : (systems : List ScheduledSystem) (syncs : ℕ) (order : List ℕ) (m n : ℕ) → Reaches (schedule_of systems order) m n → Reaches (with_syncs systems syncs order) m n
+reaches_without : {conditions : List ScheduledCondition} {silences : List (List ℕ)} (systems : List ScheduledSystem) (syncs : ℕ) (order : List ℕ) (m n : ℕ) → Reaches (schedule_of systems order) m n → Reaches (schedule_with systems conditions syncs order silences) m n
 reaches_without systems syncs order m n (Reaches.Edge i j e) = Reaches.Edge i j e
 reaches_without systems syncs order m n (Reaches.Onward i j k e rest) = Reaches.Onward i j k e (reaches_without systems syncs order j k rest)
 
-before_with : (systems : List ScheduledSystem) (syncs : ℕ) (order : List ℕ) (m n : ℕ) → Before (with_syncs systems syncs order) m n → Before (schedule_of systems order) m n
+before_with : {conditions : List ScheduledCondition} {silences : List (List ℕ)} (systems : List ScheduledSystem) (syncs : ℕ) (order : List ℕ) (m n : ℕ) → Before (schedule_with systems conditions syncs order silences) m n → Before (schedule_of systems order) m n
 before_with systems syncs order m n (Before.ByPath path) = Before.ByPath (reaches_with systems syncs order m n path)
 before_with systems syncs order m n (Before.ByLevel low) = Before.ByLevel low
 
-before_without : (systems : List ScheduledSystem) (syncs : ℕ) (order : List ℕ) (m n : ℕ) → Before (schedule_of systems order) m n → Before (with_syncs systems syncs order) m n
+before_without : {conditions : List ScheduledCondition} {silences : List (List ℕ)} (systems : List ScheduledSystem) (syncs : ℕ) (order : List ℕ) (m n : ℕ) → Before (schedule_of systems order) m n → Before (schedule_with systems conditions syncs order silences) m n
 before_without systems syncs order m n (Before.ByPath path) = Before.ByPath (reaches_without systems syncs order m n path)
 before_without systems syncs order m n (Before.ByLevel low) = Before.ByLevel low
 
-pub order_with : (systems : List ScheduledSystem) (syncs : ℕ) (order : List ℕ) → IsScheduleOrder (schedule_of systems order) → IsScheduleOrder (with_syncs systems syncs order)
-order_with systems syncs order s = record {
+pub order_with : {conditions : List ScheduledCondition} {silences : List (List ℕ)} (systems : List ScheduledSystem) (syncs : ℕ) (order : List ℕ) → IsScheduleOrder (schedule_of systems order) → IsScheduleOrder (schedule_with systems conditions syncs order silences)
+order_with {conditions} {silences} systems syncs order s = record {
   next = λ front rest n e.
       let here = s.next front rest n e in
       record {
-        placeable = record { known = here.placeable.known; open_yet = here.placeable.open_yet; after = λ m l b. here.placeable.after m l (before_with systems syncs order m n b) };
-        least = λ m l q. here.least m l (record { known = q.known; open_yet = q.open_yet; after = λ k j b. q.after k j (before_without systems syncs order k m b) });
+        placeable = record { known = here.placeable.known; open_yet = here.placeable.open_yet; after = λ m l b. here.placeable.after m l (before_with {conditions = conditions} {silences = silences} systems syncs order m n b) };
+        least = λ m l q. here.least m l (record { known = q.known; open_yet = q.open_yet; after = λ k j b. q.after k j (before_without {conditions = conditions} {silences = silences} systems syncs order k m b) });
       };
   whole = λ n l. s.whole n l;
 }

@@ -8,3 +8,5 @@ pub mod Counted
 mod Listings
 pub mod LevelSteps
 pub mod Levelling
+pub mod Faults
+pub mod Askings

@@ -9,7 +9,7 @@ use Rattle.std.proofs.lemmas.Bool.{false≢true}
 use Rattle.std.proofs.lemmas.List.{append-nil, append_assoc, map-append, take_more, take_all, length-append}
 use Rattle.std.proofs.lemmas.List.Concat.{flat_map-append}
 use Rattle.model.specs.declarations.Walks.{EachIs, IsFirstBad}
-use Rattle.model.specs.declarations.Declarations.{Declared, DeclaredItem, DeclaredChain, plain_item, items_of, name_of, first_named, number_of, bounded, names_in, names_along, looked_up, holders_in, orders_before, orders_after, orders_in, plain_orders_in, neighbours, orders_along, plain_orders_along, from_each, hierarchy_of, declared_orders, plain_orders}
+use Rattle.model.specs.declarations.Declarations.{Declared, DeclaredItem, DeclaredChain, plain_item, items_of, name_of, first_named, number_of, bounded, names_in, names_along, looked_up, holders_in, orders_before, orders_after, orders_in, plain_orders_in, neighbours, orders_along, plain_orders_along, from_each, hierarchy_of, declared_orders, plain_orders, silences_in, declared_silences}
 use Rattle.model.specs.declarations.Refusals.{RepeatsName, IsKnown, KnowsNames}
 use Rattle.schedule_builder.specs.declared.fault.BuildFault.{BuildFault}
 use Rattle.schedule_builder.specs.declared.fault.BuildFault.TheVariants.{UnknownName}
@@ -311,10 +311,12 @@ whole_of d k =
     let plainly = EachIs-append (IsPairBelow count count) (from_each (plain_orders_in d) 0 (items_of d)) (flat_map (plain_orders_along d) d.chains)
     (from_of_each (IsItemKnown d) (IsPairBelow count count) (plain_orders_in d) count 0 (items_of d) (omega arith) (plain_below d) items)
     (flat_of_each (λ c. EachIs (IsKnown d) (names_along count c)) (IsPairBelow count count) (plain_orders_along d) d.chains (λ c h. plain_along_below d c h c.ignores_deferred) chains) in
+    let silenced = from_of_each (IsItemKnown d) (IsPairBelow count count) (silences_in d) count 0 (items_of d) (omega arith) (λ m i l h. before_below d count count m i.ambiguous_with l (omega arith) (parts_of d i h).ambiguous) items in
     record {
       held = λ item holder h. each_in (IsPairBelow count sets) (hierarchy_of d).inside inside (item, holder) h;
       ordered = λ m n h. each_in (IsPairBelow count count) (declared_orders d) ordered (m, n) h;
       plainly = λ m n h. each_in (IsPairBelow count count) (plain_orders d) plainly (m, n) h;
+      silenced = λ m n h. each_in (IsPairBelow count count) (declared_silences d) silenced (m, n) h;
     }
 
 -- ---- the same names, and the same items

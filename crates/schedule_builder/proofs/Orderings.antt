@@ -49,14 +49,14 @@ put_all sets items pairs i h inside past is same = is ∙ ap (with_pairs sets it
 
 -- ---- what is told is of items
 
-pair_in : (orders : List Order) (k : ℕ) (o : Order) → k < length orders → IsIn ((get_or orders k o).first, (get_or orders k o).second) (pairs_of orders)
+pub pair_in : (orders : List Order) (k : ℕ) (o : Order) → k < length orders → IsIn ((get_or orders k o).first, (get_or orders k o).second) (pairs_of orders)
 pair_in [] k o l = absurd (omega arith)
 pair_in (x ∷ orders) zero o l = inl refl
 pair_in (x ∷ orders) (suc k) o l = inr (pair_in orders k o (omega arith))
 
 -- pairs of items and sets, and orders of items, as they were read
-pub placed_of : (d : Declared) (inside orders plain : List Order) → IsWhole d → AreDeclared d inside orders plain → length d.sets ≤ length (items_of d) → ArePlaced (length d.sets) (length (items_of d)) inside
-placed_of d inside orders plain w a few = record {
+pub placed_of : (d : Declared) (inside orders plain silences : List Order) → IsWhole d → AreDeclared d inside orders plain silences → length d.sets ≤ length (items_of d) → ArePlaced (length d.sets) (length (items_of d)) inside
+placed_of d inside orders plain silences w a few = record {
   few = few;
   placed = λ k o l.
       let here : Order = get_or inside k o in

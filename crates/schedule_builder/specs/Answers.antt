@@ -3,7 +3,7 @@ use Rattle.std.specs.Prelude.{map, string_bytes}
 use Rattle.model.specs.declarations.Declarations.{Declared}
 use Rattle.model.specs.declarations.Refusals.{Refusal, IsRefused}
 use Rattle.schedule_builder.specs.declared.fault.BuildFault.{BuildFault}
-use Rattle.schedule_builder.specs.declared.fault.BuildFault.TheVariants.{UnknownName, DuplicateName, HierarchyLoop, HierarchyCycle, DependencyLoop, CrossDependency, SetsIntersect, DependencyCycle, SelfConflict, BadQuery, OverLimit, Memory}
+use Rattle.schedule_builder.specs.declared.fault.BuildFault.TheVariants.{UnknownName, DuplicateName, HierarchyLoop, HierarchyCycle, DependencyLoop, CrossDependency, SetsIntersect, DependencyCycle, SelfConflict, BadQuery, BadConditionQuery, ConditionWrites, OverLimit, Memory}
 
 -- the fault is the refusal that is told of the declared items; want of memory tells nothing of them
 abbrev pub IsAnswered : Declared → BuildFault → Type 0
@@ -17,5 +17,7 @@ IsAnswered d (SetsIntersect first second system) = IsRefused d (Refusal.SetsInte
 IsAnswered d (DependencyCycle cycle) = IsRefused d (Refusal.DependencyCycle (map string_bytes cycle.items))
 IsAnswered d (SelfConflict name) = IsRefused d (Refusal.SelfConflict (string_bytes name))
 IsAnswered d (BadQuery owner query fault) = IsRefused d (Refusal.BadQuery (string_bytes owner) query fault)
+IsAnswered d (BadConditionQuery condition query fault) = IsRefused d (Refusal.BadConditionQuery condition query fault)
+IsAnswered d (ConditionWrites condition) = IsRefused d (Refusal.ConditionWrites condition)
 IsAnswered d (OverLimit limit) = IsRefused d (Refusal.OverLimit limit)
 IsAnswered d Memory = Unit {0}

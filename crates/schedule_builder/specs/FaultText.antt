@@ -3,7 +3,7 @@ use Rattle.std.specs.Prelude.{ℕ, List, ◌∷◌, ◌++◌, take, flat_map, co
 use Rattle.std.specs.declared.string.String.{String}
 use Rattle.std.specs.declared.alloc.Global.{Global}
 use Rattle.schedule_builder.specs.declared.fault.BuildFault.{BuildFault}
-use Rattle.schedule_builder.specs.declared.fault.BuildFault.TheVariants.{UnknownName, DuplicateName, HierarchyLoop, HierarchyCycle, DependencyLoop, CrossDependency, SetsIntersect, DependencyCycle, SelfConflict, BadQuery, OverLimit, Memory}
+use Rattle.schedule_builder.specs.declared.fault.BuildFault.TheVariants.{UnknownName, DuplicateName, HierarchyLoop, HierarchyCycle, DependencyLoop, CrossDependency, SetsIntersect, DependencyCycle, SelfConflict, BadQuery, BadConditionQuery, ConditionWrites, OverLimit, Memory}
 
 -- a name with a space before it
 abbrev pub spaced_name : String Global → List ℕ
@@ -25,5 +25,7 @@ build_fault_text (CrossDependency item holder) = codes "refused B7" ++ spaced_na
 build_fault_text (SetsIntersect first second system) = codes "refused B8" ++ spaced_name first ++ spaced_name second ++ spaced_name system
 build_fault_text (SelfConflict name) = codes "refused B9" ++ spaced_name name
 build_fault_text (BadQuery owner query fault) = codes "refused B10" ++ spaced_name owner ++ (32 ∷ decimal query) ++ (32 ∷ decimal fault)
+build_fault_text (BadConditionQuery condition query fault) = codes "refused B10 #" ++ decimal condition ++ (32 ∷ decimal query) ++ (32 ∷ decimal fault)
+build_fault_text (ConditionWrites condition) = codes "refused B11 #" ++ decimal condition
 build_fault_text (OverLimit limit) = codes "refused B12" ++ (32 ∷ decimal limit)
 build_fault_text Memory = codes "error memory"

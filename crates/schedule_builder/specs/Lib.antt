@@ -6,4 +6,5 @@ pub mod Queries
 pub mod Rows
 pub mod Counts
 pub mod Conditions
+pub mod Asked
 pub mod Levels

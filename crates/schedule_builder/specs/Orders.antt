@@ -5,7 +5,7 @@ use Rattle.std.specs.BTreeMap.{BTreeMap, get_by_text}
 use Rattle.std.specs.declared.alloc.Global.{Global}
 use Rattle.std.specs.declared.string.String.{String}
 use Rattle.model.specs.declarations.Walks.{IsFirstBad}
-use Rattle.model.specs.declarations.Declarations.{Declared, items_of, name_of, hierarchy_of, declared_orders, plain_orders}
+use Rattle.model.specs.declarations.Declarations.{Declared, items_of, name_of, hierarchy_of, declared_orders, plain_orders, declared_silences}
 use Rattle.model.specs.Lists.{IsIn}
 use Rattle.model.specs.declarations.Hierarchy.{IsHeld}
 use Rattle.model.specs.declarations.Edges.{HasNoLoop, IsLoop}
@@ -50,10 +50,11 @@ link None second = []
 link (Some first) second = (first, second) ∷ []
 
 -- the pairs and the orders are the declared ones
-pub record AreDeclared (d : Declared) (inside orders plain : List Order) : Type 0 where
+pub record AreDeclared (d : Declared) (inside orders plain silences : List Order) : Type 0 where
   pub held : pairs_of inside ≡ (hierarchy_of d).inside
   pub ordered : pairs_of orders ≡ declared_orders d
   pub plainly : pairs_of plain ≡ plain_orders d
+  pub silenced : pairs_of silences ≡ declared_silences d
 
 -- the item of the first order of an item with itself, or that there is none
 abbrev pub TellsLoop : List (ℕ × ℕ) → Option ℕ → Type 0
@@ -70,3 +71,4 @@ pub record IsWhole (d : Declared) : Type 0 where
   pub held : (item holder : ℕ) → IsHeld (hierarchy_of d) item holder → (item < length (items_of d)) × (holder < length d.sets)
   pub ordered : (m n : ℕ) → IsIn (m, n) (declared_orders d) → (m < length (items_of d)) × (n < length (items_of d))
   pub plainly : (m n : ℕ) → IsIn (m, n) (plain_orders d) → (m < length (items_of d)) × (n < length (items_of d))
+  pub silenced : (m n : ℕ) → IsIn (m, n) (declared_silences d) → (m < length (items_of d)) × (n < length (items_of d))

@@ -3,13 +3,17 @@ use Rattle.std.specs.Prelude.{ℕ, ◌<◌, ◌≤◌, ◌≡◌, ◌++◌, ◌�
 use Rattle.std.specs.List.{list_all, filter}
 use Rattle.model.specs.access.Access.{Params, no_params}
 use Rattle.model.specs.declarations.Declarations.{DeclaredSystem, plain_item}
-use Rattle.model.specs.steps.Schedule.{Schedule, ScheduledSystem, system_at, has_edge, level_of}
+use Rattle.model.specs.steps.Schedule.{Schedule, ScheduledSystem, ScheduledCondition, system_at, has_edge, level_of}
 use Rattle.model.specs.Lists.{has}
 use Rattle.cycle_search.specs.declared.order.Order.{Order}
 
+-- a schedule of these parts
+abbrev pub schedule_with : List ScheduledSystem → List ScheduledCondition → ℕ → List ℕ → List (List ℕ) → Schedule
+schedule_with systems conditions syncs order silences = record { systems = systems; conditions = conditions; syncs = syncs; order = order; silences = silences }
+
 -- a schedule of these systems in this order, with one sync point
 abbrev pub schedule_of : List ScheduledSystem → List ℕ → Schedule
-schedule_of systems order = record { systems = systems; conditions = []; syncs = 1; order = order }
+schedule_of systems order = schedule_with systems [] 1 order []
 
 -- whether a system is not placed, is of this level, and its predecessors are all placed
 abbrev pub can_place : List ScheduledSystem → List Bool → ℕ → ℕ → Bool
@@ -77,6 +81,10 @@ IsSequence systems order = (front rest : List ℕ) (n : ℕ) → order ≡ front
 -- levels don't fall along edges
 abbrev pub AreRising : List ScheduledSystem → Type 0
 AreRising systems = (m n : ℕ) → IsEdge systems m n → level_of (schedule_of systems []) m ≤ level_of (schedule_of systems []) n
+
+-- a system of these parameters, without a name
+abbrev pub system_with : Params → DeclaredSystem
+system_with params = record { item = plain_item []; params = params }
 
 -- the declared system of a number
 abbrev pub declared_in : List DeclaredSystem → ℕ → DeclaredSystem

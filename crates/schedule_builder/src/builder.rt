@@ -6,35 +6,46 @@ ghost use Rattle.std.specs.List.{All};
 ghost use Rattle.model.specs.declarations.Hierarchy.{IsHeld};
 ghost use Rattle.model.specs.declarations.Edges.{HasNoLoop, HasNoCrossing, IsFollowed};
 ghost use Rattle.model.specs.declarations.Declarations.{items_of, name_of, system_name, declared_at, hierarchy_of, declared_orders, plain_orders};
-ghost use Rattle.model.specs.declarations.Refusals.{IsNamed, IsNested, IsApart, IsOrdered, HasNoSelfConflict, HasGoodQueries, IsWithinLimits, HasManyQueries, HasManySpawns, granted_to, IsBuildable, names_of};
-ghost use Rattle.model.specs.declarations.ScheduleOrder.{HasDeclaredSystems, HasDeclaredEdges, HasLevels, IsScheduleOrder};
+ghost use Rattle.model.specs.declarations.Refusals.{IsNamed, IsNested, IsApart, IsOrdered, HasNoSelfConflict, HasGoodQueries, HasGoodConditions, AreReading, IsWithinLimits, HasManyQueries, HasManySpawns, granted_to, IsBuildable, names_of};
+ghost use Rattle.model.specs.declarations.ScheduleOrder.{HasDeclaredSystems, HasDeclaredEdges, HasLevels, HasDeclaredConditions, HasDeclaredSilences, IsScheduleOrder};
 ghost use Rattle.cycle_search.specs.Cycles.{IsStep, IsRankable};
 ghost use Rattle.cycle_search.specs.Orders.{IsBetween};
 ghost use Rattle.system_set.specs.Pairs.{pairs_of};
 ghost use Rattle.system_set.specs.Edges.{AreEdges};
 ghost use Rattle.schedule_builder.specs.Answers.{IsAnswered};
 ghost use Rattle.schedule_builder.specs.Orders.{AreDeclared, AreOrders, IsWhole};
-ghost use Rattle.schedule_builder.specs.ScheduleOrder.{AreScheduled};
+ghost use Rattle.system_set.specs.Coverage.{AreCovered};
+ghost use Rattle.schedule_builder.specs.Asked.{asked_of, owners_of, AreDeclaredSilences};
+ghost use Rattle.schedule_builder.specs.ScheduleOrder.{AreScheduled, system_with};
 ghost use Rattle.schedule_builder.specs.Levels.{AreLevelledBy};
 
+use crate::asked::{
+    conditions_of, first_bad_condition, first_writing, owners_of, scheduled_conditions,
+};
 use crate::built::{Built, System};
 use crate::desc::{ScheduleDesc, SystemDesc};
 use crate::fault::BuildFault;
 use crate::levels::{found_levels, level_in, syncs_of};
+use crate::listing::{Listing, silences_of};
 use crate::names::{first_repeated, places_of};
 use crate::orders::{Resolved, first_loop, hierarchy_from, resolve};
 use crate::query_faults::first_bad;
 use crate::schedule_order::{order_of, predecessors_of};
 use crate::self_conflicts::first_conflicting;
+use access_set::params::Params;
 use cycle_search::Order;
+use run_condition::Cond;
 use std::alloc::{AllocError, Global};
-use system_set::{HierarchyFault, SetHierarchy};
+use system_set::{HierarchyFault, Members, SetHierarchy};
 
 /// The most systems that a schedule has.
 const SYSTEMS: usize = 256;
 
 // How many sets it has at most.
 const SETS: usize = 64;
+
+// How many conditions it has at most.
+const CONDITIONS: usize = 512;
 
 // How many queries a system may have.
 const QUERIES: usize = 8;
@@ -76,7 +87,7 @@ fn names_at(
 
 /// What is declared by number, where every name is that of one item.
 fn resolved(alloc: Global, desc: &ScheduleDesc) -> Result<Resolved, BuildFault>
-    ensures declared { IfOk result (λ r. AreDeclared desc.now r.inside.items r.orders.items r.plain.items) }
+    ensures declared { IfOk result (λ r. AreDeclared desc.now r.inside.items r.orders.items r.plain.items r.silences.items) }
     ensures named { OnOk result (IsNamed desc.now) }
     ensures refused { IfErr result (IsAnswered desc.now) }
 {
@@ -258,11 +269,57 @@ fn check_queries(alloc: Global, desc: &ScheduleDesc) -> Result<(), BuildFault>
     }
 }
 
-/// Refuses a limit that is passed.
-fn check_limits(desc: &ScheduleDesc) -> Result<(), BuildFault>
+/// Refuses a condition with a query at fault.
+fn check_condition_queries(
+    alloc: Global,
+    desc: &ScheduleDesc,
+    conditions: &[&Cond],
+) -> Result<(), BuildFault>
+    requires asked { map (λ c. c.now) conditions.now ≡ asked_of desc.now }
     requires ordered { IsOrdered desc.now }
     requires apart { HasNoSelfConflict desc.now }
     requires good { HasGoodQueries desc.now }
+    ensures good { OnOk result (HasGoodConditions desc.now) }
+    ensures refused { IfErr result (IsAnswered desc.now) }
+{
+    match first_bad_condition(alloc, conditions)? {
+        None => Ok(()),
+        Some((condition, query, case)) => Err(BuildFault::BadConditionQuery {
+            condition,
+            query,
+            case,
+        }),
+    }
+}
+
+/// Refuses a condition that writes.
+fn check_reading(
+    alloc: Global,
+    desc: &ScheduleDesc,
+    conditions: &[&Cond],
+) -> Result<(), BuildFault>
+    requires asked { map (λ c. c.now) conditions.now ≡ asked_of desc.now }
+    requires ordered { IsOrdered desc.now }
+    requires apart { HasNoSelfConflict desc.now }
+    requires good { HasGoodQueries desc.now }
+    requires good_conditions { HasGoodConditions desc.now }
+    ensures reading { OnOk result (AreReading desc.now) }
+    ensures refused { IfErr result (IsAnswered desc.now) }
+{
+    match first_writing(alloc, conditions)? {
+        None => Ok(()),
+        Some(condition) => Err(BuildFault::ConditionWrites(condition)),
+    }
+}
+
+/// Refuses a limit that is passed.
+fn check_limits(desc: &ScheduleDesc, conditions: &[&Cond]) -> Result<(), BuildFault>
+    requires asked { map (λ c. c.now) conditions.now ≡ asked_of desc.now }
+    requires ordered { IsOrdered desc.now }
+    requires apart { HasNoSelfConflict desc.now }
+    requires good { HasGoodQueries desc.now }
+    requires good_conditions { HasGoodConditions desc.now }
+    requires reading { AreReading desc.now }
     ensures within { OnOk result (IsWithinLimits desc.now) }
     ensures refused { IfErr result (IsAnswered desc.now) }
 {
@@ -271,6 +328,9 @@ fn check_limits(desc: &ScheduleDesc) -> Result<(), BuildFault>
     }
     if desc.sets().len() > SETS {
         return Err(BuildFault::OverLimit(2));
+    }
+    if conditions.len() > CONDITIONS {
+        return Err(BuildFault::OverLimit(3));
     }
     if has_too_many_queries(desc) {
         return Err(BuildFault::OverLimit(4));
@@ -312,7 +372,7 @@ fn ids_of(system: &SystemDesc) -> u32
     system.params().spawns().unwrap_or(0)
 }
 
-/// Refuses what is at fault in systems and in how many there are of anything.
+/// Refuses what is at fault in systems and conditions and in how many there are of anything.
 fn check_systems(alloc: Global, desc: &ScheduleDesc) -> Result<(), BuildFault>
     requires { IsOrdered desc.now }
     ensures buildable { OnOk result (IsBuildable desc.now) }
@@ -320,50 +380,84 @@ fn check_systems(alloc: Global, desc: &ScheduleDesc) -> Result<(), BuildFault>
 {
     check_self_conflicts(alloc, desc)?;
     check_queries(alloc, desc)?;
-    check_limits(desc)
+    let conditions = conditions_of(alloc, desc)?;
+    check_condition_queries(alloc, desc, conditions.as_slice())?;
+    check_reading(alloc, desc, conditions.as_slice())?;
+    check_limits(desc, conditions.as_slice())
 }
 
-/// The edges between systems, and those that plain orders give, which don't ignore that commands are deferred.
+/// What is found of systems: their edges, those of the plain orders, which don't ignore that commands are deferred, the systems that each
+/// condition covers, and for each system those with which it may be ambiguous.
 #[derive(Drop)]
-struct Edges {
-    all: Vec<Order>,
+struct Relations {
+    edges: Vec<Order>,
     plain: Vec<Order>,
+    coverage: Vec<Members>,
+    silences: Vec<Listing>,
 }
 
-/// The edges between systems, where nothing is at fault.
-fn checked(alloc: Global, desc: &ScheduleDesc) -> Result<Edges, BuildFault>
-    ensures edges { IfOk result (λ edges. AreEdges (hierarchy_of desc.now) (declared_orders desc.now) edges.all.items) }
-    ensures plain { IfOk result (λ edges. AreEdges (hierarchy_of desc.now) (plain_orders desc.now) edges.plain.items) }
+/// What edges, conditions and silences give to systems.
+fn relations_of(
+    alloc: Global,
+    desc: &ScheduleDesc,
+    hierarchy: &SetHierarchy,
+    resolved: &Resolved,
+) -> Result<Relations, AllocError>
+    requires hierarchy { hierarchy.now ≡ hierarchy_of desc.now }
+    requires declared { AreDeclared desc.now resolved.now.inside.items resolved.now.orders.items resolved.now.plain.items resolved.now.silences.items }
+    requires whole { IsWhole desc.now }
+    requires few_sets { length desc.now.sets ≤ 64 }
+    requires few_systems { length desc.now.systems ≤ 256 }
+    ensures edges { IfOk result (λ found. AreEdges (hierarchy_of desc.now) (declared_orders desc.now) found.edges.items) }
+    ensures plain { IfOk result (λ found. AreEdges (hierarchy_of desc.now) (plain_orders desc.now) found.plain.items) }
+    ensures coverage { IfOk result (λ found. AreCovered (hierarchy_of desc.now) (owners_of desc.now) found.coverage.items) }
+    ensures silences { IfOk result (λ found. AreDeclaredSilences desc.now found.silences.items) }
+{
+    let owners = owners_of(alloc, desc)?;
+    let edges = hierarchy.edges(alloc, resolved.orders.as_slice())?;
+    let plain = hierarchy.edges(alloc, resolved.plain.as_slice())?;
+    let coverage = hierarchy.coverage(alloc, owners.as_slice())?;
+    let pairs = hierarchy.edges(alloc, resolved.silences.as_slice())?;
+    let silences = silences_of(alloc, desc.systems().len(), pairs.as_slice())?;
+    Ok(Relations {
+        edges,
+        plain,
+        coverage,
+        silences,
+    })
+}
+
+/// What is found of systems, where nothing is at fault.
+fn checked(alloc: Global, desc: &ScheduleDesc) -> Result<Relations, BuildFault>
+    ensures edges { IfOk result (λ found. AreEdges (hierarchy_of desc.now) (declared_orders desc.now) found.edges.items) }
+    ensures plain { IfOk result (λ found. AreEdges (hierarchy_of desc.now) (plain_orders desc.now) found.plain.items) }
+    ensures coverage { IfOk result (λ found. AreCovered (hierarchy_of desc.now) (owners_of desc.now) found.coverage.items) }
+    ensures silences { IfOk result (λ found. AreDeclaredSilences desc.now found.silences.items) }
     ensures rankable { OnOk result (IsRankable (IsFollowed (hierarchy_of desc.now) (declared_orders desc.now))) }
     ensures buildable { OnOk result (IsBuildable desc.now) }
     ensures refused { IfErr result (IsAnswered desc.now) }
 {
     let resolved = resolved(alloc, desc)?;
-    let orders = resolved.orders.as_slice();
-    let plain = resolved.plain.as_slice();
     let hierarchy = hierarchy_from(alloc, desc, resolved.inside.as_slice())?;
     check_hierarchy(alloc, desc, &hierarchy)?;
-    check_orders(alloc, desc, &hierarchy, orders)?;
+    check_orders(alloc, desc, &hierarchy, resolved.orders.as_slice())?;
     check_systems(alloc, desc)?;
-    Ok(Edges {
-        all: hierarchy.edges(alloc, orders)?,
-        plain: hierarchy.edges(alloc, plain)?,
-    })
+    Ok(relations_of(alloc, desc, &hierarchy, &resolved)?)
 }
 
 /// The systems with the predecessors that edges give them, of no level yet.
 fn scheduled(
     alloc: Global,
-    systems: Vec<SystemDesc>,
+    params: Vec<Params>,
     edges: &[Order],
 ) -> Result<Vec<System>, AllocError>
     requires { All (IsBetween (2 ^ 32)) edges.now }
-    ensures { IfOk result (λ built. AreScheduled edges.now [] systems.items built.items) }
+    ensures { IfOk result (λ built. AreScheduled edges.now [] (map system_with params.items) built.items) }
 {
     let mut built = Vec::new(alloc);
-    for system in systems {
+    for touched in params {
         let predecessors = predecessors_of(alloc, edges, built.len())?;
-        built.push(System::new(system.into_params(), predecessors, 0))?;
+        built.push(System::new(touched, predecessors, 0))?;
     }
     Ok(built)
 }
@@ -381,28 +475,40 @@ fn levelled(alloc: Global, systems: Vec<System>, levels: &[u32]) -> Result<Vec<S
 }
 
 /// The schedule of declared sets, systems and chains: an edge from each member of the first item of a declared order to each member of
-/// the second, the level of each system and as many sync points as there are levels, and the schedule order. Nothing is built where
-/// something is at fault; the first fault is told: a name that no item has, or no set to be in; an item with an earlier item's name; a
-/// set in itself; sets in a circle; an item ordered with itself; an order between an item and a set that holds it; two ordered sets that
-/// share a system; a cycle of items; a system of which two parameters conflict; a query at fault; more than 256 systems; more than 64
-/// sets; a system with more than 8 queries; one that is given more than 1,024 ids.
+/// the second, the level of each system and as many sync points as there are levels, the conditions, those of sets before those of
+/// systems, each of which covers the members of its item, the pairs of systems that may be ambiguous, and the schedule order. Nothing is
+/// built where something is at fault; the first fault is told: a name that no item has, or no set to be in; an item with an earlier item's
+/// name; a set in itself; sets in a circle; an item ordered with itself; an order between an item and a set that holds it; two ordered
+/// sets that share a system; a cycle of items; a system of which two parameters conflict; a query at fault, those of systems before those
+/// of conditions; a condition that writes; more than 256 systems; more than 64 sets; more than 512 conditions; a system with more than 8
+/// queries; one that is given more than 1,024 ids.
 pub fn build(alloc: Global, desc: ScheduleDesc) -> Result<Built, BuildFault>
     ensures buildable { OnOk result (IsBuildable desc) }
     ensures systems { IfOk result (HasDeclaredSystems desc) }
     ensures edges { IfOk result (HasDeclaredEdges desc) }
     ensures levels { IfOk result (HasLevels desc) }
     ensures order { IfOk result IsScheduleOrder }
-    ensures conditions { IfOk result (λ built. built.conditions ≡ []) }
+    ensures conditions { IfOk result (HasDeclaredConditions desc) }
+    ensures silences { IfOk result (HasDeclaredSilences desc) }
 
     // Want of memory tells nothing of what is declared.
     ensures refused { IfErr result (IsAnswered desc) }
 {
-    let edges = checked(alloc, &desc)?;
-    let flat = scheduled(alloc, desc.into_systems(), edges.all.as_slice())?;
-    let levels = found_levels(alloc, flat.as_slice(), edges.plain.as_slice())?;
+    let found = checked(alloc, &desc)?;
+    let parts = desc.into_parts(alloc)?;
+    let flat = scheduled(alloc, parts.params, found.edges.as_slice())?;
+    let levels = found_levels(alloc, flat.as_slice(), found.plain.as_slice())?;
     let syncs = syncs_of(levels.as_slice());
     let systems = levelled(alloc, flat, levels.as_slice())?;
     let order = order_of(alloc, systems.as_slice())?;
-    let built = Built::of_parts(alloc, systems, syncs, order)?;
+    let conditions = scheduled_conditions(alloc, parts.conditions, found.coverage.as_slice())?;
+    let built = Built::of_parts(
+        alloc,
+        systems,
+        conditions,
+        syncs,
+        order,
+        found.silences,
+    )?;
     Ok(built)
 }

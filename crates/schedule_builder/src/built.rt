@@ -2,14 +2,16 @@
 
 ghost use Rattle.std.specs.Prelude.{◌≡◌, ◌<◌, ℕ, [], length, get_or, IfOk};
 ghost use Rattle.model.specs.access.SelfConflict.{ConflictWithin};
-ghost use Rattle.model.specs.steps.Schedule.{system_at, condition_at, params_of, level_of};
+ghost use Rattle.model.specs.steps.Schedule.{system_at, condition_at, params_of, level_of, is_silenced};
 ghost use Rattle.model.specs.steps.Built.{IsBuilt};
 ghost use Rattle.schedule_builder.specs.Rows.{IsRow, IsBefore, IsRival, AreApart};
 ghost use Rattle.model.specs.Counts.{count_below};
 ghost use Rattle.schedule_builder.specs.Counts.{IsListing, IsAfter, waits_for, is_at};
+ghost use Rattle.schedule_builder.specs.ScheduleOrder.{schedule_with};
 ghost use Rattle.schedule_builder.specs.Conditions.{IsRisingListing, IsCovering, IsClash};
 
 pub use crate::condition::Condition;
+use crate::condition::has_number;
 use crate::condition_rows::{lists_of_conditions, rows_of_clashes};
 use crate::counts::{counts_at, counts_before, lists_after};
 use crate::listing::Listing;
@@ -21,14 +23,15 @@ use number_set::NumberSet;
 use std::alloc::{AllocError, Global};
 use std::marker::Model;
 
-/// A schedule as it was built. Contracts see a `Schedule` of the model, which has no conditions yet; every value meets
-/// `IsBuilt`, and no system's parameters conflict among themselves.
+/// A schedule as it was built. Contracts see a `Schedule` of the model; every value meets `IsBuilt`, and no system's parameters
+/// conflict among themselves.
 #[derive(Drop)]
 pub struct Built {
     systems: Vec<System>,
     conditions: Vec<Condition>,
     syncs: u32,
     order: Vec<u32>,
+    silences: Vec<Listing>,
     asked_by: Vec<Listing>,
     clashes: Vec<NumberSet>,
     before: Vec<NumberSet>,
@@ -51,40 +54,27 @@ impl Model for Built {
 
     ghost coded = { schedule_code };
 
-    ghost view = { λ b. record { systems = b.systems.items; conditions = b.conditions.items; syncs = b.syncs; order = b.order.items } };
+    ghost view = { λ b. record { systems = b.systems.items; conditions = b.conditions.items; syncs = b.syncs; order = b.order.items; silences = b.silences.items } };
 
-    ghost invariant = { λ b. (b.conditions.items ≡ []) × IsBuilt (record { systems = b.systems.items; conditions = b.conditions.items; syncs = b.syncs; order = b.order.items }) × HasConditionRows b.systems.items b.conditions.items b.asked_by.items b.clashes.items × HasRows b.systems.items b.before.items b.rivals.items × AreApart b.systems.items × HasCounts b.systems.items b.after.items b.waits.items b.sizes.items };
+    ghost invariant = { λ b. IsBuilt (record { systems = b.systems.items; conditions = b.conditions.items; syncs = b.syncs; order = b.order.items; silences = b.silences.items }) × HasConditionRows b.systems.items b.conditions.items b.asked_by.items b.clashes.items × HasRows b.systems.items b.before.items b.rivals.items × AreApart b.systems.items × HasCounts b.systems.items b.after.items b.waits.items b.sizes.items };
 }
 
 impl Built {
-    /// A schedule of its parts, without conditions, as `with_conditions` makes it.
+    /// A schedule of its parts: the systems in declared order, the conditions by number, how many sync points there are, the schedule
+    /// order, and for each system those with which it may be ambiguous. Asks that the parts meet `IsBuilt` and that no system's
+    /// parameters conflict among themselves. What each system waits for, what waits for it, which ones it conflicts with, how many are
+    /// on each level, which conditions cover it and which systems conflict with a condition is found out here, once.
     pub(crate) fn of_parts(
-        alloc: Global,
-        systems: Vec<System>,
-        syncs: u32,
-        order: Vec<u32>,
-    ) -> Result<Self, AllocError>
-        requires built { IsBuilt (record { systems = systems.items; conditions = []; syncs = syncs; order = order.items }) }
-        requires apart { AreApart systems.items }
-        ensures { IfOk result (λ built. built ≡ record { systems = systems.items; conditions = []; syncs = syncs; order = order.items }) }
-    {
-        Built::with_conditions(alloc, systems, Vec::new(alloc), syncs, order)
-    }
-
-    /// A schedule of its parts: the systems in declared order, the conditions by number, how many sync points there are, and the schedule order. Asks
-    /// that the parts meet `IsBuilt` and that no system's parameters conflict among themselves. What each system waits for, what
-    /// waits for it, which ones it conflicts with and how many are on each level is found out here, once.
-    pub(crate) fn with_conditions(
         alloc: Global,
         systems: Vec<System>,
         conditions: Vec<Condition>,
         syncs: u32,
         order: Vec<u32>,
+        silences: Vec<Listing>,
     ) -> Result<Self, AllocError>
-        requires built { IsBuilt (record { systems = systems.items; conditions = conditions.items; syncs = syncs; order = order.items }) }
+        requires built { IsBuilt (schedule_with systems.items conditions.items syncs order.items silences.items) }
         requires apart { AreApart systems.items }
-        requires none { conditions.items ≡ [] }
-        ensures { IfOk result (λ built. built ≡ record { systems = systems.items; conditions = conditions.items; syncs = syncs; order = order.items }) }
+        ensures { IfOk result (λ built. built ≡ schedule_with systems.items conditions.items syncs order.items silences.items) }
     {
         let before = rows_before(alloc, systems.as_slice())?;
         let rivals = rows_of_rivals(alloc, systems.as_slice())?;
@@ -98,6 +88,7 @@ impl Built {
             conditions,
             syncs,
             order,
+            silences,
             asked_by,
             clashes,
             before,
@@ -111,13 +102,14 @@ impl Built {
     /// The schedule with no system and one sync point.
     #[tactic(auto, unfolding(crate::specs::Counts::HasCounts, crate::specs::Conditions::HasConditionRows))]
     pub fn empty(alloc: Global) -> Self
-        ensures { result ≡ record { systems = []; conditions = []; syncs = 1; order = [] } }
+        ensures { result ≡ record { systems = []; conditions = []; syncs = 1; order = []; silences = [] } }
     {
         Built {
             systems: Vec::new(alloc),
             conditions: Vec::new(alloc),
             syncs: 1,
             order: Vec::new(alloc),
+            silences: Vec::new(alloc),
             asked_by: Vec::new(alloc),
             clashes: Vec::new(alloc),
             before: Vec::new(alloc),
@@ -139,13 +131,6 @@ impl Built {
     /// one of them writes.
     pub fn apart(&self)
         ensures { (n : ℕ) → n < length self.now.systems → ConflictWithin (params_of self.now n) → ⊥ }
-    {
-        let _ = &self.syncs;
-    }
-
-    /// A built schedule has no conditions yet.
-    pub fn no_conditions(&self)
-        ensures { self.now.conditions ≡ [] }
     {
         let _ = &self.syncs;
     }
@@ -248,6 +233,16 @@ impl Built {
         ensures { result.now ≡ self.now.order }
     {
         self.order.as_slice()
+    }
+
+    /// Whether two systems are declared to be ambiguous with one another.
+    pub fn is_silenced(&self, first: u32, second: u32) -> bool
+        ensures { result ≡ is_silenced self.now first second }
+    {
+        match self.silences.get(first as usize) {
+            Some(others) => has_number(others.numbers(), second),
+            None => false,
+        }
     }
 
     /// The systems with an edge to a system, as a set.

@@ -1,11 +1,12 @@
 // A run condition of a built schedule.
 
-ghost use Rattle.std.specs.Prelude.{◌≡◌};
+ghost use Rattle.std.specs.Prelude.{◌≡◌, IfOk};
 ghost use Rattle.model.specs.Lists.{has};
 ghost use Rattle.model.specs.access.Condition.{access_of_condition};
 
 use access_set::params::Params;
 use run_condition::Cond;
+use std::alloc::{AllocError, Global};
 use std::marker::Model;
 
 /// A run condition of a built schedule: what it asks, and the systems that it covers. Contracts see these two.
@@ -32,6 +33,18 @@ impl Model for Condition {
 }
 
 impl Condition {
+    /// A condition that covers these systems. What it asks about is worked out here, once.
+    pub(crate) fn new(alloc: Global, cond: Cond, covers: Vec<u32>) -> Result<Self, AllocError>
+        ensures { IfOk result (λ made. made ≡ record { condition = cond; covers = covers.items }) }
+    {
+        let access = cond.access(alloc)?;
+        Ok(Condition {
+            cond,
+            access,
+            covers,
+        })
+    }
+
     /// What it asks.
     pub fn cond(&self) -> &Cond
         ensures { result.now ≡ self.now.condition }
@@ -61,8 +74,8 @@ impl Condition {
     }
 }
 
-// Whether the number is among these.
-fn has_number(numbers: &[u32], number: u32) -> bool
+/// Whether the number is among these.
+pub(crate) fn has_number(numbers: &[u32], number: u32) -> bool
     ensures { result ≡ has number numbers.now }
 {
     numbers.iter().any(|other| *other == number)

@@ -4,11 +4,13 @@ ghost use Rattle.std.specs.Prelude.{◌≡◌, ◌<◌, ◌++◌, ◌∷◌, [],
 ghost use Rattle.model.specs.declarations.Declarations.{items_of, item_at, declared_at, plain_item};
 
 use access_set::params::Params;
+use run_condition::Cond;
 use std::alloc::{AllocError, Global};
 use std::marker::Model;
 
 /// A declared item, which is a set, or what a system has besides its parameters: its name, the names of the sets that it is in, those
-/// of the items that it runs before and after, and of those with which it may be ambiguous. Contracts see names by their bytes.
+/// of the items that it runs before and after, and of those with which it may be ambiguous, and the conditions on which it runs.
+/// Contracts see names by their bytes.
 #[derive(Drop)]
 pub struct ItemDesc {
     name: String,
@@ -18,6 +20,7 @@ pub struct ItemDesc {
     before_ignore_deferred: Vec<String>,
     after_ignore_deferred: Vec<String>,
     ambiguous_with: Vec<String>,
+    conditions: Vec<Cond>,
 }
 
 impl Model for ItemDesc {
@@ -29,11 +32,11 @@ impl Model for ItemDesc {
 
     ghost coded = { item_code };
 
-    ghost view = { λ i. record { name = string_bytes i.name; inside = map string_bytes i.inside.items; before = map string_bytes i.before.items; after = map string_bytes i.after.items; before_ignore_deferred = map string_bytes i.before_ignore_deferred.items; after_ignore_deferred = map string_bytes i.after_ignore_deferred.items; ambiguous_with = map string_bytes i.ambiguous_with.items } };
+    ghost view = { λ i. record { name = string_bytes i.name; inside = map string_bytes i.inside.items; before = map string_bytes i.before.items; after = map string_bytes i.after.items; before_ignore_deferred = map string_bytes i.before_ignore_deferred.items; after_ignore_deferred = map string_bytes i.after_ignore_deferred.items; ambiguous_with = map string_bytes i.ambiguous_with.items; conditions = i.conditions.items } };
 }
 
 impl ItemDesc {
-    /// An item with this name, in no set, before and after nothing.
+    /// An item with this name, in no set, before and after nothing, without conditions.
     pub fn new(alloc: Global, name: String) -> Self
         ensures { result ≡ plain_item (string_bytes name) }
     {
@@ -45,6 +48,7 @@ impl ItemDesc {
             before_ignore_deferred: Vec::new(alloc),
             after_ignore_deferred: Vec::new(alloc),
             ambiguous_with: Vec::new(alloc),
+            conditions: Vec::new(alloc),
         }
     }
 
@@ -104,6 +108,15 @@ impl ItemDesc {
         Ok(())
     }
 
+    /// Declares that the item runs on this condition, besides those that it has. Where memory is wanting nothing is declared.
+    pub fn add_condition(&mut self, condition: Cond) -> Result<(), AllocError>
+        ensures ok { OnOk result (self.new ≡ record self.old { conditions = self.old.conditions ++ condition ∷ [] }) }
+        ensures err { OnErr result (self.new ≡ self.old) }
+    {
+        self.conditions.push(condition)?;
+        Ok(())
+    }
+
     /// The name.
     pub fn name(&self) -> &str
         ensures { result.now ≡ self.now.name }
@@ -151,6 +164,20 @@ impl ItemDesc {
         ensures { map string_bytes result.now ≡ self.now.ambiguous_with }
     {
         self.ambiguous_with.as_slice()
+    }
+
+    /// The conditions on which it runs, as declared.
+    pub fn conditions(&self) -> &[Cond]
+        ensures { result.now ≡ self.now.conditions }
+    {
+        self.conditions.as_slice()
+    }
+
+    /// The conditions alone.
+    pub fn into_conditions(self) -> Vec<Cond>
+        ensures { result.items ≡ self.conditions }
+    {
+        self.conditions
     }
 }
 
@@ -214,6 +241,14 @@ impl SystemDesc {
         self.item.add_after(name)
     }
 
+    /// Declares that the system runs on this condition, besides those that it has. Where memory is wanting nothing is declared.
+    pub fn add_condition(&mut self, condition: Cond) -> Result<(), AllocError>
+        ensures ok { OnOk result (self.new ≡ record self.old { item = record self.old.item { conditions = self.old.item.conditions ++ condition ∷ [] } }) }
+        ensures err { OnErr result (self.new ≡ self.old) }
+    {
+        self.item.add_condition(condition)
+    }
+
     /// What it has besides its parameters.
     pub fn item(&self) -> &ItemDesc
         ensures { result.now ≡ self.now.item }
@@ -228,11 +263,11 @@ impl SystemDesc {
         &self.params
     }
 
-    /// The parameters alone.
-    pub fn into_params(self) -> Params
-        ensures { result ≡ self.params }
+    /// The item and the parameters.
+    pub fn into_parts(self) -> (ItemDesc, Params)
+        ensures { result ≡ (self.item, self.params) }
     {
-        self.params
+        (self.item, self.params)
     }
 }
 
@@ -397,10 +432,11 @@ impl ScheduleDesc {
         }
     }
 
-    /// The systems alone, in declared order.
-    pub fn into_systems(self) -> Vec<SystemDesc>
-        ensures { result.items ≡ self.systems }
+    /// The sets and the systems, each in declared order.
+    pub fn into_items(self) -> (Vec<ItemDesc>, Vec<SystemDesc>)
+        ensures sets { result.0.items ≡ self.sets }
+        ensures systems { result.1.items ≡ self.systems }
     {
-        self.systems
+        (self.sets, self.systems)
     }
 }

@@ -44,8 +44,17 @@ pub enum BuildFault {
         query: usize,
         case: u32,
     },
-    /// B12: the number of the least limit that is passed (1: at most 256 systems, 2: at most 64 sets, 4: at most 8
-    /// queries in a system).
+    /// B10: the first condition with a query at fault: its number, the number of its first such query, from the left, and the least
+    /// fault of that.
+    BadConditionQuery {
+        condition: usize,
+        query: usize,
+        case: u32,
+    },
+    /// B11: the number of the first condition of which a query writes.
+    ConditionWrites(usize),
+    /// B12: the number of the least limit that is passed (1: at most 256 systems, 2: at most 64 sets, 3: at most 512 conditions, 4: at
+    /// most 8 queries in a system, 5: at most 1,024 ids at a start).
     OverLimit(u32),
     /// Memory is wanting.
     Memory,
@@ -79,6 +88,12 @@ impl fmt::Display for BuildFault {
                 f,
                 "refused B10 {owner} {query} {case}"
             ),
+            BuildFault::BadConditionQuery {
+                condition,
+                query,
+                case,
+            } => write!(f, "refused B10 #{condition} {query} {case}"),
+            BuildFault::ConditionWrites(condition) => write!(f, "refused B11 #{condition}"),
             BuildFault::OverLimit(limit) => write!(f, "refused B12 {limit}"),
             BuildFault::Memory => write!(f, "error memory"),
         }

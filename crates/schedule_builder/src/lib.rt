@@ -1,6 +1,7 @@
 // The builder: declared systems and orders become a built schedule, or the first thing at fault is told.
 #![tactic(auto)]
 
+mod asked;
 pub mod builder;
 pub mod built;
 pub mod condition;
@@ -12,6 +13,7 @@ mod levels;
 mod listing;
 mod names;
 mod orders;
+mod parts;
 mod query_faults;
 mod rows;
 mod schedule_order;

@@ -2,7 +2,7 @@
 
 ghost use Rattle.std.specs.Prelude.{◌≡◌, ◌≤◌, ◌<◌, ◌++◌, map, flat_map, IfOk, IfErr, OnOk, string_bytes, length};
 ghost use Rattle.model.specs.declarations.Walks.{EachIs};
-ghost use Rattle.model.specs.declarations.Declarations.{items_of, item_at, number_of, bounded, names_in, names_along, looked_up, orders_before, orders_after, orders_in, plain_orders_in, orders_along, plain_orders_along, hierarchy_of, declared_orders, plain_orders};
+ghost use Rattle.model.specs.declarations.Declarations.{items_of, item_at, number_of, bounded, names_in, names_along, looked_up, orders_before, orders_after, orders_in, plain_orders_in, orders_along, plain_orders_along, hierarchy_of, declared_orders, plain_orders, declared_silences};
 ghost use Rattle.model.specs.declarations.Refusals.{IsKnown, KnowsNames};
 ghost use Rattle.system_set.specs.Pairs.{ArePlaced, pairs_of};
 ghost use Rattle.schedule_builder.specs.Answers.{IsAnswered};
@@ -25,6 +25,8 @@ pub(crate) struct Resolved {
     pub(crate) orders: Vec<Order>,
     /// The plain orders.
     pub(crate) plain: Vec<Order>,
+    /// The items that may be ambiguous.
+    pub(crate) silences: Vec<Order>,
 }
 
 /// The number of the item with a name; where there is none, how many items there are.
@@ -305,7 +307,24 @@ fn plain_orders_of(
     Ok(orders)
 }
 
-/// What is in which sets, and the declared orders. The error tells the first name looked up that no item has, or no set where it is that
+/// The pairs of items that may be ambiguous, in order.
+fn silences_of(
+    alloc: Global,
+    desc: &ScheduleDesc,
+    places: &BTreeMap<String, usize>,
+) -> Result<Vec<Order>, AllocError>
+    requires { TellsPlaces desc.now places.now }
+    ensures { IfOk result (λ pairs. pairs_of pairs.items ≡ declared_silences desc.now) }
+{
+    let mut pairs = Vec::new(alloc);
+    for number in 0..desc.count() {
+        let item = desc.item(number);
+        push_before(desc, places, number, item.ambiguous_with(), &mut pairs)?;
+    }
+    Ok(pairs)
+}
+
+/// What is in which sets, the declared orders, and which items may be ambiguous. The error tells the first name looked up that no item has, or no set where it is that
 /// of a set to be in.
 pub(crate) fn resolve(
     alloc: Global,
@@ -313,7 +332,7 @@ pub(crate) fn resolve(
     places: &BTreeMap<String, usize>,
 ) -> Result<Resolved, BuildFault>
     requires { TellsPlaces desc.now places.now }
-    ensures declared { IfOk result (λ r. AreDeclared desc.now r.inside.items r.orders.items r.plain.items) }
+    ensures declared { IfOk result (λ r. AreDeclared desc.now r.inside.items r.orders.items r.plain.items r.silences.items) }
     ensures known { OnOk result (KnowsNames desc.now) }
     ensures refused { IfErr result (IsAnswered desc.now) }
 {
@@ -322,6 +341,7 @@ pub(crate) fn resolve(
         inside: inside_of(alloc, desc, places)?,
         orders: orders_of(alloc, desc, places)?,
         plain: plain_orders_of(alloc, desc, places)?,
+        silences: silences_of(alloc, desc, places)?,
     })
 }
 

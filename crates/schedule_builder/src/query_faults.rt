@@ -8,7 +8,7 @@ use crate::desc::ScheduleDesc;
 use query::Query;
 
 /// The number of the least fault of a query.
-fn fault_of(query: &Query) -> Option<u32>
+pub(crate) fn fault_of(query: &Query) -> Option<u32>
     ensures { result ≡ query_fault query.now }
 {
     match query.check() {

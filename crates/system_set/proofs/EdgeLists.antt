@@ -42,16 +42,16 @@ member_system sets rows item n past = go (nat_lt item sets) refl
     go false e = refl
 
 -- what is reached is a set
-record HasSets (h : Hierarchy) : Type 0 where
-  sets : (n holder : ℕ) → Reaches h n holder → holder < h.sets
+pub record HasSets (h : Hierarchy) : Type 0 where
+  pub sets : (n holder : ℕ) → Reaches h n holder → holder < h.sets
 
-member_told : (h : Hierarchy) (rows : List (List Bool)) → AreRows h h.sets rows → (item n : ℕ) → h.sets ≤ n → n < h.items → has_member h.sets rows item n ≡ true → IsMemberOf h item n
+pub member_told : (h : Hierarchy) (rows : List (List Bool)) → AreRows h h.sets rows → (item n : ℕ) → h.sets ≤ n → n < h.items → has_member h.sets rows item n ≡ true → IsMemberOf h item n
 member_told h rows are item n system known e = elim (cases_lt item h.sets) [
   | inl low ↦ inr (record { system = system; known = known; reaches = ((are.each item low).tells n).0 (sym (member_set h.sets rows item n low) ∙ e) })
   | inr past ↦ inl (record { system = system; known = known; same = eqb-true item n (sym (member_system h.sets rows item n past) ∙ e) })
 ]
 
-member_test : (h : Hierarchy) (rows : List (List Bool)) → AreRows h h.sets rows → HasSets h → (item n : ℕ) → IsMemberOf h item n → has_member h.sets rows item n ≡ true
+pub member_test : (h : Hierarchy) (rows : List (List Bool)) → AreRows h h.sets rows → HasSets h → (item n : ℕ) → IsMemberOf h item n → has_member h.sets rows item n ≡ true
 member_test h rows are sets item n (inl itself) =
     let past : h.sets ≤ item = omega (arith, itself.system, itself.same) in
     member_system h.sets rows item n past ∙ eq-eqb item n itself.same

@@ -3,3 +3,4 @@ pub mod Reaching
 pub mod Nodes
 pub mod Ordered
 pub mod EdgeLists
+pub mod Coverages

@@ -124,13 +124,13 @@ marked_none sets marks = record {
   rising = tt;
 }
 
-has_push : (n item : ℕ) (xs : List ℕ) → has n (xs ++ item ∷ []) ≡ true → (has n xs ≡ true) ⊎ (item ≡ n)
+pub has_push : (n item : ℕ) (xs : List ℕ) → has n (xs ++ item ∷ []) ≡ true → (has n xs ≡ true) ⊎ (item ≡ n)
 has_push n item xs e = elim (or_cases (has n xs) (has n (item ∷ [])) (sym (has-append n xs (item ∷ [])) ∙ e)) [
   | inl old ↦ inl old
   | inr new ↦ elim (or_cases (eqb item n) false new) [ inl here ↦ inr (eqb-true item n here) | inr none ↦ absurd (false≢true none) ]
 ]
 
-rising_push : (xs : List ℕ) (item : ℕ) → IsRising xs → ((n : ℕ) → has n xs ≡ true → n < item) → IsRising (xs ++ item ∷ [])
+pub rising_push : (xs : List ℕ) (item : ℕ) → IsRising xs → ((n : ℕ) → has n xs ≡ true → n < item) → IsRising (xs ++ item ∷ [])
 rising_push [] item rising below = ((λ m e. absurd (false≢true e)), tt)
 rising_push (x ∷ xs) item rising below = (
   (λ m e. elim (has_push m item xs e) [

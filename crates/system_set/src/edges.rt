@@ -12,9 +12,9 @@ use cycle_search::Order;
 use std::alloc::{AllocError, Global};
 use std::marker::Model;
 
-// What reaches a set, by a mark for each item. Contracts see the marks.
+/// What reaches a set, by a mark for each item. Contracts see the marks.
 #[derive(Drop)]
-struct Reaching {
+pub(crate) struct Reaching {
     marks: Vec<bool>,
 }
 
@@ -67,8 +67,8 @@ pub(crate) fn edges_of(
     Ok(edges)
 }
 
-// What reaches each set.
-fn rows_of(
+/// What reaches each set.
+pub(crate) fn rows_of(
     alloc: Global,
     sets: usize,
     items: usize,
@@ -101,8 +101,8 @@ fn row_of(
     Ok(Reaching { marks })
 }
 
-// Whether a system is a member of an item.
-fn is_member_of(sets: usize, rows: &[Reaching], item: usize, system: usize) -> bool
+/// Whether a system is a member of an item.
+pub(crate) fn is_member_of(sets: usize, rows: &[Reaching], item: usize, system: usize) -> bool
     requires { length rows.now ≡ sets }
     ensures { result ≡ has_member sets rows.now item system }
 {

@@ -10,7 +10,9 @@ ghost use Rattle.system_set.specs.Pairs.{IsHierarchyFault, TellsSelf, lesser_of,
 ghost use Rattle.system_set.specs.Nodes.{TellsCycle};
 ghost use Rattle.system_set.specs.Ordered.{TellsCrossing, TellsSharing};
 ghost use Rattle.system_set.specs.Edges.{AreEdges};
+ghost use Rattle.system_set.specs.Coverage.{AreCovered};
 
+use crate::coverage::{Members, coverage_of};
 use crate::crossings::first_crossing;
 use crate::cycles::cycle_of_items;
 use crate::edges::edges_of;
@@ -137,6 +139,15 @@ impl SetHierarchy {
         ensures { IfOk result (λ edges. AreEdges self.now (pairs_of orders.now) edges.items) }
     {
         edges_of(alloc, self.sets, self.items, self.inside.as_slice(), orders)
+    }
+
+    /// For each of these items its members by their numbers among the systems, in rising order. A system is its own only member. What
+    /// reaches each set is found once, and then each system is looked at for each of these items.
+    pub fn coverage(&self, alloc: Global, items: &[usize]) -> Result<Vec<Members>, AllocError>
+        requires { self.now.items < 2 ^ 32 }
+        ensures { IfOk result (λ lists. AreCovered self.now items.now lists.items) }
+    {
+        coverage_of(alloc, self.sets, self.items, self.inside.as_slice(), items)
     }
 }
 

@@ -1,6 +1,7 @@
 // Sets of systems: which items are in which sets, whether sets hold one another in a circle, and the members of each.
 #![tactic(auto)]
 
+mod coverage;
 mod crossings;
 mod cycles;
 mod edges;
@@ -11,6 +12,7 @@ mod sharing;
 #[cfg(test)]
 mod tests;
 
+pub use coverage::Members;
 pub use fault::HierarchyFault;
 pub use hierarchy::SetHierarchy;
 pub use sharing::Sharing;

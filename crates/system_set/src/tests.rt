@@ -111,3 +111,21 @@ fn orders_reach_members(rt: HostRuntime) -> Result<(), Fail> {
     assert_eq!(rt; hierarchy.sharing(alloc, &shared)?, Some(found));
     Ok(())
 }
+
+#[test]
+fn items_cover_their_members(rt: HostRuntime) -> Result<(), Fail> {
+    let alloc = rt.alloc();
+    let mut hierarchy = SetHierarchy::new(alloc, 4, 3);
+    hierarchy.put(0, 2)?;
+    hierarchy.put(6, 2)?;
+    hierarchy.put(4, 0)?;
+    hierarchy.put(5, 1)?;
+    let items = [2, 4, 3, 0];
+    let told = hierarchy.coverage(alloc, items.as_slice())?;
+    assert_eq!(rt; told.len(), 4);
+    assert_eq!(rt; told[0].numbers(), [0, 2].as_slice());
+    assert_eq!(rt; told[1].numbers(), [0].as_slice());
+    assert_eq!(rt; told[2].numbers(), [].as_slice());
+    assert_eq!(rt; told[3].numbers(), [0].as_slice());
+    Ok(())
+}

@@ -59,7 +59,7 @@ system params = system_after [] params
 
 -- a schedule of one level and these systems in this order, without conditions
 abbrev pub plain : List ScheduledSystem → List ℕ → Schedule
-plain systems order = record { systems = systems; conditions = []; syncs = 1; order = order }
+plain systems order = record { systems = systems; conditions = []; syncs = 1; order = order; silences = [] }
 
 -- a condition that covers these
 abbrev pub condition : Condition → List ℕ → ScheduledCondition

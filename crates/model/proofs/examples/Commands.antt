@@ -170,6 +170,7 @@ deferring = record {
   conditions = [];
   syncs = 2;
   order = 0 ∷ 1 ∷ [];
+  silences = [];
 }
 
 seen_after_sync : option_map (λ (w : State). value_of w.world.resources total) (serially deferring counting (loaded deferring [] zeros) (Start 0 ∷ Finish 0 ∷ Sync 0 ∷ Start 1 ∷ Finish 1 ∷ Sync 1 ∷ [])) ≡ Some (pos 1)

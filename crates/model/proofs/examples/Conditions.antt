@@ -37,6 +37,7 @@ guarded = record {
   conditions = condition (ResourceEquals round (pos 9)) (0 ∷ 1 ∷ 2 ∷ []) ∷ [];
   syncs = 1;
   order = 0 ∷ 1 ∷ 2 ∷ 3 ∷ [];
+  silences = [];
 }
 
 abbrev guarded_bodies : List BodyMeaning
@@ -73,6 +74,7 @@ changing = record {
   conditions = condition (ResourceEquals round (pos 1)) (1 ∷ []) ∷ [];
   syncs = 1;
   order = 0 ∷ 1 ∷ 2 ∷ [];
+  silences = [];
 }
 
 abbrev changers : List BodyMeaning
@@ -126,6 +128,7 @@ telling least = record {
   conditions = condition RunOnce (0 ∷ []) ∷ condition (ResourceAtLeast round least) (1 ∷ []) ∷ [];
   syncs = 1;
   order = 0 ∷ 1 ∷ 2 ∷ [];
+  silences = [];
 }
 
 abbrev tellers : List BodyMeaning
@@ -189,7 +192,7 @@ abbrev two_readers : Condition
 two_readers = And (OnEvent hit) (Not (OnEvent hit))
 
 abbrev asking : Schedule
-asking = record { systems = system no_params ∷ []; conditions = condition two_readers (0 ∷ []) ∷ []; syncs = 1; order = 0 ∷ [] }
+asking = record { systems = system no_params ∷ []; conditions = condition two_readers (0 ∷ []) ∷ []; syncs = 1; order = 0 ∷ []; silences = [] }
 
 abbrev one_kept : State
 one_kept = record (loaded asking [] zeros) {
@@ -204,7 +207,7 @@ own_cursors = refl
 -- ---- a schedule without systems: one sync point
 
 abbrev empty : Schedule
-empty = record { systems = []; conditions = []; syncs = 1; order = [] }
+empty = record { systems = []; conditions = []; syncs = 1; order = []; silences = [] }
 
 empty_run : option_map (λ (w : State). w.world.clock) (serially empty [] (loaded empty [] zeros) (Sync 0 ∷ [])) ≡ Some 3
 unfolding computed

@@ -52,6 +52,7 @@ writer_and_asker = record {
   conditions = condition (ResourceAtLeast round (pos 0)) (1 ∷ []) ∷ [];
   syncs = 1;
   order = 0 ∷ 1 ∷ [];
+  silences = [];
 }
 
 asked_too_early : fault_after writer_and_asker (Start 0 ∷ []) (Cond 0 true) ≡ Some Conflict
@@ -66,7 +67,7 @@ abbrev unconditional : Schedule
 unconditional = plain (system no_params ∷ []) (0 ∷ [])
 
 abbrev conditional : Schedule
-conditional = record { systems = system no_params ∷ []; conditions = condition (ResourceEquals round (pos 9)) (0 ∷ []) ∷ []; syncs = 1; order = 0 ∷ [] }
+conditional = record { systems = system no_params ∷ []; conditions = condition (ResourceEquals round (pos 9)) (0 ∷ []) ∷ []; syncs = 1; order = 0 ∷ []; silences = [] }
 
 skip_without_condition : fault_after unconditional [] (Skip 0) ≡ Some ConditionTrue
 skip_without_condition = refl
@@ -126,6 +127,7 @@ asked_rivals = record {
   conditions = condition (ResourceEquals round (pos 0)) (1 ∷ []) ∷ [];
   syncs = 1;
   order = 0 ∷ 1 ∷ [];
+  silences = [];
 }
 
 open_before_conflict : fault_after asked_rivals (Start 0 ∷ []) (Start 1) ≡ Some ConditionOpen

@@ -18,6 +18,7 @@ levelled order = record {
   conditions = [];
   syncs = 2;
   order = order;
+  silences = [];
 }
 
 -- a list that places b before u is no schedule order

@@ -23,7 +23,7 @@ use Rattle.model.proofs.examples.Bodies.{round, system, condition, zeros, comput
 
 -- a system whose body refuses with 7, where Round is 9
 abbrev guarded : Schedule
-guarded = record { systems = system no_params ∷ []; conditions = condition (ResourceEquals round (pos 9)) (0 ∷ []) ∷ []; syncs = 1; order = 0 ∷ [] }
+guarded = record { systems = system no_params ∷ []; conditions = condition (ResourceEquals round (pos 9)) (0 ∷ []) ∷ []; syncs = 1; order = 0 ∷ []; silences = [] }
 
 abbrev refusing : List BodyMeaning
 refusing = (λ shown. Err 7) ∷ []

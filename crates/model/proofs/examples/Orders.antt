@@ -41,6 +41,7 @@ with_set predecessors = record {
   conditions = condition (ResourceAtLeast round (pos 0)) (1 ∷ 2 ∷ []) ∷ [];
   syncs = 1;
   order = 0 ∷ 1 ∷ 2 ∷ [];
+  silences = [];
 }
 
 -- no path leads from the writer to a system without predecessors

@@ -2,7 +2,8 @@
 use Rattle.std.specs.Prelude.{ℕ, Bool, refl, List}
 use Rattle.std.specs.Coded.{Coded, code_by, coded×, coded_ℕ, coded_bool, coded_list}
 use Rattle.model.specs.access.Access.{Params}
-use Rattle.model.specs.steps.Codes.{params_code}
+use Rattle.model.specs.access.Condition.{Condition}
+use Rattle.model.specs.steps.Codes.{condition_code, params_code}
 use Rattle.model.specs.declarations.Declarations.{DeclaredItem, DeclaredSystem, DeclaredChain, Declared}
 
 -- a list of names
@@ -13,10 +14,10 @@ abbrev names_code : Coded Names
 names_code = coded_list (coded_list coded_ℕ)
 
 abbrev pub item_code : Coded DeclaredItem
-item_code = code_by (List ℕ × (Names × (Names × (Names × (Names × (Names × Names))))))
-    (coded× (coded_list coded_ℕ) (coded× names_code (coded× names_code (coded× names_code (coded× names_code (coded× names_code names_code))))))
-    (λ i. (i.name, (i.inside, (i.before, (i.after, (i.before_ignore_deferred, (i.after_ignore_deferred, i.ambiguous_with)))))))
-    (λ p. record { name = p.0; inside = p.1.0; before = p.1.1.0; after = p.1.1.1.0; before_ignore_deferred = p.1.1.1.1.0; after_ignore_deferred = p.1.1.1.1.1.0; ambiguous_with = p.1.1.1.1.1.1 })
+item_code = code_by (List ℕ × (Names × (Names × (Names × (Names × (Names × (Names × List Condition)))))))
+    (coded× (coded_list coded_ℕ) (coded× names_code (coded× names_code (coded× names_code (coded× names_code (coded× names_code (coded× names_code (coded_list condition_code))))))))
+    (λ i. (i.name, (i.inside, (i.before, (i.after, (i.before_ignore_deferred, (i.after_ignore_deferred, (i.ambiguous_with, i.conditions))))))))
+    (λ p. record { name = p.0; inside = p.1.0; before = p.1.1.0; after = p.1.1.1.0; before_ignore_deferred = p.1.1.1.1.0; after_ignore_deferred = p.1.1.1.1.1.0; ambiguous_with = p.1.1.1.1.1.1.0; conditions = p.1.1.1.1.1.1.1 })
     (λ _. refl)
 
 abbrev pub declared_system_code : Coded DeclaredSystem

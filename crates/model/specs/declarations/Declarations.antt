@@ -1,13 +1,16 @@
--- What a program declares of a schedule: sets, systems and chains by name, what is in which sets, the orders among them, and what its
--- systems touch.
+-- What a program declares of a schedule: sets, systems and chains by name, what is in which sets, the orders among them, on which
+-- conditions they run, and what its systems touch.
 use Rattle.std.specs.Prelude.{ℕ, suc, ◌<◌, ◌≡◌, Bool, if◌then◌else◌, List, [], ◌∷◌, ◌++◌, length, map, flat_map, get_or}
 use Rattle.std.specs.Str.{bytes_eq}
 use Rattle.model.specs.Lists.{map_index}
 use Rattle.model.specs.access.Access.{Params, no_params}
+use Rattle.model.specs.access.Condition.{Condition}
+use Rattle.model.specs.access.Condition.Condition.{RunOnce}
 use Rattle.model.specs.declarations.Hierarchy.{Hierarchy}
 
 -- a set or a system: its name, by its bytes, the names of the sets that it is in, of the items that it runs before and after, of those
--- that it runs before and after whatever commands are deferred, and of those with which it may be ambiguous
+-- that it runs before and after whatever commands are deferred, and of those with which it may be ambiguous; and the conditions on
+-- which it runs
 pub record DeclaredItem : Type 0 where
   pub name : List ℕ
   pub inside : List (List ℕ)
@@ -16,6 +19,7 @@ pub record DeclaredItem : Type 0 where
   pub before_ignore_deferred : List (List ℕ)
   pub after_ignore_deferred : List (List ℕ)
   pub ambiguous_with : List (List ℕ)
+  pub conditions : List Condition
 
 -- an item with this name and nothing else
 abbrev pub plain_item : List ℕ → DeclaredItem
@@ -27,6 +31,7 @@ plain_item name = record {
   before_ignore_deferred = [];
   after_ignore_deferred = [];
   ambiguous_with = [];
+  conditions = [];
 }
 
 -- a system: an item with parameters
@@ -133,6 +138,10 @@ plain_orders_along d c = if c.ignores_deferred then [] else orders_along d c
 abbrev pub silences_in : Declared → ℕ → DeclaredItem → List (ℕ × ℕ)
 silences_in d n i = orders_before d n i.ambiguous_with
 
+-- the conditions of an item, each with the item
+abbrev pub conditions_in : ℕ → DeclaredItem → List (ℕ × Condition)
+conditions_in n i = map (λ c. (n, c)) i.conditions
+
 -- the lists of all items, one after the other
 abbrev pub from_each : {A : Type 0} → (ℕ → DeclaredItem → List A) → ℕ → List DeclaredItem → List A
 from_each f n [] = []
@@ -153,3 +162,14 @@ plain_orders d = from_each (plain_orders_in d) 0 (items_of d) ++ flat_map (plain
 -- the pairs of items that may be ambiguous
 abbrev pub declared_silences : Declared → List (ℕ × ℕ)
 declared_silences d = from_each (silences_in d) 0 (items_of d)
+
+-- the conditions by number, each with its item: those of sets come before those of systems
+abbrev pub declared_conditions : Declared → List (ℕ × Condition)
+declared_conditions d = from_each conditions_in 0 (items_of d)
+
+-- the condition of a number, and its item
+abbrev pub condition_numbered : Declared → ℕ → Condition
+condition_numbered d c = (get_or (declared_conditions d) c (0, RunOnce)).1
+
+abbrev pub conditioned : Declared → ℕ → ℕ
+conditioned d c = (get_or (declared_conditions d) c (0, RunOnce)).0

@@ -1,12 +1,13 @@
 -- Why declared items are refused, each refusal in its own words, and which one is told.
-use Rattle.std.specs.Prelude.{ℕ, ◌<◌, ◌≤◌, ◌≡◌, ◌⊎◌, Some, None, unwrap_or, List, [], length, map, get_or}
-use Rattle.model.specs.access.Query.{Term}
+use Rattle.std.specs.Prelude.{ℕ, ◌<◌, ◌≤◌, ◌≡◌, ◌⊎◌, true, Some, None, unwrap_or, List, [], length, map, get_or}
+use Rattle.model.specs.access.Query.{Term, writes}
+use Rattle.model.specs.access.Condition.{queries_of}
 use Rattle.model.specs.access.SelfConflict.{ConflictWithin}
 pub use Rattle.model.specs.access.QueryFaults.{query_fault}
 use Rattle.model.specs.declarations.Walks.{EachIs, IsFirstBad}
 use Rattle.model.specs.declarations.Hierarchy.{HasNoSelf, IsFirstSelf, HasNoSetCycle, IsToldSetCycle}
 use Rattle.model.specs.declarations.Edges.{HasNoLoop, IsLoop, HasNoCrossing, IsCrossing, AreApart, IsSharing, HasNoCycle, IsToldCycle}
-use Rattle.model.specs.declarations.Declarations.{Declared, items_of, name_of, declared_at, system_name, IsNamedBelow, looked_up, hierarchy_of, declared_orders}
+use Rattle.model.specs.declarations.Declarations.{Declared, items_of, name_of, declared_at, system_name, IsNamedBelow, looked_up, hierarchy_of, declared_orders, declared_conditions, condition_numbered}
 
 -- a refusal, with what it tells
 pub data Refusal : Type 0 where
@@ -16,6 +17,8 @@ pub data Refusal : Type 0 where
   SetsIntersect : List ℕ → List ℕ → List ℕ → Refusal
   SelfConflict : List ℕ → Refusal
   BadQuery : List ℕ → ℕ → ℕ → Refusal
+  BadConditionQuery : ℕ → ℕ → ℕ → Refusal
+  ConditionWrites : ℕ → Refusal
   OverLimit : ℕ → Refusal
 
 -- ---- names
@@ -104,16 +107,45 @@ pub record IsBadQuery (d : Declared) (owner : List ℕ) (number fault : ℕ) : T
   pub queries_before : (k : ℕ) → k < number → query_fault (query_of d item k) ≡ None
   pub told : owner ≡ system_name d item
 
+-- ---- queries of conditions
+
+-- the query of a condition by its number, the queries of one condition numbered from the left; none where it has no such query
+abbrev pub condition_query : Declared → ℕ → ℕ → List Term
+condition_query d c number = get_or (queries_of (condition_numbered d c)) number []
+
+-- nothing is wrong with any query of a condition
+abbrev pub HasGoodConditions : Declared → Type 0
+HasGoodConditions d = (c number : ℕ) → query_fault (condition_query d c number) ≡ None
+
+-- the first condition with a query at fault, its first query at fault, and the least fault of that query
+pub record IsBadCondition (d : Declared) (c number fault : ℕ) : Type 0 where
+  pub least : query_fault (condition_query d c number) ≡ Some fault
+  pub conditions_before : (m k : ℕ) → m < c → query_fault (condition_query d m k) ≡ None
+  pub queries_before : (k : ℕ) → k < number → query_fault (condition_query d c k) ≡ None
+
+-- a condition has a query that writes a kind
+abbrev pub IsWriting : Declared → ℕ → Type 0
+IsWriting d c = (number : ℕ) × (kind : ℕ) × (writes (condition_query d c number) kind ≡ true)
+
+-- none has
+abbrev pub AreReading : Declared → Type 0
+AreReading d = (c : ℕ) → IsWriting d c → ⊥
+
+-- the first condition that has
+abbrev pub IsConditionWrites : Declared → ℕ → Type 0
+IsConditionWrites d c = IsWriting d c × ((m : ℕ) → m < c → IsWriting d m → ⊥)
+
 -- ---- limits
 
 -- the ids that a system is given at a start
 abbrev pub granted_to : Declared → ℕ → ℕ
 granted_to d n = unwrap_or (declared_at d n).params.spawns 0
 
--- there are few enough systems, sets, queries in each system, and ids at each start
+-- there are few enough systems, sets, conditions, queries in each system, and ids at each start
 pub record IsWithinLimits (d : Declared) : Type 0 where
   pub systems : length d.systems ≤ 256
   pub sets : length d.sets ≤ 64
+  pub conditions : length (declared_conditions d) ≤ 512
   pub queries : (n : ℕ) → length (declared_at d n).params.queries ≤ 8
   pub spawns : (n : ℕ) → granted_to d n ≤ 1024
 
@@ -129,13 +161,14 @@ HasManySpawns d = (n : ℕ) × (1024 < granted_to d n)
 abbrev pub HasFewQueries : Declared → Type 0
 HasFewQueries d = (n : ℕ) → length (declared_at d n).params.queries ≤ 8
 
--- the number of the least limit that is passed: 1 of systems, 2 of sets, 4 of the queries of a system, 5 of the ids that a system is
--- given
+-- the number of the least limit that is passed: 1 of systems, 2 of sets, 3 of conditions, 4 of the queries of a system, 5 of the ids
+-- that a system is given
 abbrev pub IsOverLimit : Declared → ℕ → Type 0
 IsOverLimit d limit = ((256 < length d.systems) × (limit ≡ 1))
     ⊎ (((length d.systems ≤ 256) × (64 < length d.sets) × (limit ≡ 2))
-    ⊎ (((length d.systems ≤ 256) × (length d.sets ≤ 64) × HasManyQueries d × (limit ≡ 4))
-    ⊎ ((length d.systems ≤ 256) × (length d.sets ≤ 64) × HasFewQueries d × HasManySpawns d × (limit ≡ 5))))
+    ⊎ (((length d.systems ≤ 256) × (length d.sets ≤ 64) × (512 < length (declared_conditions d)) × (limit ≡ 3))
+    ⊎ (((length d.systems ≤ 256) × (length d.sets ≤ 64) × (length (declared_conditions d) ≤ 512) × HasManyQueries d × (limit ≡ 4))
+    ⊎ ((length d.systems ≤ 256) × (length d.sets ≤ 64) × (length (declared_conditions d) ≤ 512) × HasFewQueries d × HasManySpawns d × (limit ≡ 5)))))
 
 -- ---- which one is told
 
@@ -167,6 +200,8 @@ pub record IsBuildable (d : Declared) : Type 0 where
   pub ordered : IsOrdered d
   pub no_self_conflict : HasNoSelfConflict d
   pub good_queries : HasGoodQueries d
+  pub good_conditions : HasGoodConditions d
+  pub reading : AreReading d
   pub within : IsWithinLimits d
 
 -- the refusal holds, and none that is looked for before it
@@ -182,4 +217,6 @@ IsRefused d (SetsIntersect first second system) =
 IsRefused d (DependencyCycle told) = IsApart d × IsDependencyCycle d told
 IsRefused d (SelfConflict name) = IsOrdered d × IsSelfConflict d name
 IsRefused d (BadQuery owner number fault) = IsOrdered d × HasNoSelfConflict d × IsBadQuery d owner number fault
-IsRefused d (OverLimit limit) = IsOrdered d × HasNoSelfConflict d × HasGoodQueries d × IsOverLimit d limit
+IsRefused d (BadConditionQuery c number fault) = IsOrdered d × HasNoSelfConflict d × HasGoodQueries d × IsBadCondition d c number fault
+IsRefused d (ConditionWrites c) = IsOrdered d × HasNoSelfConflict d × HasGoodQueries d × HasGoodConditions d × IsConditionWrites d c
+IsRefused d (OverLimit limit) = IsOrdered d × HasNoSelfConflict d × HasGoodQueries d × HasGoodConditions d × AreReading d × IsOverLimit d limit

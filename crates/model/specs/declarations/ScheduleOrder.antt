@@ -1,10 +1,10 @@
--- The schedule that declared items stand for: its edges, its levels, its sync points and its schedule order.
+-- The schedule that declared items stand for: its edges, its levels, its sync points, its conditions, the ambiguities that it allows and its schedule order.
 use Rattle.std.specs.Prelude.{ℕ, suc, ◌+◌, ◌<◌, ◌≤◌, ◌≡◌, ◌⊎◌, ◌↔◌, true, false, is_some, List, ◌∷◌, ◌++◌, length, map}
 use Rattle.model.specs.Lists.{has}
-use Rattle.model.specs.steps.Schedule.{Schedule, ScheduledSystem, has_edge, level_of}
+use Rattle.model.specs.steps.Schedule.{Schedule, ScheduledSystem, has_edge, level_of, condition_of, covers, is_silenced}
 use Rattle.model.specs.steps.Ambiguity.{Before}
-use Rattle.model.specs.declarations.Declarations.{Declared, DeclaredSystem, declared_at, hierarchy_of, declared_orders, plain_orders}
-use Rattle.model.specs.declarations.Edges.{IsEdge}
+use Rattle.model.specs.declarations.Declarations.{Declared, DeclaredSystem, declared_at, hierarchy_of, declared_orders, plain_orders, declared_silences, declared_conditions, condition_numbered, conditioned}
+use Rattle.model.specs.declarations.Edges.{IsMemberOf, IsEdge}
 
 -- a system that is not placed yet, where all that are before it are placed
 pub record IsPlaceable (s : Schedule) (placed : List ℕ) (n : ℕ) : Type 0 where
@@ -61,3 +61,21 @@ pub record HasLevels (d : Declared) (s : Schedule) : Type 0 where
   pub levels : (n : ℕ) → n < length s.systems → IsLevel d n (level_of s n)
   pub below : (n : ℕ) → n < length s.systems → level_of s n < s.syncs
   pub least : (s.syncs ≡ 1) ⊎ ((n : ℕ) × (n < length s.systems) × (s.syncs ≡ suc (level_of s n)))
+
+-- ---- ambiguities that are allowed
+
+-- a system is of an item that may be ambiguous with an item of another
+abbrev pub IsSilence : Declared → ℕ → ℕ → Type 0
+IsSilence d m n = IsEdge (hierarchy_of d) (declared_silences d) (length d.sets + m) (length d.sets + n)
+
+-- two systems may be ambiguous where this is so either way
+pub record HasDeclaredSilences (d : Declared) (s : Schedule) : Type 0 where
+  pub tells : (m n : ℕ) → m < length s.systems → (is_silenced s m n ≡ true) ↔ (IsSilence d m n ⊎ IsSilence d n m)
+
+-- ---- conditions
+
+-- the conditions by number, each of which covers the members of its item
+pub record HasDeclaredConditions (d : Declared) (s : Schedule) : Type 0 where
+  pub count : length s.conditions ≡ length (declared_conditions d)
+  pub asks : (c : ℕ) → condition_of s c ≡ condition_numbered d c
+  pub covered : (c n : ℕ) → c < length s.conditions → (covers s c n ≡ true) ↔ IsMemberOf (hierarchy_of d) (conditioned d c) (length d.sets + n)

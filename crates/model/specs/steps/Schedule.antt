@@ -16,12 +16,14 @@ pub record ScheduledCondition : Type 0 where
   pub condition : Condition
   pub covers : List ℕ
 
--- systems in declared order, conditions by number, how many sync points, and the schedule order
+-- systems in declared order, conditions by number, how many sync points, the schedule order, and for each system those with which it
+-- may be ambiguous
 pub record Schedule : Type 0 where
   pub systems : List ScheduledSystem
   pub conditions : List ScheduledCondition
   pub syncs : ℕ
   pub order : List ℕ
+  pub silences : List (List ℕ)
 
 -- the system of a number
 abbrev pub system_at : Schedule → ℕ → ScheduledSystem
@@ -58,3 +60,7 @@ covers s c n = has n (condition_at s c).covers
 -- whether a condition asks if a resource changed
 abbrev pub watches : Schedule → ℕ → ℕ → Bool
 watches s c number = has number (watched_of (condition_of s c))
+
+-- whether two systems may be ambiguous
+abbrev pub is_silenced : Schedule → ℕ → ℕ → Bool
+is_silenced s m n = has n (get_or s.silences m [])

@@ -18,7 +18,7 @@ pub loop-number-preserved : goal.loop-number-preserved
 loop-number-preserved c = record {
   room = simp length-set c.loop-number.invariant.room;
   marks = marked_step c.args.built.now c.law.ensures c.order-number-items.result.now c.order-number-items.ensures c.args.first c.loop-number.number-index c.loop-number.reached
-      c.predecessors.result.now c.any_reached-next.result c.loop-number-test.true c.loop-number.invariant.room c.predecessors.ensures c.any_reached-next.ensures c.loop-number.invariant.marks;
+      c.predecessors.result.now c.any_marked-next.result c.loop-number-test.true c.loop-number.invariant.room c.predecessors.ensures c.any_marked-next.ensures c.loop-number.invariant.marks;
 }
 
 pub returns : goal.returns

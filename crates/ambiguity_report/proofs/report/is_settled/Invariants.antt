@@ -1,10 +1,11 @@
 use Rattle.std.proofs.Common.{ℕ, ◌<◌, ◌≡◌, None}
 use Rattle.model.specs.steps.Schedule.{params_of}
-use Rattle.model.specs.steps.Ambiguity.{AmbiguousSystems}
+use Rattle.ambiguity_report.specs.declared.races.Racer.{Racer}
+use Rattle.ambiguity_report.specs.Races.{IsRace}
 use Rattle.ambiguity_report.proofs.report.is_settled.Given as goal
 
-abbrev pub invariant-loop-first : goal.invariant-loop-first
-invariant-loop-first l = record {
-  none : (m n : ℕ) → m < l.first → m < n → AmbiguousSystems l.built m n → ⊥;
-  quiet : (n : ℕ) → n < l.first → (params_of l.built n).spawns ≡ None;
+abbrev pub invariant-loop-system : goal.invariant-loop-system
+invariant-loop-system l = record {
+  none : (r : Racer) (n : ℕ) → n < l.system → IsRace l.built r n → ⊥;
+  quiet : (n : ℕ) → n < l.system → (params_of l.built n).spawns ≡ None;
 }

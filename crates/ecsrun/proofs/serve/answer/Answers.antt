@@ -1,4 +1,4 @@
-use Rattle.std.proofs.Common.{◌≡◌, List, map, ap, ap₂, sym, ◌∙◌, subst, string_bytes}
+use Rattle.std.proofs.Common.{◌≡◌, List, map, ap, sym, ◌∙◌, subst, string_bytes}
 use Rattle.model.specs.declarations.Declarations.{Declared}
 use Rattle.command_line.specs.declared.args.Work.{Work}
 use Rattle.ecsrun.specs.declared.fault.Fault.TheVariants.{Memory}
@@ -34,7 +34,7 @@ returns-in-Ambiguities-clause-done g c =
     let d = c.in_ok-desc.desc in
     let s = c.in_ok-built.built in
     let ok = c.in_ok-built.ensures in
-    let same : d ≡ declared_by tables = c.in_ok-desc.ensures.said ∙ ap₂ (λ sets chains. declared_said sets tables.systems.items chains) c.as_slice.ensures.value c.as_slice-2.ensures.value in
+    let same : d ≡ declared_by tables = c.in_ok-desc.ensures.said ∙ ap (declared_said tables.sets.items tables.systems.items) c.as_slice.ensures.value in
     let names = map (λ name. name.now) c.as_slice-in-Ambiguities.result.now in
     of-ok-two (λ answer. IsTextOfReport names s (string_bytes answer.text)) (λ answer. answer.status ≡ 0) (λ answer. IsAnswerTo width c.args.work file trace answer) c.report_of.result
     (λ answer h status. subst (λ (w : Work). IsAnswerTo width w file trace answer) (sym c.in-Ambiguities.is) (
@@ -43,9 +43,9 @@ returns-in-Ambiguities-clause-done g c =
         tables = tables;
         read = read;
         schedule = s;
-        built = subst (λ (x : Declared). IsScheduleOf x s) same (schedule-of d s ok.buildable ok.systems ok.edges ok.levels ok.order ok.conditions);
+        built = subst (λ (x : Declared). IsScheduleOf x s) same (schedule-of d s ok.buildable ok.systems ok.edges ok.levels ok.order ok.conditions ok.silences);
         report = subst (λ ns. IsTextOfReport ns s (string_bytes answer.text))
-            (ap (map (λ name. name.now)) c.as_slice-in-Ambiguities.ensures.value ∙ (c.in_ok-names.ensures ∙ (ap (map (λ code. code.name.now)) c.as_slice-3.ensures.value ∙ (c.in_ok-desc.ensures.names ∙ ap declared_names same)))) h;
+            (ap (map (λ name. name.now)) c.as_slice-in-Ambiguities.ensures.value ∙ (c.in_ok-names.ensures ∙ (ap (map (λ code. code.name.now)) c.as_slice-2.ensures.value ∙ (c.in_ok-desc.ensures.names ∙ ap declared_names same)))) h;
       },
     )) c.report_of.ensures.report c.report_of.ensures.status
 
@@ -66,13 +66,13 @@ returns-in-Check-clause-done g c =
     let d = c.in_ok-desc.desc in
     let s = c.in_ok-built.built in
     let ok = c.in_ok-built.ensures in
-    let same : d ≡ declared_by tables = c.in_ok-desc.ensures.said ∙ ap₂ (λ sets chains. declared_said sets tables.systems.items chains) c.as_slice.ensures.value c.as_slice-2.ensures.value in
+    let same : d ≡ declared_by tables = c.in_ok-desc.ensures.said ∙ ap (declared_said tables.sets.items tables.systems.items) c.as_slice.ensures.value in
     of-ok (λ answer. IsCheckOf s trace answer.status (string_bytes answer.text)) (λ answer. IsAnswerTo width c.args.work file trace answer) c.check_trace.result
     (λ answer h. subst (λ (w : Work). IsAnswerTo width w file trace answer) (sym c.in-Check.is) (record {
       tables = tables;
       read = read;
       schedule = s;
-      built = subst (λ (x : Declared). IsScheduleOf x s) same (schedule-of d s ok.buildable ok.systems ok.edges ok.levels ok.order ok.conditions);
+      built = subst (λ (x : Declared). IsScheduleOf x s) same (schedule-of d s ok.buildable ok.systems ok.edges ok.levels ok.order ok.conditions ok.silences);
       check = h;
     })) c.check_trace.ensures.done
 
@@ -94,7 +94,7 @@ returns-clause-done g c =
     let d = c.in_ok-desc.desc in
     let s = c.in_ok-built.built in
     let ok = c.in_ok-built.ensures in
-    let same : d ≡ declared_by tables = c.in_ok-desc.ensures.said ∙ ap₂ (λ sets chains. declared_said sets tables.systems.items chains) c.as_slice.ensures.value c.as_slice-2.ensures.value in
+    let same : d ≡ declared_by tables = c.in_ok-desc.ensures.said ∙ ap (declared_said tables.sets.items tables.systems.items) c.as_slice.ensures.value in
     let scripts = c.in_ok-bodies.bodies.items in
     let scripts-are : scripts ≡ scripts_by tables = c.in_ok-bodies.ensures.said ∙ scripts-same c.in_ok-desc.codes.items tables.systems.items c.in_ok-desc.ensures.blocks in
     let times = c.in-Run.times in
@@ -107,10 +107,10 @@ returns-clause-done g c =
         tables = tables;
         read = read;
         schedule = s;
-        built = subst (λ (x : Declared). IsScheduleOf x s) same (schedule-of d s ok.buildable ok.systems ok.edges ok.levels ok.order ok.conditions);
+        built = subst (λ (x : Declared). IsScheduleOf x s) same (schedule-of d s ok.buildable ok.systems ok.edges ok.levels ok.order ok.conditions ok.silences);
         fitting = subst (AreScriptsOf s) scripts-are c.in_ok-bodies.ensures.fitting;
         runs = runs-loaded width s (scripts_by tables) c.in_ok-world.world.state (map entity_given tables.entities.items) tables.resources times recorded (string_bytes answer.text) (string_bytes answer.traces)
-            (c.in_ok-world.ensures.world ∙ ap (λ es. loaded_world (map entity_given es) tables.resources) c.as_slice-4.ensures.value)
+            (c.in_ok-world.ensures.world ∙ ap (λ es. loaded_world (map entity_given es) tables.resources) c.as_slice-3.ensures.value)
             (subst (λ (xs : List ScriptBody). IsTextOfRuns width s (meanings_of_scripts s xs) (first_state s c.in_ok-world.world.state) times recorded (string_bytes answer.text) (string_bytes answer.traces)) scripts-are h);
       },
     )) c.run.ensures.runs c.run.ensures.status
@@ -147,7 +147,7 @@ returns-in_err-built-clause-refused g c =
     let of = c.in_ok-resources.ensures in
     let read = is-file file _ tables c.in_ok-document.ensures.read of.sets of.systems of.chains in
     let d = c.in_ok-desc.desc in
-    let same : d ≡ declared_by tables = c.in_ok-desc.ensures.said ∙ ap₂ (λ sets chains. declared_said sets tables.systems.items chains) c.as_slice.ensures.value c.as_slice-2.ensures.value in
+    let same : d ≡ declared_by tables = c.in_ok-desc.ensures.said ∙ ap (declared_said tables.sets.items tables.systems.items) c.as_slice.ensures.value in
     let error = c.in_err-built.field-0.0 in
     of-given (λ fault. fault ≡ fault_of_build error) (IsRefusedBy file trace c.args.work) c.from_residual-in_err-built.result c.from_residual-in_err-built.ensures.1
     (λ fault is. subst (IsRefusedBy file trace c.args.work) (sym is) (build-refused file trace c.args.work tables error read (subst (λ (x : Declared). IsAnswered x error) same c.in_err-built.ensures.refused)))
@@ -162,13 +162,13 @@ returns-in_err-bodies-clause-refused g c =
     let d = c.in_ok-desc.desc in
     let s = c.in_ok-built.built in
     let ok = c.in_ok-built.ensures in
-    let same : d ≡ declared_by tables = c.in_ok-desc.ensures.said ∙ ap₂ (λ sets chains. declared_said sets tables.systems.items chains) c.as_slice.ensures.value c.as_slice-2.ensures.value in
+    let same : d ≡ declared_by tables = c.in_ok-desc.ensures.said ∙ ap (declared_said tables.sets.items tables.systems.items) c.as_slice.ensures.value in
     let error = c.in_err-bodies.field-0.0 in
     let unscripted = subst (λ scripts. IsUnscripted s (declared_names (declared_by tables)) scripts error) (scripts-same c.in_ok-desc.codes.items tables.systems.items c.in_ok-desc.ensures.blocks)
     (subst (λ names. IsUnscripted s names (map (λ (code : Code). script_said code.blocks) c.in_ok-desc.codes.items) error) (c.in_ok-desc.ensures.names ∙ ap declared_names same) c.in_err-bodies.ensures.refused) in
     of-given (λ fault. fault ≡ error) (IsRefusedBy file trace c.args.work) c.from_residual-in_err-bodies.result c.from_residual-in_err-bodies.ensures.1
     (λ fault is. subst (IsRefusedBy file trace c.args.work) (sym is)
-    (script-refused file trace c.args.work tables s error read (subst (λ (x : Declared). IsScheduleOf x s) same (schedule-of d s ok.buildable ok.systems ok.edges ok.levels ok.order ok.conditions)) unscripted))
+    (script-refused file trace c.args.work tables s error read (subst (λ (x : Declared). IsScheduleOf x s) same (schedule-of d s ok.buildable ok.systems ok.edges ok.levels ok.order ok.conditions ok.silences)) unscripted))
 
 pub returns-in_err-world-clause-refused : goal.returns-in_err-world-clause-refused
 returns-in_err-world-clause-refused g c =

@@ -4,14 +4,8 @@ use Rattle.model.specs.access.Query.{Term}
 use Rattle.model.specs.declarations.Declarations.{DeclaredSystem}
 use Rattle.model.specs.access.QueryFaults.{query_fault}
 use Rattle.model.specs.declarations.Refusals.{query_of}
-use Rattle.schedule_builder.specs.Queries.{AreGoodBelow}
+use Rattle.schedule_builder.proofs.Faults.{good_at}
 use Rattle.schedule_builder.proofs.query_faults.first_bad.Goals as goal
-
--- past the last query there is none
-good_at : (queries : List (List Term)) → AreGoodBelow queries (length queries) → (k : ℕ) → query_fault (get_or queries k []) ≡ None
-good_at [] good k = refl
-good_at (q ∷ queries) good zero = good zero (omega arith)
-good_at (q ∷ queries) good (suc k) = good_at queries (λ j l. good (suc j) (omega arith)) k
 
 pub loop-system-preserved : goal.loop-system-preserved
 loop-system-preserved c = λ m k l.

@@ -1,7 +1,13 @@
 use Rattle.std.proofs.Common.{rules}
 use Rattle.program_file.proofs.Blocks.{blocks-read}
+use Rattle.program_file.proofs.Items.{item-read}
 use Rattle.program_file.proofs.program_file.SystemTable.read.Goals as goal
 
--- the blocks are looked at, then read
-pub returns-clause-blocks : goal.returns-clause-blocks
-returns-clause-blocks c = blocks-read _ c.in_ok-blocks.blocks.items _ c.in_ok-blocks.ensures (search rules)
+-- the item and the blocks are looked at, then read
+pub returns-clause-said : goal.returns-clause-said
+returns-clause-said c = record {
+  item = item-read _ c.in_ok-item.item c.in_ok-read_item.field-0 c.in_ok-item.ensures.said c.in_ok-read_item.ensures;
+  queries = search rules;
+  touched = search rules;
+  blocks = blocks-read _ c.in_ok-blocks.blocks.items _ c.in_ok-blocks.ensures (search rules);
+}

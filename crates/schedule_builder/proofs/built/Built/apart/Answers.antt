@@ -4,4 +4,4 @@ use Rattle.model.specs.steps.Schedule.{Schedule, params_of}
 use Rattle.schedule_builder.proofs.built.Built.apart.Goals as goal
 
 pub returns : goal.returns
-returns c = subst (λ (s : Schedule). (n : ℕ) → n < length s.systems → ConflictWithin (params_of s n) → ⊥) c.self.view_is c.self.invariant.4.apart
+returns c = subst (λ (s : Schedule). (n : ℕ) → n < length s.systems → ConflictWithin (params_of s n) → ⊥) c.self.view_is c.self.invariant.3.apart

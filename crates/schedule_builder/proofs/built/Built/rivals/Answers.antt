@@ -8,7 +8,7 @@ pub returns : goal.returns
 returns c =
     let rows : List (List ℕ) = c.self.inside.rivals.items in
     let number : ℕ = c.args.number in
-    let are = c.self.invariant.3.rivals in
+    let are = c.self.invariant.2.rivals in
     let same : length c.self.inside.systems.items ≡ length c.args.self.now.systems = ap (λ (s : Schedule). length s.systems) c.self.view_is in
     let low : number < length c.self.inside.systems.items = omega arith in
     let read : get_or rows number [] ≡ c.index.result.now = get_or_default rows number [] c.index.result.now (omega (arith, are.long)) ∙ sym c.index.ensures in

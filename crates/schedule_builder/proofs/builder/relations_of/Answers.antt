@@ -1,0 +1,50 @@
+use Rattle.std.proofs.Common.{◌≡◌, ℕ, ◌^◌, ◌<◌, List, arith, length, subst, sym, ap, ◌∙◌}
+use Rattle.std.specs.List.{All}
+use Rattle.model.specs.declarations.Declarations.{Declared, items_of, hierarchy_of, declared_orders, plain_orders, declared_silences}
+use Rattle.model.specs.Lists.{IsIn}
+use Rattle.model.specs.declarations.Hierarchy.{Hierarchy}
+use Rattle.cycle_search.specs.declared.order.Order.{Order}
+use Rattle.cycle_search.specs.Orders.{IsBetween}
+use Rattle.system_set.specs.Pairs.{pairs_of}
+use Rattle.system_set.specs.Edges.{AreEdges}
+use Rattle.system_set.specs.Coverage.{AreCovered}
+use Rattle.schedule_builder.specs.Asked.{owners_of, AreSilences}
+use Rattle.schedule_builder.proofs.Orderings.{between_of, told_of}
+use Rattle.schedule_builder.proofs.Assembly.{items_count}
+use Rattle.schedule_builder.proofs.Askings.{declared_silences_of, small_edges}
+use Rattle.schedule_builder.proofs.builder.relations_of.Goals as goal
+
+-- orders are of items
+within : (d : Declared) (h : Hierarchy) (orders slice : List Order) (ps : List (ℕ × ℕ)) → h ≡ hierarchy_of d → slice ≡ orders → pairs_of orders ≡ ps → ((m n : ℕ) → IsIn (m, n) ps → (m < length (items_of d)) × (n < length (items_of d))) → All (IsBetween h.items) slice
+within d h orders slice ps same read are known =
+    subst (λ (x : Hierarchy). All (IsBetween x.items) slice) (sym same) (subst (λ (xs : List Order). All (IsBetween (length (items_of d))) xs) (sym read) (between_of (length (items_of d)) orders ps are known))
+
+pub edges-requires : goal.edges-requires
+edges-requires c = within c.args.desc.now c.args.hierarchy.now c.args.resolved.now.orders.items c.as_slice.result.now (declared_orders c.args.desc.now) c.requires.hierarchy c.as_slice.ensures.value c.requires.declared.ordered c.requires.whole.ordered
+
+pub edges-requires-2 : goal.edges-requires-2
+edges-requires-2 c = within c.args.desc.now c.args.hierarchy.now c.args.resolved.now.plain.items c.as_slice-2.result.now (plain_orders c.args.desc.now) c.requires.hierarchy c.as_slice-2.ensures.value c.requires.declared.plainly c.requires.whole.plainly
+
+pub edges-requires-3 : goal.edges-requires-3
+edges-requires-3 c = within c.args.desc.now c.args.hierarchy.now c.args.resolved.now.silences.items c.as_slice-4.result.now (declared_silences c.args.desc.now) c.requires.hierarchy c.as_slice-4.ensures.value c.requires.declared.silenced c.requires.whole.silenced
+
+-- the pairs of systems that may be ambiguous
+silenced : (d : Declared) (h : Hierarchy) (orders slice pairs : List Order) → h ≡ hierarchy_of d → slice ≡ orders → pairs_of orders ≡ declared_silences d → AreEdges h (pairs_of slice) pairs → AreEdges (hierarchy_of d) (declared_silences d) pairs
+silenced d h orders slice pairs same read are edges = told_of (λ x ps. AreEdges x ps pairs) h (hierarchy_of d) (pairs_of slice) (declared_silences d) same (ap pairs_of read ∙ are) edges
+
+pub silences_of-requires : goal.silences_of-requires
+silences_of-requires c =
+    let d = c.args.desc.now in
+    let pairs : List Order = c.in_ok-pairs.pairs.items in
+    let edges = silenced d c.args.hierarchy.now c.args.resolved.now.silences.items c.as_slice-4.result.now pairs c.requires.hierarchy c.as_slice-4.ensures.value c.requires.declared.silenced c.in_ok-pairs.ensures in
+    let few : length (items_of d) < 2 ^ 32 = omega (arith, items_count d, c.requires.few_sets, c.requires.few_systems) in
+    subst (λ (xs : List Order). All (IsBetween (2 ^ 32)) xs) (sym c.as_slice-5.ensures.value) (small_edges (hierarchy_of d) (declared_silences d) pairs few edges)
+
+pub returns-clause-silences : goal.returns-clause-silences
+returns-clause-silences c =
+    let d = c.args.desc.now in
+    let pairs : List Order = c.in_ok-pairs.pairs.items in
+    let edges = silenced d c.args.hierarchy.now c.args.resolved.now.silences.items c.as_slice-4.result.now pairs c.requires.hierarchy c.as_slice-4.ensures.value c.requires.declared.silenced c.in_ok-pairs.ensures in
+    let count : length c.systems.result.now ≡ length d.systems = ap length c.systems.ensures in
+    declared_silences_of d pairs c.in_ok-silences.silences.items edges
+    (subst (λ (k : ℕ). AreSilences k pairs c.in_ok-silences.silences.items) count (subst (λ (xs : List Order). AreSilences (length c.systems.result.now) xs c.in_ok-silences.silences.items) c.as_slice-5.ensures.value c.in_ok-silences.ensures))
