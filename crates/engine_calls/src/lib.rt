@@ -1,0 +1,15 @@
+// Tests of public calls of the engine, of scripts and of workers, in one crate: so that one check proves them all.
+#![tactic(auto)]
+
+#[cfg(test)]
+mod gathering;
+#[cfg(test)]
+mod resources;
+#[cfg(test)]
+mod runs;
+#[cfg(test)]
+mod scripts;
+#[cfg(test)]
+mod threads;
+#[cfg(test)]
+mod wide;
