@@ -65,12 +65,11 @@ fn a_battle_begins_in_round_two(rt: HostRuntime) -> Result<(), Fail> {
 fn skipped_systems_count_as_done(rt: HostRuntime) -> Result<(), Fail> {
     let wrong = first_wrong(rt, rt.alloc(), SKIPPED, "", [(1, 0, 1)].as_slice())?;
     assert_eq!(rt; wrong, None);
-    let answer = serve_file(
-        rt.alloc(),
-        "ecsrun run a.toml --trace b.txt",
-        SKIPPED,
-    )?;
-    assert_eq!(rt; answer.record.as_slice(), "R 1\nC 0 0\nK 0\nK 1\nK 2\nS 3\nF 3\nY 0\n".as_bytes());
+    let answer = serve_file(rt.alloc(), "ecsrun run a.toml --trace b.txt", SKIPPED)?;
+    assert_eq!(rt;
+        answer.record.as_slice(),
+        "R 1\nC 0 0\nK 0\nK 1\nK 2\nS 3\nF 3\nY 0\n".as_bytes()
+    );
     Ok(())
 }
 
@@ -272,7 +271,10 @@ fn conditioned(alloc: Global, more: u32) -> Result<String, Fail> {
     for _condition in 0..more {
         write!(file, "\"run_once\",")?;
     }
-    write!(file, "]}}]\nsystem = [{{name=\"s\",if=[\"run_once\",\"not(on_event(Hit))\"],res_mut=[\"Total\"],do=[{{code=[\"add Total 1\"]}}]}}")?;
+    write!(
+        file,
+        "]}}]\nsystem = [{{name=\"s\",if=[\"run_once\",\"not(on_event(Hit))\"],res_mut=[\"Total\"],do=[{{code=[\"add Total 1\"]}}]}}"
+    )?;
     for number in 1..256u32 {
         write!(
             file,
@@ -286,13 +288,7 @@ fn conditioned(alloc: Global, more: u32) -> Result<String, Fail> {
 #[test]
 fn so_many_conditions_may_be_declared(rt: HostRuntime) -> Result<(), Fail> {
     let file = conditioned(rt.alloc(), 0)?;
-    let wrong = first_wrong(
-        rt,
-        rt.alloc(),
-        file.as_str(),
-        "",
-        [(2, 0, 1)].as_slice(),
-    )?;
+    let wrong = first_wrong(rt, rt.alloc(), file.as_str(), "", [(2, 0, 1)].as_slice())?;
     assert_eq!(rt; wrong, None);
     let file = conditioned(rt.alloc(), 1)?;
     let answer = serve_file(rt.alloc(), "ecsrun run a.toml", file.as_str())?;

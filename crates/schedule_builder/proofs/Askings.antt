@@ -336,7 +336,7 @@ pair_same a b c d e f = ap (λ (x : ℕ). both_of x d) (sym e) ∙ ap (λ (y : �
 
 -- what pairs have beside a number
 pub others_told : (pairs : List Order) (m n : ℕ) → (has n (flat_map (λ (p : Order). other_in p m) pairs) ≡ true) ↔ (IsIn (m, n) (pairs_of pairs) ⊎ IsIn (n, m) (pairs_of pairs))
-others_told [] m n = ((λ e. absurd (false≢true e)), (λ h. elim h [ | inl i ↦ absurd i | inr i ↦ absurd i ]))
+others_told [] m n = ((λ e. absurd (false≢true e)), (λ h. elim h [ inl i ↦ absurd i | inr i ↦ absurd i ]))
 others_told (p ∷ pairs) m n =
     let rest = flat_map (λ (p : Order). other_in p m) pairs in
     let later = others_told pairs m n in (
@@ -345,7 +345,7 @@ others_told (p ∷ pairs) m n =
           | inl second ↦ let both = one_end (eqb p.first m) p.second n second in inl (inl (pair_same p.first p.second m n (eqb-true p.first m both.0) both.1))
           | inr first ↦ let both = one_end (eqb p.second m) p.first n first in inr (inl (pair_same p.first p.second n m both.1 (eqb-true p.second m both.0)))
         ]
-        | inr there ↦ elim (later.0 there) [ | inl i ↦ inl (inr i) | inr i ↦ inr (inr i) ]
+        | inr there ↦ elim (later.0 there) [ inl i ↦ inl (inr i) | inr i ↦ inr (inr i) ]
       ]),
       (λ h. has-append n (other_in p m) rest ∙ elim h [
         | inl (inl e) ↦ or_left (has n (other_in p m)) (has n rest) (has-append n (second_end p m) (first_end p m)
@@ -373,8 +373,8 @@ small_edges h orders edges few are = λ k o low.
 
 silence_of_pair : (d : Declared) (pairs : List Order) → AreEdges (hierarchy_of d) (declared_silences d) pairs → (m n : ℕ) → (IsIn (m, n) (pairs_of pairs) ⊎ IsIn (n, m) (pairs_of pairs)) ↔ (IsSilence d m n ⊎ IsSilence d n m)
 silence_of_pair d pairs are m n = (
-  (λ h. elim h [ | inl there ↦ inl ((are.tells m n).0 there) | inr back ↦ inr ((are.tells n m).0 back) ]),
-  (λ h. elim h [ | inl there ↦ inl ((are.tells m n).1 there) | inr back ↦ inr ((are.tells n m).1 back) ]),
+  (λ h. elim h [ inl there ↦ inl ((are.tells m n).0 there) | inr back ↦ inr ((are.tells n m).0 back) ]),
+  (λ h. elim h [ inl there ↦ inl ((are.tells m n).1 there) | inr back ↦ inr ((are.tells n m).1 back) ]),
 )
 
 pub declared_silences_of : (d : Declared) (pairs : List Order) (lists : List (List ℕ)) → AreEdges (hierarchy_of d) (declared_silences d) pairs → AreSilences (length d.systems) pairs lists → AreDeclaredSilences d lists

@@ -9,4 +9,3 @@ pub good_at : (queries : List (List Term)) → AreGoodBelow queries (length quer
 good_at [] good k = refl
 good_at (q ∷ queries) good zero = good zero (omega arith)
 good_at (q ∷ queries) good (suc k) = good_at queries (λ j l. good (suc j) (omega arith)) k
-

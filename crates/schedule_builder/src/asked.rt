@@ -19,10 +19,7 @@ use std::alloc::{AllocError, Global};
 use system_set::Members;
 
 // Adds these conditions behind the others.
-fn push_conditions<'a>(
-    conditions: &'a [Cond],
-    asked: &mut Vec<&'a Cond>,
-) -> Result<(), AllocError>
+fn push_conditions<'a>(conditions: &'a [Cond], asked: &mut Vec<&'a Cond>) -> Result<(), AllocError>
     ensures { OnOk result (map (λ c. c.now) asked.new.items ≡ map (λ c. c.now) asked.old.items ++ conditions.now) }
 {
     for condition in conditions {
@@ -43,11 +40,7 @@ pub(crate) fn conditions_of(alloc: Global, desc: &ScheduleDesc) -> Result<Vec<&C
 }
 
 // Adds the number once for each of these conditions.
-fn push_owner(
-    number: usize,
-    conditions: &[Cond],
-    owners: &mut Vec<usize>,
-) -> Result<(), AllocError>
+fn push_owner(number: usize, conditions: &[Cond], owners: &mut Vec<usize>) -> Result<(), AllocError>
     ensures { OnOk result (owners.new.items ≡ owners.old.items ++ map (λ _. number) conditions.now) }
 {
     for _ in conditions {

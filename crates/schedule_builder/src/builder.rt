@@ -293,11 +293,7 @@ fn check_condition_queries(
 }
 
 /// Refuses a condition that writes.
-fn check_reading(
-    alloc: Global,
-    desc: &ScheduleDesc,
-    conditions: &[&Cond],
-) -> Result<(), BuildFault>
+fn check_reading(alloc: Global, desc: &ScheduleDesc, conditions: &[&Cond]) -> Result<(), BuildFault>
     requires asked { map (λ c. c.now) conditions.now ≡ asked_of desc.now }
     requires ordered { IsOrdered desc.now }
     requires apart { HasNoSelfConflict desc.now }
@@ -446,11 +442,7 @@ fn checked(alloc: Global, desc: &ScheduleDesc) -> Result<Relations, BuildFault>
 }
 
 /// The systems with the predecessors that edges give them, of no level yet.
-fn scheduled(
-    alloc: Global,
-    params: Vec<Params>,
-    edges: &[Order],
-) -> Result<Vec<System>, AllocError>
+fn scheduled(alloc: Global, params: Vec<Params>, edges: &[Order]) -> Result<Vec<System>, AllocError>
     requires { All (IsBetween (2 ^ 32)) edges.now }
     ensures { IfOk result (λ built. AreScheduled edges.now [] (map system_with params.items) built.items) }
 {
@@ -502,13 +494,6 @@ pub fn build(alloc: Global, desc: ScheduleDesc) -> Result<Built, BuildFault>
     let systems = levelled(alloc, flat, levels.as_slice())?;
     let order = order_of(alloc, systems.as_slice())?;
     let conditions = scheduled_conditions(alloc, parts.conditions, found.coverage.as_slice())?;
-    let built = Built::of_parts(
-        alloc,
-        systems,
-        conditions,
-        syncs,
-        order,
-        found.silences,
-    )?;
+    let built = Built::of_parts(alloc, systems, conditions, syncs, order, found.silences)?;
     Ok(built)
 }

@@ -26,11 +26,7 @@ pub fn world_of_one(alloc: Global, clock: Clock) -> Result<(World, Entity), Fail
 }
 
 /// Gives an entity a component at tick 1.
-pub fn put<C: Component>(
-    world: &mut World,
-    entity: Entity,
-    component: C,
-) -> Result<(), StoreFault>
+pub fn put<C: Component>(world: &mut World, entity: Entity, component: C) -> Result<(), StoreFault>
     requires clock { 1 ≤ world.old.state.clock }
     requires home { AreAllHome world.old.layout }
     ensures clock { 1 ≤ world.new.state.clock }

@@ -28,5 +28,5 @@ loop-touched-preserved c =
           append_assoc c.loop-touched.yielded (touched ∷ []) (into_iter_items c.next.new.self)
           ∙ (ap (λ (xs : List Params). c.loop-touched.yielded ++ xs) (sym c.in-Some.ensures.steps.0) ∙ c.loop-touched.invariant.whole);
       built = subst (λ (xs : List DeclaredSystem). AreScheduled orders [] xs c.push.new.self.items) (sym (map-append system_with c.loop-touched.yielded (touched ∷ [])))
-      (subst (λ (xs : List ScheduledSystem). AreScheduled orders [] (map system_with c.loop-touched.yielded ++ s ∷ []) xs) (sym pushed) (scheduled_more orders (map system_with c.loop-touched.yielded) built s c.loop-touched.invariant.built));
+          (subst (λ (xs : List ScheduledSystem). AreScheduled orders [] (map system_with c.loop-touched.yielded ++ s ∷ []) xs) (sym pushed) (scheduled_more orders (map system_with c.loop-touched.yielded) built s c.loop-touched.invariant.built));
     }
