@@ -3,6 +3,9 @@ pub mod Answers
 pub mod Lines
 pub mod Runs
 pub mod Verdicts
+pub mod Replaying
+pub mod ReplayFaults
+pub mod WholeStarts
 pub mod Ends
 pub mod Writing
 pub mod Reading

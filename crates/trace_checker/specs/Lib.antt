@@ -1,3 +1,5 @@
 pub mod Grammar
 pub mod TextFaults
 pub mod Verdicts
+pub mod Replays
+pub mod ReplayFaults
