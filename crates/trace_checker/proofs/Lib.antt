@@ -6,6 +6,7 @@ pub mod Verdicts
 pub mod Replaying
 pub mod ReplayFaults
 pub mod WholeStarts
+pub mod Taking
 pub mod Ends
 pub mod Writing
 pub mod Reading
