@@ -1,7 +1,7 @@
 mod Bodies
-mod Remembering
-mod Weaving
-mod Placing
+pub mod Remembering
+pub mod Weaving
+pub mod Placing
 mod Returning
 mod Staging
 mod Turns

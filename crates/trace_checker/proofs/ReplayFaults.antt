@@ -1,5 +1,5 @@
 -- One result is that of a replay, want of memory aside.
-use Rattle.std.proofs.Common.{◌≡◌, ◌⊎◌, inl, inr, ℕ, Bool, true, false, List, reverse, Result, Ok, Err, refl, sym, ap, subst, ◌∙◌}
+use Rattle.std.proofs.Common.{◌≡◌, ◌⊎◌, inl, inr, ℕ, Bool, true, false, List, reverse, Result, Ok, Err, IsErrAnd, refl, sym, ap, subst, ◌∙◌}
 use Rattle.std.proofs.lemmas.Bool.{false≢true}
 use Rattle.model.specs.declared.steps.Step.{Step}
 use Rattle.model.specs.state.State.{State}
@@ -83,7 +83,7 @@ module _ (s : Schedule) (bodies : List BodyMeaning) (w : State) (steps : List St
     told : IsToldAs cause fault
     stopped : IsReplayStopped s bodies w (reverse steps) cause
 
-  Came : Result State ReplayFault → Type 0
+  abbrev Came : Result State ReplayFault → Type 0
   Came r = Ended r ⊎ (Refuted r ⊎ (WrongOne r ⊎ Stopped r))
 
   came : (r : Result State ReplayFault) → IsReplay s bodies w steps r → (r ≡ Err (replay.Run Memory)) ⊎ Came r
@@ -92,10 +92,10 @@ module _ (s : Schedule) (bodies : List BodyMeaning) (w : State) (steps : List St
   came (Err replay.Unfinished) h = inr (inr (inl (record { verdict = Unfinished; is = refl; says = h; open_yet = refl })))
   came (Err (replay.WrongAnswer n)) h = inr (inr (inr (inl (record { step = n; is = refl; complete = h.0; wrong = h.1 }))))
   came (Err (replay.Run Memory)) h = inl refl
-  came (Err (replay.Run ClockSpent)) h = inr (inr (inr (inr (record { fault = ClockSpent; cause = h.1; is = refl; complete = h.0; told = h.2; stopped = h.3 }))))
-  came (Err (replay.Run Spoiled)) h = inr (inr (inr (inr (record { fault = Spoiled; cause = h.1; is = refl; complete = h.0; told = h.2; stopped = h.3 }))))
-  came (Err (replay.Run NoWorker)) h = inr (inr (inr (inr (record { fault = NoWorker; cause = h.1; is = refl; complete = h.0; told = h.2; stopped = h.3 }))))
-  came (Err (replay.Run (Refusal n))) h = inr (inr (inr (inr (record { fault = Refusal n; cause = h.1; is = refl; complete = h.0; told = h.2; stopped = h.3 }))))
+  came (Err (replay.Run ClockSpent)) h = inr (inr (inr (inr (record { fault = ClockSpent; cause = h.1.0; is = refl; complete = h.0; told = h.1.1; stopped = h.1.2 }))))
+  came (Err (replay.Run Spoiled)) h = inr (inr (inr (inr (record { fault = Spoiled; cause = h.1.0; is = refl; complete = h.0; told = h.1.1; stopped = h.1.2 }))))
+  came (Err (replay.Run NoWorker)) h = inr (inr (inr (inr (record { fault = NoWorker; cause = h.1.0; is = refl; complete = h.0; told = h.1.1; stopped = h.1.2 }))))
+  came (Err (replay.Run (Refusal n))) h = inr (inr (inr (inr (record { fault = Refusal n; cause = h.1.0; is = refl; complete = h.0; told = h.1.1; stopped = h.1.2 }))))
 
   -- steps that are said to be complete aren't refuted
   no-refuted : {r : Result State ReplayFault} → Refuted r → IsVerdict s steps Complete → ⊥
@@ -141,3 +141,9 @@ module _ (s : Schedule) (bodies : List BodyMeaning) (w : State) (steps : List St
         go x (inl none) = inl none
         go (inl none) (inr y) = inr (inl none)
         go (inr x) (inr y) = inr (inr (same-came x y))
+
+  -- so it is where a fault is handed on
+  pub one_fault : (r : Result State ReplayFault) (fault : ReplayFault) → IsErrAnd r (λ told. told ≡ fault) → IsReplayFault s bodies w steps fault → (t : Result State ReplayFault) → IsReplay s bodies w steps t
+      → (t ≡ Err (replay.Run Memory)) ⊎ ((r ≡ Err (replay.Run Memory)) ⊎ (r ≡ t))
+  one_fault (Ok end) fault told is t h = absurd told
+  one_fault (Err other) fault told is t h = one_replay (Err other) t (subst (IsReplayFault s bodies w steps) (sym told) is) h

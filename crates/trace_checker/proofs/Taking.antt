@@ -1,5 +1,5 @@
 -- The steps of a replay, one after the other.
-use Rattle.std.proofs.Common.{◌≡◌, ◌<◌, ◌≤◌, ◌+◌, ℕ, suc, Bool, false, List, [], ◌∷◌, ◌++◌, length, drop, take, get_or, reverse, refl, sym, ap, subst, ◌∙◌, append-nil, arith}
+use Rattle.std.proofs.Common.{◌≡◌, ◌<◌, ◌≤◌, ◌+◌, ℕ, suc, Bool, false, List, [], ◌∷◌, ◌++◌, length, drop, take, get_or, reverse, Result, Ok, Err, IfErr, IsErrAnd, refl, sym, ap, subst, ◌∙◌, append-nil, arith}
 use Rattle.std.proofs.lemmas.List.{length-reverse, length-take-le, take_all}
 use Rattle.model.specs.declared.steps.Step.{Step}
 use Rattle.model.specs.declared.steps.Step.TheVariants.{Cond, Start, Skip, Finish, Sync}
@@ -8,6 +8,7 @@ use Rattle.model.specs.shown.Outcome.{BodyMeaning}
 use Rattle.model.specs.steps.Schedule.{Schedule}
 use Rattle.model.specs.steps.Lawful.{IsLawful, IsComplete, May}
 use Rattle.model.specs.runs.RunState.{can_open}
+use Rattle.model.specs.runs.Causes.Cause.{NoTick}
 use Rattle.engine.specs.declared.faults.RunFault.{RunFault}
 use Rattle.engine.specs.declared.faults.RunFault.TheVariants.{Memory, ClockSpent, Spoiled, NoWorker, BodyFault as Refusal}
 use Rattle.trace_checker.specs.declared.replay.ReplayFault.{ReplayFault}
@@ -16,6 +17,11 @@ use Rattle.trace_checker.specs.Replays.{IsReplayed, IsWrongAnswer, IsReplayStopp
 use Rattle.trace_checker.specs.ReplayFaults.{IsKnown, IsReplayFault, IsStepFault}
 use Rattle.trace_checker.proofs.Verdicts.{history_at, history_more, cut_at, may_at}
 use Rattle.trace_checker.proofs.Replaying.{reached_more, reached_end, wrong_at, stopped_at, stopped_open}
+
+-- an error that is handed on
+pub handed_on : {T : Type 0} (P : ReplayFault → Type 0) (r : Result T ReplayFault) (fault : ReplayFault) → IsErrAnd r (λ told. told ≡ fault) → P fault → IfErr r P
+handed_on P (Ok x) fault told is = tt
+handed_on P (Err other) fault told is = subst P (sym told) is
 
 known-of : (s : Schedule) (h : List Step) (step : Step) → May s h step → IsKnown s step
 known-of s h (Cond c answer) may = may.known
@@ -44,13 +50,13 @@ module _ (s : Schedule) (bodies : List BodyMeaning) (start : State) (steps : Lis
         → IsStepFault s bodies w (get_or steps i d) (i + 1) (replay.Run fault) → IsReplayFault s bodies start steps (replay.Run fault)
     stopped-here w Memory lawful complete is h = tt
     stopped-here w ClockSpent lawful complete is h =
-        ((lawful, complete), h.0, h.1, subst (λ x. IsReplayStopped s bodies start x h.0) (sym around) (stopped_at s bodies start (reverse (take i steps)) (reverse (drop (suc i) steps)) (get_or steps i d) w h.0 is h.2))
+        ((lawful, complete), (h.0, h.1, subst (λ x. IsReplayStopped s bodies start x h.0) (sym around) (stopped_at s bodies start (reverse (take i steps)) (reverse (drop (suc i) steps)) (get_or steps i d) w h.0 is h.2)))
     stopped-here w Spoiled lawful complete is h =
-        ((lawful, complete), h.0, h.1, subst (λ x. IsReplayStopped s bodies start x h.0) (sym around) (stopped_at s bodies start (reverse (take i steps)) (reverse (drop (suc i) steps)) (get_or steps i d) w h.0 is h.2))
+        ((lawful, complete), (h.0, h.1, subst (λ x. IsReplayStopped s bodies start x h.0) (sym around) (stopped_at s bodies start (reverse (take i steps)) (reverse (drop (suc i) steps)) (get_or steps i d) w h.0 is h.2)))
     stopped-here w NoWorker lawful complete is h =
-        ((lawful, complete), h.0, h.1, subst (λ x. IsReplayStopped s bodies start x h.0) (sym around) (stopped_at s bodies start (reverse (take i steps)) (reverse (drop (suc i) steps)) (get_or steps i d) w h.0 is h.2))
+        ((lawful, complete), (h.0, h.1, subst (λ x. IsReplayStopped s bodies start x h.0) (sym around) (stopped_at s bodies start (reverse (take i steps)) (reverse (drop (suc i) steps)) (get_or steps i d) w h.0 is h.2)))
     stopped-here w (Refusal n) lawful complete is h =
-        ((lawful, complete), h.0, h.1, subst (λ x. IsReplayStopped s bodies start x h.0) (sym around) (stopped_at s bodies start (reverse (take i steps)) (reverse (drop (suc i) steps)) (get_or steps i d) w h.0 is h.2))
+        ((lawful, complete), (h.0, h.1, subst (λ x. IsReplayStopped s bodies start x h.0) (sym around) (stopped_at s bodies start (reverse (take i steps)) (reverse (drop (suc i) steps)) (get_or steps i d) w h.0 is h.2)))
 
     -- a fault of a step is one of the replay
     pub fault_at : (w : State) (number : ℕ) (fault : ReplayFault) → number ≡ i + 1 → IsLawful s (reverse steps) → IsComplete s (reverse steps) → IsReached s bodies start (reverse (take i steps)) w
@@ -71,4 +77,4 @@ module _ (s : Schedule) (bodies : List BodyMeaning) (start : State) (steps : Lis
   -- what stops the opening
   pub fault_open : IsLawful s (reverse steps) → IsComplete s (reverse steps) → can_open start ≡ false → IsReplayFault s bodies start steps (replay.Run ClockSpent)
   fault_open lawful complete spent =
-      ((lawful, complete), _, tt, subst (λ x. IsReplayStopped s bodies start x _) (append-nil (reverse steps)) (stopped_open s bodies start (reverse steps) spent))
+      ((lawful, complete), (NoTick, tt, subst (λ x. IsReplayStopped s bodies start x NoTick) (append-nil (reverse steps)) (stopped_open s bodies start (reverse steps) spent)))

@@ -1,6 +1,6 @@
 // A recorded run taken again on one thread, each system whole at its start.
 
-ghost use Rattle.std.specs.Prelude.{◌≡◌, ◌⊎◌, ◌<◌, ◌++◌, ◌↔◌, ℕ, List, [], Result, length, map, reverse, true, false, Some, Err, IfOk, IfErr, OnOk, IsErr, IsErrOf, IsTrue};
+ghost use Rattle.std.specs.Prelude.{◌≡◌, ◌⊎◌, ◌<◌, ◌++◌, ◌↔◌, ℕ, List, [], Result, length, map, reverse, slice_get, true, false, Some, Err, IfOk, IfErr, OnOk, IsErr, IsErrOf, IsTrue};
 ghost use Rattle.std.specs.List.{AllByRecursion};
 ghost use Rattle.model.specs.state.State.{State as Now};
 ghost use Rattle.model.specs.access.SelfConflict.{ConflictWithin};
@@ -85,6 +85,7 @@ pub fn replay<B: Body>(
     }
     let mut state = state.into_open();
     take_steps(alloc, built, bodies, &mut state, &trace.steps)?;
+    state.law();
     Ok(state.into_state())
 }
 
@@ -106,9 +107,9 @@ fn take_steps<B: Body>(
     ensures out { OnOk result (AreOut (store_of state.new) []) }
     ensures meanings { meanings B.meaning built.now (map Some bodies.new) ≡ meanings B.meaning built.now (map Some bodies.old) }
 {
-    if state.begin().is_err() {
+    let Ok(()) = state.begin() else {
         return Err(ReplayFault::Run(RunFault::ClockSpent));
-    }
+    };
     let mut number = 0;
     for step in steps {
         number += 1;
@@ -150,9 +151,9 @@ fn take<B: Body>(
         }
         Step::Skip(_) | Step::Finish(_) => Ok(()),
         Step::Sync(_) => {
-            if state.next().is_err() {
+            let Ok(_) = state.next() else {
                 return Err(ReplayFault::Run(RunFault::ClockSpent));
-            }
+            };
             Ok(())
         }
     }
@@ -215,12 +216,7 @@ fn start<B: Body>(
 }
 
 // What a system is shown as it starts: its run is noted at the tick to come, which becomes the clock.
-fn show(
-    alloc: Global,
-    built: &Built,
-    state: &mut OpenState,
-    system: u32,
-) -> Result<View, RunFault>
+fn show(alloc: Global, built: &Built, state: &mut OpenState, system: u32) -> Result<View, RunFault>
     requires known { system < length built.now.systems }
     requires memories { HasMemories built.now state.old.state }
     requires out { AreOut (store_of state.old) [] }
@@ -249,7 +245,7 @@ fn show(
 // Runs the body of a system on a view in which nothing is written yet.
 fn run_body<B: Body>(bodies: &mut [B], system: usize, view: &mut View) -> Result<(), BodyFault>
     requires known { system < length bodies.old }
-    requires fits { (n : ℕ) → n ≡ system → (body : B) → slice_get bodies.old n ≡ Some body → IsTrue (B.fits body view.old.params) }
+    requires fits { (body : B) → slice_get bodies.old system ≡ Some body → IsTrue (B.fits body view.old.params) }
     requires untouched { view.old.outcome ≡ untouched view.old.params view.old.shown }
     ensures { HasRun B.meaning B.fits bodies.old system view.old bodies.new view.new result }
 {
