@@ -1,16 +1,13 @@
 -- What a replay comes to is one: it ends in one state, or has one first wrong answer, or stops for one cause. And how it goes on.
-use Rattle.std.proofs.Common.{◌≡◌, ◌≢◌, ◌⊎◌, inl, inr, ℕ, ◌+◌, Bool, true, false, List, [], ◌∷◌, ◌++◌, length, drop, get_or, Option, Some, None, IsSome, option_map, option_and_then, refl, sym, ap, subst, ◌∙◌, arith}
-use Rattle.std.proofs.lemmas.Bool.{false≢true}
-use Rattle.std.proofs.lemmas.List.{append_assoc}
+use Rattle.std.proofs.Common.{◌≡◌, ◌≢◌, ◌⊎◌, inl, inr, ℕ, ◌+◌, Bool, true, false, List, [], ◌∷◌, ◌++◌, length, drop, Option, Some, None, IsSome, option_map, option_and_then, refl, sym, ap, subst, ◌∙◌}
 use Rattle.model.specs.declared.steps.Step.{Step}
 use Rattle.model.specs.declared.steps.Step.TheVariants.{Cond, Start, Skip, Finish, Sync}
 use Rattle.model.specs.Lists.{provided, first_some}
 use Rattle.model.specs.state.State.{State}
-use Rattle.model.specs.state.Agreement.{IsRun}
 use Rattle.model.specs.shown.Outcome.{BodyMeaning}
 use Rattle.model.specs.steps.Schedule.{Schedule, condition_of}
-use Rattle.model.specs.steps.Lawful.{IsLawful, IsComplete, May}
-use Rattle.model.specs.access.Condition.{Asked, means}
+use Rattle.model.specs.steps.Lawful.{IsLawful, IsComplete}
+use Rattle.model.specs.access.Condition.{means}
 use Rattle.model.specs.runs.RunState.{RunState, answer_of, asked_of, between, begin_run, can_ask, can_open, after_condition}
 use Rattle.model.specs.runs.Meaning.{Interleaved, interleaved, interleaved_step, serial, serial_step, HasTrueAnswers, IsTrueAnswer}
 use Rattle.model.specs.runs.Causes.{Cause, unless, serial_cause, serial_cause_at, serial_cause_of}

@@ -1,18 +1,18 @@
 -- A start that is taken whole: what it makes of the state, what stops it, and the bodies after it.
-use Rattle.std.proofs.Common.{ℕ, zero, suc, ◌<◌, ◌≤◌, Bool, true, false, not, ◌≡◌, ◌==◌, ◌&&◌, List, [], ◌∷◌, ◌++◌, length, map, set, slice_get, get_or, cond, Option, Some, None, option_and_then, Result, Ok, Err, IfErr, IsErrAnd, refl, sym, ◌∙◌, ap, ap₂, subst, append-nil, arith}
+use Rattle.std.proofs.Common.{ℕ, zero, suc, ◌<◌, ◌≤◌, Bool, true, false, not, ◌≡◌, ◌&&◌, List, [], ◌∷◌, length, map, set, slice_get, get_or, cond, Option, Some, None, option_and_then, Result, Ok, Err, IfErr, IsErrAnd, refl, sym, ◌∙◌, ap, ap₂, subst, arith}
 use Rattle.std.proofs.Math.Bool.{beq}
 use Rattle.std.proofs.lemmas.Bool.{eq-eqb, false≢true}
 use Rattle.std.proofs.lemmas.List.{length-map, length-set}
-use Rattle.model.specs.declared.steps.Step.TheVariants.{Cond, Start, Finish, Sync}
-use Rattle.model.specs.Lists.{has, provided, first_some}
+use Rattle.model.specs.declared.steps.Step.TheVariants.{Cond, Start, Sync}
+use Rattle.model.specs.Lists.{provided, first_some}
 use Rattle.model.specs.access.Access.{Params}
 use Rattle.model.specs.state.State.{State, most_indices}
 use Rattle.model.specs.shown.Input.{shown}
 use Rattle.model.specs.shown.Outcome.{BodyMeaning}
 use Rattle.model.specs.steps.Schedule.{ScheduledSystem, Schedule, params_of, access_of}
 use Rattle.model.specs.runs.RunState.{RunState, RunningSystem, after_condition, after_start, after_sync, answer_of, between, body_of, can_start, finish, has_ids_to_start, has_tick, memory_of_system, next_tick, started_system}
-use Rattle.model.specs.runs.Meaning.{Interleaved, interleaved_step, running_system, without_system, with_running_systems, serial_start}
-use Rattle.model.specs.runs.Causes.{Cause, unless, cause_of_answer, cause_of_finish, cause_of_running, cause_of_start, interleaved_cause_of, serial_cause_of}
+use Rattle.model.specs.runs.Meaning.{Interleaved, running_system, without_system, with_running_systems}
+use Rattle.model.specs.runs.Causes.{Cause, unless, cause_of_answer, cause_of_finish, cause_of_running, cause_of_start, serial_cause_of}
 use Rattle.model.specs.runs.Causes.Cause.{NoTick, NoIds, Refused, NoEventNumber}
 use Rattle.model.proofs.faults.Causes.{with_running_systems-parts}
 use Rattle.body.specs.Answers.{Answers}
@@ -25,7 +25,7 @@ use Rattle.event_buffers.specs.declared.queue.SendFault.TheVariants as send
 use Rattle.engine.specs.declared.faults.RunFault.{RunFault}
 use Rattle.engine.specs.Faults.{fault_of_send}
 use Rattle.engine.specs.Jobs.{IsPlaced}
-use Rattle.engine.specs.Meanings.{meaning_of, meanings_of, meanings, body_at, body_fits, fits_at, HasMemories, Suits}
+use Rattle.engine.specs.Meanings.{meanings_of, meanings, body_at, body_fits, fits_at, HasMemories, Suits}
 use Rattle.engine.proofs.Placing.{placed_first}
 use Rattle.engine.proofs.Remembering.{memories_asked, memories_at, memories_laid, memories_noted}
 use Rattle.engine.proofs.Weaving.{over, IsAnswered, numbers_of, ask_woven, finish_woven, start_woven, sync_woven, unsent_woven}

@@ -1,5 +1,5 @@
 -- The faults of a replay: what each says of the steps, and of one step; and what is told of a body that has run.
-use Rattle.std.specs.Prelude.{ℕ, ◌<◌, ◌≡◌, Bool, List, length, reverse, set, slice_get, Option, Some, Result, Ok, Err}
+use Rattle.std.specs.Prelude.{ℕ, ◌<◌, ◌≡◌, Bool, List, length, reverse, set, slice_get, Some, Result, Ok, Err}
 use Rattle.model.specs.declared.steps.Step.{Step}
 use Rattle.model.specs.declared.steps.Step.TheVariants.{Cond, Start}
 use Rattle.model.specs.access.Access.{Params}

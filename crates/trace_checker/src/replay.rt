@@ -1,21 +1,16 @@
 // A recorded run taken again on one thread, each system whole at its start.
 
-ghost use Rattle.std.specs.Prelude.{◌≡◌, ◌⊎◌, ◌<◌, ◌++◌, ◌↔◌, ℕ, List, [], Result, length, map, reverse, slice_get, true, false, Some, Err, IfOk, IfErr, OnOk, IsErr, IsErrOf, IsTrue};
-ghost use Rattle.std.specs.List.{AllByRecursion};
+ghost use Rattle.std.specs.Prelude.{◌≡◌, ◌⊎◌, ◌<◌, [], Result, length, map, reverse, slice_get, true, false, Some, Err, IfOk, IfErr, OnOk, IsTrue};
 ghost use Rattle.model.specs.state.State.{State as Now};
-ghost use Rattle.model.specs.access.SelfConflict.{ConflictWithin};
 ghost use Rattle.model.specs.shown.Input.{shown};
 ghost use Rattle.model.specs.shown.Outcome.{untouched};
 ghost use Rattle.model.specs.steps.Lawful.{IsLawful, IsComplete};
 ghost use Rattle.model.specs.steps.Schedule.{params_of, access_of};
 ghost use Rattle.model.specs.runs.RunState.{answer_of, between, has_tick, memory_of_system, next_tick};
 ghost use Rattle.model.specs.declared.steps.Step.TheVariants.{Cond, Start as Begin};
-ghost use Rattle.query_plan.specs.Standing.{ArePickedHome};
-ghost use Rattle.body.specs.Columns.{Column};
-ghost use Rattle.body.specs.Lent.{lent_in, with_away, AreLent};
-ghost use Rattle.body.specs.Out.{AreOut, IsWrittenBy};
+ghost use Rattle.body.specs.Lent.{lent_in, with_away};
+ghost use Rattle.body.specs.Out.{AreOut};
 ghost use Rattle.body.specs.Steps.{noted, asked_at, store_of, ticked};
-ghost use Rattle.body.specs.declared.system_body.BodyFault.TheVariants.{Refused};
 ghost use Rattle.engine.specs.declared.faults.RunFault.TheVariants.{Memory};
 ghost use Rattle.engine.specs.Meanings.{meanings, Suits, HasMemories};
 ghost use Rattle.trace_checker.specs.declared.replay.ReplayFault.TheVariants.{Run};
@@ -31,17 +26,22 @@ use engine::RunFault;
 use executor_core::{Step, StepFault, Trace};
 use schedule_builder::built::Built;
 use std::alloc::{AllocError, Global};
+use thiserror::Error;
 
 /// Why a replay stops.
-#[derive(Clone, Copy, PartialEq, Eq, Debug)]
+#[derive(Clone, Copy, PartialEq, Eq, Debug, Error)]
 pub enum ReplayFault {
     /// This step, counted from 1, is the first that may not come, for this fault.
+    #[error("step {0} may not come")]
     Bad(usize, StepFault),
     /// All steps are lawful, and some are missing.
+    #[error("steps are missing")]
     Unfinished,
     /// This step, counted from 1, is the first whose recorded answer isn't what its condition means there.
+    #[error("the recorded answer of step {0} is not what its condition means there")]
     WrongAnswer(usize),
     /// What stops a run: want of memory, of a tick or of an event number, or a body that refuses.
+    #[error("{0}")]
     Run(RunFault),
 }
 

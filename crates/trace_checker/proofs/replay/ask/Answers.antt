@@ -1,4 +1,4 @@
-use Rattle.std.proofs.Common.{◌≡◌, [], ap, sym, ◌∙◌, subst}
+use Rattle.std.proofs.Common.{[], ap, sym, ◌∙◌, subst}
 use Rattle.std.specs.List.{AllByRecursion}
 use Rattle.model.specs.access.Condition.{Condition, queries_of}
 use Rattle.model.specs.steps.Schedule.{ScheduledCondition, access_of}

@@ -1,4 +1,4 @@
-use Rattle.std.proofs.Common.{◌≡◌, [], List, Result, Ok, Err, Some, map, ap, ◌∙◌, subst, subst₂, sym}
+use Rattle.std.proofs.Common.{List, Ok, Err, Some, map, subst, subst₂, sym}
 use Rattle.model.specs.declared.steps.Step.{Step}
 use Rattle.model.specs.state.State.{State}
 use Rattle.body.specs.Steps.{store_of}

@@ -1,6 +1,5 @@
-use Rattle.std.proofs.Common.{◌≡◌, [], ap, ◌∙◌, subst}
+use Rattle.std.proofs.Common.{[], ap, ◌∙◌, subst}
 use Rattle.model.specs.access.SelfConflict.{ConflictWithin}
-use Rattle.model.specs.steps.Schedule.{params_of}
 use Rattle.body.specs.Steps.{StateValue, store_of}
 use Rattle.body.proofs.Outs.{home-apart, out-same}
 use Rattle.trace_checker.proofs.replay.show.Goals as goal

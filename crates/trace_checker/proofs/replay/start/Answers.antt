@@ -1,16 +1,11 @@
-use Rattle.std.proofs.Common.{◌≡◌, ◌<◌, ◌++◌, [], List, None, Ok, Err, Some, map, refl, sym, ap, ap₂, ◌∙◌, subst, append-nil, true, false, arith}
+use Rattle.std.proofs.Common.{◌≡◌, [], None, Err, Some, map, refl, sym, ap, ap₂, ◌∙◌, subst, append-nil}
 use Rattle.std.proofs.lemmas.Bool.{true_from_ne_false}
 use Rattle.model.specs.access.Access.{Params}
-use Rattle.model.specs.state.State.{State}
-use Rattle.model.specs.steps.Schedule.{params_of}
 use Rattle.model.specs.runs.RunState.{next_tick}
 use Rattle.model.specs.runs.Causes.Cause.{Refused}
-use Rattle.body.specs.Columns.{Column}
-use Rattle.body.specs.Lent.{AreLent}
 use Rattle.body.specs.Out.{AreOut}
 use Rattle.body.specs.Seen.{Opening}
 use Rattle.body.specs.Steps.{StateValue, laid, store_of}
-use Rattle.body.proofs.Outs.{lent-part}
 use Rattle.engine.specs.Meanings.{HasMemories, meanings}
 use Rattle.engine.proofs.Weaving.{numbers_of}
 use Rattle.trace_checker.proofs.WholeStarts.{body_fit, is_answered, is_refused, meanings_after, suits_after, memories_after, noted_known, refusal_stops, unsent_stops, start_taken, unsent_told}

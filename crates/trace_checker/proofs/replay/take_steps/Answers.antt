@@ -1,10 +1,9 @@
-use Rattle.std.proofs.Common.{◌≡◌, ◌+◌, ◌≤◌, List, Some, false, get_or, length, map, refl, subst, arith}
+use Rattle.std.proofs.Common.{◌+◌, ◌≤◌, List, Some, false, get_or, length, map, refl, subst, arith}
 use Rattle.model.specs.declared.steps.Step.TheVariants.{Cond}
 use Rattle.model.specs.shown.Outcome.{BodyMeaning}
 use Rattle.engine.specs.Meanings.{meanings}
-use Rattle.trace_checker.specs.Replays.{IsStepTaken}
 use Rattle.trace_checker.specs.ReplayFaults.{IsReplayFault, IsStepFault}
-use Rattle.trace_checker.proofs.Taking.{fault_at, fault_open, handed_on, known_at, reached_all, reached_next}
+use Rattle.trace_checker.proofs.Taking.{fault_at, fault_open, handed_on, known_at, reached_all}
 use Rattle.trace_checker.proofs.replay.take_steps.Goals as goal
 
 pub returns-in_default-clause-stopped : goal.returns-in_default-clause-stopped
