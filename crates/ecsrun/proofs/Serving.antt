@@ -29,7 +29,8 @@ use Rattle.program_file.specs.declared.program_file.ProgramFile.{ProgramFile}
 use Rattle.program_file.specs.declared.fault.FileFault.{FileFault}
 use Rattle.program_file.specs.declared.program_file.SystemTable.{SystemTable}
 use Rattle.ecsrun.specs.declared.schedule.Code.{Code}
-use Rattle.program_file.specs.Tables.{AreSetsIn, AreSystemsIn, AreChainsIn}
+use Rattle.program_file.specs.Keys.{HasOnly}
+use Rattle.program_file.specs.Tables.{keys_of_document, AreResourcesIn, AreEntitiesIn, AreSetsIn, AreSystemsIn, AreChainsIn}
 use Rattle.toml.specs.Data.{Members}
 use Rattle.ecsrun.specs.Said.{IsFileOf, declared_by, script_said, scripts_by}
 use Rattle.program_file.specs.declared.fault.FileFault.TheVariants as file
@@ -187,10 +188,19 @@ is-document None v read = tt
 is-document (Some text) v read = ap is_some read
 
 -- and it has the tables that are read
-pub is-file : (bytes : Option (List ℕ)) (v : Members) (tables : ProgramFile) → IfSome bytes (λ text. parse_document text ≡ Some v) → AreSetsIn v tables.sets.items → AreSystemsIn v tables.systems.items → AreChainsIn v tables.chains.items →
-    IfSome bytes (IsFileOf tables)
-is-file None v tables read sets systems chains = tt
-is-file (Some text) v tables read sets systems chains = record { document = v; parsed = read; sets = sets; systems = systems; chains = chains }
+pub is-file : (bytes : Option (List ℕ)) (v : Members) (tables : ProgramFile) → IfSome bytes (λ text. parse_document text ≡ Some v) → HasOnly keys_of_document v → AreResourcesIn v tables.resources →
+    AreEntitiesIn v tables.entities.items → AreSetsIn v tables.sets.items → AreSystemsIn v tables.systems.items → AreChainsIn v tables.chains.items → IfSome bytes (IsFileOf tables)
+is-file None v tables read only resources entities sets systems chains = tt
+is-file (Some text) v tables read only resources entities sets systems chains = record {
+  document = v;
+  parsed = read;
+  only = only;
+  resources = resources;
+  entities = entities;
+  sets = sets;
+  systems = systems;
+  chains = chains;
+}
 
 -- what the tables of a document, and its texts, are refused for
 pub place-refused : (bytes trace : Option (List ℕ)) (work : Work) (v : Members) (fault : FileFault) → IfSome bytes (λ text. parse_document text ≡ Some v) → IsOfPlace fault → IsRefusedBy bytes trace work (fault_of_file fault)
