@@ -6,3 +6,4 @@ pub mod Jobs
 pub mod Stage
 pub mod FirstState
 pub mod Quiets
+pub mod Agreeing
