@@ -8,3 +8,4 @@ mod Turns
 pub mod Beginning
 mod OneWithAll
 mod Keeping
+mod Agreeing

@@ -8,10 +8,10 @@ use Rattle.model.specs.runs.WideRuns.{AreWideRuns, IsWideStopped}
 use Rattle.engine.specs.History.{history_of}
 use Rattle.engine.specs.EngineValue.{EngineValue}
 use Rattle.engine.specs.Agreeing.{AgreesWithAll}
-use Rattle.engine.specs.Meanings.{meanings, Suits}
-use Rattle.engine.proofs.Keeping.{engine_agrees}
+use Rattle.engine.specs.Meanings.{meanings, AllKeepWithin, Suits}
+use Rattle.engine.proofs.Agreeing.{engine_agrees}
 use Rattle.kinds.specs.Components.{widths}
-use Rattle.std.proofs.lemmas.List.{length-map}
+use Rattle.std.proofs.lemmas.List.{length-map, with_items_is}
 use Rattle.engine.proofs.Bodies.{neither, stopped_else}
 use Rattle.engine.proofs.engine.run_engine.Goals as goal
 
@@ -146,3 +146,17 @@ returns-clause-agreement g c =
     (engine_agrees meaning width c.args.times before hs c.into_state.result c.law.ensures invariant.0.memories c.shape.ensures invariant.1
     (length-map c.in_ok-traces.traces.items history_of ∙ c.in_ok-traces.ensures.count)
     (subst (AreWideRuns width inside.built (meanings meaning inside.built inside.bodies.items) inside.state hs) (sym c.into_state.ensures) ran))
+
+pub invariant_of-engine-2 : goal.invariant_of-engine-2
+invariant_of-engine-2 g c = λ e.
+    let meaning = g.B.Body.meaning in
+    let fits = g.B.Body.fits in
+    let inside = c.engine.inside in
+    let before = c.engine.invariant c.if-engine.false in
+    let suits = c.in_ok-traces.ensures.suits in
+    let slots = c.run_times-traces.new.slots in
+    let whole = with_items_is inside.bodies slots (suits.body_count ∙ sym before.0.body_count ∙ sym inside.bodies.ok.0) in (
+      subst (λ (xs : List (Option g.row.B.Denot)). Suits fits inside.built xs c.into_state.result) (sym whole) (subst (λ (state : State). Suits fits inside.built slots state) (sym c.into_state.ensures) suits),
+      subst (λ (xs : List (Option g.row.B.Denot)). AllKeepWithin inside.built (meanings meaning inside.built xs)) (sym whole)
+          (subst (AllKeepWithin inside.built) (sym (c.in_ok-traces.ensures.meanings ∙ ap (meanings meaning inside.built) c.deref_mut.ensures.value)) before.1),
+    )
