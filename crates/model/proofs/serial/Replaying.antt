@@ -1,16 +1,13 @@
 -- What a replay comes to is one: it ends in one state, or has one first wrong answer, or stops for one cause. And how it goes on.
-use Rattle.std.proofs.Common.{◌≡◌, ◌≢◌, ◌⊎◌, inl, inr, ℕ, ◌+◌, Bool, true, false, List, [], ◌∷◌, ◌++◌, length, drop, get_or, Option, Some, None, IsSome, option_map, option_and_then, refl, sym, ap, subst, ◌∙◌, arith}
-use Rattle.std.proofs.lemmas.Bool.{false≢true}
-use Rattle.std.proofs.lemmas.List.{append_assoc}
+use Rattle.std.proofs.Common.{◌≡◌, ◌≢◌, ◌⊎◌, inl, inr, ℕ, ◌+◌, Bool, true, false, List, [], ◌∷◌, ◌++◌, length, drop, Option, Some, None, IsSome, option_map, option_and_then, refl, sym, ap, subst, ◌∙◌}
 use Rattle.model.specs.declared.steps.Step.{Step}
 use Rattle.model.specs.declared.steps.Step.TheVariants.{Cond, Start, Skip, Finish, Sync}
 use Rattle.model.specs.Lists.{provided, first_some}
 use Rattle.model.specs.state.State.{State}
-use Rattle.model.specs.state.Agreement.{IsRun}
 use Rattle.model.specs.shown.Outcome.{BodyMeaning}
 use Rattle.model.specs.steps.Schedule.{Schedule, condition_of}
-use Rattle.model.specs.steps.Lawful.{IsLawful, IsComplete, May}
-use Rattle.model.specs.access.Condition.{Asked, means}
+use Rattle.model.specs.steps.Lawful.{IsLawful, IsComplete}
+use Rattle.model.specs.access.Condition.{means}
 use Rattle.model.specs.runs.RunState.{RunState, answer_of, asked_of, between, begin_run, can_ask, can_open, after_condition}
 use Rattle.model.specs.runs.Meaning.{Interleaved, interleaved, interleaved_step, serial, serial_step, HasTrueAnswers, IsTrueAnswer}
 use Rattle.model.specs.runs.Causes.{Cause, unless, serial_cause, serial_cause_at, serial_cause_of}
@@ -20,7 +17,8 @@ use Rattle.model.proofs.faults.Causes.{then-parts, lacks-serial}
 use Rattle.model.proofs.serial.Interleaving.{interleaved_serial, same_shown}
 use Rattle.model.proofs.serial.Soundness.{runs_are_sound}
 use Rattle.model.proofs.faults.Answers.{answer_of-means}
-use Rattle.model.specs.runs.Replays.{IsAnswerOf, HasSerialAnswers, IsReplayed, IsWrongAnswer, IsReplayStopped, IsReached, IsStepTaken, IsWrongHere}
+use Rattle.model.specs.runs.Laws.{ReplaysAreOne}
+use Rattle.model.specs.runs.Replays.{Leaves, AnswersWrong, Stops, IsAnswerOf, HasSerialAnswers, IsReplayed, IsWrongAnswer, IsReplayStopped, IsReached, IsStepTaken, IsWrongHere}
 
 -- ---- fronts of a history
 
@@ -241,3 +239,16 @@ module _ (s : Schedule) (bodies : List BodyMeaning) (start : State) where
   -- what stops the opening
   pub stopped_open : (h : List Step) → can_open start ≡ false → IsReplayStopped s bodies start (h ++ []) NoTick
   stopped_open h e = record { later = h; front = []; whole = refl; answers = tt; stops = ap (λ b. unless b NoTick) e }
+
+-- ---- the law
+
+pub replays_are_one : ReplaysAreOne
+replays_are_one s bodies w h (Leaves v) (Leaves v') one other = ap Leaves (replayed_replayed s bodies w h v v' one other)
+replays_are_one s bodies w h (Leaves v) (AnswersWrong m) one other = absurd (replayed_wrong s bodies w h v m one other)
+replays_are_one s bodies w h (Leaves v) (Stops cause) one other = absurd (replayed_stopped s bodies w h v cause one other)
+replays_are_one s bodies w h (AnswersWrong n) (Leaves v) one other = absurd (replayed_wrong s bodies w h v n other one)
+replays_are_one s bodies w h (AnswersWrong n) (AnswersWrong m) one other = ap AnswersWrong (wrong_wrong s bodies w h n m one other)
+replays_are_one s bodies w h (AnswersWrong n) (Stops cause) one other = absurd (wrong_stopped s bodies w h n cause one other)
+replays_are_one s bodies w h (Stops cause) (Leaves v) one other = absurd (replayed_stopped s bodies w h v cause other one)
+replays_are_one s bodies w h (Stops cause) (AnswersWrong n) one other = absurd (wrong_stopped s bodies w h n cause other one)
+replays_are_one s bodies w h (Stops cause) (Stops other_cause) one other = ap Stops (stopped_stopped s bodies w h cause other_cause one other)

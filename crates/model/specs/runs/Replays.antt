@@ -52,6 +52,18 @@ pub record IsReplayStopped (s : Schedule) (bodies : List BodyMeaning) (w : State
   pub answers : HasSerialAnswers s bodies w front
   pub stops : serial_cause s bodies w front ≡ Some cause
 
+-- one of the three: it leaves a state, has its first wrong answer at a step, or stops for a cause
+pub data Replay : Type 0 where
+  Leaves : State → Replay
+  AnswersWrong : ℕ → Replay
+  Stops : Cause → Replay
+
+-- what a run that is taken again comes to
+abbrev pub ComesTo : Schedule → List BodyMeaning → State → List Step → Replay → Type 0
+ComesTo s bodies w h (Leaves w') = IsReplayed s bodies w h w'
+ComesTo s bodies w h (AnswersWrong n) = IsWrongAnswer s bodies w h n
+ComesTo s bodies w h (Stops cause) = IsReplayStopped s bodies w h cause
+
 -- ---- one step of it
 
 -- after this history the answers that were recorded are true, and the serial meaning is this state, with nothing commanded or granted
