@@ -15,12 +15,12 @@ use Rattle.model.proofs.progress.Single.{wide_lawful}
 use Rattle.model.proofs.agreement.SerialRuns.{runs_agree}
 
 -- runs that leave this state
-record LeaveAs (s : Schedule) (bodies : List BodyMeaning) (w : State) (hs : List (List Step)) (w' : State) : Type 0 where
-  are : AreRuns s bodies w hs
-  leaves : after_runs s bodies w hs ≡ Some w'
+pub record LeaveAs (s : Schedule) (bodies : List BodyMeaning) (w : State) (hs : List (List Step)) (w' : State) : Type 0 where
+  pub are : AreRuns s bodies w hs
+  pub leaves : after_runs s bodies w hs ≡ Some w'
 
 -- a run before runs from the state that it leaves
-run_before : (s : Schedule) (bodies : List BodyMeaning) (w : State) (h : List Step) (hs : List (List Step)) (end : Interleaved) (middle w' : State) → IsRun s bodies w h →
+pub run_before : (s : Schedule) (bodies : List BodyMeaning) (w : State) (h : List Step) (hs : List (List Step)) (end : Interleaved) (middle w' : State) → IsRun s bodies w h →
     interleaved s bodies w h ≡ Some end → end.run.state ≡ middle → LeaveAs s bodies middle hs w' → LeaveAs s bodies w (h ∷ hs) w'
 run_before s bodies w h hs end middle w' run meaning leaves rest = record {
   are = (
@@ -41,7 +41,7 @@ wide_leave width s bodies w (h ∷ hs) w' ran =
     ran.1.meaning ran.1.leaves (wide_leave width s bodies ran.0 hs w' ran.2)
 
 -- what runs leave agrees with what any as many leave
-all_agree : (widths : ℕ → ℕ) (s : Schedule) (bodies : List BodyMeaning) (v : State) (hs : List (List Step)) (v' : State) → IsBuilt s → BodiesKeepWithin widths s bodies →
+pub all_agree : (widths : ℕ → ℕ) (s : Schedule) (bodies : List BodyMeaning) (v : State) (hs : List (List Step)) (v' : State) → IsBuilt s → BodiesKeepWithin widths s bodies →
     IsStateOf widths s v → LeaveAs s bodies v hs v' → AgreesWithAll widths s bodies v (length hs) v'
 all_agree widths s bodies v hs v' built within shape left w gs w' settled other_shape agree same ran leaves =
     runs_agree widths s bodies v w hs gs v' w' built settled within shape other_shape agree (sym same) left.are ran left.leaves leaves
