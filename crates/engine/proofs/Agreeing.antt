@@ -9,13 +9,13 @@ use Rattle.model.specs.shown.Outcome.{BodyMeaning}
 use Rattle.model.specs.steps.Built.{IsBuilt}
 use Rattle.model.specs.steps.Schedule.{Schedule, ScheduledCondition, ScheduledSystem}
 use Rattle.model.specs.runs.WideRuns.{AreWideRuns}
+use Rattle.model.specs.state.Agreement.{AgreesWithAll}
+use Rattle.model.proofs.agreement.OneWithAll.{wide_runs_agree}
 use Rattle.kinds.specs.Components.{widths}
 use Rattle.body.specs.Steps.{HasShape, IsInTime}
-use Rattle.engine.specs.Agreeing.{AgreesWithAll}
 use Rattle.engine.specs.EngineValue.{EngineValue}
 use Rattle.engine.specs.Meanings.{meanings, AllKeepWithin, HasMemories}
 use Rattle.engine.proofs.Keeping.{bodies_keep}
-use Rattle.engine.proofs.OneWithAll.{wide_runs_agree}
 
 -- ---- memories
 

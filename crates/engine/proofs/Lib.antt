@@ -6,6 +6,5 @@ mod Returning
 mod Staging
 mod Turns
 pub mod Beginning
-mod OneWithAll
 mod Keeping
 mod Agreeing

@@ -6,4 +6,3 @@ pub mod Jobs
 pub mod Stage
 pub mod FirstState
 pub mod Quiets
-pub mod Agreeing

@@ -4,8 +4,8 @@ ghost use Rattle.std.specs.Prelude.{◌≡◌, ◌↔◌, ◌⊎◌, ℕ, length
 ghost use Rattle.model.specs.runs.Runs.{AreSingleRuns, AreSoundRuns, HasRuns, IsStopped};
 ghost use Rattle.model.specs.runs.WideRuns.{AreWideRuns, IsWideStopped};
 ghost use Rattle.model.specs.runs.Causes.{Cause};
+ghost use Rattle.model.specs.state.Agreement.{AgreesWithAll};
 ghost use Rattle.kinds.specs.Components.{widths};
-ghost use Rattle.engine.specs.Agreeing.{AgreesWithAll};
 ghost use Rattle.engine.specs.Meanings.{meanings, Miscounts, IsFirstMisfit};
 ghost use Rattle.engine.specs.History.{history_of};
 

@@ -1,5 +1,6 @@
 use Rattle.std.proofs.Common.{◌≡◌, ℕ, List, map, Option, Err, refl, sym, ap, ◌∙◌, subst}
 use Rattle.std.proofs.Math.Logic.{⊎_map}
+use Rattle.model.specs.state.Agreement.{AgreesWithAll}
 use Rattle.model.specs.state.State.{State}
 use Rattle.model.specs.runs.Causes.{Cause}
 use Rattle.model.specs.runs.Causes.Cause.{NoTick, NoEventNumber, Refused}
@@ -7,7 +8,6 @@ use Rattle.model.specs.runs.Runs.{IsStopped}
 use Rattle.model.specs.runs.WideRuns.{AreWideRuns, IsWideStopped}
 use Rattle.engine.specs.History.{history_of}
 use Rattle.engine.specs.EngineValue.{EngineValue}
-use Rattle.engine.specs.Agreeing.{AgreesWithAll}
 use Rattle.engine.specs.Meanings.{meanings, AllKeepWithin, Suits}
 use Rattle.engine.proofs.Agreeing.{engine_agrees}
 use Rattle.kinds.specs.Components.{widths}
