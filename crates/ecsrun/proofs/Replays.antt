@@ -10,7 +10,7 @@ use Rattle.executor_core.specs.declared.trace.Trace.{Trace}
 use Rattle.trace_checker.specs.declared.line.Line.{Line}
 use Rattle.trace_checker.specs.declared.line.Line.TheVariants.{Take}
 use Rattle.trace_checker.specs.Grammar.{AreFitting, IsFitting, lines_from, steps_of}
-use Rattle.trace_checker.specs.Replays.{IsReplayed}
+use Rattle.model.specs.runs.Replays.{IsReplayed}
 use Rattle.ecsrun.specs.declared.fault.Fault.{Fault}
 use Rattle.ecsrun.specs.Replayed.{AreReplayed, IsRefusedAmong, IsRefusedRun}
 

@@ -7,7 +7,7 @@ use Rattle.model.specs.steps.Schedule.{Schedule}
 use Rattle.engine.specs.declared.faults.RunFault.TheVariants as stop
 use Rattle.trace_checker.specs.declared.replay.ReplayFault.TheVariants as replay
 use Rattle.trace_checker.specs.Grammar.{AreFitting, trace_text}
-use Rattle.trace_checker.specs.Replays.{IsReplayed}
+use Rattle.model.specs.runs.Replays.{IsReplayed}
 use Rattle.trace_checker.specs.ReplayFaults.{IsReplayFault}
 use Rattle.output_text.specs.WorldText.{world_text}
 use Rattle.ecsrun.specs.declared.fault.Fault.{Fault}

@@ -5,7 +5,7 @@ ghost use Rattle.model.specs.state.Loaded.{loaded};
 ghost use Rattle.archetype_store.specs.Layout.{AreAllHome};
 ghost use Rattle.engine.specs.Meanings.{Suits};
 ghost use Rattle.trace_checker.specs.Grammar.{steps_of};
-ghost use Rattle.trace_checker.specs.Replays.{IsReplayed};
+ghost use Rattle.model.specs.runs.Replays.{IsReplayed};
 ghost use Rattle.ecsrun.specs.Load.{entity_given};
 ghost use Rattle.ecsrun.specs.Refused.{IsUnreplayed, IsUngiven};
 ghost use Rattle.ecsrun.specs.Replayed.{AreReplayed, IsRefusedAmong, IsRefusedRun, IsTextOfReplay};

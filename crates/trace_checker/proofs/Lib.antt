@@ -3,7 +3,6 @@ pub mod Answers
 pub mod Lines
 pub mod Runs
 pub mod Verdicts
-pub mod Replaying
 pub mod ReplayFaults
 pub mod WholeStarts
 pub mod Taking

@@ -14,10 +14,10 @@ use Rattle.trace_checker.specs.declared.check.Verdict.TheVariants.{Complete, Unf
 use Rattle.trace_checker.specs.declared.replay.ReplayFault.{ReplayFault}
 use Rattle.trace_checker.specs.declared.replay.ReplayFault.TheVariants as replay
 use Rattle.trace_checker.specs.Verdicts.{IsVerdict, is_complete}
-use Rattle.trace_checker.specs.Replays.{IsReplayed, IsWrongAnswer, IsReplayStopped}
+use Rattle.model.specs.runs.Replays.{IsReplayed, IsWrongAnswer, IsReplayStopped}
 use Rattle.trace_checker.specs.ReplayFaults.{IsToldAs, IsReplay, IsReplayFault}
 use Rattle.trace_checker.proofs.Verdicts.{same_verdict}
-use Rattle.trace_checker.proofs.Replaying.{replayed_stopped, replayed_wrong, replayed_replayed, stopped_stopped, wrong_stopped, wrong_wrong}
+use Rattle.model.proofs.serial.Replaying.{replayed_stopped, replayed_wrong, replayed_replayed, stopped_stopped, wrong_stopped, wrong_wrong}
 
 -- one fault tells of a cause
 same_fault : (cause : Cause) (f g : RunFault) → IsToldAs cause f → IsToldAs cause g → f ≡ g

@@ -13,10 +13,10 @@ use Rattle.engine.specs.declared.faults.RunFault.{RunFault}
 use Rattle.engine.specs.declared.faults.RunFault.TheVariants.{Memory, ClockSpent, Spoiled, NoWorker, BodyFault as Refusal}
 use Rattle.trace_checker.specs.declared.replay.ReplayFault.{ReplayFault}
 use Rattle.trace_checker.specs.declared.replay.ReplayFault.TheVariants as replay
-use Rattle.trace_checker.specs.Replays.{IsReplayed, IsWrongAnswer, IsReplayStopped, IsReached, IsStepTaken}
+use Rattle.model.specs.runs.Replays.{IsReplayed, IsWrongAnswer, IsReplayStopped, IsReached, IsStepTaken}
 use Rattle.trace_checker.specs.ReplayFaults.{IsKnown, IsReplayFault, IsStepFault}
 use Rattle.trace_checker.proofs.Verdicts.{history_at, history_more, cut_at, may_at}
-use Rattle.trace_checker.proofs.Replaying.{reached_more, reached_end, wrong_at, stopped_at, stopped_open}
+use Rattle.model.proofs.serial.Replaying.{reached_more, reached_end, wrong_at, stopped_at, stopped_open}
 
 -- an error that is handed on
 pub handed_on : {T : Type 0} (P : ReplayFault → Type 0) (r : Result T ReplayFault) (fault : ReplayFault) → IsErrAnd r (λ told. told ≡ fault) → P fault → IfErr r P

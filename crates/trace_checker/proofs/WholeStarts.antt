@@ -29,7 +29,7 @@ use Rattle.engine.specs.Meanings.{meanings_of, meanings, body_at, body_fits, fit
 use Rattle.engine.proofs.Placing.{placed_first}
 use Rattle.engine.proofs.Remembering.{memories_asked, memories_at, memories_laid, memories_noted}
 use Rattle.engine.proofs.Weaving.{over, IsAnswered, numbers_of, ask_woven, finish_woven, start_woven, sync_woven, unsent_woven}
-use Rattle.trace_checker.specs.Replays.{IsStepTaken}
+use Rattle.model.specs.runs.Replays.{IsStepTaken}
 use Rattle.trace_checker.specs.ReplayFaults.{HasRun, IsStoppedHere}
 
 -- ---- bodies in their places

@@ -1,5 +1,4 @@
 pub mod Grammar
 pub mod TextFaults
 pub mod Verdicts
-pub mod Replays
 pub mod ReplayFaults

@@ -18,7 +18,7 @@ use Rattle.trace_checker.specs.declared.check.Verdict.TheVariants as verdict
 use Rattle.trace_checker.specs.declared.replay.ReplayFault.{ReplayFault}
 use Rattle.trace_checker.specs.declared.replay.ReplayFault.TheVariants as replay
 use Rattle.trace_checker.specs.Verdicts.{IsVerdict}
-use Rattle.trace_checker.specs.Replays.{IsReplayed, IsWrongAnswer, IsReplayStopped, IsWrongHere}
+use Rattle.model.specs.runs.Replays.{IsReplayed, IsWrongAnswer, IsReplayStopped, IsWrongHere}
 
 -- which fault tells of a cause
 abbrev pub IsToldAs : Cause → RunFault → Type 0

@@ -14,7 +14,7 @@ ghost use Rattle.body.specs.Steps.{noted, asked_at, store_of, ticked};
 ghost use Rattle.engine.specs.declared.faults.RunFault.TheVariants.{Memory};
 ghost use Rattle.engine.specs.Meanings.{meanings, Suits, HasMemories};
 ghost use Rattle.trace_checker.specs.declared.replay.ReplayFault.TheVariants.{Run};
-ghost use Rattle.trace_checker.specs.Replays.{IsStepTaken};
+ghost use Rattle.model.specs.runs.Replays.{IsStepTaken};
 ghost use Rattle.trace_checker.specs.ReplayFaults.{HasRun, IsKnown, IsReplay, IsReplayFault, IsStepFault, IsStoppedHere};
 
 use crate::check::{Verdict, check};

@@ -4,7 +4,7 @@ use Rattle.model.specs.declared.steps.Step.{Step}
 use Rattle.model.specs.runs.RunState.{has_tick}
 use Rattle.engine.specs.Meanings.{meanings}
 use Rattle.body.specs.Steps.{StateValue}
-use Rattle.trace_checker.specs.Replays.{IsStepTaken}
+use Rattle.model.specs.runs.Replays.{IsStepTaken}
 use Rattle.trace_checker.proofs.WholeStarts.{ask_taken, same_bool, suits_asked, sync_taken}
 use Rattle.trace_checker.proofs.replay.take.Goals as goal
 

@@ -2,7 +2,7 @@ use Rattle.std.proofs.Common.{◌≡◌, [], map, take, reverse, Some}
 use Rattle.body.specs.Out.{AreOut}
 use Rattle.body.specs.Steps.{store_of}
 use Rattle.engine.specs.Meanings.{meanings, Suits}
-use Rattle.trace_checker.specs.Replays.{IsReached}
+use Rattle.model.specs.runs.Replays.{IsReached}
 use Rattle.trace_checker.proofs.replay.take_steps.Given as goal
 
 -- the steps so far are taken, the bodies mean what they meant and suit the state, and no column is away
