@@ -6,5 +6,5 @@ mod Returning
 mod Staging
 mod Turns
 pub mod Beginning
-mod Keeping
-mod Agreeing
+pub mod Keeping
+pub mod Agreeing

@@ -38,6 +38,18 @@ fn body_fits<B: Body>(built: &Built, bodies: &[B], system: u32) -> bool
     bodies[system as usize].fits(built.params(system))
 }
 
+/// Bodies that fit their systems keep within the parameters of each.
+pub fn fitting_keep<B: Body>(built: &Built, bodies: &[B])
+    requires count { length bodies.now ≡ length built.now.systems }
+    requires fit { (n : ℕ) → n < length built.now.systems → fits_at B.fits built.now (map Some bodies.now) n ≡ true }
+    ensures { AllKeepWithin built.now (meanings B.meaning built.now (map Some bodies.now)) }
+{
+    match first_misfit(built, bodies) {
+        Some(_) => unreachable!(),
+        None => {}
+    }
+}
+
 // The places of bodies that are all at home.
 pub(crate) fn placed<B: Body>(alloc: Global, bodies: Vec<B>) -> Result<Vec<Option<B>>, AllocError>
     ensures { IfOk result (λ slots. slots.items ≡ map Some bodies.items) }

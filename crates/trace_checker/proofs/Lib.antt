@@ -6,6 +6,7 @@ pub mod Verdicts
 pub mod ReplayFaults
 pub mod WholeStarts
 pub mod Taking
+pub mod Agreeing
 pub mod Ends
 pub mod Writing
 pub mod Reading

@@ -1,6 +1,7 @@
 // A recorded run taken again on one thread, each system whole at its start.
 
 ghost use Rattle.std.specs.Prelude.{◌≡◌, ◌⊎◌, ◌<◌, [], Result, length, map, reverse, slice_get, true, false, Some, Err, IfOk, IfErr, OnOk, IsTrue};
+ghost use Rattle.model.specs.state.Agreement.{AgreesWithAll};
 ghost use Rattle.model.specs.state.State.{State as Now};
 ghost use Rattle.model.specs.shown.Input.{shown};
 ghost use Rattle.model.specs.shown.Outcome.{untouched};
@@ -8,6 +9,7 @@ ghost use Rattle.model.specs.steps.Lawful.{IsLawful, IsComplete};
 ghost use Rattle.model.specs.steps.Schedule.{params_of, access_of};
 ghost use Rattle.model.specs.runs.RunState.{answer_of, between, has_tick, memory_of_system, next_tick};
 ghost use Rattle.model.specs.declared.steps.Step.TheVariants.{Cond, Start as Begin};
+ghost use Rattle.kinds.specs.Components.{widths};
 ghost use Rattle.body.specs.Lent.{lent_in, with_away};
 ghost use Rattle.body.specs.Out.{AreOut};
 ghost use Rattle.body.specs.Steps.{noted, asked_at, store_of, ticked};
@@ -23,6 +25,7 @@ use body::state::State;
 use body::system_body::{Body, BodyFault};
 use body::view::View;
 use engine::RunFault;
+use engine::fitting::fitting_keep;
 use executor_core::{Step, StepFault, Trace};
 use schedule_builder::built::Built;
 use std::alloc::{AllocError, Global};
@@ -63,8 +66,9 @@ impl From<RunFault> for ReplayFault {
 
 /// Takes a recorded run again, on one thread: each step in the order in which it stands, and each system whole at its start. The steps are
 /// checked first, as `check` does; a condition is asked where it was asked, and what was recorded is compared with what it answers. The state
-/// that is left is that of the recorded run, stamp for stamp, however many systems ran at once. Each fault drops the state. The bodies that
-/// have run mean what they meant.
+/// that is left is that of the recorded run, stamp for stamp, however many systems ran at once; where the schedule is settled it agrees with what any
+/// one run with true answers leaves of any state that agrees with the one before. Each fault drops the state. The bodies that have run mean
+/// what they meant.
 pub fn replay<B: Body>(
     alloc: Global,
     built: &Built,
@@ -75,9 +79,13 @@ pub fn replay<B: Body>(
     requires { Suits B.fits built.now (map Some bodies.old) state }
     ensures replayed { IsReplay built.now (meanings B.meaning built.now (map Some bodies.old)) state trace.now.steps.items result }
     ensures only { (other : Result Now ReplayFault) → IsReplay built.now (meanings B.meaning built.now (map Some bodies.old)) state trace.now.steps.items other → (other ≡ Err (ReplayFault.Run RunFault.Memory)) ⊎ ((result ≡ Err (ReplayFault.Run RunFault.Memory)) ⊎ (result ≡ other)) }
+    ensures agreement { IfOk result (λ left. AgreesWithAll widths built.now (meanings B.meaning built.now (map Some bodies.old)) state 1 left) }
     ensures meanings { meanings B.meaning built.now (map Some bodies.new) ≡ meanings B.meaning built.now (map Some bodies.old) }
     ensures suits { IfOk result (λ left. Suits B.fits built.now (map Some bodies.new) left) }
 {
+    built.law();
+    state.shape();
+    fitting_keep(built, bodies);
     match check(alloc, built, trace)? {
         Verdict::Complete => {}
         Verdict::Unfinished => return Err(ReplayFault::Unfinished),
