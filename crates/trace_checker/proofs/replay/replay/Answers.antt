@@ -1,4 +1,4 @@
-use Rattle.std.proofs.Common.{List, Ok, Err, Some, map, subst, subst₂, sym}
+use Rattle.std.proofs.Common.{List, Ok, Err, Some, map, reverse, subst, subst₂, sym}
 use Rattle.model.specs.declared.steps.Step.{Step}
 use Rattle.model.specs.state.State.{State}
 use Rattle.body.specs.Steps.{store_of}
@@ -8,6 +8,7 @@ use Rattle.trace_checker.specs.declared.replay.ReplayFault.TheVariants as replay
 use Rattle.trace_checker.specs.Verdicts.{IsVerdict}
 use Rattle.trace_checker.specs.ReplayFaults.{IsReplay, IsReplayFault}
 use Rattle.trace_checker.proofs.ReplayFaults.{one_fault, one_replay}
+use Rattle.trace_checker.proofs.Agreeing.{replay_agrees}
 use Rattle.trace_checker.proofs.replay.replay.Goals as goal
 
 pub returns-in-Unfinished-clause-only : goal.returns-in-Unfinished-clause-only
@@ -32,7 +33,7 @@ returns-in_err-take_steps-clause-only g c =
     (subst₂ (λ (start : State) (steps : List Step). IsReplayFault s ms start steps fault) c.into_open-state.ensures.state c.deref.ensures.value c.in_err-take_steps.ensures.stopped)
 
 pub into_state-requires : goal.into_state-requires
-into_state-requires g c = all-home (store_of c.take_steps.new.state) c.law.ensures.laid c.in_ok-take_steps.ensures.out
+into_state-requires g c = all-home (store_of c.take_steps.new.state) c.law-2.ensures.laid c.in_ok-take_steps.ensures.out
 
 pub returns-clause-only : goal.returns-clause-only
 returns-clause-only g c = λ other h.
@@ -41,3 +42,11 @@ returns-clause-only g c = λ other h.
     one_replay s ms c.args.state c.args.trace.now.steps.items (Ok c.into_state.result) other
     (subst₂ (λ (start : State) (steps : List Step). IsReplay s ms start steps (Ok c.into_state.result)) c.into_open-state.ensures.state c.deref.ensures.value
     (subst (λ (w : State). IsReplay s ms c.into_open-state.result.state c.deref.result.now (Ok w)) (sym c.into_state.ensures) c.in_ok-take_steps.ensures.replayed)) h
+
+pub returns-clause-agreement : goal.returns-clause-agreement
+returns-clause-agreement g c =
+    let s = c.args.built.now in
+    let ms = meanings g.B.Body.meaning s (map Some c.args.bodies.now) in
+    replay_agrees g.B.Body.meaning s c.args.bodies.now c.args.state (reverse c.args.trace.now.steps.items) c.into_state.result c.law.ensures c.requires.memories c.shape.ensures c.fitting_keep.ensures
+    (subst₂ (λ (start : State) (steps : List Step). IsReplay s ms start steps (Ok c.into_state.result)) c.into_open-state.ensures.state c.deref.ensures.value
+    (subst (λ (w : State). IsReplay s ms c.into_open-state.result.state c.deref.result.now (Ok w)) (sym c.into_state.ensures) c.in_ok-take_steps.ensures.replayed))
