@@ -1,10 +1,12 @@
 -- What the steps of a run do to the parts of a state.
-use Rattle.std.specs.Prelude.{ℕ, ◌≤◌, List}
+use Rattle.std.specs.Prelude.{ℕ, ◌≤◌, ◌≡◌, List, length}
 use Rattle.std.specs.List.{AllByRecursion}
 use Rattle.archetype_store.specs.Layout.{Archetype, AreAllHome}
 use Rattle.archetype_store.specs.Store.{StoreValue}
 use Rattle.model.specs.Lists.{update_at}
-use Rattle.model.specs.state.State.{EventQueue, Memory, State, World}
+use Rattle.kinds.specs.Components.{widths}
+use Rattle.model.specs.state.State.{EventQueue, Memory, State, World, event_count, most_passed_over, register_count}
+use Rattle.model.specs.state.Shape.{IsWorld, IsQueue}
 use Rattle.model.specs.runs.RunState.{memory_after_run, next_tick, with_registers}
 use Rattle.model.specs.shown.Outcome.{events_sent}
 use Rattle.model.specs.shown.Overlay.{queues_after}
@@ -68,16 +70,28 @@ store_of s = record { state = s.state.world; layout = s.layout }
 abbrev pub state_of : World → List EventQueue → List Memory → List Memory → State
 state_of world events systems conditions = record { world = world; events = events; systems = systems; conditions = conditions; passed_over = 0 }
 
--- no last run is above the clock
-abbrev pub IsInTime : ℕ → List Memory → Type 0
-IsInTime clock memories = AllByRecursion (λ m. m.last_run ≤ clock) memories
+-- a memory whose last run isn't above the clock, with its registers
+pub record IsMemoryAt (clock : ℕ) (m : Memory) : Type 0 where
+  pub last_run : m.last_run ≤ clock
+  pub registers : length m.registers ≡ register_count
 
--- what holds of every state: no last run of a system or condition is above the clock
+abbrev pub IsInTime : ℕ → List Memory → Type 0
+IsInTime clock memories = AllByRecursion (IsMemoryAt clock) memories
+
+-- what holds of the memories of every state: no last run of a system or condition is above the clock, and each has its registers
 pub record AreInTime (clock : ℕ) (systems conditions : List Memory) : Type 0 where
   pub systems_in : IsInTime clock systems
   pub conditions_in : IsInTime clock conditions
 
--- what holds of a state that isn't in a run: no last run is above the clock, and all columns are at home
+-- what holds of a state that isn't in a run: that of its memories, and all columns are at home
 pub record IsState (world : StoreValue) (systems conditions : List Memory) : Type 0 where
   pub last_runs : AreInTime world.state.clock systems conditions
   pub home : AreAllHome world.layout
+
+-- what holds of every state of an engine, whatever the schedule
+pub record HasShape (state : State) : Type 0 where
+  pub world : IsWorld widths state.world
+  pub queue_number : length state.events ≡ event_count
+  pub queues : AllByRecursion IsQueue state.events
+  pub memories : AreInTime state.world.clock state.systems state.conditions
+  pub passed_over : state.passed_over ≤ most_passed_over

@@ -3,7 +3,7 @@
 ghost use Rattle.std.specs.Prelude.{◌≡◌, ◌<◌, ◌≤◌, ◌↔◌, ◌++◌, List, [], false, map, length, get_or, IfOk, OnOk, OnErr, IsErr, IsErrOf};
 ghost use Rattle.std.specs.List.{AllByRecursion};
 ghost use Rattle.kinds.specs.Res.{event_number};
-ghost use Rattle.model.specs.state.State.{most_indices, no_memory};
+ghost use Rattle.model.specs.state.State.{most_indices, no_memory, register_count};
 ghost use Rattle.model.specs.Lists.{update_at};
 ghost use Rattle.model.specs.access.Condition.{holds, queries_of};
 ghost use Rattle.model.specs.access.SelfConflict.{ConflictWithin};
@@ -17,7 +17,7 @@ ghost use Rattle.query_plan.specs.Standing.{ArePickedHome};
 ghost use Rattle.body.specs.Columns.{Column};
 ghost use Rattle.body.specs.Lent.{AreLent, lent_in, with_away, with_back};
 ghost use Rattle.body.specs.Out.{IsWrittenBy, AreOut};
-ghost use Rattle.body.specs.Steps.{AreInTime, asked_at, at_clock, laid, noted, state_of, store_of};
+ghost use Rattle.body.specs.Steps.{AreInTime, HasShape, asked_at, at_clock, laid, noted, state_of, store_of};
 
 use crate::memory::Memory;
 use crate::state::{Memories, State};
@@ -35,7 +35,7 @@ use std::marker::Model;
 
 /// A state in a run. While views are open over it, the columns that they write are away. Contracts see the state that the definitions
 /// speak of, in which a column that is away has the components with which it left, and beside it how components are laid out. No last run is
-/// above the clock.
+/// above the clock, and each memory has its registers.
 #[derive(Drop, Debug)]
 pub struct OpenState {
     world: World,
@@ -101,6 +101,15 @@ impl OpenState {
     {
         self.world.laid();
         let _ = self.world.now();
+    }
+
+    /// What holds of every state, whatever the schedule.
+    pub fn shape(&self)
+        ensures { HasShape self.now.state }
+    {
+        let _ = self.world.now();
+        self.events.law();
+        self.events.shape();
     }
 
     /// The opening of a run: moves the clock to the next tick, and drops the older buffer of the events of each kind, whose newer one becomes
@@ -260,7 +269,8 @@ fn ran_at(memories: &mut [Memory], at: usize, tick: Tick, reads: &[Event], event
 // Puts registers into the memory of a system.
 fn keep_registers(memories: &mut [Memory], system: usize, registers: [i64; 8])
     requires { system < length memories.old }
-    ensures { memories.new ≡ update_at system (with_registers registers) memories.old }
+    ensures memories { memories.new ≡ update_at system (with_registers registers) memories.old }
+    ensures count { length registers ≡ register_count }
 {
     let memory = &mut memories[system];
     memory.set_registers(registers);

@@ -4,7 +4,7 @@ ghost use Rattle.std.specs.Prelude.{◌≡◌, ◌<◌, [], length, replicate, g
 ghost use Rattle.model.specs.state.State.{no_memory, event_count, empty_queue};
 ghost use Rattle.archetype_store.specs.Layout.{AreAllHome};
 ghost use Rattle.archetype_store.specs.Store.{empty_world};
-ghost use Rattle.body.specs.Steps.{AreInTime, state_of};
+ghost use Rattle.body.specs.Steps.{AreInTime, HasShape, state_of};
 
 use crate::memory::Memory;
 use crate::open_state::OpenState;
@@ -24,7 +24,7 @@ pub struct Memories {
 }
 
 /// The state of an engine. Contracts see the state that the definitions speak of, with nothing passed over. No last run is above the
-/// clock, and all columns are at home.
+/// clock, each memory has its registers, and all columns are at home.
 #[derive(Drop, Debug)]
 pub struct State {
     world: World,
@@ -87,6 +87,15 @@ impl State {
             conditions,
         } = self;
         OpenState::of_parts(world, events, systems, conditions)
+    }
+
+    /// What holds of every state, whatever the schedule.
+    pub fn shape(&self)
+        ensures { HasShape self.now }
+    {
+        let _ = self.world.now();
+        self.events.law();
+        self.events.shape();
     }
 
     /// The world.

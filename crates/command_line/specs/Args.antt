@@ -1,7 +1,7 @@
 -- What a command line may ask for, and the exit status of one that is at fault.
 use Rattle.std.specs.Prelude.{ℕ, ◌≤◌, Bool, false, List, [], ◌∷◌, ◌++◌, codes, string_bytes}
 use Rattle.command_line.specs.declared.args.Work.{Work}
-use Rattle.command_line.specs.declared.args.Work.TheVariants.{Run, Ambiguities, Check}
+use Rattle.command_line.specs.declared.args.Work.TheVariants.{Run, Ambiguities, Check, Replay}
 use Rattle.command_line.specs.declared.args.LineFault.{LineFault}
 use Rattle.command_line.specs.declared.args.LineFault.TheVariants.{Help, Usage, Memory}
 
@@ -10,18 +10,21 @@ abbrev pub runs_of : Work → ℕ
 runs_of (Run times workers recorded) = times
 runs_of Ambiguities = 0
 runs_of Check = 0
+runs_of Replay = 0
 
 -- how many workers
 abbrev pub workers_of : Work → ℕ
 workers_of (Run times workers recorded) = workers
 workers_of Ambiguities = 0
 workers_of Check = 0
+workers_of Replay = 0
 
 -- whether its runs are recorded
 abbrev pub is_recorded : Work → Bool
 is_recorded (Run times workers recorded) = recorded
 is_recorded Ambiguities = false
 is_recorded Check = false
+is_recorded Replay = false
 
 -- at most 1,000,000 runs, and 64 workers
 abbrev pub IsWithin : Work → Type 0

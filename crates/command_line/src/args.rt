@@ -23,6 +23,8 @@ pub enum Work {
     Ambiguities,
     /// What the schedule says of the runs of a trace.
     Check,
+    /// The runs of a trace taken again, and the world that they leave.
+    Replay,
 }
 
 impl Work {
@@ -32,7 +34,7 @@ impl Work {
     {
         match self {
             Work::Run { recorded, .. } => *recorded,
-            Work::Ambiguities | Work::Check => false,
+            Work::Ambiguities | Work::Check | Work::Replay => false,
         }
     }
 }
@@ -68,8 +70,8 @@ const MOST_WORKERS: u8 = 64;
 
 impl<'a> Args<'a> {
     /// Reads the words of a command line, of which the first is the program's own name: `run FILE [--times N] [--workers W] [--trace OUT]`,
-    /// where N is from 0 to 1,000,000, and 1 if it is left out, and W from 0 to 64, and 0 if it is left out; `check FILE TRACE`; or
-    /// `ambiguities FILE`.
+    /// where N is from 0 to 1,000,000, and 1 if it is left out, and W from 0 to 64, and 0 if it is left out; `check FILE TRACE`;
+    /// `replay FILE TRACE`; or `ambiguities FILE`.
     pub fn read(alloc: Global, words: &'a [String]) -> Result<Args<'a>, LineFault>
         ensures { IfOk result (λ args. IsWithin args.work) }
     {
@@ -90,6 +92,9 @@ impl<'a> Args<'a> {
         }
         if let Some(check) = matches.subcommand_matches("check") {
             return Ok(Args::of(check, Work::Check));
+        }
+        if let Some(replay) = matches.subcommand_matches("replay") {
+            return Ok(Args::of(replay, Work::Replay));
         }
         if let Some(ambiguities) = matches.subcommand_matches("ambiguities") {
             return Ok(Args::of(ambiguities, Work::Ambiguities));
@@ -184,16 +189,30 @@ fn run<'a>(alloc: Global) -> Result<Command<'a>, AllocError> {
         .arg(record)
 }
 
-// What `check` takes.
-fn check<'a>(alloc: Global) -> Result<Command<'a>, AllocError> {
-    let trace = Arg::new(alloc, "trace")
+// The path of the trace.
+fn trace<'a>(alloc: Global) -> Arg<'a> {
+    Arg::new(alloc, "trace")
         .value_name("TRACE")
         .required(true)
-        .help("the file of recorded runs");
+        .help("the file of recorded runs")
+}
+
+// What `check` takes.
+fn check<'a>(alloc: Global) -> Result<Command<'a>, AllocError> {
     Command::new(alloc, "check")
         .about("prints what the schedule of a program file says of recorded runs")
         .arg(file(alloc))?
-        .arg(trace)
+        .arg(trace(alloc))
+}
+
+// What `replay` takes.
+fn replay<'a>(alloc: Global) -> Result<Command<'a>, AllocError> {
+    Command::new(alloc, "replay")
+        .about(
+            "takes the recorded runs of a program file again, on one thread, and prints the world",
+        )
+        .arg(file(alloc))?
+        .arg(trace(alloc))
 }
 
 // What the program takes.
@@ -206,6 +225,7 @@ fn command<'a>(alloc: Global) -> Result<Command<'a>, AllocError> {
         .subcommand_required(true)
         .subcommand(run(alloc)?)?
         .subcommand(check(alloc)?)?
+        .subcommand(replay(alloc)?)?
         .subcommand(ambiguities)
 }
 
@@ -263,6 +283,11 @@ mod tests {
                 Work::Check,
             ),
             (
+                "ecsrun replay a.toml b.txt",
+                ("a.toml", "b.txt", ""),
+                Work::Replay,
+            ),
+            (
                 "ecsrun ambiguities a.toml",
                 ("a.toml", "", ""),
                 Work::Ambiguities,
@@ -285,6 +310,12 @@ mod tests {
             ("ecsrun check a.toml", 2),
             ("ecsrun check a.toml b.txt c.txt", 2),
             ("ecsrun check a.toml b.txt --times 1", 2),
+            ("ecsrun replay", 2),
+            ("ecsrun replay a.toml", 2),
+            ("ecsrun replay a.toml b.txt c.txt", 2),
+            ("ecsrun replay a.toml b.txt --times 1", 2),
+            ("ecsrun replay a.toml b.txt --workers 2", 2),
+            ("ecsrun replay a.toml --trace b.txt", 2),
             ("ecsrun run a.toml b.toml", 2),
             ("ecsrun run a.toml --workers 65", 2),
             ("ecsrun run a.toml --workers -1", 2),
@@ -300,6 +331,7 @@ mod tests {
             ("ecsrun --help", 0),
             ("ecsrun run --help", 0),
             ("ecsrun check --help", 0),
+            ("ecsrun replay --help", 0),
             ("ecsrun ambiguities --help", 0),
         ] {
             let words = words_of(rt.alloc(), line)?;

@@ -10,7 +10,7 @@ use Rattle.script.specs.Script.{ScriptBlock}
 use Rattle.script.specs.Faults.{fits, script_fault}
 use Rattle.script.specs.declared.fault.ScriptFault.{ScriptFault}
 use Rattle.ecsrun.specs.declared.fault.Fault.{Fault}
-use Rattle.ecsrun.specs.declared.fault.Fault.TheVariants.{TooLong, Content, Build, Script, TraceTooLong, TraceLine, TraceOrder, ClockSpent, IdsSpent, BodyRefused, File, Write, Memory, NoWorker}
+use Rattle.ecsrun.specs.declared.fault.Fault.TheVariants.{Script, Memory}
 use Rattle.ecsrun.specs.declared.schedule.Code.{Code}
 use Rattle.ecsrun.specs.Fault.{IsScriptFault}
 use Rattle.ecsrun.specs.Said.{script_said}
@@ -68,33 +68,11 @@ pub script-refusal : (s : Schedule) (n : ℕ) (name : List ℕ) (fault : ScriptF
 script-refusal s n name fault script (Script cause system block instruction) is first =
     (sym is.1, first ∙ ap (λ (f : ScriptFault). Some f) (λ i. record { cause = sym is.0 i; block = sym is.2 i; instruction = sym is.3 i }))
 script-refusal s n name fault script Memory is first = tt
-script-refusal s n name fault script TooLong is first = absurd is
-script-refusal s n name fault script (Content f) is first = absurd is
-script-refusal s n name fault script (Build f) is first = absurd is
-script-refusal s n name fault script TraceTooLong is first = absurd is
-script-refusal s n name fault script (TraceLine line) is first = absurd is
-script-refusal s n name fault script (TraceOrder line) is first = absurd is
-script-refusal s n name fault script ClockSpent is first = absurd is
-script-refusal s n name fault script IdsSpent is first = absurd is
-script-refusal s n name fault script BodyRefused is first = absurd is
-script-refusal s n name fault script File is first = absurd is
-script-refusal s n name fault script Write is first = absurd is
-script-refusal s n name fault script NoWorker is first = absurd is
+script-refusal s n name fault script told is first = absurd is
 
 -- it is that of one of the systems
 pub unscripted : (s : Schedule) (names : List (List ℕ)) (scripts : List ScriptBody) (n : ℕ) (name : List ℕ) (script : ScriptBody) (told : Fault) → n < length s.systems → get_or names n [] ≡ name → get_or scripts n [] ≡ script →
     IsScriptRefused s n name script told → IsUnscripted s names scripts told
 unscripted s names scripts n name script Memory known at is h = tt
 unscripted s names scripts n name script (Script cause system block instruction) known at is h = (n, known, (at ∙ h.0, ap (script_fault (params_of s n)) is ∙ h.1))
-unscripted s names scripts n name script TooLong known at is h = absurd h
-unscripted s names scripts n name script (Content f) known at is h = absurd h
-unscripted s names scripts n name script (Build f) known at is h = absurd h
-unscripted s names scripts n name script TraceTooLong known at is h = absurd h
-unscripted s names scripts n name script (TraceLine line) known at is h = absurd h
-unscripted s names scripts n name script (TraceOrder line) known at is h = absurd h
-unscripted s names scripts n name script ClockSpent known at is h = absurd h
-unscripted s names scripts n name script IdsSpent known at is h = absurd h
-unscripted s names scripts n name script BodyRefused known at is h = absurd h
-unscripted s names scripts n name script File known at is h = absurd h
-unscripted s names scripts n name script Write known at is h = absurd h
-unscripted s names scripts n name script NoWorker known at is h = absurd h
+unscripted s names scripts n name script told known at is h = absurd h

@@ -1,5 +1,6 @@
 mod Noting
 pub mod Fitting
 pub mod Loading
+pub mod Replays
 pub mod Serving
 pub mod Times

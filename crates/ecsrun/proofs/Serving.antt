@@ -1,8 +1,11 @@
 -- What a command leaves, from what its parts leave.
-use Rattle.std.proofs.Common.{◌≡◌, inl, inr, ℕ, zero, suc, ℤ, Bool, true, false, List, [], ◌∷◌, map, slice_get, Option, None, Some, Result, Ok, Err, IfOk, IfErr, IfSome, IsSome, is_some, refl, ap, sym, ◌∙◌, subst, string_bytes}
+use Rattle.std.proofs.Common.{◌≡◌, ◌<◌, inl, inr, ℕ, zero, suc, ℤ, Bool, true, false, List, [], ◌∷◌, length, map, slice_get, Option, None, Some, Result, Ok, Err, IfOk, IfErr, IfSome, IsSome, is_some, refl, ap, sym, ◌∙◌, subst, string_bytes}
+use Rattle.std.specs.Prelude.{Vec}
+use Rattle.std.specs.declared.alloc.Global.{Global}
 use Rattle.std.specs.Io.KnownBytes.{Keeps}
 use Rattle.model.specs.state.Loaded.{Given, loaded}
 use Rattle.model.specs.access.Access.{Params}
+use Rattle.model.specs.shown.Outcome.{BodyMeaning}
 use Rattle.model.specs.declarations.Declarations.{Declared}
 use Rattle.model.specs.declarations.Refusals.{IsBuildable}
 use Rattle.model.specs.declarations.ScheduleOrder.{HasDeclaredSystems, HasDeclaredEdges, HasLevels, HasDeclaredConditions, HasDeclaredSilences, IsScheduleOrder}
@@ -15,21 +18,24 @@ use Rattle.engine.specs.Meanings as engine
 use Rattle.command_line.specs.declared.args.Work.{Work}
 use Rattle.command_line.specs.Args.{is_recorded}
 use Rattle.streams.specs.Writing.{WritesWhole, line_of}
-use Rattle.ecsrun.specs.Load.{loaded_world}
+use Rattle.kinds.specs.declared.value.Value.{Value}
+use Rattle.ecsrun.specs.Load.{entity_given, loaded_world}
 use Rattle.engine.specs.FirstState.{first_state}
 use Rattle.ecsrun.specs.Setup.{IsScheduleOf, AreScriptsOf, declared_names, script_fits, meanings_of_scripts}
 use Rattle.ecsrun.specs.Recorded.{IsTextOfRuns}
 use Rattle.ecsrun.specs.declared.answer.Answer.{Answer}
 use Rattle.ecsrun.specs.declared.fault.Fault.{Fault}
-use Rattle.ecsrun.specs.declared.fault.Fault.TheVariants.{TooLong, Content, Build, Script, TraceTooLong, TraceLine, TraceOrder, ClockSpent, IdsSpent, BodyRefused, File, Write, Memory, NoWorker}
+use Rattle.ecsrun.specs.declared.fault.Fault.TheVariants.{TooLong, Content, Script, TraceTooLong, TraceLine, TraceOrder, BadStep, UnfinishedRun, WrongAnswer, ClockSpent, IdsSpent, BodyRefused, File, Write, Memory, NoWorker}
 use Rattle.ecsrun.specs.Fault.{status_of, fault_of_build, fault_of_file}
-use Rattle.ecsrun.specs.Refused.{IsRefusedBy, IsStoppedRun, IsTraceUnread, IsUngiven, IsUnread, IsUnscripted}
+use Rattle.ecsrun.specs.Refused.{IsRefusedBy, IsReplayRefused, IsStoppedRun, IsTraceTooLong, IsTraceUnread, IsUngiven, IsUnread, IsUnreplayed, IsUnscripted, LoadsWorld, ReadsTrace}
+use Rattle.ecsrun.specs.Replayed.{IsRefusedReplay}
 use Rattle.ecsrun.specs.Served.{IsAnswerTo, IsRecordKept, IsServed, HasGained, HasGainedFront, Tells, WritesRecord}
 use Rattle.program_file.specs.declared.program_file.ProgramFile.{ProgramFile}
 use Rattle.program_file.specs.declared.fault.FileFault.{FileFault}
 use Rattle.program_file.specs.declared.program_file.SystemTable.{SystemTable}
 use Rattle.ecsrun.specs.declared.schedule.Code.{Code}
-use Rattle.program_file.specs.Tables.{AreSetsIn, AreSystemsIn, AreChainsIn}
+use Rattle.program_file.specs.Keys.{HasOnly}
+use Rattle.program_file.specs.Tables.{keys_of_document, AreResourcesIn, AreEntitiesIn, AreSetsIn, AreSystemsIn, AreChainsIn}
 use Rattle.toml.specs.Data.{Members}
 use Rattle.ecsrun.specs.Said.{IsFileOf, declared_by, script_said, scripts_by}
 use Rattle.program_file.specs.declared.fault.FileFault.TheVariants as file
@@ -68,6 +74,13 @@ pub schedule-of : (d : Declared) (s : Schedule) → IsBuildable d → HasDeclare
     → HasDeclaredSilences d s → IsScheduleOf d s
 schedule-of d s buildable systems edges levels order conditions silences =
     record { buildable = buildable; systems = systems; edges = edges; levels = levels; order = order; conditions = conditions; silences = silences }
+
+-- so does a replay, with the scripts of the tables
+pub replay-loaded : (s : Schedule) (scripts others : List ScriptBody) (rows entities : List (Vec Value Global)) (values : List ℤ) (P : List BodyMeaning → State → Type 0) → scripts ≡ others → rows ≡ entities
+    → P (meanings_of_scripts s scripts) (loaded s (map entity_given rows) values) → P (meanings_of_scripts s others) (loaded s (map entity_given entities) values)
+replay-loaded s scripts others rows entities values P same is h =
+    subst (λ (xs : List ScriptBody). P (meanings_of_scripts s xs) (loaded s (map entity_given entities) values)) same
+    (subst (λ (es : List (Vec Value Global)). P (meanings_of_scripts s scripts) (loaded s (map entity_given es) values)) is h)
 
 map-twice : {A B C : Type 0} (f : A → B) (g : B → C) (xs : List A) → map g (map f xs) ≡ map (λ x. g (f x)) xs
 map-twice f g [] = refl
@@ -168,18 +181,9 @@ refused-told width work bytes trace status fault out traces faults reason ends t
 pub unread-refused : (bytes trace : Option (List ℕ)) (work : Work) (fault : Fault) → IsUnread bytes fault → IsRefusedBy bytes trace work fault
 unread-refused bytes trace work TooLong h = h
 unread-refused bytes trace work (Content fault) h = h
-unread-refused bytes trace work (Build fault) h = absurd h
-unread-refused bytes trace work (Script cause system block instruction) h = absurd h
-unread-refused bytes trace work TraceTooLong h = absurd h
-unread-refused bytes trace work (TraceLine line) h = absurd h
-unread-refused bytes trace work (TraceOrder line) h = absurd h
-unread-refused bytes trace work ClockSpent h = absurd h
-unread-refused bytes trace work IdsSpent h = absurd h
-unread-refused bytes trace work BodyRefused h = absurd h
 unread-refused bytes trace work File h = tt
-unread-refused bytes trace work Write h = absurd h
 unread-refused bytes trace work Memory h = tt
-unread-refused bytes trace work NoWorker h = absurd h
+unread-refused bytes trace work fault h = absurd h
 
 -- a file that is read is a document
 is-document : (bytes : Option (List ℕ)) (v : Members) → IfSome bytes (λ text. parse_document text ≡ Some v) → IfSome bytes (λ text. IsSome (parse_document text))
@@ -187,10 +191,19 @@ is-document None v read = tt
 is-document (Some text) v read = ap is_some read
 
 -- and it has the tables that are read
-pub is-file : (bytes : Option (List ℕ)) (v : Members) (tables : ProgramFile) → IfSome bytes (λ text. parse_document text ≡ Some v) → AreSetsIn v tables.sets.items → AreSystemsIn v tables.systems.items → AreChainsIn v tables.chains.items →
-    IfSome bytes (IsFileOf tables)
-is-file None v tables read sets systems chains = tt
-is-file (Some text) v tables read sets systems chains = record { document = v; parsed = read; sets = sets; systems = systems; chains = chains }
+pub is-file : (bytes : Option (List ℕ)) (v : Members) (tables : ProgramFile) → IfSome bytes (λ text. parse_document text ≡ Some v) → HasOnly keys_of_document v → AreResourcesIn v tables.resources →
+    AreEntitiesIn v tables.entities.items → AreSetsIn v tables.sets.items → AreSystemsIn v tables.systems.items → AreChainsIn v tables.chains.items → IfSome bytes (IsFileOf tables)
+is-file None v tables read only resources entities sets systems chains = tt
+is-file (Some text) v tables read only resources entities sets systems chains = record {
+  document = v;
+  parsed = read;
+  only = only;
+  resources = resources;
+  entities = entities;
+  sets = sets;
+  systems = systems;
+  chains = chains;
+}
 
 -- what the tables of a document, and its texts, are refused for
 pub place-refused : (bytes trace : Option (List ℕ)) (work : Work) (v : Members) (fault : FileFault) → IfSome bytes (λ text. parse_document text ≡ Some v) → IsOfPlace fault → IsRefusedBy bytes trace work (fault_of_file fault)
@@ -219,53 +232,29 @@ build-refused bytes trace work tables (build.OverLimit limit) said h = (tables, 
 -- a script
 pub script-refused : (bytes trace : Option (List ℕ)) (work : Work) (tables : ProgramFile) (s : Schedule) (fault : Fault) → IfSome bytes (IsFileOf tables) → IsScheduleOf (declared_by tables) s → IsUnscripted s (declared_names (declared_by tables)) (scripts_by tables) fault → IsRefusedBy bytes trace work fault
 script-refused bytes trace work tables s (Script cause system block instruction) said is h = (tables, said, s, is, h)
-script-refused bytes trace work tables s TooLong said is h = absurd h.2
-script-refused bytes trace work tables s (Content fault) said is h = absurd h.2
-script-refused bytes trace work tables s (Build fault) said is h = absurd h.2
-script-refused bytes trace work tables s TraceTooLong said is h = absurd h.2
-script-refused bytes trace work tables s (TraceLine line) said is h = absurd h.2
-script-refused bytes trace work tables s (TraceOrder line) said is h = absurd h.2
-script-refused bytes trace work tables s ClockSpent said is h = absurd h.2
-script-refused bytes trace work tables s IdsSpent said is h = absurd h.2
-script-refused bytes trace work tables s BodyRefused said is h = absurd h.2
-script-refused bytes trace work tables s File said is h = absurd h.2
-script-refused bytes trace work tables s Write said is h = absurd h.2
 script-refused bytes trace work tables s Memory said is h = tt
-script-refused bytes trace work tables s NoWorker said is h = absurd h.2
+script-refused bytes trace work tables s fault said is h = absurd h.2
+
+too-long : (trace : Option (List ℕ)) (w : Work) → ReadsTrace w → IfSome trace (λ text. 67108864 < length text) → IsTraceTooLong trace w
+too-long trace (work.Run times workers recorded) reads h = absurd reads
+too-long trace work.Ambiguities reads h = absurd reads
+too-long trace work.Check reads h = h
+too-long trace work.Replay reads h = h
 
 -- the reader of a trace
-pub trace-refused : (bytes trace : Option (List ℕ)) (fault : Fault) → IsTraceUnread trace fault → IsRefusedBy bytes trace work.Check fault
-trace-refused bytes trace TraceTooLong h = h
-trace-refused bytes trace (TraceLine line) h = (refl, h)
-trace-refused bytes trace (TraceOrder line) h = (refl, h)
-trace-refused bytes trace File h = tt
-trace-refused bytes trace Memory h = tt
-trace-refused bytes trace TooLong h = absurd h
-trace-refused bytes trace (Content fault) h = absurd h
-trace-refused bytes trace (Build fault) h = absurd h
-trace-refused bytes trace (Script cause system block instruction) h = absurd h
-trace-refused bytes trace ClockSpent h = absurd h
-trace-refused bytes trace IdsSpent h = absurd h
-trace-refused bytes trace BodyRefused h = absurd h
-trace-refused bytes trace Write h = absurd h
-trace-refused bytes trace NoWorker h = absurd h
+pub trace-refused : (bytes trace : Option (List ℕ)) (w : Work) (fault : Fault) → ReadsTrace w → IsTraceUnread trace fault → IsRefusedBy bytes trace w fault
+trace-refused bytes trace w TraceTooLong reads h = too-long trace w reads h
+trace-refused bytes trace w (TraceLine line) reads h = (reads, h)
+trace-refused bytes trace w (TraceOrder line) reads h = (reads, h)
+trace-refused bytes trace w File reads h = tt
+trace-refused bytes trace w Memory reads h = tt
+trace-refused bytes trace w fault reads h = absurd h
 
--- the entities of a run
-pub given-refused : (bytes trace : Option (List ℕ)) (times workers : ℕ) (recorded : Bool) (fault : Fault) → IsUngiven fault → IsRefusedBy bytes trace (work.Run times workers recorded) fault
-given-refused bytes trace times workers recorded IdsSpent h = tt
-given-refused bytes trace times workers recorded Memory h = tt
-given-refused bytes trace times workers recorded TooLong h = absurd h
-given-refused bytes trace times workers recorded (Content fault) h = absurd h
-given-refused bytes trace times workers recorded (Build fault) h = absurd h
-given-refused bytes trace times workers recorded (Script cause system block instruction) h = absurd h
-given-refused bytes trace times workers recorded TraceTooLong h = absurd h
-given-refused bytes trace times workers recorded (TraceLine line) h = absurd h
-given-refused bytes trace times workers recorded (TraceOrder line) h = absurd h
-given-refused bytes trace times workers recorded ClockSpent h = absurd h
-given-refused bytes trace times workers recorded BodyRefused h = absurd h
-given-refused bytes trace times workers recorded File h = absurd h
-given-refused bytes trace times workers recorded Write h = absurd h
-given-refused bytes trace times workers recorded NoWorker h = absurd h
+-- the entities of a world
+pub given-refused : (bytes trace : Option (List ℕ)) (w : Work) (fault : Fault) → LoadsWorld w → IsUngiven fault → IsRefusedBy bytes trace w fault
+given-refused bytes trace w IdsSpent loads h = loads
+given-refused bytes trace w Memory loads h = tt
+given-refused bytes trace w fault loads h = absurd h
 
 -- the runs
 pub run-refused : (bytes trace : Option (List ℕ)) (times workers : ℕ) (recorded : Bool) (fault : Fault) → IsStoppedRun recorded fault → IsRefusedBy bytes trace (work.Run times workers recorded) fault
@@ -274,15 +263,32 @@ run-refused bytes trace times workers recorded ClockSpent h = tt
 run-refused bytes trace times workers recorded BodyRefused h = tt
 run-refused bytes trace times workers recorded Memory h = tt
 run-refused bytes trace times workers recorded NoWorker h = tt
-run-refused bytes trace times workers recorded TooLong h = absurd h
-run-refused bytes trace times workers recorded (Content fault) h = absurd h
-run-refused bytes trace times workers recorded (Build fault) h = absurd h
-run-refused bytes trace times workers recorded (Script cause system block instruction) h = absurd h
-run-refused bytes trace times workers recorded (TraceLine line) h = absurd h
-run-refused bytes trace times workers recorded (TraceOrder line) h = absurd h
-run-refused bytes trace times workers recorded IdsSpent h = absurd h
-run-refused bytes trace times workers recorded File h = absurd h
-run-refused bytes trace times workers recorded Write h = absurd h
+run-refused bytes trace times workers recorded fault h = absurd h
+
+-- the runs of a trace, taken again
+module _ (bytes trace : Option (List ℕ)) (tables : ProgramFile) (s : Schedule) (read : IfSome bytes (IsFileOf tables)) (built : IsScheduleOf (declared_by tables) s) (fitting : AreScriptsOf s (scripts_by tables)) where
+  abbrev bodies : List BodyMeaning
+  bodies = meanings_of_scripts s (scripts_by tables)
+
+  abbrev start : State
+  start = loaded s (map entity_given tables.entities.items) tables.resources
+
+  refused-replay : (fault : Fault) → IsRefusedReplay s bodies start trace fault → IsReplayRefused bytes trace fault
+  refused-replay fault h = record { tables = tables; read = read; schedule = s; built = built; fitting = fitting; refused = h }
+
+  replay-refused : (fault : Fault) → IsRefusedReplay s bodies start trace fault → IsRefusedBy bytes trace work.Replay fault
+  replay-refused (BadStep run step wrong) h = (refl, refused-replay (BadStep run step wrong) h)
+  replay-refused (UnfinishedRun run) h = (refl, refused-replay (UnfinishedRun run) h)
+  replay-refused (WrongAnswer run step) h = (refl, refused-replay (WrongAnswer run step) h)
+  replay-refused ClockSpent h = refused-replay ClockSpent h
+  replay-refused BodyRefused h = refused-replay BodyRefused h
+  replay-refused Memory h = tt
+  replay-refused fault h = absurd h.refused.refused
+
+  pub unreplayed-refused : (fault : Fault) → IsUnreplayed s bodies start trace fault → IsRefusedBy bytes trace work.Replay fault
+  unreplayed-refused fault (inl unread) = trace-refused bytes trace work.Replay fault tt unread
+  unreplayed-refused fault (inr (inl ungiven)) = given-refused bytes trace work.Replay fault tt ungiven
+  unreplayed-refused fault (inr (inr refused)) = replay-refused fault refused
 
 -- what is told of a fault that is there
 pub of-err : {T E : Type 0} (P Q : E → Type 0) (r : Result T E) → ((e : E) → P e → Q e) → IfErr r P → IfErr r Q

@@ -1,7 +1,7 @@
--- The exit status and the line of a fault, and the faults of reading, of a program file, of a schedule, of a script, of ids and of a trace.
+-- The exit status and the line of a fault, and the faults of reading, of a program file, of a schedule, of a script, of ids and of a trace's text.
 use Rattle.std.specs.Prelude.{◌≡◌, ℕ, List, ◌∷◌, ◌++◌, codes, decimal, string_bytes}
 use Rattle.ecsrun.specs.declared.fault.Fault.{Fault}
-use Rattle.ecsrun.specs.declared.fault.Fault.TheVariants.{TooLong, Content, Build, Script, TraceTooLong, TraceLine, TraceOrder, ClockSpent, IdsSpent, BodyRefused, File, Write, Memory, NoWorker}
+use Rattle.ecsrun.specs.declared.fault.Fault.TheVariants.{TooLong, Content, Build, Script, TraceTooLong, TraceLine, TraceOrder, BadStep, UnfinishedRun, WrongAnswer, ClockSpent, IdsSpent, BodyRefused, File, Write, Memory, NoWorker}
 use Rattle.streams.specs.declared.reading.ReadFault.{ReadFault}
 use Rattle.streams.specs.declared.reading.ReadFault.TheVariants as read
 use Rattle.program_file.specs.declared.fault.FileFault.{FileFault}
@@ -16,6 +16,7 @@ use Rattle.script.specs.declared.fault.ScriptFault.{ScriptFault}
 use Rattle.script.specs.Faults.{cause_text}
 use Rattle.trace_checker.specs.declared.read.TextFault.{TextFault}
 use Rattle.trace_checker.specs.declared.read.TextFault.TheVariants as text
+use Rattle.trace_checker.specs.Verdicts.{fault_number}
 
 -- 1 where the content is refused, 3 where input, output, memory or a thread fail
 abbrev pub status_of : Fault → ℕ
@@ -34,6 +35,9 @@ fault_text (Script cause system block instruction) = codes "refused " ++ (cause_
 fault_text TraceTooLong = codes "refused L3"
 fault_text (TraceLine line) = codes "refused L1 " ++ decimal line
 fault_text (TraceOrder line) = codes "refused L2 " ++ decimal line
+fault_text (BadStep run step fault) = codes "refused run " ++ (decimal run ++ (codes " step " ++ (decimal step ++ (codes " S" ++ decimal (fault_number fault)))))
+fault_text (UnfinishedRun run) = codes "refused run " ++ (decimal run ++ codes " unfinished")
+fault_text (WrongAnswer run step) = codes "refused run " ++ (decimal run ++ (codes " step " ++ (decimal step ++ codes " answer")))
 fault_text ClockSpent = codes "refused E2"
 fault_text IdsSpent = codes "refused E3"
 fault_text BodyRefused = codes "refused E6"

@@ -2,6 +2,7 @@ pub mod Checked
 pub mod Fault
 pub mod Load
 pub mod Recorded
+pub mod Replayed
 pub mod Served
 pub mod Setup
 pub mod Refused

@@ -7,7 +7,8 @@ use Rattle.toml.specs.Parse.{parse_document}
 use Rattle.kinds.specs.Res.{res_number, event_number}
 use Rattle.model.specs.access.Access.{Params}
 use Rattle.model.specs.declarations.Declarations.{Declared, DeclaredItem, DeclaredSystem, DeclaredChain}
-use Rattle.program_file.specs.Tables.{AreSetsIn, AreSystemsIn, AreChainsIn}
+use Rattle.program_file.specs.Keys.{HasOnly}
+use Rattle.program_file.specs.Tables.{keys_of_document, AreResourcesIn, AreEntitiesIn, AreSetsIn, AreSystemsIn, AreChainsIn}
 use Rattle.program_file.specs.declared.program_file.ChainTable.{ChainTable}
 use Rattle.program_file.specs.declared.program_file.ItemTable.{ItemTable}
 use Rattle.program_file.specs.declared.program_file.ProgramFile.{ProgramFile}
@@ -68,10 +69,13 @@ declared_by file = declared_said file.sets.items file.systems.items file.chains.
 abbrev pub scripts_by : ProgramFile → List ScriptBody
 scripts_by file = map (λ (t : SystemTable). script_said t.blocks) file.systems.items
 
--- a text is a document that has these tables: its sets, its systems and its chains
+-- a text is a document that has these tables, its resources, its entities, its sets, its systems and its chains, and no other key
 pub record IsFileOf (tables : ProgramFile) (text : List ℕ) : Type 0 where
   pub document : Members
   pub parsed : parse_document text ≡ Some document
+  pub only : HasOnly keys_of_document document
+  pub resources : AreResourcesIn document tables.resources
+  pub entities : AreEntitiesIn document tables.entities.items
   pub sets : AreSetsIn document tables.sets.items
   pub systems : AreSystemsIn document tables.systems.items
   pub chains : AreChainsIn document tables.chains.items

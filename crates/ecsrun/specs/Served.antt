@@ -7,7 +7,7 @@ use Rattle.model.specs.steps.Schedule.{Schedule}
 use Rattle.ambiguity_report.specs.declared.report.Pair.{Pair}
 use Rattle.ambiguity_report.specs.Report.{IsReport}
 use Rattle.command_line.specs.declared.args.Work.{Work}
-use Rattle.command_line.specs.declared.args.Work.TheVariants.{Run, Ambiguities, Check}
+use Rattle.command_line.specs.declared.args.Work.TheVariants.{Run, Ambiguities, Check, Replay}
 use Rattle.command_line.specs.Args.{is_recorded}
 use Rattle.program_file.specs.declared.program_file.ProgramFile.{ProgramFile}
 use Rattle.ecsrun.specs.declared.answer.Answer.{Answer}
@@ -19,6 +19,7 @@ use Rattle.ecsrun.specs.Checked.{IsCheckOf}
 use Rattle.ecsrun.specs.Load.{entity_given}
 use Rattle.ecsrun.specs.Said.{IsFileOf, declared_by, scripts_by}
 use Rattle.ecsrun.specs.Recorded.{IsTextOfRuns}
+use Rattle.ecsrun.specs.Replayed.{IsTextOfReplay}
 use Rattle.ecsrun.specs.Setup.{IsScheduleOf, AreScriptsOf, declared_names, meanings_of_scripts}
 use Rattle.streams.specs.Writing.{AppendsFront, line_of}
 use Rattle.output_text.specs.ReportText.{report_text}
@@ -59,11 +60,22 @@ pub record IsCheckText (bytes trace : Option (List ℕ)) (status : ℕ) (text : 
   pub built : IsScheduleOf (declared_by tables) schedule
   pub check : IsCheckOf schedule trace status text
 
+-- the text of a state that the runs of a trace leave, taken again one after the other: of the schedule that the tables of a file declare,
+-- which the builder accepted, with their script for each system, from the state of their entities and resources as loaded
+pub record IsReplayText (bytes trace : Option (List ℕ)) (text : List ℕ) : Type 0 where
+  pub tables : ProgramFile
+  pub read : IfSome bytes (IsFileOf tables)
+  pub schedule : Schedule
+  pub built : IsScheduleOf (declared_by tables) schedule
+  pub fitting : AreScriptsOf schedule (scripts_by tables)
+  pub runs : IsTextOfReplay schedule (meanings_of_scripts schedule (scripts_by tables)) (loaded schedule (map entity_given tables.entities.items) tables.resources) trace text
+
 -- what is answered to some work, done with room for so many running systems, on a file with these bytes and a trace
 abbrev pub IsAnswerTo : ℕ → Work → Option (List ℕ) → Option (List ℕ) → Answer → Type 0
 IsAnswerTo width (Run times workers recorded) bytes trace answer = (answer.status ≡ 0) × IsRunText width times recorded bytes (string_bytes answer.text) (string_bytes answer.traces)
 IsAnswerTo width Ambiguities bytes trace answer = (answer.status ≡ 0) × IsReportText bytes (string_bytes answer.text)
 IsAnswerTo width Check bytes trace answer = IsCheckText bytes trace answer.status (string_bytes answer.text)
+IsAnswerTo width Replay bytes trace answer = (answer.status ≡ 0) × IsReplayText bytes trace (string_bytes answer.text)
 
 -- ---- streams, each by what it held before and what it holds then
 

@@ -38,6 +38,10 @@ fits_at s scripts n = script_fits (slice_get scripts n) (params_of s n)
 abbrev pub script_means : ScriptBody → Params → BodyMeaning
 script_means script params = script_meaning params script
 
+-- whether it fits these parameters, as an engine asks
+abbrev pub script_suits : ScriptBody → Params → Bool
+script_suits script params = fits params script
+
 -- what the scripts of the systems of a schedule mean
 abbrev pub meanings_of_scripts : Schedule → List ScriptBody → List BodyMeaning
 meanings_of_scripts s scripts = meanings script_means s (map Some scripts)

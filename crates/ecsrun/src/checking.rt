@@ -41,8 +41,8 @@ pub fn check_trace<T: Read>(alloc: Global, built: &Built, trace: &mut T) -> Resu
     })
 }
 
-// The traces that a reader has, at most 67,108,864 bytes.
-fn traces_of<T: Read>(alloc: Global, trace: &mut T) -> Result<Vec<Trace>, Fault>
+/// The traces that a reader has, at most 67,108,864 bytes.
+pub fn traces_of<T: Read>(alloc: Global, trace: &mut T) -> Result<Vec<Trace>, Fault>
     ensures fitting { IfOk result (λ traces. AreFitting (steps_of traces.items)) }
     ensures read { IfOk result (λ traces. IfSome (T.remaining trace.old) (λ bytes. bytes ≡ trace_text (steps_of traces.items))) }
     ensures refused { IfErr result (IsTraceUnread (T.remaining trace.old)) }

@@ -15,8 +15,8 @@ const CONDITIONS: &str =
 const SKIPPED: &str =
     "set = [{ name = \"g\", if = [\"resource_equals(Round, 9)\"] }]\n[[system]]\nname = \"a\"\nin = [\"g\"]\n[[system]]\nname = \"b\"\nin = [\"g\"]\n[[system]]\nname = \"c\"\nin = [\"g\"]\n[[system]]\nname = \"d\"\nafter = [\"a\"]\nres_mut = [\"Total\"]\n[[system.do]]\ncode = [\"add Total 1\"]\n";
 
-// What is printed of so many runs of a file in which `Round` and `Total` alone may be other than 0.
-fn printed(
+/// What is printed of so many runs of a file in which `Round` and `Total` alone may be other than 0.
+pub fn printed(
     alloc: Global,
     runs: u32,
     round: i64,

@@ -5,6 +5,7 @@ ghost use Rattle.ecsrun.specs.Fault.{status_of, fault_text, fault_of_read, fault
 ghost use Rattle.ecsrun.specs.declared.fault.Fault.TheVariants.{Memory, Write};
 
 use archetype_store::fault::GrantFault;
+use executor_core::StepFault;
 use program_file::FileFault;
 use schedule_builder::fault::BuildFault;
 use script::fault::{Cause, ScriptFault};
@@ -13,6 +14,7 @@ use std::error::Error;
 use std::fmt;
 use streams::reading::ReadFault;
 use streams::writing::WriteFault;
+use trace_checker::check::number_of;
 use trace_checker::read::TextFault;
 
 /// Why the work is not done. It is printed as the line that the standard error gets, without its end.
@@ -37,6 +39,21 @@ pub enum Fault {
     TraceLine(usize),
     /// This line of a trace, counted from 1, begins another run than the next one, or is a step before any run.
     TraceOrder(usize),
+    /// This step of this run of a trace, both counted from 1, is the first that may not come, for this fault.
+    BadStep {
+        run: usize,
+        step: usize,
+        fault: StepFault,
+    },
+    /// All steps of this run of a trace, counted from 1, are lawful, and some are missing.
+    UnfinishedRun {
+        run: usize,
+    },
+    /// This step of this run of a trace, both counted from 1, is the first whose recorded answer isn't what its condition means there.
+    WrongAnswer {
+        run: usize,
+        step: usize,
+    },
     /// The clock has no next tick.
     ClockSpent,
     /// No ids are left for the entities of the file.
@@ -70,6 +87,12 @@ impl fmt::Display for Fault {
             Fault::TraceTooLong => write!(f, "refused L3"),
             Fault::TraceLine(line) => write!(f, "refused L1 {line}"),
             Fault::TraceOrder(line) => write!(f, "refused L2 {line}"),
+            Fault::BadStep { run, step, fault } => {
+                let number = number_of(*fault);
+                write!(f, "refused run {run} step {step} S{number}")
+            }
+            Fault::UnfinishedRun { run } => write!(f, "refused run {run} unfinished"),
+            Fault::WrongAnswer { run, step } => write!(f, "refused run {run} step {step} answer"),
             Fault::ClockSpent => write!(f, "refused E2"),
             Fault::IdsSpent => write!(f, "refused E3"),
             Fault::BodyRefused => write!(f, "refused E6"),
@@ -210,6 +233,25 @@ mod tests {
             (Fault::TraceTooLong, "refused L3", 1),
             (Fault::from(TextFault::Line(3)), "refused L1 3", 1),
             (Fault::from(TextFault::Order(1)), "refused L2 1", 1),
+            (
+                Fault::BadStep {
+                    run: 2,
+                    step: 13,
+                    fault: StepFault::NotRunning,
+                },
+                "refused run 2 step 13 S8",
+                1,
+            ),
+            (
+                Fault::UnfinishedRun { run: 10 },
+                "refused run 10 unfinished",
+                1,
+            ),
+            (
+                Fault::WrongAnswer { run: 1, step: 2 },
+                "refused run 1 step 2 answer",
+                1,
+            ),
             (Fault::ClockSpent, "refused E2", 1),
             (Fault::IdsSpent, "refused E3", 1),
             (Fault::File, "error file", 3),

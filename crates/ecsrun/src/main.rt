@@ -18,6 +18,9 @@ mod opened;
 #[cfg(test)]
 mod programs;
 mod recording;
+#[cfg(test)]
+mod replay_tests;
+mod replaying;
 mod schedule;
 mod serve;
 #[cfg(test)]

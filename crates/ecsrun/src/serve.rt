@@ -19,6 +19,7 @@ use crate::checking::check_trace;
 use crate::fault::Fault;
 use crate::file::bytes_of;
 use crate::recording::note;
+use crate::replaying::replay_trace;
 use crate::schedule::{bodies_of, declare, names_of};
 use crate::world::world_of;
 use ambiguity_report::report::{is_settled, report};
@@ -39,10 +40,11 @@ use streams::writing::{WriteFault, write_line, write_whole};
 use toml::Table;
 use worker_pool::Mode;
 
-/// Does the work of a command line: reads the program file, and the trace where one is checked, and writes to `out` the world that so
-/// many runs of its schedule in the mode leave, the report of which of its systems race, or what it says of the trace. Runs that are
-/// recorded are written to `traces` first. What goes wrong is told to `faults` in one line, and nothing else is. Gives the exit status: 0 where the work is
-/// done, 1 where the content is refused or a run of the trace is not complete, 3 where input, output, memory or a thread fail.
+/// Does the work of a command line: reads the program file, and the trace where one is checked or replayed, and writes to `out` the world
+/// that so many runs of its schedule in the mode leave, the report of which of its systems race, what it says of the trace, or the world
+/// that the runs of the trace leave. Runs that are recorded are written to `traces` first. What goes wrong is told to `faults` in one line,
+/// and nothing else is. Gives the exit status: 0 where the work is done, 1 where the content is refused or a run of the trace is not
+/// complete, 3 where input, output, memory or a thread fail.
 pub fn serve<'s, M: Mode<'s>, F: Read, T: Read, R: Write, O: Write, E: Write>(
     alloc: Global,
     args: &Args<'_>,
@@ -95,6 +97,9 @@ fn answer<'s, M: Mode<'s>, F: Read, T: Read>(
     let (times, recorded) = match work {
         Work::Ambiguities => return report_of(alloc, &built, names.as_slice()),
         Work::Check => return check_trace(alloc, &built, trace),
+        Work::Replay => {
+            return replay_trace(alloc, &built, bodies, &entities, &resources, trace);
+        }
         Work::Run {
             times,
             recorded,

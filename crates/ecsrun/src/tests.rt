@@ -213,7 +213,7 @@ fn a_long_chain_is_refused(rt: HostRuntime) -> Result<(), Fail> {
 fn many_queries_are_refused(rt: HostRuntime) -> Result<(), Fail> {
     let mut file = String::new(rt.alloc());
     write!(file, "system = [{{name=\"a\",query=[")?;
-    for _query in 0..20_000u32 {
+    for _query in 0..100_000u32 {
         write!(file, "\"\",")?;
     }
     write!(file, "]}}]")?;

@@ -10,8 +10,8 @@ use std::fs;
 use std::io::Write;
 use std::test::Fail;
 
-// A file of systems `a` and `b` that conflict, neither before the other.
-const RACE: &str =
+/// A file of systems `a` and `b` that conflict, neither before the other.
+pub const RACE: &str =
     "[[system]]\nname = \"a\"\nres_mut = [\"Total\"]\n[[system.do]]\ncode = [\"set Total 1\"]\n[[system]]\nname = \"b\"\nres_mut = [\"Total\"]\n[[system.do]]\ncode = [\"set Total 2\"]\n";
 
 // A command on a program and a trace.

@@ -1,12 +1,11 @@
--- The state with which a schedule begins has its memories, and no last run above the clock.
-use Rattle.std.proofs.Common.{ℕ, zero, suc, ◌<◌, ◌≤◌, ◌≡◌, ◌⊎◌, inl, inr, List, [], ◌∷◌, length, get_or, map, Option, sym, subst, arith}
-use Rattle.std.proofs.lemmas.List.{length-map}
-use Rattle.std.specs.List.{AllByRecursion}
+-- The state with which a schedule begins has its memories, each with its registers and no last run above the clock.
+use Rattle.std.proofs.Common.{ℕ, zero, suc, ◌<◌, ◌≡◌, ◌⊎◌, inl, inr, List, [], ◌∷◌, length, get_or, map, pos, Option, sym, subst, arith}
+use Rattle.std.proofs.lemmas.List.{length-map, length-replicate}
 use Rattle.model.specs.access.Condition.{access_of_condition}
 use Rattle.model.specs.state.Loaded.{first_memory}
-use Rattle.model.specs.state.State.{State, World, no_memory}
+use Rattle.model.specs.state.State.{State, World, no_memory, register_count}
 use Rattle.model.specs.steps.Schedule.{Schedule, ScheduledCondition, ScheduledSystem}
-use Rattle.body.specs.Steps.{AreInTime}
+use Rattle.body.specs.Steps.{AreInTime, IsInTime}
 use Rattle.engine.specs.FirstState.{first_conditions, first_state, first_systems}
 use Rattle.engine.specs.Meanings.{HasMemories, LacksMemories, Miscounts}
 
@@ -41,9 +40,9 @@ counts_right s slots state count has (inr lacks) = lacks-none s state has lacks
 pub no_first_lacks : (s : Schedule) (state : State) (w : World) → state ≡ first_state s w → LacksMemories s state → ⊥
 no_first_lacks s state w is lacks = lacks-none s state (subst (HasMemories s) (sym is) (has_first s w)) lacks
 
-never-ran : {A : Type 0} (reads : A → List ℕ) (clock : ℕ) (xs : List A) → AllByRecursion (λ m. m.last_run ≤ clock) (map (λ x. first_memory (reads x)) xs)
+never-ran : {A : Type 0} (reads : A → List ℕ) (clock : ℕ) (xs : List A) → IsInTime clock (map (λ x. first_memory (reads x)) xs)
 never-ran reads clock [] = tt
-never-ran reads clock (x ∷ xs) = (omega arith, never-ran reads clock xs)
+never-ran reads clock (x ∷ xs) = (record { last_run = omega arith; registers = length-replicate register_count (pos 0) }, never-ran reads clock xs)
 
 pub first_in_time : (s : Schedule) (clock : ℕ) → AreInTime clock (first_systems s) (first_conditions s)
 first_in_time s clock = record {

@@ -1,8 +1,10 @@
 mod Bodies
-mod Remembering
-mod Weaving
-mod Placing
+pub mod Remembering
+pub mod Weaving
+pub mod Placing
 mod Returning
 mod Staging
 mod Turns
 pub mod Beginning
+pub mod Keeping
+pub mod Agreeing

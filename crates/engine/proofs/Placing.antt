@@ -399,7 +399,7 @@ module _ {B : Type 0} (meaning : B → Params → BodyMeaning) (fits : B → Par
   meaning-among (y ∷ systems) (b ∷ slots) zero x same known = refl
   meaning-among (y ∷ systems) (b ∷ slots) (suc n) x same known = meaning-among systems slots n x (let e : suc (length slots) ≡ suc (length systems) = same in omega arith) (omega arith)
 
-  meaning-there : (slots : List (Option B)) (n : ℕ) → length slots ≡ length s.systems → n < length s.systems → body_of (meanings meaning s slots) n ≡ meaning_of meaning (params_of s n) (body_at slots n)
+  pub meaning-there : (slots : List (Option B)) (n : ℕ) → length slots ≡ length s.systems → n < length s.systems → body_of (meanings meaning s slots) n ≡ meaning_of meaning (params_of s n) (body_at slots n)
   meaning-there slots n same known = meaning-among s.systems slots n (record { params = no_params; predecessors = []; level = 0 }) same known
 
   -- there are as many meanings as systems

@@ -4,7 +4,8 @@ use Rattle.model.specs.access.Access.{Params}
 use Rattle.model.specs.shown.Outcome.{BodyMeaning}
 use Rattle.model.specs.state.State.{State}
 use Rattle.model.specs.steps.Schedule.{ScheduledSystem, Schedule, params_of, access_of}
-use Rattle.model.specs.runs.RunState.{memory_of_condition, memory_of_system}
+use Rattle.model.specs.runs.RunState.{body_of, memory_of_condition, memory_of_system}
+use Rattle.body.specs.Keeps.{KeepsWithin}
 
 -- what a body means for these parameters. Where there is none it refuses
 abbrev pub meaning_of : {B : Type 0} → (B → Params → BodyMeaning) → Params → Option B → BodyMeaning
@@ -33,6 +34,10 @@ body_fits fits (Some body) params = fits body params
 -- whether the body of a system fits its parameters
 abbrev pub fits_at : {B : Type 0} → (B → Params → Bool) → Schedule → List (Option B) → ℕ → Bool
 fits_at fits s slots n = body_fits fits (body_at slots n) (params_of s n)
+
+-- each of these keeps within the parameters of its system
+abbrev pub AllKeepWithin : Schedule → List BodyMeaning → Type 0
+AllKeepWithin s bodies = (n : ℕ) → n < length s.systems → KeepsWithin (params_of s n) (body_of bodies n)
 
 -- the memories of a state are those of a schedule: one for each system and each condition, with a cursor for each of its event readers
 pub record HasMemories (s : Schedule) (state : State) : Type 0 where

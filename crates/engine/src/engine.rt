@@ -4,6 +4,8 @@ ghost use Rattle.std.specs.Prelude.{◌≡◌, ◌↔◌, ◌⊎◌, ℕ, length
 ghost use Rattle.model.specs.runs.Runs.{AreSingleRuns, AreSoundRuns, HasRuns, IsStopped};
 ghost use Rattle.model.specs.runs.WideRuns.{AreWideRuns, IsWideStopped};
 ghost use Rattle.model.specs.runs.Causes.{Cause};
+ghost use Rattle.model.specs.state.Agreement.{AgreesWithAll};
+ghost use Rattle.kinds.specs.Components.{widths};
 ghost use Rattle.engine.specs.Meanings.{meanings, Miscounts, IsFirstMisfit};
 ghost use Rattle.engine.specs.History.{history_of};
 
@@ -34,7 +36,7 @@ pub struct Engine<B: Body> {
 impl<B: Body> Model for Engine<B> {
     ghost use Rattle.std.specs.Prelude.{◌≡◌, false};
     ghost use Rattle.engine.specs.EngineValue.{EngineValue, engine_code};
-    ghost use Rattle.engine.specs.Meanings.{Suits};
+    ghost use Rattle.engine.specs.Meanings.{meanings, AllKeepWithin, Suits};
 
     ghost Value = { EngineValue B };
 
@@ -42,7 +44,7 @@ impl<B: Body> Model for Engine<B> {
 
     ghost view = { λ e. record { schedule = e.built; bodies = e.bodies.items; state = e.state; spoiled = e.spoiled } };
 
-    ghost invariant = { λ e. e.spoiled ≡ false → Suits B.fits e.built e.bodies.items e.state };
+    ghost invariant = { λ e. e.spoiled ≡ false → Suits B.fits e.built e.bodies.items e.state × AllKeepWithin e.built (meanings B.meaning e.built e.bodies.items) };
 }
 
 impl<B: Body> Engine<B> {
@@ -76,7 +78,8 @@ impl<B: Body> Engine<B> {
     /// Runs the schedule so many times, in the mode: each run opens, does what is ready while fewer systems run than the mode has room for,
     /// waits for one that ends else, and answers its trace once all have ended. `Memory` where memory is wanting, `ClockSpent` where a step
     /// has no next tick or an event no number, `BodyFault` where a body refuses, `NoWorker` where a thread couldn't be started; each spoils the engine, and from
-    /// then on every run answers `Spoiled` and changes nothing. What the state is after a fault isn't said: that of the run is gone.
+    /// then on every run answers `Spoiled` and changes nothing. What the state is after a fault isn't said: that of the run is gone. Where the
+    /// schedule is settled, the state agrees with what any as many runs with true answers leave of any state that agrees with the one before.
     pub fn run<'s, M: Mode<'s>>(
         &mut self,
         alloc: Global,
@@ -88,6 +91,7 @@ impl<B: Body> Engine<B> {
         ensures ran { IfOk result (λ traces. (length traces.items ≡ times) × AreWideRuns (M.width mode.now) self.old.schedule (meanings B.meaning self.old.schedule self.old.bodies) self.old.state (map history_of traces.items) self.new.state) }
         ensures sound { IfOk result (λ traces. AreSoundRuns self.old.schedule (meanings B.meaning self.old.schedule self.old.bodies) self.old.state (map history_of traces.items) self.new.state) }
         ensures single { IfOk result (λ traces. M.width mode.now ≡ 1 → AreSingleRuns self.old.schedule (meanings B.meaning self.old.schedule self.old.bodies) self.old.state (map history_of traces.items) self.new.state) }
+        ensures agreement { IfOk result (λ traces. AgreesWithAll widths self.old.schedule (meanings B.meaning self.old.schedule self.old.bodies) self.old.state times self.new.state) }
         ensures clock { result ≡ Err RunFault.ClockSpent → IsWideStopped (M.width mode.now) self.old.schedule (meanings B.meaning self.old.schedule self.old.bodies) times self.old.state Cause.NoTick ⊎ IsWideStopped (M.width mode.now) self.old.schedule (meanings B.meaning self.old.schedule self.old.bodies) times self.old.state Cause.NoEventNumber }
         ensures refusal { (k : ℕ) → result ≡ Err (RunFault.BodyFault k) → IsWideStopped (M.width mode.now) self.old.schedule (meanings B.meaning self.old.schedule self.old.bodies) times self.old.state (Cause.Refused k) }
         ensures single_clock { result ≡ Err RunFault.ClockSpent → M.width mode.now ≡ 1 → IsStopped self.old.schedule (meanings B.meaning self.old.schedule self.old.bodies) times self.old.state Cause.NoTick ⊎ IsStopped self.old.schedule (meanings B.meaning self.old.schedule self.old.bodies) times self.old.state Cause.NoEventNumber }
@@ -121,6 +125,7 @@ fn run_engine<'s, M: Mode<'s>, B: Body + 's>(
     ensures ran { IfOk result (λ traces. (length traces.items ≡ times) × AreWideRuns (M.width mode.now) engine.old.schedule (meanings B.meaning engine.old.schedule engine.old.bodies) engine.old.state (map history_of traces.items) engine.new.state) }
     ensures sound { IfOk result (λ traces. AreSoundRuns engine.old.schedule (meanings B.meaning engine.old.schedule engine.old.bodies) engine.old.state (map history_of traces.items) engine.new.state) }
     ensures single { IfOk result (λ traces. M.width mode.now ≡ 1 → AreSingleRuns engine.old.schedule (meanings B.meaning engine.old.schedule engine.old.bodies) engine.old.state (map history_of traces.items) engine.new.state) }
+    ensures agreement { IfOk result (λ traces. AgreesWithAll widths engine.old.schedule (meanings B.meaning engine.old.schedule engine.old.bodies) engine.old.state times engine.new.state) }
     ensures clock { result ≡ Err RunFault.ClockSpent → IsWideStopped (M.width mode.now) engine.old.schedule (meanings B.meaning engine.old.schedule engine.old.bodies) times engine.old.state Cause.NoTick ⊎ IsWideStopped (M.width mode.now) engine.old.schedule (meanings B.meaning engine.old.schedule engine.old.bodies) times engine.old.state Cause.NoEventNumber }
     ensures refusal { (k : ℕ) → result ≡ Err (RunFault.BodyFault k) → IsWideStopped (M.width mode.now) engine.old.schedule (meanings B.meaning engine.old.schedule engine.old.bodies) times engine.old.state (Cause.Refused k) }
     ensures single_clock { result ≡ Err RunFault.ClockSpent → M.width mode.now ≡ 1 → IsStopped engine.old.schedule (meanings B.meaning engine.old.schedule engine.old.bodies) times engine.old.state Cause.NoTick ⊎ IsStopped engine.old.schedule (meanings B.meaning engine.old.schedule engine.old.bodies) times engine.old.state Cause.NoEventNumber }
@@ -136,6 +141,8 @@ fn run_engine<'s, M: Mode<'s>, B: Body + 's>(
     if engine.spoiled {
         return Err(RunFault::Spoiled);
     }
+    engine.built.law();
+    engine.state.shape();
     engine.spoiled = true;
     let mut state = mem::replace(&mut engine.state, State::empty(alloc)).into_open();
     let traces = run_times(

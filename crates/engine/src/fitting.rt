@@ -1,19 +1,23 @@
 // Which bodies fit the systems of a schedule.
 
-ghost use Rattle.std.specs.Prelude.{◌≡◌, ◌<◌, ℕ, length, map, true, false, Some, IfSome, IfNone, IfOk};
-ghost use Rattle.engine.specs.Meanings.{fits_at};
+ghost use Rattle.std.specs.Prelude.{◌≡◌, ◌<◌, ℕ, length, map, true, false, Some, IfSome, IfNone, IfOk, IsTrue};
+ghost use Rattle.model.specs.runs.RunState.{body_of};
+ghost use Rattle.model.specs.steps.Schedule.{params_of};
+ghost use Rattle.body.specs.Keeps.{KeepsWithin};
+ghost use Rattle.engine.specs.Meanings.{meanings, fits_at, AllKeepWithin};
 
 use body::system_body::Body;
 use schedule_builder::built::Built;
 use std::alloc::{AllocError, Global};
 
-/// The least system whose body doesn't fit its parameters.
+/// The least system whose body doesn't fit its parameters. Where there is none, each body keeps within them.
 pub(crate) fn first_misfit<B: Body>(built: &Built, bodies: &[B]) -> Option<u32>
     requires { length bodies.now ≡ length built.now.systems }
     ensures known { IfSome result (λ n. n < length built.now.systems) }
     ensures misfit { IfSome result (λ n. fits_at B.fits built.now (map Some bodies.now) n ≡ false) }
     ensures least { IfSome result (λ n. (m : ℕ) → m < n → fits_at B.fits built.now (map Some bodies.now) m ≡ true) }
     ensures none { IfNone result ((m : ℕ) → m < length built.now.systems → fits_at B.fits built.now (map Some bodies.now) m ≡ true) }
+    ensures keep { IfNone result (AllKeepWithin built.now (meanings B.meaning built.now (map Some bodies.now))) }
 {
     for system in 0..built.count() {
         if !body_fits(built, bodies, system) {
@@ -23,14 +27,27 @@ pub(crate) fn first_misfit<B: Body>(built: &Built, bodies: &[B]) -> Option<u32>
     None
 }
 
-// Whether the body of a system fits its parameters.
+// Whether the body of a system fits its parameters. If so, it keeps within them.
 #[tactic(auto, using(crate::proofs::Bodies::at_body))]
 fn body_fits<B: Body>(built: &Built, bodies: &[B], system: u32) -> bool
     requires count { length bodies.now ≡ length built.now.systems }
     requires known { system < length built.now.systems }
-    ensures { result ≡ fits_at B.fits built.now (map Some bodies.now) system }
+    ensures exact { result ≡ fits_at B.fits built.now (map Some bodies.now) system }
+    ensures keeps { IsTrue result → KeepsWithin (params_of built.now system) (body_of (meanings B.meaning built.now (map Some bodies.now)) system) }
 {
     bodies[system as usize].fits(built.params(system))
+}
+
+/// Bodies that fit their systems keep within the parameters of each.
+pub fn fitting_keep<B: Body>(built: &Built, bodies: &[B])
+    requires count { length bodies.now ≡ length built.now.systems }
+    requires fit { (n : ℕ) → n < length built.now.systems → fits_at B.fits built.now (map Some bodies.now) n ≡ true }
+    ensures { AllKeepWithin built.now (meanings B.meaning built.now (map Some bodies.now)) }
+{
+    match first_misfit(built, bodies) {
+        Some(_) => unreachable!(),
+        None => {}
+    }
 }
 
 // The places of bodies that are all at home.

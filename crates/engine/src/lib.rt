@@ -6,7 +6,7 @@ mod effects;
 pub mod engine;
 pub mod faults;
 pub mod first_state;
-mod fitting;
+pub mod fitting;
 pub mod turn;
 
 pub use engine::Engine;

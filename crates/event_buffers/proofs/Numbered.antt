@@ -1,10 +1,11 @@
 -- Numbered events: a list after another, those from a cursor on.
-use Rattle.std.proofs.Common.{◌≡◌, ℕ, zero, suc, ℤ, ◌+◌, ◌-◌, ◌≤◌, ◌<◌, Bool, true, false, ◌&&◌, nat_lt, List, [], ◌∷◌, ◌++◌, length, map, filter, drop, min, nat_le, refl, sym, ap, ap₂, ◌∙◌, arith, le-leb, append_assoc, append-nil, length-append}
+use Rattle.std.proofs.Common.{◌≡◌, ℕ, zero, suc, ℤ, ◌+◌, ◌-◌, ◌≤◌, ◌<◌, Bool, true, false, ◌&&◌, nat_lt, List, [], ◌∷◌, ◌++◌, length, map, filter, drop, min, nat_le, refl, sym, ap, ap₂, ◌∙◌, arith, le-leb, append_assoc, append-nil, length-append, subst}
 use Rattle.std.proofs.lemmas.Bool.{and_from, cond-true, cond-false, lt-leb, lt-ltb, ltb-true, leb-true, leb-false}
 use Rattle.std.proofs.lemmas.List.{map-append}
 use Rattle.std.proofs.lemmas.List.Elements.{filter-append}
 use Rattle.model.specs.state.State.{Event, EventQueue, last_tick}
 use Rattle.model.specs.state.Events.{unread, updated_queue, send, send_all, can_send}
+use Rattle.model.specs.state.Shape.{AreNumbered, IsQueue}
 use Rattle.event_buffers.specs.Queue.{numbered, values_from, queue_of_parts}
 
 -- values after others are numbered after them
@@ -119,3 +120,21 @@ numbered-room values queue most can = go (nat_le (length values) (last_tick - qu
     go : (b : Bool) → nat_le (length values) (last_tick - queue.next) ≡ b → queue.next + length values ≤ last_tick
     go true e = let l = leb-true (length values) (last_tick - queue.next) e in omega (arith, most)
     go false e = absurd (let f : false ≡ true = sym e ∙ numbered-is values queue most ∙ can in cc)
+
+-- ---- the shape of a queue
+
+-- values that are numbered stand one after the other
+are-numbered : (n : ℕ) (values : List ℤ) → AreNumbered n (n + length values) (numbered n values)
+are-numbered n [] = omega arith
+are-numbered n (x ∷ xs) = (refl, subst (λ to. AreNumbered (suc n) to (numbered (suc n) xs)) (let e : suc n + length xs ≡ n + suc (length xs) = omega arith in e) (are-numbered (suc n) xs))
+
+-- the queue of two buffers has the last numbers given
+pub queue-shape : (n : ℕ) (older newer : List ℤ) → n + length older + length newer ≤ last_tick → IsQueue (queue_of_parts n older newer)
+queue-shape n older newer most = record {
+  from = n;
+  numbered = subst (λ to. AreNumbered n to (numbered n (older ++ newer)))
+      (let e : n + length (older ++ newer) ≡ n + length older + length newer = omega (arith, length-append older newer) in e) (are-numbered n (older ++ newer));
+  older = omega arith;
+  newer = omega arith;
+  most = most;
+}

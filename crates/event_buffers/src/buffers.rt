@@ -1,10 +1,12 @@
 // The kept events of every kind.
 
 ghost use Rattle.std.specs.Prelude.{◌≡◌, ◌↔◌, ◌++◌, ◌≤◌, false, IsErrOf, OnOk, OnErr, map, replicate, length};
+ghost use Rattle.std.specs.List.{AllByRecursion};
 ghost use Rattle.kinds.specs.Res.{event_number};
 ghost use Rattle.model.specs.Lists.{update_at};
 ghost use Rattle.model.specs.state.State.{event_count, empty_queue, last_tick};
 ghost use Rattle.model.specs.state.Events.{queue_of, send, send_all, can_send, unread, updated_queue};
+ghost use Rattle.model.specs.state.Shape.{IsQueue};
 
 use crate::queue::{Queue, SendFault, Unread};
 use kinds::res::Event;
@@ -48,6 +50,16 @@ impl Events {
         ensures { length self.now ≡ event_count }
     {
         let _ = &self.queues;
+    }
+
+    /// The kept events of each kind have the last numbers given.
+    pub fn shape(&self)
+        ensures { AllByRecursion IsQueue self.now }
+    {
+        self.queues[0].shape();
+        self.queues[1].shape();
+        self.queues[2].shape();
+        self.queues[3].shape();
     }
 
     /// The number of the next event of a kind.

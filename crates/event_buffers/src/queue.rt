@@ -3,6 +3,7 @@
 ghost use Rattle.std.specs.Prelude.{◌≡◌, ◌↔◌, ◌++◌, ◌≤◌, ◌+◌, length, false, IsErrOf, OnOk, OnErr};
 ghost use Rattle.model.specs.state.State.{empty_queue, last_tick};
 ghost use Rattle.model.specs.state.Events.{send, send_all, can_send, unread, updated_queue};
+ghost use Rattle.model.specs.state.Shape.{IsQueue};
 ghost use Rattle.event_buffers.specs.Queue.{values_from};
 
 use std::alloc::Global;
@@ -65,6 +66,13 @@ impl Queue {
             older: Vec::new(alloc),
             newer: Vec::new(alloc),
         }
+    }
+
+    /// What holds of every queue: the kept events have the last numbers given.
+    pub fn shape(&self)
+        ensures { IsQueue self.now }
+    {
+        let _ = &self.older;
     }
 
     /// The number of the next event.

@@ -10,3 +10,4 @@ pub mod Places
 pub mod Timed
 pub mod WithoutCommands
 pub mod SerialRuns
+pub mod OneWithAll

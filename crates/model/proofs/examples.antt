@@ -16,3 +16,4 @@ pub mod Askings
 pub mod Readers
 pub mod Limits
 pub mod TwoWide
+pub mod Heard

@@ -12,3 +12,4 @@ pub mod Interleaving
 pub mod Engine
 pub mod Laying
 pub mod Soundness
+pub mod Replaying

@@ -4,3 +4,4 @@ pub mod Causes
 pub mod Runs
 pub mod WideRuns
 pub mod Laws
+pub mod Replays

@@ -1,7 +1,7 @@
 // The meaning of a schedule's run, in definitions that every other crate cites, and its laws.
 #![tactic(auto)]
 
-ghost use Rattle.model.specs.runs.Laws.{ListsKeepOrder, ListsGoOn, ListsEnd, ListsComplete, ReadyIsAccepted, FaultsAreExact, FaultsAreComputed, ListsAreComputed, SingleIsWide, WideOfOneIsSingle, AtMostRun, FinishesWait, RunsAreSound, WideRunsAreSound, WideRunsOfOneAreSingle, WideStopsOfOneAreSingle, SameIsShown, InterleavedIsSerial, ConflictsAreTested, AnswersAreAsked, CausesAreExact, InterleavedKeepsShape, SerialKeepsShape, LoadedHasShape, SingleRunsAreSound, SingleRunIsOne, SingleRunsAreOne, DefinedRunsGoThrough, StopsAreOne, RunsAgree};
+ghost use Rattle.model.specs.runs.Laws.{ListsKeepOrder, ListsGoOn, ListsEnd, ListsComplete, ReadyIsAccepted, FaultsAreExact, FaultsAreComputed, ListsAreComputed, SingleIsWide, WideOfOneIsSingle, AtMostRun, FinishesWait, RunsAreSound, WideRunsAreSound, WideRunsOfOneAreSingle, WideStopsOfOneAreSingle, SameIsShown, InterleavedIsSerial, ConflictsAreTested, AnswersAreAsked, CausesAreExact, InterleavedKeepsShape, SerialKeepsShape, LoadedHasShape, SingleRunsAreSound, SingleRunIsOne, SingleRunsAreOne, DefinedRunsGoThrough, StopsAreOne, RunsAgree, WideRunsAgree, ReplayedRunAgrees, ReplaysAreOne};
 
 pub mod entities;
 pub mod steps;
@@ -21,6 +21,13 @@ pub fn interleaved_is_serial()
 /// Under the same bodies any two lists of as many runs of a settled schedule, from states that agree, leave states that agree.
 pub fn runs_agree()
     ensures { RunsAgree }
+{}
+
+/// In a settled schedule what the runs of a coordinator leave, and what a run leaves that was taken again, agrees with what any as many runs
+/// leave.
+pub fn one_agrees_with_all()
+    ensures wide { WideRunsAgree }
+    ensures replayed { ReplayedRunAgrees }
 {}
 
 /// Lawful lists go on until they are complete, and end: what is ready is accepted, and where nothing is ready and nothing
@@ -75,6 +82,12 @@ pub fn single_runs_are_one()
     ensures runs { SingleRunsAreOne }
     ensures defined { DefinedRunsGoThrough }
     ensures stops { StopsAreOne }
+{}
+
+/// A recorded run that is taken again on one thread comes to one thing: it leaves one state, or has one first wrong answer, or stops for
+/// one cause.
+pub fn replays_are_one()
+    ensures { ReplaysAreOne }
 {}
 
 /// A run keeps the shape of a state.

@@ -1,4 +1,6 @@
 pub mod Blocks
+pub mod Entities
 pub mod Items
+pub mod Known
 pub mod Mapped
 pub mod Spelled

@@ -1,14 +1,20 @@
--- What the tables of a document say of items, chains and systems.
-use Rattle.std.specs.Prelude.{◌≡◌, ℕ, List, map, codes}
+-- What the tables of a document say of resources, entities, items, chains and systems.
+use Rattle.std.specs.Prelude.{◌≡◌, ℕ, ℤ, List, [], ◌∷◌, ◌++◌, map, codes, Vec}
 use Rattle.std.specs.List.{AllZip}
-use Rattle.toml.specs.Data.{Members}
+use Rattle.std.specs.declared.alloc.Global.{Global}
+use Rattle.toml.specs.Data.{Data, Members, no_members, member}
+use Rattle.kinds.specs.Kind.{IsKind, kind_number}
+use Rattle.kinds.specs.Res.{every_res, res_name}
+use Rattle.kinds.specs.Value.{value_number, value_words}
+use Rattle.kinds.specs.declared.kind.Kind.{Kind}
+use Rattle.kinds.specs.declared.value.Value.{Value}
 use Rattle.query.specs.Grammar.{IsQuery}
 use Rattle.query.specs.declared.query.Query.{Query}
 use Rattle.run_condition.specs.Grammar.{IsCondition}
 use Rattle.run_condition.specs.declared.cond.Cond.{Cond}
 use Rattle.script.specs.Instruction.{IsInstruction}
 use Rattle.script.specs.declared.script_body.Block.{Block}
-use Rattle.program_file.specs.Keys.{HasTables, HasTexts, HasNames, HasResources, HasEvents, HasText, HasFlag}
+use Rattle.program_file.specs.Keys.{HasOnly, HasTable, HasTables, HasTexts, HasNames, HasResources, HasEvents, HasText, HasInteger, HasFlag, AreIntegers}
 use Rattle.program_file.specs.Readings.{AreSpelled}
 use Rattle.program_file.specs.Rounds.{SaysRounds, block_keys}
 use Rattle.program_file.specs.declared.program_file.BlockTexts.{BlockTexts}
@@ -16,6 +22,57 @@ use Rattle.program_file.specs.declared.program_file.ChainTable.{ChainTable}
 use Rattle.program_file.specs.declared.program_file.ItemTable.{ItemTable}
 use Rattle.program_file.specs.declared.program_file.ItemTexts.{ItemTexts}
 use Rattle.program_file.specs.declared.program_file.SystemTable.{SystemTable}
+
+-- ---- the keys that a table may have
+
+abbrev pub keys_of_document : List (List ℕ)
+keys_of_document = codes "resources" ∷ codes "entity" ∷ codes "set" ∷ codes "system" ∷ codes "chain" ∷ []
+
+abbrev pub keys_of_set : List (List ℕ)
+keys_of_set = codes "name" ∷ codes "in" ∷ codes "before" ∷ codes "after" ∷ codes "before_ignore_deferred" ∷ codes "after_ignore_deferred" ∷ codes "ambiguous_with" ∷ codes "if" ∷ []
+
+abbrev pub keys_of_system : List (List ℕ)
+keys_of_system = keys_of_set ++ codes "query" ∷ codes "res" ∷ codes "res_mut" ∷ codes "reads" ∷ codes "writes" ∷ codes "do" ∷ []
+
+abbrev pub keys_of_chain : List (List ℕ)
+keys_of_chain = codes "items" ∷ codes "ignore_deferred" ∷ []
+
+abbrev pub keys_of_block : List (List ℕ)
+keys_of_block = codes "each" ∷ codes "events" ∷ codes "code" ∷ []
+
+-- ---- the world
+
+-- the values of the resources, by number: each is the integer at its name, 0 where that is no key, and no key is another
+pub record AreValuesIn (table : Members) (values : List ℤ) : Type 0 where
+  pub only : HasOnly (map res_name every_res) table
+  pub each : AllZip (λ res n. HasInteger (res_name res) n table) every_res values
+
+pub record AreResourcesIn (document : Members) (values : List ℤ) : Type 0 where
+  pub table : Members
+  pub there : HasTable (codes "resources") table document
+  pub given : AreValuesIn table values
+
+-- a member of the table of an entity is this component: its key is the name of the kind, its value the array of the fields
+pub record IsComponentIn (key : List ℕ) (value : Data) (component : Value) : Type 0 where
+  pub kind : Kind
+  pub named : IsKind kind key
+  pub number : value_number component ≡ kind_number kind
+  pub fields : AreIntegers (value_words component) value
+
+-- the members of the table of an entity are these components, in the order of the keys
+abbrev pub IsEntityIn : Members → List Value → Type 0
+IsEntityIn no_members [] = Unit {0}
+IsEntityIn no_members (component ∷ components) = ⊥
+IsEntityIn (member key value rest) [] = ⊥
+IsEntityIn (member key value rest) (component ∷ components) = IsComponentIn key value component × IsEntityIn rest components
+
+-- entities, each by its own table
+pub record AreEntitiesIn (document : Members) (entities : List (Vec Value Global)) : Type 0 where
+  pub tables : List Members
+  pub there : HasTables (codes "entity") tables document
+  pub each : AllZip (λ table components. IsEntityIn table components.items) tables entities
+
+-- ---- what is declared
 
 -- conditions, each the only one that its text spells
 pub record AreConditionsIn (table : Members) (conditions : List Cond) : Type 0 where
@@ -34,8 +91,14 @@ pub record IsItemIn (table : Members) (item : ItemTable) : Type 0 where
   pub ambiguous_with : HasNames (codes "ambiguous_with") item.ambiguous_with.items table
   pub conditions : AreConditionsIn table item.conditions.items
 
+-- a set
+pub record IsSetIn (table : Members) (set : ItemTable) : Type 0 where
+  pub only : HasOnly keys_of_set table
+  pub item : IsItemIn table set
+
 -- a chain
 pub record IsChainIn (table : Members) (chain : ChainTable) : Type 0 where
+  pub only : HasOnly keys_of_chain table
   pub items : HasNames (codes "items") chain.items.items table
   pub ignores_deferred : HasFlag (codes "ignore_deferred") chain.ignores_deferred table
 
@@ -54,6 +117,7 @@ pub record AreQueriesIn (table : Members) (queries : List Query) : Type 0 where
 
 -- a block: how often it runs, and its code, each instruction the only one that its text spells
 pub record IsBlockIn (table : Members) (block : Block) : Type 0 where
+  pub only : HasOnly keys_of_block table
   pub rounds : SaysRounds block.rounds (block_keys table)
   pub texts : List (List ℕ)
   pub there : HasTexts (codes "code") texts table
@@ -67,6 +131,7 @@ pub record AreBlocksIn (table : Members) (blocks : List Block) : Type 0 where
 
 -- a system
 pub record IsSystemIn (table : Members) (system : SystemTable) : Type 0 where
+  pub only : HasOnly keys_of_system table
   pub item : IsItemIn table system.item
   pub queries : AreQueriesIn table system.queries.items
   pub touched : IsTouchedIn table system
@@ -76,7 +141,7 @@ pub record IsSystemIn (table : Members) (system : SystemTable) : Type 0 where
 pub record AreSetsIn (document : Members) (sets : List ItemTable) : Type 0 where
   pub tables : List Members
   pub there : HasTables (codes "set") tables document
-  pub each : AllZip IsItemIn tables sets
+  pub each : AllZip IsSetIn tables sets
 
 pub record AreSystemsIn (document : Members) (systems : List SystemTable) : Type 0 where
   pub tables : List Members
@@ -114,6 +179,7 @@ pub record IsItemRead (texts : ItemTexts) (item : ItemTable) : Type 0 where
 
 -- a block whose code is texts
 pub record IsBlockTextsIn (table : Members) (block : BlockTexts) : Type 0 where
+  pub only : HasOnly keys_of_block table
   pub rounds : SaysRounds block.rounds (block_keys table)
   pub code : HasNames (codes "code") block.code.items table
 

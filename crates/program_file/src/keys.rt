@@ -1,9 +1,9 @@
 // The keys of a table of a program file, each read by its type.
 
 ghost use Rattle.std.specs.Prelude.{◌≡◌, IfOk, IfErr, IsTrue, ◌↔◌, All, map, option_map};
-ghost use Rattle.toml.specs.Data.{get_member, string};
-ghost use Rattle.toml.specs.View.{view, table_view};
-ghost use Rattle.program_file.specs.Keys.{HasItems, HasTables, HasNames, IsTable, HasResources, HasEvents, HasText, HasFlag};
+ghost use Rattle.toml.specs.Data.{get_member, string, integer, array};
+ghost use Rattle.toml.specs.View.{view, table_view, items_of};
+ghost use Rattle.program_file.specs.Keys.{HasOnly, HasItems, HasTable, HasTables, HasNames, IsTable, HasResources, HasEvents, HasText, HasInteger, HasFlag, AreIntegers, lent_members};
 ghost use Rattle.program_file.specs.PlaceFault.{IsNoText};
 ghost use Rattle.program_file.specs.Name.{IsName, IsAmong};
 
@@ -13,15 +13,23 @@ use kinds::res::{Event, Res};
 use std::alloc::Global;
 use toml::{Table, Value};
 
-/// Refuses a table that has another key than these. No clause says which keys it found.
+/// Refuses a table that has another key than these.
 pub fn refuse_unknown(table: &Table, known: &[&str]) -> Result<(), PlaceFault>
-    ensures { IfErr result (λ fault. fault ≡ PlaceFault.Value) }
+    ensures ok { IfOk result (λ _. HasOnly (map (λ name. name.now) known.now) (table_view table.now)) }
+    ensures refused { IfErr result (λ fault. (fault ≡ PlaceFault.Value) × (HasOnly (map (λ name. name.now) known.now) (table_view table.now) → ⊥)) }
 {
-    if table.keys().all(|key| is_among(key.as_str(), known)) {
+    if has_only(table, known) {
         Ok(())
     } else {
         Err(PlaceFault::Value)
     }
+}
+
+// Whether each key of a table is one of these.
+fn has_only(table: &Table, known: &[&str]) -> bool
+    ensures { IsTrue result ↔ HasOnly (map (λ name. name.now) known.now) (table_view table.now) }
+{
+    table.keys().all(|key| is_among(key.as_str(), known))
 }
 
 // Whether a text is one of these.
@@ -50,6 +58,17 @@ pub fn items_at<'a>(table: &'a Table, key: &str) -> Result<&'a [Value], PlaceFau
             Some(items) => Ok(items.as_slice()),
             None => Err(PlaceFault::Value),
         },
+    }
+}
+
+/// The table at a key, if it is there.
+pub fn table_at<'a>(table: &'a Table, key: &str) -> Result<Option<&'a Table>, PlaceFault>
+    ensures ok { IfOk result (λ inner. HasTable key.now (lent_members inner) (table_view table.now)) }
+    ensures err { IfErr result (λ fault. fault ≡ PlaceFault.Value) }
+{
+    match value_at(table, key) {
+        None => Ok(None),
+        Some(value) => Ok(Some(table_of(value)?)),
     }
 }
 
@@ -159,13 +178,44 @@ pub fn name_at<'a>(table: &'a Table, key: &str) -> Result<&'a str, PlaceFault>
 
 /// The integers of an array. Another value is `Value`.
 pub fn integers_of(alloc: Global, value: &Value) -> Result<Vec<i64>, PlaceFault>
-    ensures { IfErr result IsNoText }
+    ensures ok { IfOk result (λ integers. AreIntegers integers.items (view value.now)) }
+    ensures err { IfErr result IsNoText }
 {
     let mut integers = Vec::new(alloc);
-    for item in value.as_array().ok_or(PlaceFault::Value)?.iter() {
-        integers.push(item.as_integer().ok_or(PlaceFault::Value)?)?;
+    for item in array_of(value)? {
+        integers.push(integer_of(item)?)?;
     }
     Ok(integers)
+}
+
+// The values of the array that a value is.
+fn array_of(value: &Value) -> Result<&[Value], PlaceFault>
+    ensures ok { IfOk result (λ items. view value.now ≡ array (items_of (map view items.now))) }
+    ensures err { IfErr result (λ fault. fault ≡ PlaceFault.Value) }
+{
+    match value.as_array() {
+        Some(items) => Ok(items.as_slice()),
+        None => Err(PlaceFault::Value),
+    }
+}
+
+// The integer that a value is.
+fn integer_of(value: &Value) -> Result<i64, PlaceFault>
+    ensures ok { IfOk result (λ n. view value.now ≡ integer n) }
+    ensures err { IfErr result (λ fault. fault ≡ PlaceFault.Value) }
+{
+    value.as_integer().ok_or(PlaceFault::Value)
+}
+
+/// The integer at a key. One that isn't there is 0.
+pub fn integer_at(table: &Table, key: &str) -> Result<i64, PlaceFault>
+    ensures ok { IfOk result (λ n. HasInteger key.now n (table_view table.now)) }
+    ensures err { IfErr result (λ fault. fault ≡ PlaceFault.Value) }
+{
+    match value_at(table, key) {
+        None => Ok(0),
+        Some(value) => value.as_integer().ok_or(PlaceFault::Value),
+    }
 }
 
 /// The truth value at a key. One that isn't there is `false`.

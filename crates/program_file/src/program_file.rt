@@ -1,17 +1,17 @@
 // What a program file says.
 
-ghost use Rattle.std.specs.Prelude.{◌≤◌, IfOk, IfErr, All, vec_len, map, codes};
+ghost use Rattle.std.specs.Prelude.{IfOk, IfErr, All, map, codes};
 ghost use Rattle.program_file.specs.PlaceFault.{IsOfPlace};
 ghost use Rattle.program_file.specs.Name.{IsName};
-ghost use Rattle.program_file.specs.Keys.{HasTables};
-ghost use Rattle.program_file.specs.Tables.{IsSystemIn, AreSetsIn, AreSystemsIn, AreChainsIn, IsItemIn, IsChainIn, IsBlockTextsIn, AreBlockTextsIn, IsRead, IsItemTextsIn, IsItemRead};
+ghost use Rattle.program_file.specs.Keys.{HasOnly, HasTable, HasTables, lent_members};
+ghost use Rattle.program_file.specs.Tables.{keys_of_document, AreValuesIn, AreResourcesIn, IsComponentIn, IsEntityIn, AreEntitiesIn, IsSystemIn, AreSetsIn, AreSystemsIn, AreChainsIn, IsItemIn, IsSetIn, IsChainIn, IsBlockTextsIn, AreBlockTextsIn, IsRead, IsItemTextsIn, IsItemRead};
 ghost use Rattle.std.specs.List.{AllZip};
-ghost use Rattle.toml.specs.View.{table_view};
+ghost use Rattle.toml.specs.View.{view, table_view};
 
 use crate::fault::FileFault;
 use crate::keys::{
-    events_at, flag_at, integers_of, name_at, names_at, refuse_unknown, resources_at, tables_at,
-    texts_at,
+    events_at, flag_at, integer_at, integers_of, name_at, names_at, refuse_unknown, resources_at,
+    table_at, tables_at, texts_at,
 };
 use crate::place::Place;
 use crate::place_fault::PlaceFault;
@@ -31,7 +31,7 @@ use toml::Table;
 pub struct ProgramFile<'a> {
     /// The value of each resource, by its number, 0 where the file gives none.
     pub resources: [i64; 8],
-    /// The components of each entity.
+    /// The components of each entity, in the order of their keys.
     pub entities: Vec<Vec<Value>>,
     /// The sets.
     pub sets: Vec<ItemTable<'a>>,
@@ -112,6 +112,11 @@ struct BlockTexts<'a> {
 
 const TOP_KEYS: [&str; 5] = ["resources", "entity", "set", "system", "chain"];
 
+// The names of the resources, by number.
+const RESOURCE_KEYS: [&str; Res::COUNT] = [
+    "Round", "Gravity", "Total", "Seed", "Limit", "Alarm", "Mode", "Step",
+];
+
 const SET_KEYS: [&str; 8] = [
     "name",
     "in",
@@ -148,6 +153,9 @@ impl<'a> ProgramFile<'a> {
     /// Reads a document. The places are looked at in this order: the top, the resources, each entity, each set, each system,
     /// each chain. A fault is told with its place.
     pub fn read(alloc: Global, document: &'a Table) -> Result<ProgramFile<'a>, FileFault>
+        ensures keys { IfOk result (λ _. HasOnly keys_of_document (table_view document.now)) }
+        ensures resources { IfOk result (λ file. AreResourcesIn (table_view document.now) file.resources) }
+        ensures entities { IfOk result (λ file. AreEntitiesIn (table_view document.now) file.entities.items) }
         ensures sets { IfOk result (λ file. AreSetsIn (table_view document.now) file.sets.items) }
         ensures systems { IfOk result (λ file. AreSystemsIn (table_view document.now) file.systems.items) }
         ensures chains { IfOk result (λ file. AreChainsIn (table_view document.now) file.chains.items) }
@@ -171,7 +179,8 @@ impl<'a> ProgramFile<'a> {
 
 // The components of each entity.
 fn entities_of(alloc: Global, tables: &[&Table]) -> Result<Vec<Vec<Value>>, FileFault>
-    ensures { IfErr result IsOfPlace }
+    ensures ok { IfOk result (λ entities. AllZip (λ table components. IsEntityIn (table_view table.now) components.items) tables.now entities.items) }
+    ensures err { IfErr result IsOfPlace }
 {
     let mut entities = Vec::new(alloc);
     for (number, table) in tables.iter().enumerate() {
@@ -183,7 +192,7 @@ fn entities_of(alloc: Global, tables: &[&Table]) -> Result<Vec<Vec<Value>>, File
 
 // The sets.
 fn sets_of<'a>(alloc: Global, tables: &[&'a Table]) -> Result<Vec<ItemTable<'a>>, FileFault>
-    ensures ok { IfOk result (λ sets. AllZip (λ table set. IsItemIn (table_view table.now) set) tables.now sets.items) }
+    ensures ok { IfOk result (λ sets. AllZip (λ table set. IsSetIn (table_view table.now) set) tables.now sets.items) }
     ensures err { IfErr result IsOfPlace }
 {
     let mut sets = Vec::new(alloc);
@@ -224,7 +233,7 @@ fn chains_of<'a>(alloc: Global, tables: &[&'a Table]) -> Result<Vec<ChainTable<'
 
 // Reads the table of a set.
 fn set_of<'a>(alloc: Global, table: &'a Table) -> Result<ItemTable<'a>, PlaceFault>
-    ensures { IfOk result (IsItemIn (table_view table.now)) }
+    ensures { IfOk result (IsSetIn (table_view table.now)) }
 {
     refuse_unknown(table, SET_KEYS.as_slice())?;
     ItemTable::read(alloc, table)
@@ -340,17 +349,16 @@ struct Top<'a> {
 
 impl<'a> Top<'a> {
     fn read(alloc: Global, document: &'a Table) -> Result<Top<'a>, PlaceFault>
+        ensures keys { IfOk result (λ _. HasOnly keys_of_document (table_view document.now)) }
+        ensures resources { IfOk result (λ top. HasTable (codes "resources") (lent_members top.resources) (table_view document.now)) }
+        ensures entities { IfOk result (λ top. HasTables (codes "entity") (map (λ inner. table_view inner.now) top.entities.items) (table_view document.now)) }
         ensures sets { IfOk result (λ top. HasTables (codes "set") (map (λ inner. table_view inner.now) top.sets.items) (table_view document.now)) }
         ensures systems { IfOk result (λ top. HasTables (codes "system") (map (λ inner. table_view inner.now) top.systems.items) (table_view document.now)) }
         ensures chains { IfOk result (λ top. HasTables (codes "chain") (map (λ inner. table_view inner.now) top.chains.items) (table_view document.now)) }
     {
         refuse_unknown(document, TOP_KEYS.as_slice())?;
-        let resources = match document.get("resources") {
-            Some(value) => Some(value.as_table().ok_or(PlaceFault::Value)?),
-            None => None,
-        };
         Ok(Top {
-            resources,
+            resources: table_at(document, "resources")?,
             entities: tables_at(alloc, document, "entity")?,
             sets: tables_at(alloc, document, "set")?,
             systems: tables_at(alloc, document, "system")?,
@@ -360,29 +368,48 @@ impl<'a> Top<'a> {
 }
 
 // The values of the resources, by number.
-fn resources_of(table: Option<&Table>) -> Result<[i64; 8], PlaceFault> {
-    let mut values = [0; 8];
-    if let Some(table) = table {
-        for (key, value) in table.iter() {
-            let res = Res::named(key.as_str()).ok_or(PlaceFault::Value)?;
-            values[res.number() as usize] = value.as_integer().ok_or(PlaceFault::Value)?;
-        }
+fn resources_of(table: Option<&Table>) -> Result<[i64; Res::COUNT], PlaceFault>
+    ensures { IfOk result (AreValuesIn (lent_members table.entry)) }
+{
+    match table {
+        None => Ok([0; Res::COUNT]),
+        Some(table) => values_of(table),
+    }
+}
+
+// The values of the resources by their table.
+fn values_of(table: &Table) -> Result<[i64; Res::COUNT], PlaceFault>
+    ensures { IfOk result (AreValuesIn (table_view table.now)) }
+{
+    refuse_unknown(table, RESOURCE_KEYS.as_slice())?;
+    let mut values = [0; Res::COUNT];
+    for (number, key) in RESOURCE_KEYS.iter().enumerate() {
+        values[number] = integer_at(table, key)?;
     }
     Ok(values)
 }
 
 // The components of an entity.
-fn components_of(alloc: Global, table: &Table) -> Result<Vec<Value>, PlaceFault> {
+fn components_of(alloc: Global, table: &Table) -> Result<Vec<Value>, PlaceFault>
+    ensures { IfOk result (λ components. IsEntityIn (table_view table.now) components.items) }
+{
     let mut components = Vec::new(alloc);
     for (key, value) in table.iter() {
-        let kind = Kind::named(key.as_str()).ok_or(PlaceFault::Value)?;
-        let fields = integers_of(alloc, value)?;
-        if fields.len() != kind.width() {
-            return Err(PlaceFault::Value);
-        }
-        components.push(Value::of(kind, fields.as_slice()))?;
+        components.push(component_of(alloc, key.as_str(), value)?)?;
     }
     Ok(components)
+}
+
+// The component whose kind has this name, and this array of its fields.
+fn component_of(alloc: Global, name: &str, value: &toml::Value) -> Result<Value, PlaceFault>
+    ensures { IfOk result (IsComponentIn name.now (view value.now)) }
+{
+    let kind = Kind::named(name).ok_or(PlaceFault::Value)?;
+    let fields = integers_of(alloc, value)?;
+    if fields.len() != kind.width() {
+        return Err(PlaceFault::Value);
+    }
+    Ok(Value::of(kind, fields.as_slice()))
 }
 
 impl<'a> BlockTexts<'a> {

@@ -1,5 +1,5 @@
 -- The edges that are found are the edges of systems.
-use Rattle.std.proofs.Common.{ℕ, ◌+◌, ◌<◌, ◌≤◌, ◌≡◌, Bool, true, false, ◌||◌, ◌&&◌, eqb, cond, nat_lt, ◌⊎◌, inl, inr, List, [], ◌∷◌, ◌++◌, length, take, get_or, refl, sym, ap, ◌∙◌, subst, arith, ltb-true, lt-ltb, eqb-true, eq-eqb}
+use Rattle.std.proofs.Common.{ℕ, zero, suc, ◌+◌, ◌<◌, ◌≤◌, ◌≡◌, ◌↔◌, Bool, true, false, ◌||◌, ◌&&◌, eqb, cond, nat_lt, ◌⊎◌, inl, inr, List, [], ◌∷◌, ◌++◌, length, take, get_or, refl, sym, ap, ◌∙◌, subst, arith, ltb-true, lt-ltb, eqb-true, eq-eqb}
 use Rattle.std.specs.List.{All}
 use Rattle.std.specs.Bool.{MatchBool}
 use Rattle.std.proofs.lemmas.List.{get_or_push, get_or_append_left, length_push, take_more, take_all, map-append}
@@ -10,7 +10,7 @@ use Rattle.model.specs.declarations.Edges.{IsMemberOf}
 use Rattle.model.proofs.lists.Lists.{IsIn-append, IsIn_left, IsIn_right}
 use Rattle.cycle_search.specs.declared.order.Order.{Order}
 use Rattle.system_set.specs.Pairs.{pair_of, pairs_of, hierarchy_of, is_marked, AreSound, IsSpread}
-use Rattle.system_set.specs.Edges.{IsRow, AreRows, has_member, AreSeconds, IsLedTo, HasEdgesTo, HasEdgesFrom, AreEdges}
+use Rattle.system_set.specs.Edges.{IsRow, AreRows, has_member, AreMarked, AreMarkedSeconds, AreSeconds, IsLedTo, HasEdgesTo, HasEdgesFrom, AreEdges}
 use Rattle.system_set.proofs.Reaching.{marked_from, marked_known}
 
 -- ---- what reaches a set
@@ -61,11 +61,11 @@ member_test h rows are sets item n (inr member) =
 
 -- ---- where orders lead to
 
-pub no_seconds : (sets : ℕ) (rows : List (List Bool)) (m : ℕ) (marks : List Bool) → ((n : ℕ) → is_marked marks n ≡ false) → AreSeconds sets rows [] m marks
+pub no_seconds : (sets : ℕ) (rows : List (List Bool)) (m : ℕ) (marks : List Bool) → ((n : ℕ) → is_marked marks n ≡ false) → AreMarkedSeconds sets rows [] m marks
 no_seconds sets rows m marks none = record { tells = λ n. ((λ e. absurd (both_ways _ (none n) e)), (λ second. absurd second.1)) }
 
-seconds_push : (sets : ℕ) (rows : List (List Bool)) (orders : List (ℕ × ℕ)) (m first second : ℕ) (old new : List Bool) → AreSeconds sets rows orders m old →
-    ((n : ℕ) → is_marked new n ≡ ((has_member sets rows first m && eqb second n) || is_marked old n)) → AreSeconds sets rows (orders ++ (first, second) ∷ []) m new
+seconds_push : (sets : ℕ) (rows : List (List Bool)) (orders : List (ℕ × ℕ)) (m first second : ℕ) (old new : List Bool) → AreMarkedSeconds sets rows orders m old →
+    ((n : ℕ) → is_marked new n ≡ ((has_member sets rows first m && eqb second n) || is_marked old n)) → AreMarkedSeconds sets rows (orders ++ (first, second) ∷ []) m new
 seconds_push sets rows orders m first second old new are marked = record {
   tells = λ n. (
     (λ e. elim (or_cases (has_member sets rows first m && eqb second n) (is_marked old n) (sym (marked n) ∙ e)) [
@@ -87,22 +87,81 @@ seconds_push sets rows orders m first second old new are marked = record {
   );
 }
 
-pub seconds_more : (sets : ℕ) (rows : List (List Bool)) (orders : List Order) (i : ℕ) (d : Order) (m : ℕ) (old new : List Bool) → i < length orders → AreSeconds sets rows (pairs_of (take i orders)) m old →
+pub seconds_more : (sets : ℕ) (rows : List (List Bool)) (orders : List Order) (i : ℕ) (d : Order) (m : ℕ) (old new : List Bool) → i < length orders → AreMarkedSeconds sets rows (pairs_of (take i orders)) m old →
     ((n : ℕ) → is_marked new n ≡ ((has_member sets rows (get_or orders i d).first m && eqb (get_or orders i d).second n) || is_marked old n)) →
-    AreSeconds sets rows (pairs_of (take (i + 1) orders)) m new
+    AreMarkedSeconds sets rows (pairs_of (take (i + 1) orders)) m new
 seconds_more sets rows orders i d m old new low are marked =
     let o : Order = get_or orders i d in
-    subst (λ ps. AreSeconds sets rows ps m new) (sym (ap pairs_of (take_more orders i d low) ∙ map-append pair_of (take i orders) (o ∷ [])))
+    subst (λ ps. AreMarkedSeconds sets rows ps m new) (sym (ap pairs_of (take_more orders i d low) ∙ map-append pair_of (take i orders) (o ∷ [])))
     (seconds_push sets rows (pairs_of (take i orders)) m o.first o.second old new are marked)
 
-pub seconds_all : (sets : ℕ) (rows : List (List Bool)) (orders : List Order) (i m : ℕ) (marks : List Bool) → length orders ≤ i → AreSeconds sets rows (pairs_of (take i orders)) m marks →
-    AreSeconds sets rows (pairs_of orders) m marks
-seconds_all sets rows orders i m marks past are = subst (λ (os : List Order). AreSeconds sets rows (pairs_of os) m marks) (take_all i orders past) are
+pub seconds_all : (sets : ℕ) (rows : List (List Bool)) (orders : List Order) (i m : ℕ) (marks : List Bool) → length orders ≤ i → AreMarkedSeconds sets rows (pairs_of (take i orders)) m marks →
+    AreMarkedSeconds sets rows (pairs_of orders) m marks
+seconds_all sets rows orders i m marks past are = subst (λ (os : List Order). AreMarkedSeconds sets rows (pairs_of os) m marks) (take_all i orders past) are
 
 -- ---- systems that are led to
 
-pub not_led : (sets : ℕ) (rows : List (List Bool)) (marks : List Bool) (n count : ℕ) → length marks ≤ count → ((k : ℕ) → k < count → is_marked marks k ≡ true → has_member sets rows k n ≡ true → ⊥) → IsLedTo sets rows marks n → ⊥
-not_led sets rows marks n count past none led = let low : led.0 < length marks = marked_known marks led.0 led.1 in none led.0 (omega arith) led.1 led.2
+-- the numbers of marked items so far, and one more
+pub marked_none : (marks : List Bool) (count : ℕ) → count ≡ 0 → (n : ℕ) → IsIn n [] ↔ ((n < count) × (is_marked marks n ≡ true))
+marked_none marks count none n = ((λ i. absurd i), (λ h. let low : n < count = h.0 in absurd (omega (arith, none))))
+
+pub marked_more : (marks : List Bool) (i : ℕ) (mark : Bool) (old new : List ℕ) → mark ≡ is_marked marks i → ((n : ℕ) → IsIn n old ↔ ((n < i) × (is_marked marks n ≡ true)))
+    → new ≡ cond mark (old ++ i ∷ []) old → (n : ℕ) → IsIn n new ↔ ((n < i + 1) × (is_marked marks n ≡ true))
+marked_more marks i true old new at are is n = (
+  (λ h. elim (IsIn-append n old (i ∷ []) (subst (IsIn n) is h)) [
+    | inl before ↦ let k = (are n).0 before in let low : n < i = k.0 in (omega arith, k.1)
+    | inr (inl same) ↦ (omega (arith, same), ap (is_marked marks) same ∙ sym at)
+    | inr (inr none) ↦ absurd none
+  ]),
+  (λ h. subst (IsIn n) (sym is) (elim (cases_lt n i) [
+    | inl below ↦ IsIn_left n old (i ∷ []) ((are n).1 (below, h.1))
+    | inr above ↦ let low : n < i + 1 = h.0 in IsIn_right n old (i ∷ []) (inl (omega arith))
+  ])),
+)
+marked_more marks i false old new at are is n = (
+  (λ h. let k = (are n).0 (subst (IsIn n) is h) in let low : n < i = k.0 in (omega arith, k.1)),
+  (λ h. subst (IsIn n) (sym is) (elim (cases_lt n i) [
+    | inl below ↦ (are n).1 (below, h.1)
+    | inr above ↦
+        let low : n < i + 1 = h.0 in
+        let same : n ≡ i = omega arith in
+        absurd (both_ways _ (ap (is_marked marks) same ∙ sym at) h.1)
+  ])),
+)
+
+pub marked_all : (marks : List Bool) (count : ℕ) (numbers : List ℕ) → length marks ≤ count → ((n : ℕ) → IsIn n numbers ↔ ((n < count) × (is_marked marks n ≡ true))) → AreMarked marks numbers
+marked_all marks count numbers past are = λ n. (
+  (λ i. ((are n).0 i).1),
+  (λ e. let low : n < length marks = marked_known marks n e in (are n).1 (omega arith, e)),
+)
+
+-- the numbers of the marked items are the items that are led to
+pub seconds_numbers : (sets : ℕ) (rows : List (List Bool)) (orders : List (ℕ × ℕ)) (m : ℕ) (marks : List Bool) (numbers : List ℕ) → AreMarkedSeconds sets rows orders m marks → AreMarked marks numbers → AreSeconds sets rows orders m numbers
+seconds_numbers sets rows orders m marks numbers are marked = record {
+  tells = λ second. ((λ i. (are.tells second).0 ((marked second).0 i)), (λ is. (marked second).1 ((are.tells second).1 is)));
+}
+
+-- no number so far has the system as its member
+pub led_none : (sets : ℕ) (rows : List (List Bool)) (seconds : List ℕ) (i n : ℕ) (test : Bool) → i < length seconds → test ≡ has_member sets rows (get_or seconds i 0) n → test ≡ false
+    → ((k : ℕ) → IsIn k (take i seconds) → has_member sets rows k n ≡ true → ⊥) → (k : ℕ) → IsIn k (take (i + 1) seconds) → has_member sets rows k n ≡ true → ⊥
+led_none sets rows seconds i n test low at fails none k is member =
+    elim (IsIn-append k (take i seconds) (get_or seconds i 0 ∷ []) (subst (IsIn k) (take_more seconds i 0 low) is)) [
+      | inl before ↦ none k before member
+      | inr (inl same) ↦ both_ways _ (sym at ∙ fails) (ap (λ x. has_member sets rows x n) (sym same) ∙ member)
+      | inr (inr nothing) ↦ absurd nothing
+    ]
+
+pub not_led : (sets : ℕ) (rows : List (List Bool)) (seconds : List ℕ) (n i : ℕ) → length seconds ≤ i → ((k : ℕ) → IsIn k (take i seconds) → has_member sets rows k n ≡ true → ⊥) → IsLedTo sets rows seconds n → ⊥
+not_led sets rows seconds n i past none led = none led.0 (subst (IsIn led.0) (sym (take_all i seconds past)) led.1) led.2
+
+-- a number at a place has the system as its member
+pub led_by : (sets : ℕ) (rows : List (List Bool)) (seconds : List ℕ) (i n : ℕ) (test : Bool) → i < length seconds → test ≡ has_member sets rows (get_or seconds i 0) n → test ≡ true → IsLedTo sets rows seconds n
+led_by sets rows seconds i n test low at holds = (get_or seconds i 0, in-at seconds i low, sym at ∙ holds)
+  where
+    in-at : (xs : List ℕ) (j : ℕ) → j < length xs → IsIn (get_or xs j 0) xs
+    in-at [] j below = absurd (omega arith)
+    in-at (x ∷ xs) zero below = inl refl
+    in-at (x ∷ xs) (suc j) below = inr (in-at xs j (omega arith))
 
 -- ---- one more edge
 
@@ -121,15 +180,15 @@ pair_new orders o m n first second =
     subst (λ ps. IsIn (m, n) ps) (sym (map-append pair_of orders (o ∷ [])))
     (IsIn_right (m, n) (pairs_of orders) (pair_of o ∷ []) (inl (ap (λ (k : ℕ). (k, n)) first ∙ ap (λ (k : ℕ). (o.first, k)) second)))
 
-pub no_edges_to : (sets : ℕ) (rows : List (List Bool)) (marks : List Bool) (system : ℕ) (edges : List Order) → HasEdgesTo sets rows marks system sets edges edges
-no_edges_to sets rows marks system edges = record {
+pub no_edges_to : (sets : ℕ) (rows : List (List Bool)) (seconds : List ℕ) (system : ℕ) (edges : List Order) → HasEdgesTo sets rows seconds system sets edges edges
+no_edges_to sets rows seconds system edges = record {
   tells = λ m n. ((λ h. inl h), (λ h. elim h [ inl old ↦ old | inr new ↦ let low : sets + n < sets = new.1 in absurd (omega arith) ]));
 }
 
-pub edges_to_more : (sets : ℕ) (rows : List (List Bool)) (marks : List Bool) (system other : ℕ) (o : Order) (test : Bool) (old now new : List Order) → sets + o.first ≡ system → sets + o.second ≡ other →
-    MatchBool test (IsLedTo sets rows marks other) (IsLedTo sets rows marks other → ⊥) → HasEdgesTo sets rows marks system other old now →
-    new ≡ cond test (now ++ o ∷ []) now → HasEdgesTo sets rows marks system (other + 1) old new
-edges_to_more sets rows marks system other o true old now new first second led are is = record {
+pub edges_to_more : (sets : ℕ) (rows : List (List Bool)) (seconds : List ℕ) (system other : ℕ) (o : Order) (test : Bool) (old now new : List Order) → sets + o.first ≡ system → sets + o.second ≡ other →
+    MatchBool test (IsLedTo sets rows seconds other) (IsLedTo sets rows seconds other → ⊥) → HasEdgesTo sets rows seconds system other old now →
+    new ≡ cond test (now ++ o ∷ []) now → HasEdgesTo sets rows seconds system (other + 1) old new
+edges_to_more sets rows seconds system other o true old now new first second led are is = record {
   tells = λ m n. (
     (λ h. elim (order_in_pairs now o m n (subst (λ (es : List Order). IsIn (m, n) (pairs_of es)) is h)) [
       | inl before ↦ elim ((are.tells m n).0 before) [
@@ -138,7 +197,7 @@ edges_to_more sets rows marks system other o true old now new first second led a
       ]
       | inr added ↦
           let at : other ≡ sets + n = omega (arith, added.1, second) in
-          inr (omega (arith, added.0, first), omega arith, subst (λ (x : ℕ). IsLedTo sets rows marks x) at led)
+          inr (omega (arith, added.0, first), omega arith, subst (λ (x : ℕ). IsLedTo sets rows seconds x) at led)
     ]),
     (λ h. subst (λ (es : List Order). IsIn (m, n) (pairs_of es)) (sym is) (elim h [
       | inl oldest ↦ pair_old now o m n ((are.tells m n).1 (inl oldest))
@@ -152,7 +211,7 @@ edges_to_more sets rows marks system other o true old now new first second led a
     ])),
   );
 }
-edges_to_more sets rows marks system other o false old now new first second led are is = record {
+edges_to_more sets rows seconds system other o false old now new first second led are is = record {
   tells = λ m n. (
     (λ h. elim ((are.tells m n).0 (subst (λ (es : List Order). IsIn (m, n) (pairs_of es)) is h)) [
       | inl oldest ↦ inl oldest
@@ -165,7 +224,7 @@ edges_to_more sets rows marks system other o false old now new first second led 
         | inr above ↦
             let low : sets + n < other + 1 = found.1 in
             let same : sets + n ≡ other = omega arith in
-            absurd (led (subst (λ (x : ℕ). IsLedTo sets rows marks x) same found.2))
+            absurd (led (subst (λ (x : ℕ). IsLedTo sets rows seconds x) same found.2))
       ]
     ]))),
   );
@@ -176,16 +235,16 @@ edges_to_more sets rows marks system other o false old now new first second led 
 pub no_edges_from : (sets items : ℕ) (rows : List (List Bool)) (orders : List (ℕ × ℕ)) → HasEdgesFrom sets items rows orders sets []
 no_edges_from sets items rows orders = record { tells = λ m n. ((λ h. absurd h), (λ h. let low : sets + m < sets = h.0 in absurd (omega arith))) }
 
-pub edges_from_more : (sets items : ℕ) (rows : List (List Bool)) (orders : List (ℕ × ℕ)) (system : ℕ) (marks : List Bool) (old new : List Order) → AreSeconds sets rows orders system marks →
-    HasEdgesFrom sets items rows orders system old → HasEdgesTo sets rows marks system items old new → HasEdgesFrom sets items rows orders (system + 1) new
-edges_from_more sets items rows orders system marks old new seconds from to = record {
+pub edges_from_more : (sets items : ℕ) (rows : List (List Bool)) (orders : List (ℕ × ℕ)) (system : ℕ) (seconds : List ℕ) (old new : List Order) → AreSeconds sets rows orders system seconds →
+    HasEdgesFrom sets items rows orders system old → HasEdgesTo sets rows seconds system items old new → HasEdgesFrom sets items rows orders (system + 1) new
+edges_from_more sets items rows orders system seconds old new are from to = record {
   tells = λ m n. (
     (λ h. elim ((to.tells m n).0 h) [
       | inl before ↦ let found = (from.tells m n).0 before in let low : sets + m < system = found.0 in (omega arith, found.1, found.2)
       | inr added ↦
           let at : sets + m ≡ system = added.0 in
           let led = added.2 in
-          let second = (seconds.tells led.0).0 led.1 in
+          let second = (are.tells led.0).0 led.1 in
           (omega arith, added.1, (second.0, led.0, second.1, subst (λ (x : ℕ). has_member sets rows second.0 x ≡ true) (sym at) second.2, led.2))
     ]),
     (λ h. elim (cases_lt (sets + m) system) [
@@ -194,7 +253,7 @@ edges_from_more sets items rows orders system marks old new seconds from to = re
           let low : sets + m < system + 1 = h.0 in
           let at : sets + m ≡ system = omega arith in
           let e = h.2 in
-          let marked : is_marked marks e.1 ≡ true = (seconds.tells e.1).1 (e.0, e.2, subst (λ (x : ℕ). has_member sets rows e.0 x ≡ true) at e.3) in
+          let marked : IsIn e.1 seconds = (are.tells e.1).1 (e.0, e.2, subst (λ (x : ℕ). has_member sets rows e.0 x ≡ true) at e.3) in
           (to.tells m n).1 (inr (at, h.1, (e.1, marked, e.4)))
     ]),
   );

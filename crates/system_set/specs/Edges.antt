@@ -23,17 +23,24 @@ has_member sets rows item n = if nat_lt item sets then is_marked (get_or rows it
 abbrev pub IsSecond : ℕ → List (List Bool) → List (ℕ × ℕ) → ℕ → ℕ → Type 0
 IsSecond sets rows orders m second = (first : ℕ) × IsIn (first, second) orders × (has_member sets rows first m ≡ true)
 
--- the marks are those items
-pub record AreSeconds (sets : ℕ) (rows : List (List Bool)) (orders : List (ℕ × ℕ)) (m : ℕ) (marks : List Bool) : Type 0 where
+-- the marks are those items, and so are the numbers
+pub record AreMarkedSeconds (sets : ℕ) (rows : List (List Bool)) (orders : List (ℕ × ℕ)) (m : ℕ) (marks : List Bool) : Type 0 where
   pub tells : (second : ℕ) → (is_marked marks second ≡ true) ↔ IsSecond sets rows orders m second
 
--- a system is a member of a marked item
-abbrev pub IsLedTo : ℕ → List (List Bool) → List Bool → ℕ → Type 0
-IsLedTo sets rows marks n = (second : ℕ) × (is_marked marks second ≡ true) × (has_member sets rows second n ≡ true)
+pub record AreSeconds (sets : ℕ) (rows : List (List Bool)) (orders : List (ℕ × ℕ)) (m : ℕ) (seconds : List ℕ) : Type 0 where
+  pub tells : (second : ℕ) → IsIn second seconds ↔ IsSecond sets rows orders m second
+
+-- these are the numbers of the marked items
+abbrev pub AreMarked : List Bool → List ℕ → Type 0
+AreMarked marks numbers = (n : ℕ) → IsIn n numbers ↔ (is_marked marks n ≡ true)
+
+-- a system is a member of one of these items
+abbrev pub IsLedTo : ℕ → List (List Bool) → List ℕ → ℕ → Type 0
+IsLedTo sets rows seconds n = (second : ℕ) × IsIn second seconds × (has_member sets rows second n ≡ true)
 
 -- with the edges of one more system, as far as to the systems below a number
-pub record HasEdgesTo (sets : ℕ) (rows : List (List Bool)) (marks : List Bool) (system below : ℕ) (old new : List Order) : Type 0 where
-  pub tells : (m n : ℕ) → IsIn (m, n) (pairs_of new) ↔ (IsIn (m, n) (pairs_of old) ⊎ ((sets + m ≡ system) × (sets + n < below) × IsLedTo sets rows marks (sets + n)))
+pub record HasEdgesTo (sets : ℕ) (rows : List (List Bool)) (seconds : List ℕ) (system below : ℕ) (old new : List Order) : Type 0 where
+  pub tells : (m n : ℕ) → IsIn (m, n) (pairs_of new) ↔ (IsIn (m, n) (pairs_of old) ⊎ ((sets + m ≡ system) × (sets + n < below) × IsLedTo sets rows seconds (sets + n)))
 
 -- the edges from the systems below a number
 pub record HasEdgesFrom (sets items : ℕ) (rows : List (List Bool)) (orders : List (ℕ × ℕ)) (below : ℕ) (edges : List Order) : Type 0 where

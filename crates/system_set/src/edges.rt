@@ -5,7 +5,7 @@ ghost use Rattle.std.specs.Bool.{MatchBool};
 ghost use Rattle.std.specs.List.{All};
 ghost use Rattle.cycle_search.specs.Orders.{IsBetween};
 ghost use Rattle.system_set.specs.Pairs.{pairs_of, hierarchy_of, ArePlaced, is_marked};
-ghost use Rattle.system_set.specs.Edges.{AreRows, IsRow, AreSeconds, IsLedTo, HasEdgesTo, AreEdges, has_member};
+ghost use Rattle.system_set.specs.Edges.{AreRows, IsRow, AreMarked, AreMarkedSeconds, IsLedTo, HasEdgesTo, AreEdges, has_member};
 
 use crate::members::{marks_of, places_by_set};
 use cycle_search::Order;
@@ -38,8 +38,8 @@ impl Reaching {
     }
 }
 
-/// The edges of systems that orders give, each system by its number among the systems. Each pair of systems is looked at, so it is
-/// for as many as a schedule may have.
+/// The edges of systems that orders give, each system by its number among the systems. Each pair of systems is looked at, with the items that
+/// the first leads to, so it is for as many as a schedule may have.
 pub(crate) fn edges_of(
     alloc: Global,
     sets: usize,
@@ -54,7 +54,8 @@ pub(crate) fn edges_of(
     let rows = rows_of(alloc, sets, items, pairs)?;
     let mut edges = Vec::new(alloc);
     for system in sets..items {
-        let seconds = seconds_after(alloc, sets, items, rows.as_slice(), orders, system)?;
+        let marks = marked_after(alloc, sets, items, rows.as_slice(), orders, system)?;
+        let seconds = numbers_of(alloc, marks.as_slice())?;
         push_edges(
             sets,
             items,
@@ -114,7 +115,7 @@ pub(crate) fn is_member_of(sets: usize, rows: &[Reaching], item: usize, system: 
 }
 
 // The items that orders lead to from those of which the system is a member, by marks.
-fn seconds_after(
+fn marked_after(
     alloc: Global,
     sets: usize,
     items: usize,
@@ -124,7 +125,7 @@ fn seconds_after(
 ) -> Result<Vec<bool>, AllocError>
     requires rows { length rows.now ≡ sets }
     requires between { All (IsBetween items) orders.now }
-    ensures { IfOk result (λ marks. AreSeconds sets rows.now (pairs_of orders.now) system marks.items) }
+    ensures { IfOk result (λ marks. AreMarkedSeconds sets rows.now (pairs_of orders.now) system marks.items) }
 {
     let mut marks = vec![in alloc; false; items]?;
     for order in orders {
@@ -135,6 +136,28 @@ fn seconds_after(
         );
     }
     Ok(marks)
+}
+
+// The numbers of the marked items, in rising order.
+fn numbers_of(alloc: Global, marks: &[bool]) -> Result<Vec<usize>, AllocError>
+    ensures { IfOk result (λ numbers. AreMarked marks.now numbers.items) }
+{
+    let mut numbers = Vec::new(alloc);
+    for item in 0..marks.len() {
+        push_number(&mut numbers, item, marks[item])?;
+    }
+    Ok(numbers)
+}
+
+// Adds the number where the test holds.
+fn push_number(numbers: &mut Vec<usize>, number: usize, test: bool) -> Result<(), AllocError>
+    ensures { OnOk result (numbers.new.items ≡ (if test then numbers.old.items ++ number ∷ [] else numbers.old.items)) }
+{
+    if !test {
+        return Ok(());
+    }
+    numbers.push(number)?;
+    Ok(())
 }
 
 // Marks an item where the test holds.
@@ -149,39 +172,39 @@ fn mark_if(marks: &mut Vec<bool>, item: usize, test: bool)
     marks[item] = true;
 }
 
-// Whether a system is a member of a marked item.
-fn is_led_to(sets: usize, rows: &[Reaching], marks: &[bool], system: usize) -> bool
+// Whether a system is a member of one of these items.
+fn is_led_to(sets: usize, rows: &[Reaching], seconds: &[usize], system: usize) -> bool
     requires { length rows.now ≡ sets }
-    ensures { MatchBool result (IsLedTo sets rows.now marks.now system) (IsLedTo sets rows.now marks.now system → ⊥) }
+    ensures { MatchBool result (IsLedTo sets rows.now seconds.now system) (IsLedTo sets rows.now seconds.now system → ⊥) }
 {
-    for item in 0..marks.len() {
-        if marks[item] && is_member_of(sets, rows, item, system) {
+    for second in seconds {
+        if is_member_of(sets, rows, *second, system) {
             return true;
         }
     }
     false
 }
 
-// Adds the edges of a system to the members of the marked items.
+// Adds the edges of a system to the members of these items.
 fn push_edges(
     sets: usize,
     items: usize,
     rows: &[Reaching],
-    marks: &[bool],
+    seconds: &[usize],
     system: usize,
     edges: &mut Vec<Order>,
 ) -> Result<(), AllocError>
     requires rows { length rows.now ≡ sets }
     requires system { sets ≤ system }
     requires few { sets ≤ items }
-    ensures { OnOk result (HasEdgesTo sets rows.now marks.now system items edges.old.items edges.new.items) }
+    ensures { OnOk result (HasEdgesTo sets rows.now seconds.now system items edges.old.items edges.new.items) }
 {
     for other in sets..items {
         let edge = Order {
             first: system - sets,
             second: other - sets,
         };
-        push_if(edges, edge, is_led_to(sets, rows, marks, other))?;
+        push_if(edges, edge, is_led_to(sets, rows, seconds, other))?;
     }
     Ok(())
 }

@@ -3,6 +3,10 @@ pub mod Answers
 pub mod Lines
 pub mod Runs
 pub mod Verdicts
+pub mod ReplayFaults
+pub mod WholeStarts
+pub mod Taking
+pub mod Agreeing
 pub mod Ends
 pub mod Writing
 pub mod Reading

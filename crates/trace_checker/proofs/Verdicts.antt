@@ -16,17 +16,17 @@ use Rattle.trace_checker.specs.Grammar.{steps_of}
 use Rattle.trace_checker.specs.Verdicts.{IsRefusedAt, IsVerdict, AreVerdicts}
 
 -- what comes before a lawful list's later steps is lawful
-lawful_before : (s : Schedule) (later h : List Step) → IsLawful s (later ++ h) → IsLawful s h
+pub lawful_before : (s : Schedule) (later h : List Step) → IsLawful s (later ++ h) → IsLawful s h
 lawful_before s [] h lawful = lawful
 lawful_before s (step ∷ later) h lawful = lawful_before s later h lawful.1
 
 -- the history of steps of which one is known
-history_at : (front : List Step) (step : Step) (rest : List Step) → reverse (front ++ step ∷ rest) ≡ reverse rest ++ step ∷ reverse front
+pub history_at : (front : List Step) (step : Step) (rest : List Step) → reverse (front ++ step ∷ rest) ≡ reverse rest ++ step ∷ reverse front
 history_at front step rest =
     reverse-append front (step ∷ rest) ∙ (ap (λ l. l ++ reverse front) (reverse-append (step ∷ []) rest) ∙ append_assoc (reverse rest) (step ∷ []) (reverse front))
 
 -- in lawful steps each may come after those before it
-may_at : (s : Schedule) (steps front : List Step) (step : Step) (rest : List Step) → steps ≡ front ++ step ∷ rest → IsLawful s (reverse steps) → May s (reverse front) step
+pub may_at : (s : Schedule) (steps front : List Step) (step : Step) (rest : List Step) → steps ≡ front ++ step ∷ rest → IsLawful s (reverse steps) → May s (reverse front) step
 may_at s steps front step rest e lawful =
     let k = subst (λ h. IsLawful s h) (ap reverse e ∙ history_at front step rest) lawful in
     (lawful_before s (reverse rest) (step ∷ reverse front) k).0

@@ -1,3 +1,4 @@
 pub mod Grammar
 pub mod TextFaults
 pub mod Verdicts
+pub mod ReplayFaults

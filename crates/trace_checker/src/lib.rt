@@ -5,6 +5,7 @@ pub mod check;
 pub mod line;
 mod numeral;
 pub mod read;
+pub mod replay;
 #[cfg(test)]
 mod tests;
 pub mod write;

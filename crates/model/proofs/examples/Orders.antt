@@ -23,7 +23,7 @@ below_three (suc (suc zero)) l = inr (inr refl)
 below_three (suc (suc (suc n))) l = absurd (omega arith)
 
 -- a property of 0, 1 and 2 is one of each number below three
-each_below_three : (P : ℕ → Type 0) → P 0 → P 1 → P 2 → (n : ℕ) → n < 3 → P n
+pub each_below_three : (P : ℕ → Type 0) → P 0 → P 1 → P 2 → (n : ℕ) → n < 3 → P n
 each_below_three P zero_case one_case two_case n l = elim (below_three n l) [
   | inl e ↦ subst P (sym e) zero_case
   | inr other ↦ elim other [ inl e ↦ subst P (sym e) one_case | inr e ↦ subst P (sym e) two_case ]

@@ -27,7 +27,8 @@ use Rattle.model.specs.steps.Order.{KeepsOrder}
 use Rattle.model.specs.state.Shape.{IsStateOf, IsRunStateOf, BodiesKeepWithin}
 use Rattle.model.specs.runs.Runs.{IsSingleRun, AreSingleRuns, HasRuns, IsStopped, IsSoundRun, AreSoundRuns}
 use Rattle.model.specs.runs.WideRuns.{AreWideRuns, IsWideStopped}
-use Rattle.model.specs.state.Agreement.{AreRuns, Agrees, after_runs}
+use Rattle.model.specs.runs.Replays.{Replay, IsReplayed, ComesTo}
+use Rattle.model.specs.state.Agreement.{AreRuns, Agrees, after_runs, AgreesWithAll}
 
 -- ---- order
 
@@ -58,6 +59,18 @@ RunsAgree = (widths : ℕ → ℕ) (s : Schedule) (bodies : List BodyMeaning) (v
     IsStateOf widths s v → IsStateOf widths s w → Agrees s v w → length hs ≡ length gs →
     AreRuns s bodies v hs → AreRuns s bodies w gs →
     after_runs s bodies v hs ≡ Some v' → after_runs s bodies w gs ≡ Some w' → Agrees s v' w'
+
+-- so what the runs of a coordinator leave agrees with what any as many runs leave
+abbrev pub WideRunsAgree : Type 0
+WideRunsAgree = (widths : ℕ → ℕ) (width : ℕ) (s : Schedule) (bodies : List BodyMeaning) (v : State) (hs : List (List Step)) (v' : State) →
+    IsBuilt s → BodiesKeepWithin widths s bodies → IsStateOf widths s v →
+    AreWideRuns width s bodies v hs v' → AgreesWithAll widths s bodies v (length hs) v'
+
+-- and what a run leaves that was taken again agrees with what any run leaves
+abbrev pub ReplayedRunAgrees : Type 0
+ReplayedRunAgrees = (widths : ℕ → ℕ) (s : Schedule) (bodies : List BodyMeaning) (v : State) (h : List Step) (v' : State) →
+    IsBuilt s → BodiesKeepWithin widths s bodies → IsStateOf widths s v →
+    IsReplayed s bodies v h v' → AgreesWithAll widths s bodies v 1 v'
 
 -- ---- continuation
 
@@ -200,3 +213,10 @@ DefinedRunsGoThrough = (s : Schedule) (bodies : List BodyMeaning) (times : ℕ) 
 abbrev pub StopsAreOne : Type 0
 StopsAreOne = (s : Schedule) (bodies : List BodyMeaning) (times others : ℕ) (w : State) (cause other : Cause) →
     IsStopped s bodies times w cause → IsStopped s bodies others w other → cause ≡ other
+
+-- ---- runs taken again
+
+-- a run that is taken again comes to one thing: it leaves one state, or has one first wrong answer, or stops for one cause
+abbrev pub ReplaysAreOne : Type 0
+ReplaysAreOne = (s : Schedule) (bodies : List BodyMeaning) (w : State) (h : List Step) (one other : Replay) →
+    ComesTo s bodies w h one → ComesTo s bodies w h other → one ≡ other

@@ -1,6 +1,6 @@
 -- When two states agree, and lists of runs.
 use Rattle.std.specs.Option.{option_and_then}
-use Rattle.std.specs.Prelude.{ℕ, true, nat_lt, ◌==◌, ◌≡◌, List, [], ◌∷◌, map, get_or, Option, Some}
+use Rattle.std.specs.Prelude.{ℕ, true, nat_lt, ◌==◌, ◌≡◌, List, [], ◌∷◌, length, map, get_or, Option, Some}
 use Rattle.model.specs.declared.steps.Step.{Step}
 use Rattle.model.specs.Lists.{IsIn}
 use Rattle.model.specs.state.State.{is_living, Cell, State, Resource, fresh_slot, Slot, Memory, no_resource, Component}
@@ -11,6 +11,8 @@ use Rattle.model.specs.shown.Input.{passes}
 use Rattle.model.specs.shown.Outcome.{BodyMeaning}
 use Rattle.model.specs.steps.Schedule.{Schedule, params_of, access_of, watches}
 use Rattle.model.specs.steps.Lawful.{IsComplete, IsLawful}
+use Rattle.model.specs.steps.Ambiguity.{Settled}
+use Rattle.model.specs.state.Shape.{IsStateOf}
 use Rattle.model.specs.runs.RunState.{memory_of_system, memory_of_condition}
 use Rattle.model.specs.runs.Meaning.{HasTrueAnswers, Interleaved, interleaved}
 
@@ -105,3 +107,8 @@ AreRuns s bodies w (h ∷ hs) = IsRun s bodies w h × ((end : Interleaved) → i
 abbrev pub after_runs : Schedule → List BodyMeaning → State → List (List Step) → Option State
 after_runs s bodies w [] = Some w
 after_runs s bodies w (h ∷ hs) = option_and_then (λ (end : Interleaved). after_runs s bodies end.run.state hs) (interleaved s bodies w h)
+
+-- what so many runs leave of a state agrees with what any as many runs leave of any state that agrees with the one, where the schedule is settled
+abbrev pub AgreesWithAll : (ℕ → ℕ) → Schedule → List BodyMeaning → State → ℕ → State → Type 0
+AgreesWithAll widths s bodies v times v' = (w : State) (gs : List (List Step)) (w' : State) → Settled s → IsStateOf widths s w → Agrees s v w → length gs ≡ times →
+    AreRuns s bodies w gs → after_runs s bodies w gs ≡ Some w' → Agrees s v' w'

@@ -1,6 +1,10 @@
 use Rattle.std.proofs.Common.{◌≡◌, List, map, ap, sym, ◌∙◌, subst, string_bytes}
 use Rattle.model.specs.declarations.Declarations.{Declared}
 use Rattle.command_line.specs.declared.args.Work.{Work}
+use Rattle.command_line.specs.declared.args.Work.TheVariants.{Run, Check}
+use Rattle.model.specs.shown.Outcome.{BodyMeaning}
+use Rattle.model.specs.state.Loaded.{loaded}
+use Rattle.model.specs.state.State.{State}
 use Rattle.ecsrun.specs.declared.fault.Fault.TheVariants.{Memory}
 use Rattle.ecsrun.specs.Load.{entity_given, loaded_world}
 use Rattle.engine.specs.FirstState.{first_state}
@@ -9,13 +13,14 @@ use Rattle.ecsrun.specs.Said.{declared_by, declared_said, script_said, scripts_b
 use Rattle.ecsrun.specs.Setup.{AreScriptsOf, IsScheduleOf, declared_names, meanings_of_scripts}
 use Rattle.ecsrun.specs.Checked.{IsCheckOf}
 use Rattle.ecsrun.specs.Recorded.{IsTextOfRuns}
-use Rattle.ecsrun.specs.Refused.{IsRefusedBy, IsStoppedRun, IsTraceUnread, IsUngiven, IsUnscripted}
+use Rattle.ecsrun.specs.Replayed.{IsTextOfReplay}
+use Rattle.ecsrun.specs.Refused.{IsRefusedBy, IsStoppedRun, IsTraceUnread, IsUngiven, IsUnreplayed, IsUnscripted}
 use Rattle.ecsrun.specs.Served.{IsAnswerTo, IsTextOfReport}
 use Rattle.ecsrun.proofs.Fitting.{count-declared}
 use Rattle.ecsrun.specs.Fault.{fault_of_build, fault_of_file}
 use Rattle.ecsrun.specs.declared.schedule.Code.{Code}
 use Rattle.schedule_builder.specs.Answers.{IsAnswered}
-use Rattle.ecsrun.proofs.Serving.{build-refused, given-refused, is-file, of-err, of-given, of-ok, of-ok-two, place-refused, run-refused, runs-loaded, schedule-of, script-refused, scripts-same, trace-refused, unread-refused}
+use Rattle.ecsrun.proofs.Serving.{build-refused, given-refused, is-file, of-err, of-given, of-ok, of-ok-two, place-refused, replay-loaded, run-refused, runs-loaded, schedule-of, script-refused, scripts-same, trace-refused, unread-refused, unreplayed-refused}
 use Rattle.ecsrun.proofs.serve.answer.Goals as goal
 
 -- there are as many codes as systems of the schedule
@@ -30,7 +35,7 @@ returns-in-Ambiguities-clause-done g c =
     let trace = g.T.Read.remaining c.args.trace.now in
     let tables = c.in_ok-resources.field-0 in
     let of = c.in_ok-resources.ensures in
-    let read = is-file file _ tables c.in_ok-document.ensures.read of.sets of.systems of.chains in
+    let read = is-file file _ tables c.in_ok-document.ensures.read of.keys of.resources of.entities of.sets of.systems of.chains in
     let d = c.in_ok-desc.desc in
     let s = c.in_ok-built.built in
     let ok = c.in_ok-built.ensures in
@@ -62,7 +67,7 @@ returns-in-Check-clause-done g c =
     let trace = g.T.Read.remaining c.args.trace.now in
     let tables = c.in_ok-resources.field-0 in
     let of = c.in_ok-resources.ensures in
-    let read = is-file file _ tables c.in_ok-document.ensures.read of.sets of.systems of.chains in
+    let read = is-file file _ tables c.in_ok-document.ensures.read of.keys of.resources of.entities of.sets of.systems of.chains in
     let d = c.in_ok-desc.desc in
     let s = c.in_ok-built.built in
     let ok = c.in_ok-built.ensures in
@@ -81,7 +86,57 @@ returns-in-Check-clause-refused g c =
     let file = g.F.Read.remaining c.args.file.now in
     let trace = g.T.Read.remaining c.args.trace.now in
     of-err (IsTraceUnread trace) (IsRefusedBy file trace c.args.work) c.check_trace.result
-    (λ fault h. subst (λ (w : Work). IsRefusedBy file trace w fault) (sym c.in-Check.is) (trace-refused file trace fault h)) c.check_trace.ensures.refused
+    (λ fault h. subst (λ (w : Work). IsRefusedBy file trace w fault) (sym c.in-Check.is) (trace-refused file trace Check fault tt h)) c.check_trace.ensures.refused
+
+pub returns-in-Replay-clause-done : goal.returns-in-Replay-clause-done
+returns-in-Replay-clause-done g c =
+    let width = g.M.Mode.width c.args.mode.now in
+    let file = g.F.Read.remaining c.args.file.now in
+    let trace = g.T.Read.remaining c.args.trace.now in
+    let tables = c.in_ok-resources.field-0 in
+    let of = c.in_ok-resources.ensures in
+    let read = is-file file _ tables c.in_ok-document.ensures.read of.keys of.resources of.entities of.sets of.systems of.chains in
+    let d = c.in_ok-desc.desc in
+    let s = c.in_ok-built.built in
+    let ok = c.in_ok-built.ensures in
+    let same : d ≡ declared_by tables = c.in_ok-desc.ensures.said ∙ ap (declared_said tables.sets.items tables.systems.items) c.as_slice.ensures.value in
+    let scripts = c.in_ok-bodies.bodies.items in
+    let scripts-are : scripts ≡ scripts_by tables = c.in_ok-bodies.ensures.said ∙ scripts-same c.in_ok-desc.codes.items tables.systems.items c.in_ok-desc.ensures.blocks in
+    of-ok-two (λ answer. IsTextOfReplay s (meanings_of_scripts s scripts) (loaded s (map entity_given c.deref.result.now) tables.resources) trace (string_bytes answer.text))
+    (λ answer. answer.status ≡ 0) (λ answer. IsAnswerTo width c.args.work file trace answer) c.replay_trace.result
+    (λ answer h status. subst (λ (w : Work). IsAnswerTo width w file trace answer) (sym c.in-Replay.is) (
+      status,
+      record {
+        tables = tables;
+        read = read;
+        schedule = s;
+        built = subst (λ (x : Declared). IsScheduleOf x s) same (schedule-of d s ok.buildable ok.systems ok.edges ok.levels ok.order ok.conditions ok.silences);
+        fitting = subst (AreScriptsOf s) scripts-are c.in_ok-bodies.ensures.fitting;
+        runs = replay-loaded s scripts (scripts_by tables) c.deref.result.now tables.entities.items tables.resources
+            (λ (bodies : List BodyMeaning) (start : State). IsTextOfReplay s bodies start trace (string_bytes answer.text)) scripts-are c.deref.ensures.value h;
+      },
+    )) c.replay_trace.ensures.text c.replay_trace.ensures.status
+
+pub returns-in-Replay-clause-refused : goal.returns-in-Replay-clause-refused
+returns-in-Replay-clause-refused g c =
+    let file = g.F.Read.remaining c.args.file.now in
+    let trace = g.T.Read.remaining c.args.trace.now in
+    let tables = c.in_ok-resources.field-0 in
+    let of = c.in_ok-resources.ensures in
+    let read = is-file file _ tables c.in_ok-document.ensures.read of.keys of.resources of.entities of.sets of.systems of.chains in
+    let d = c.in_ok-desc.desc in
+    let s = c.in_ok-built.built in
+    let ok = c.in_ok-built.ensures in
+    let same : d ≡ declared_by tables = c.in_ok-desc.ensures.said ∙ ap (declared_said tables.sets.items tables.systems.items) c.as_slice.ensures.value in
+    let built = subst (λ (x : Declared). IsScheduleOf x s) same (schedule-of d s ok.buildable ok.systems ok.edges ok.levels ok.order ok.conditions ok.silences) in
+    let scripts = c.in_ok-bodies.bodies.items in
+    let scripts-are : scripts ≡ scripts_by tables = c.in_ok-bodies.ensures.said ∙ scripts-same c.in_ok-desc.codes.items tables.systems.items c.in_ok-desc.ensures.blocks in
+    let fitting = subst (AreScriptsOf s) scripts-are c.in_ok-bodies.ensures.fitting in
+    of-err (IsUnreplayed s (meanings_of_scripts s scripts) (loaded s (map entity_given c.deref.result.now) tables.resources) trace) (IsRefusedBy file trace c.args.work) c.replay_trace.result
+    (λ fault h. subst (λ (w : Work). IsRefusedBy file trace w fault) (sym c.in-Replay.is)
+    (unreplayed-refused file trace tables s read built fitting fault
+    (replay-loaded s scripts (scripts_by tables) c.deref.result.now tables.entities.items tables.resources
+    (λ (bodies : List BodyMeaning) (start : State). IsUnreplayed s bodies start trace fault) scripts-are c.deref.ensures.value h))) c.replay_trace.ensures.stopped
 
 pub returns-clause-done : goal.returns-clause-done
 returns-clause-done g c =
@@ -90,7 +145,7 @@ returns-clause-done g c =
     let trace = g.T.Read.remaining c.args.trace.now in
     let tables = c.in_ok-resources.field-0 in
     let of = c.in_ok-resources.ensures in
-    let read = is-file file _ tables c.in_ok-document.ensures.read of.sets of.systems of.chains in
+    let read = is-file file _ tables c.in_ok-document.ensures.read of.keys of.resources of.entities of.sets of.systems of.chains in
     let d = c.in_ok-desc.desc in
     let s = c.in_ok-built.built in
     let ok = c.in_ok-built.ensures in
@@ -145,7 +200,7 @@ returns-in_err-built-clause-refused g c =
     let trace = g.T.Read.remaining c.args.trace.now in
     let tables = c.in_ok-resources.field-0 in
     let of = c.in_ok-resources.ensures in
-    let read = is-file file _ tables c.in_ok-document.ensures.read of.sets of.systems of.chains in
+    let read = is-file file _ tables c.in_ok-document.ensures.read of.keys of.resources of.entities of.sets of.systems of.chains in
     let d = c.in_ok-desc.desc in
     let same : d ≡ declared_by tables = c.in_ok-desc.ensures.said ∙ ap (declared_said tables.sets.items tables.systems.items) c.as_slice.ensures.value in
     let error = c.in_err-built.field-0.0 in
@@ -158,7 +213,7 @@ returns-in_err-bodies-clause-refused g c =
     let trace = g.T.Read.remaining c.args.trace.now in
     let tables = c.in_ok-resources.field-0 in
     let of = c.in_ok-resources.ensures in
-    let read = is-file file _ tables c.in_ok-document.ensures.read of.sets of.systems of.chains in
+    let read = is-file file _ tables c.in_ok-document.ensures.read of.keys of.resources of.entities of.sets of.systems of.chains in
     let d = c.in_ok-desc.desc in
     let s = c.in_ok-built.built in
     let ok = c.in_ok-built.ensures in
@@ -177,4 +232,4 @@ returns-in_err-world-clause-refused g c =
     let error = c.in_err-world.field-0.0 in
     of-given (λ fault. fault ≡ error) (IsRefusedBy file trace c.args.work) c.from_residual-in_err-world.result c.from_residual-in_err-world.ensures.1
     (λ fault is. subst (IsRefusedBy file trace c.args.work) (sym is)
-    (subst (λ (w : Work). IsRefusedBy file trace w error) (sym c.in-Run.is) (given-refused file trace c.in-Run.times c.in-Run.workers c.in-Run.recorded error c.in_err-world.ensures.refused)))
+    (subst (λ (w : Work). IsRefusedBy file trace w error) (sym c.in-Run.is) (given-refused file trace (Run c.in-Run.times c.in-Run.workers c.in-Run.recorded) error tt c.in_err-world.ensures.refused)))

@@ -1,6 +1,12 @@
 use Rattle.std.proofs.Common.{ℕ, ◌<◌, ◌≡◌, true, map, Some}
-use Rattle.engine.specs.Meanings.{fits_at}
+use Rattle.model.specs.runs.RunState.{body_of}
+use Rattle.model.specs.steps.Schedule.{params_of}
+use Rattle.body.specs.Keeps.{KeepsWithin}
+use Rattle.engine.specs.Meanings.{fits_at, meanings}
 use Rattle.engine.proofs.fitting.first_misfit.Given as goal
 
 abbrev pub invariant-loop-system : goal.invariant-loop-system
-invariant-loop-system g l = (m : ℕ) → m < l.system → fits_at g.B.Body.fits l.built (map Some l.bodies) m ≡ true
+invariant-loop-system g l = record {
+  fit : (m : ℕ) → m < l.system → fits_at g.B.Body.fits l.built (map Some l.bodies) m ≡ true;
+  keep : (m : ℕ) → m < l.system → KeepsWithin (params_of l.built m) (body_of (meanings g.B.Body.meaning l.built (map Some l.bodies)) m);
+}

@@ -22,14 +22,14 @@ invariant_of-self-2 c =
     let registers = c.close-sent.result.0 in
     let before = c.self.inside.systems in
     let after : c.keep_registers.new.memories ≡ update_at n (with_registers registers) before.items
-    = c.keep_registers.ensures ∙ ap (λ (ms : List Memory). update_at n (with_registers registers) ms) c.deref_mut.ensures.value in
+    = c.keep_registers.ensures.memories ∙ ap (λ (ms : List Memory). update_at n (with_registers registers) ms) c.deref_mut.ensures.value in
     let whole = with_items_is before c.keep_registers.new.memories (ap length after ∙ length-update_at n (with_registers registers) before.items ∙ sym before.ok.0) ∙ after in
     let now = c.close-sent.new.world.state.clock in
     let clock_is = ap (λ (x : StoreValue). x.state.clock) c.close-sent.ensures.home in
     record {
       systems_in = subst (λ (ms : List Memory). IsInTime now ms) (sym whole)
           (subst (λ clock. IsInTime clock (update_at n (with_registers registers) before.items)) (sym clock_is)
-          (kept_in_time c.self.inside.world.state.clock n registers before.items c.self.invariant.systems_in));
+          (kept_in_time c.self.inside.world.state.clock n registers before.items c.keep_registers.ensures.count c.self.invariant.systems_in));
       conditions_in = subst (λ clock. IsInTime clock c.self.inside.conditions.items) (sym clock_is) c.self.invariant.conditions_in;
     }
 

@@ -1,7 +1,7 @@
 use Rattle.std.proofs.Common.{◌≡◌, ◌<◌, ℕ, List, true, false, length, map, Some, Err, inr, refl, sym, ap, ◌∙◌, subst, arith}
 use Rattle.std.proofs.lemmas.List.{length-map}
 use Rattle.engine.specs.declared.faults.NewFault.TheVariants.{Misfit}
-use Rattle.engine.specs.Meanings.{fits_at, HasMemories, Suits, IsFirstMisfit}
+use Rattle.engine.specs.Meanings.{meanings, fits_at, AllKeepWithin, HasMemories, IsFirstMisfit}
 use Rattle.engine.proofs.Beginning.{counts_right}
 use Rattle.engine.proofs.Bodies.{unlike, one_misfit}
 use Rattle.engine.proofs.engine.Engine.new.Goals as goal
@@ -47,11 +47,15 @@ returns-in-Some-clause-misfit g c = λ n.
     )
 
 pub invariant_of-result : goal.invariant_of-result
-invariant_of-result g c = λ e. record {
-  body_count = ap length c.in-Ok.ensures ∙ length-map c.args.bodies.items (λ x. Some x) ∙ (let a = c.if-len-count.false in let b = c.len.ensures in let d = c.count.ensures in omega arith);
-  memories = c.if-lacks_memories.ensures;
-  fit = λ n l. subst (λ xs. fits_at g.B.Body.fits c.args.built xs n ≡ true) (ap (map (λ x. Some x)) c.deref.ensures.value ∙ sym c.in-Ok.ensures) (c.in_default.ensures.none n l);
-}
+invariant_of-result g c = λ e.
+    let placed = ap (map (λ x. Some x)) c.deref.ensures.value ∙ sym c.in-Ok.ensures in (
+      record {
+        body_count = ap length c.in-Ok.ensures ∙ length-map c.args.bodies.items (λ x. Some x) ∙ (let a = c.if-len-count.false in let b = c.len.ensures in let d = c.count.ensures in omega arith);
+        memories = c.if-lacks_memories.ensures;
+        fit = λ n l. subst (λ xs. fits_at g.B.Body.fits c.args.built xs n ≡ true) placed (c.in_default.ensures.none n l);
+      },
+      subst (λ xs. AllKeepWithin c.args.built (meanings g.B.Body.meaning c.args.built xs)) placed c.in_default.ensures.keep,
+    )
 
 pub returns-clause-misfit : goal.returns-clause-misfit
 returns-clause-misfit g c = λ n. (

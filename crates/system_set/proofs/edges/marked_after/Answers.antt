@@ -2,7 +2,7 @@ use Rattle.std.proofs.Common.{ℕ, ◌≡◌, ◌∙◌, ◌||◌, ◌&&◌, eqb
 use Rattle.cycle_search.specs.declared.order.Order.{Order}
 use Rattle.system_set.specs.Pairs.{is_marked}
 use Rattle.system_set.proofs.EdgeLists.{seconds_more, seconds_all}
-use Rattle.system_set.proofs.edges.seconds_after.Goals as goal
+use Rattle.system_set.proofs.edges.marked_after.Goals as goal
 
 pub loop-order-preserved : goal.loop-order-preserved
 loop-order-preserved c =

@@ -1,0 +1,254 @@
+-- What a replay comes to is one: it ends in one state, or has one first wrong answer, or stops for one cause. And how it goes on.
+use Rattle.std.proofs.Common.{◌≡◌, ◌≢◌, ◌⊎◌, inl, inr, ℕ, ◌+◌, Bool, true, false, List, [], ◌∷◌, ◌++◌, length, drop, Option, Some, None, IsSome, option_map, option_and_then, refl, sym, ap, subst, ◌∙◌}
+use Rattle.model.specs.declared.steps.Step.{Step}
+use Rattle.model.specs.declared.steps.Step.TheVariants.{Cond, Start, Skip, Finish, Sync}
+use Rattle.model.specs.Lists.{provided, first_some}
+use Rattle.model.specs.state.State.{State}
+use Rattle.model.specs.shown.Outcome.{BodyMeaning}
+use Rattle.model.specs.steps.Schedule.{Schedule, condition_of}
+use Rattle.model.specs.steps.Lawful.{IsLawful, IsComplete}
+use Rattle.model.specs.access.Condition.{means}
+use Rattle.model.specs.runs.RunState.{RunState, answer_of, asked_of, between, begin_run, can_ask, can_open, after_condition}
+use Rattle.model.specs.runs.Meaning.{Interleaved, interleaved, interleaved_step, serial, serial_step, HasTrueAnswers, IsTrueAnswer}
+use Rattle.model.specs.runs.Causes.{Cause, unless, serial_cause, serial_cause_at, serial_cause_of}
+use Rattle.model.specs.runs.Causes.Cause.{NoTick}
+use Rattle.model.specs.runs.Runs.{IsSoundRun}
+use Rattle.model.proofs.faults.Causes.{then-parts, lacks-serial}
+use Rattle.model.proofs.serial.Interleaving.{interleaved_serial, same_shown}
+use Rattle.model.proofs.serial.Soundness.{runs_are_sound}
+use Rattle.model.proofs.faults.Answers.{answer_of-means}
+use Rattle.model.specs.runs.Laws.{ReplaysAreOne}
+use Rattle.model.specs.runs.Replays.{Leaves, AnswersWrong, Stops, IsAnswerOf, HasSerialAnswers, IsReplayed, IsWrongAnswer, IsReplayStopped, IsReached, IsStepTaken, IsWrongHere}
+
+-- ---- fronts of a history
+
+-- of two ends of one list the one is an end of the other
+pub ends : {A : Type 0} (later other : List A) (front back : List A) → later ++ front ≡ other ++ back → ((m : List A) × (front ≡ m ++ back)) ⊎ ((m : List A) × (back ≡ m ++ front))
+ends [] other front back e = inl (other, e)
+ends (x ∷ later) [] front back e = inr (x ∷ later, sym e)
+ends (x ∷ later) (y ∷ other) front back e = ends later other front back (ap (drop 1) e)
+
+lawful-before : (s : Schedule) (later front : List Step) → IsLawful s (later ++ front) → IsLawful s front
+lawful-before s [] front lawful = lawful
+lawful-before s (step ∷ later) front lawful = lawful-before s later front lawful.1
+
+module _ (s : Schedule) (bodies : List BodyMeaning) (start : State) where
+  answers-before : (later front : List Step) → HasSerialAnswers s bodies start (later ++ front) → HasSerialAnswers s bodies start front
+  answers-before [] front true_ones = true_ones
+  answers-before (step ∷ later) front true_ones = answers-before later front true_ones.1
+
+  true-before : (later front : List Step) → HasTrueAnswers s bodies start (later ++ front) → HasTrueAnswers s bodies start front
+  true-before [] front true_ones = true_ones
+  true-before (step ∷ later) front true_ones = true-before later front true_ones.1
+
+  woven-before : (later front : List Step) (w : Interleaved) → interleaved s bodies start (later ++ front) ≡ Some w → (v : Interleaved) × (interleaved s bodies start front ≡ Some v)
+  woven-before [] front w e = (w, e)
+  woven-before (step ∷ later) front w e =
+      let p = then-parts (interleaved s bodies start (later ++ front)) (interleaved_step s bodies step) w e in
+      woven-before later front p.0 p.1
+
+  -- the cause that a front meets is that of what goes on from it
+  cause-later : (later front : List Step) (cause : Cause) → serial_cause s bodies start front ≡ Some cause → serial_cause s bodies start (later ++ front) ≡ Some cause
+  cause-later [] front cause e = e
+  cause-later (step ∷ later) front cause e =
+      ap (λ o. first_some o (serial_cause_at s bodies step (serial s bodies start (later ++ front)))) (cause-later later front cause e)
+
+  -- where it meets a cause there is no meaning
+  no-meaning : (later front : List Step) (cause : Cause) (run : RunState) → serial_cause s bodies start front ≡ Some cause → serial s bodies start (later ++ front) ≡ Some run → ⊥
+  no-meaning later front cause run e meaning =
+      let h = later ++ front in
+      let none : serial s bodies start h ≡ None = (lacks-serial s bodies start h).1 (subst IsSome (sym (cause-later later front cause e)) refl) in
+      absurd (let clash : Some run ≡ None = sym meaning ∙ none in cc)
+
+  -- where there is a meaning it meets no cause
+  no-cause : (h : List Step) (run : RunState) → serial s bodies start h ≡ Some run → serial_cause s bodies start h ≡ None
+  no-cause h run meaning = go (serial_cause s bodies start h) refl
+    where
+      go : (o : Option Cause) → serial_cause s bodies start h ≡ o → o ≡ None
+      go None e = refl
+      go (Some cause) e = absurd (no-meaning [] h cause run e meaning)
+
+  -- ---- answers, interleaved and serial
+
+  -- after a lawful front a condition that may be asked means the same
+  same-answer : (h : List Step) (c : ℕ) (answer : Bool) (w : Interleaved) (run : RunState) → IsLawful s (Cond c answer ∷ h) → interleaved s bodies start h ≡ Some w → serial s bodies start h ≡ Some run
+      → answer_of s c w.run ≡ answer_of s c run
+  same-answer h c answer w run lawful woven meaning =
+      let about : asked_of s c w.run ≡ asked_of s c run = (same_shown s bodies start h w run lawful.1 woven meaning).1 c answer lawful.0 in
+      answer_of-means s c w.run ∙ ap (means (condition_of s c)) about ∙ sym (answer_of-means s c run)
+
+  -- a condition that was asked could be asked
+  could-ask : (h : List Step) (c : ℕ) (answer : Bool) (run end : RunState) → serial s bodies start h ≡ Some run → serial s bodies start (Cond c answer ∷ h) ≡ Some end → can_ask run ≡ true
+  could-ask h c answer run end meaning e = go (can_ask run) (sym (ap (λ o. option_and_then (serial_step s bodies (Cond c answer)) o) meaning) ∙ e)
+    where
+      go : (b : Bool) → provided b (after_condition s c run) ≡ Some end → b ≡ true
+      go true h = refl
+      go false h = absurd (let clash = h in cc)
+
+  true-one : (step : Step) (h : List Step) (w : Interleaved) (run end : RunState) → IsLawful s (step ∷ h) → interleaved s bodies start h ≡ Some w → serial s bodies start h ≡ Some run
+      → serial s bodies start (step ∷ h) ≡ Some end → IsAnswerOf s step (serial s bodies start h) → IsTrueAnswer s step (interleaved s bodies start h)
+  true-one (Cond c answer) h w run end lawful woven meaning e is =
+      let said : answer ≡ answer_of s c run = subst (IsAnswerOf s (Cond c answer)) meaning is (could-ask h c answer run end meaning e) in
+      subst (IsTrueAnswer s (Cond c answer)) (sym woven) (said ∙ sym (same-answer h c answer w run lawful woven meaning))
+  true-one (Start n) h w run end lawful woven meaning e is = subst (IsTrueAnswer s (Start n)) (sym woven) tt
+  true-one (Skip n) h w run end lawful woven meaning e is = subst (IsTrueAnswer s (Skip n)) (sym woven) tt
+  true-one (Finish n) h w run end lawful woven meaning e is = subst (IsTrueAnswer s (Finish n)) (sym woven) tt
+  true-one (Sync k) h w run end lawful woven meaning e is = subst (IsTrueAnswer s (Sync k)) (sym woven) tt
+
+  -- answers that are those of the serial run are true
+  all-true : (h : List Step) (w : Interleaved) (end : RunState) → IsLawful s h → interleaved s bodies start h ≡ Some w → serial s bodies start h ≡ Some end → HasSerialAnswers s bodies start h → HasTrueAnswers s bodies start h
+  all-true [] w end lawful woven meaning is = tt
+  all-true (step ∷ h) w end lawful woven meaning is =
+      let p = then-parts (interleaved s bodies start h) (interleaved_step s bodies step) w woven in
+      let q = then-parts (serial s bodies start h) (serial_step s bodies step) end meaning in
+      (true-one step h p.0 q.0 end lawful p.1 q.1 meaning is.0, all-true h p.0 q.0 lawful.1 p.1 q.1 is.1)
+
+  -- ---- one of three
+
+  -- a wrong answer isn't the serial meaning
+  refuted : (later : List Step) (c : ℕ) (answer : Bool) (front : List Step) (run : RunState) → serial s bodies start front ≡ Some run → can_ask run ≡ true → answer ≢ answer_of s c run
+      → HasSerialAnswers s bodies start (later ++ Cond c answer ∷ front) → ⊥
+  refuted later c answer front run meaning asked wrong is =
+      wrong (subst (IsAnswerOf s (Cond c answer)) meaning (answers-before later (Cond c answer ∷ front) is).0 asked)
+
+  -- a condition that can be asked has a meaning
+  asked-meaning : (c : ℕ) (answer : Bool) (front : List Step) (run : RunState) → serial s bodies start front ≡ Some run → can_ask run ≡ true → serial s bodies start (Cond c answer ∷ front) ≡ Some (after_condition s c run)
+  asked-meaning c answer front run meaning asked =
+      ap (λ o. option_and_then (serial_step s bodies (Cond c answer)) o) meaning ∙ ap (λ b. provided b (after_condition s c run)) asked
+
+  module _ (h : List Step) where
+    pub replayed_stopped : (w : State) (cause : Cause) → IsReplayed s bodies start h w → IsReplayStopped s bodies start h cause → ⊥
+    replayed_stopped w cause is stopped =
+        no-meaning stopped.later stopped.front cause is.sound.whole stopped.stops (subst (λ x. serial s bodies start x ≡ Some is.sound.whole) stopped.whole is.sound.serial_meaning)
+
+    pub replayed_wrong : (w : State) (n : ℕ) → IsReplayed s bodies start h w → IsWrongAnswer s bodies start h n → ⊥
+    replayed_wrong w n is wrong =
+        let here = Cond wrong.condition wrong.answer ∷ wrong.front in
+        let true_ones = true-before wrong.later here (subst (HasTrueAnswers s bodies start) wrong.whole is.run.answers) in
+        let lawful = lawful-before s wrong.later here (subst (IsLawful s) wrong.whole is.run.lawful) in
+        let there = woven-before wrong.later here is.sound.woven (subst (λ x. interleaved s bodies start x ≡ Some is.sound.woven) wrong.whole is.sound.woven_meaning) in
+        let before = then-parts (interleaved s bodies start wrong.front) (interleaved_step s bodies (Cond wrong.condition wrong.answer)) there.0 there.1 in
+        wrong.wrong (subst (IsTrueAnswer s (Cond wrong.condition wrong.answer)) before.1 true_ones.0 ∙ same-answer wrong.front wrong.condition wrong.answer before.0 wrong.run lawful before.1 wrong.meaning)
+
+    pub replayed_replayed : (w v : State) → IsReplayed s bodies start h w → IsReplayed s bodies start h v → w ≡ v
+    replayed_replayed w v is other =
+        let same : Some is.sound.whole ≡ Some other.sound.whole = sym is.sound.serial_meaning ∙ other.sound.serial_meaning in
+        let whole : is.sound.whole ≡ other.sound.whole = cc in
+        sym is.sound.serial_leaves ∙ ap (λ (r : RunState). r.state) whole ∙ other.sound.serial_leaves
+
+    pub stopped_stopped : (cause other : Cause) → IsReplayStopped s bodies start h cause → IsReplayStopped s bodies start h other → cause ≡ other
+    stopped_stopped cause other a b = go (ends a.later b.later a.front b.front (sym a.whole ∙ b.whole))
+      where
+        joined : (o : Option Cause) → o ≡ Some cause → o ≡ Some other → cause ≡ other
+        joined o e f = let same : Some cause ≡ Some other = sym e ∙ f in cc
+
+        go : ((m : List Step) × (a.front ≡ m ++ b.front)) ⊎ ((m : List Step) × (b.front ≡ m ++ a.front)) → cause ≡ other
+        go (inl (m, e)) = joined (serial_cause s bodies start a.front) a.stops (ap (serial_cause s bodies start) e ∙ cause-later m b.front other b.stops)
+        go (inr (m, e)) = joined (serial_cause s bodies start b.front) (ap (serial_cause s bodies start) e ∙ cause-later m a.front cause a.stops) b.stops
+
+    pub wrong_stopped : (n : ℕ) (cause : Cause) → IsWrongAnswer s bodies start h n → IsReplayStopped s bodies start h cause → ⊥
+    wrong_stopped n cause a b = go (ends a.later b.later here b.front (sym a.whole ∙ b.whole))
+      where
+        here : List Step
+        here = Cond a.condition a.answer ∷ a.front
+
+        go : ((m : List Step) × (here ≡ m ++ b.front)) ⊎ ((m : List Step) × (b.front ≡ m ++ here)) → ⊥
+        go (inl (m, e)) =
+            no-meaning m b.front cause (after_condition s a.condition a.run) b.stops
+            (subst (λ x. serial s bodies start x ≡ Some (after_condition s a.condition a.run)) e (asked-meaning a.condition a.answer a.front a.run a.meaning a.asked))
+        go (inr (m, e)) = refuted m a.condition a.answer a.front a.run a.meaning a.asked a.wrong (subst (HasSerialAnswers s bodies start) e b.answers)
+
+    pub wrong_wrong : (n m : ℕ) → IsWrongAnswer s bodies start h n → IsWrongAnswer s bodies start h m → n ≡ m
+    wrong_wrong n m a b = go (ends a.later b.later (here a) (here b) (sym a.whole ∙ b.whole))
+      where
+        here : {k : ℕ} → IsWrongAnswer s bodies start h k → List Step
+        here x = Cond x.condition x.answer ∷ x.front
+
+        -- the one of the longer front has the other's answer before it
+        one : {k j : ℕ} (x : IsWrongAnswer s bodies start h k) (y : IsWrongAnswer s bodies start h j) (l : List Step) → here x ≡ l ++ here y → k ≡ j
+        one x y [] e = x.place ∙ ap (λ f. length f + 1) (ap (drop 1) e) ∙ sym y.place
+        one x y (z ∷ l) e = absurd (refuted l y.condition y.answer y.front y.run y.meaning y.asked y.wrong (subst (HasSerialAnswers s bodies start) (ap (drop 1) e) x.answers))
+
+        go : ((l : List Step) × (here a ≡ l ++ here b)) ⊎ ((l : List Step) × (here b ≡ l ++ here a)) → n ≡ m
+        go (inl (l, e)) = one a b l e
+        go (inr (l, e)) = sym (one b a l e)
+
+  -- ---- how it goes on
+
+  pub reached_open : (w : State) → begin_run start ≡ Some (between w) → IsReached s bodies start [] w
+  reached_open w e = record { answers = tt; meaning = e }
+
+  pub reached_more : (h : List Step) (step : Step) (w w' : State) → IsReached s bodies start h w → IsStepTaken s bodies w step w' → IsReached s bodies start (step ∷ h) w'
+  reached_more h step w w' is taken = record {
+    answers = (subst (IsAnswerOf s step) (sym is.meaning) taken.answer, is.answers);
+    meaning = ap (λ o. option_and_then (serial_step s bodies step) o) is.meaning ∙ taken.meaning;
+  }
+
+  -- a complete lawful list that was gone through
+  pub reached_end : (h : List Step) (w : State) → IsLawful s h → IsComplete s h → IsReached s bodies start h w → IsReplayed s bodies start h w
+  reached_end h w lawful complete is = go (interleaved s bodies start h) refl
+    where
+      go : (o : Option Interleaved) → interleaved s bodies start h ≡ o → IsReplayed s bodies start h w
+      go None e = absurd (let clash : option_map (λ (x : Interleaved). x.run) None ≡ Some (between w) = sym (ap (option_map (λ (x : Interleaved). x.run)) e) ∙ interleaved_serial s bodies start h lawful complete ∙ is.meaning in cc)
+      go (Some end) e =
+          let same : Some end.run ≡ Some (between w) = sym (ap (option_map (λ (x : Interleaved). x.run)) e) ∙ interleaved_serial s bodies start h lawful complete ∙ is.meaning in
+          let run : end.run ≡ between w = cc in
+          record {
+            run = record { lawful = lawful; complete = complete; answers = all-true h end (between w) lawful e is.meaning is.answers };
+            sound = subst (IsSoundRun s bodies start h) (ap (λ (r : RunState). r.state) run) (runs_are_sound s bodies start h end lawful complete e);
+          }
+
+  -- a wrong answer at a step
+  pub wrong_at : (h later : List Step) (step : Step) (w : State) (n : ℕ) → IsReached s bodies start h w → IsWrongHere s w step → n ≡ length h + 1 → IsWrongAnswer s bodies start (later ++ step ∷ h) n
+  wrong_at h later (Cond c answer) w n is wrong place = record {
+    later = later;
+    condition = c;
+    answer = answer;
+    front = h;
+    whole = refl;
+    place = place;
+    answers = is.answers;
+    run = between w;
+    meaning = is.meaning;
+    asked = wrong.0;
+    wrong = wrong.1;
+  }
+  wrong_at h later (Start m) w n is wrong place = absurd wrong
+  wrong_at h later (Skip m) w n is wrong place = absurd wrong
+  wrong_at h later (Finish m) w n is wrong place = absurd wrong
+  wrong_at h later (Sync k) w n is wrong place = absurd wrong
+
+  -- what stops a step that isn't taken: its answer isn't asked
+  unasked : (step : Step) (w : State) (cause : Cause) → serial_cause_of s bodies step (between w) ≡ Some cause → IsAnswerOf s step (Some (between w))
+  unasked (Cond c answer) w cause e = λ asked. absurd (let clash : unless true NoTick ≡ Some cause = ap (λ b. unless b NoTick) (sym asked) ∙ e in cc)
+  unasked (Start n) w cause e = tt
+  unasked (Skip n) w cause e = tt
+  unasked (Finish n) w cause e = tt
+  unasked (Sync k) w cause e = tt
+
+  pub stopped_at : (h later : List Step) (step : Step) (w : State) (cause : Cause) → IsReached s bodies start h w → serial_cause_of s bodies step (between w) ≡ Some cause → IsReplayStopped s bodies start (later ++ step ∷ h) cause
+  stopped_at h later step w cause is e = record {
+    later = later;
+    front = step ∷ h;
+    whole = refl;
+    answers = (subst (IsAnswerOf s step) (sym is.meaning) (unasked step w cause e), is.answers);
+    stops = ap (λ o. first_some o (serial_cause_at s bodies step (serial s bodies start h))) (no-cause h (between w) is.meaning)
+        ∙ ap (serial_cause_at s bodies step) is.meaning ∙ e;
+  }
+
+  -- what stops the opening
+  pub stopped_open : (h : List Step) → can_open start ≡ false → IsReplayStopped s bodies start (h ++ []) NoTick
+  stopped_open h e = record { later = h; front = []; whole = refl; answers = tt; stops = ap (λ b. unless b NoTick) e }
+
+-- ---- the law
+
+pub replays_are_one : ReplaysAreOne
+replays_are_one s bodies w h (Leaves v) (Leaves v') one other = ap Leaves (replayed_replayed s bodies w h v v' one other)
+replays_are_one s bodies w h (Leaves v) (AnswersWrong m) one other = absurd (replayed_wrong s bodies w h v m one other)
+replays_are_one s bodies w h (Leaves v) (Stops cause) one other = absurd (replayed_stopped s bodies w h v cause one other)
+replays_are_one s bodies w h (AnswersWrong n) (Leaves v) one other = absurd (replayed_wrong s bodies w h v n other one)
+replays_are_one s bodies w h (AnswersWrong n) (AnswersWrong m) one other = ap AnswersWrong (wrong_wrong s bodies w h n m one other)
+replays_are_one s bodies w h (AnswersWrong n) (Stops cause) one other = absurd (wrong_stopped s bodies w h n cause one other)
+replays_are_one s bodies w h (Stops cause) (Leaves v) one other = absurd (replayed_stopped s bodies w h v cause other one)
+replays_are_one s bodies w h (Stops cause) (AnswersWrong n) one other = absurd (wrong_stopped s bodies w h n cause other one)
+replays_are_one s bodies w h (Stops cause) (Stops other_cause) one other = ap Stops (stopped_stopped s bodies w h cause other_cause one other)

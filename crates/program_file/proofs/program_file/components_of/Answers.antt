@@ -1,0 +1,23 @@
+use Rattle.std.proofs.Common.{◌≡◌, ◌∙◌, List, [], ◌∷◌, ◌++◌, append_assoc, ap, sym, subst, string_bytes, rules, arith}
+use Rattle.std.proofs.lemmas.Grind.{common_steps}
+use Rattle.toml.specs.View.{view, members_view}
+use Rattle.toml.proofs.Views.{Entry}
+use Rattle.kinds.specs.declared.value.Value.{Value}
+use Rattle.program_file.specs.Tables.{IsComponentIn, IsEntityIn}
+use Rattle.program_file.proofs.Entities.{entity-push}
+use Rattle.program_file.proofs.program_file.components_of.Goals as goal
+
+-- the next member is read
+pub loop-key-preserved : goal.loop-key-preserved
+loop-key-preserved c =
+    let (done, whole, said) = c.loop-key.invariant in
+    let e : Entry = (c.in-Some.key.now, c.in-Some.value.now) in
+    let component = c.in_ok-component_of.field-0 in
+    let more = c.push.new.self.items in
+    let iter : c.loop-key.key-iterator ≡ e ∷ c.next.new.self = grind (arith, common_steps) in
+    let pushed : more ≡ c.loop-key.components.items ++ component ∷ [] = search rules in
+    let there : IsComponentIn (string_bytes e.0) (view e.1) component = subst (λ name. IsComponentIn name (view e.1) component) c.as_str.ensures.value c.in_ok-component_of.ensures in (
+      done ++ e ∷ [],
+      whole ∙ ap (λ t. done ++ t) iter ∙ sym (append_assoc done (e ∷ []) c.next.new.self),
+      subst (λ (components : List Value). IsEntityIn (members_view (done ++ e ∷ [])) components) (sym pushed) (entity-push done e c.loop-key.components.items component said there),
+    )

@@ -1,0 +1,52 @@
+use Rattle.std.proofs.Common.{List, Ok, Err, Some, map, reverse, subst, subst₂, sym}
+use Rattle.model.specs.declared.steps.Step.{Step}
+use Rattle.model.specs.state.State.{State}
+use Rattle.body.specs.Steps.{store_of}
+use Rattle.body.proofs.Outs.{all-home, none-out}
+use Rattle.engine.specs.Meanings.{meanings}
+use Rattle.trace_checker.specs.declared.replay.ReplayFault.TheVariants as replay
+use Rattle.trace_checker.specs.Verdicts.{IsVerdict}
+use Rattle.trace_checker.specs.ReplayFaults.{IsReplay, IsReplayFault}
+use Rattle.trace_checker.proofs.ReplayFaults.{one_fault, one_replay}
+use Rattle.trace_checker.proofs.Agreeing.{replay_agrees}
+use Rattle.trace_checker.proofs.replay.replay.Goals as goal
+
+pub returns-in-Unfinished-clause-only : goal.returns-in-Unfinished-clause-only
+returns-in-Unfinished-clause-only g c = λ other h.
+    one_replay c.args.built.now (meanings g.B.Body.meaning c.args.built.now (map Some c.args.bodies.now)) c.args.state c.args.trace.now.steps.items (Err replay.Unfinished) other
+    (subst (IsVerdict c.args.built.now c.args.trace.now.steps.items) c.in-Unfinished.is c.in_ok-check.ensures.verdict) h
+
+pub returns-in-Bad-clause-only : goal.returns-in-Bad-clause-only
+returns-in-Bad-clause-only g c = λ other h.
+    one_replay c.args.built.now (meanings g.B.Body.meaning c.args.built.now (map Some c.args.bodies.now)) c.args.state c.args.trace.now.steps.items (Err (replay.Bad c.in-Bad.step c.in-Bad.fault)) other
+    (subst (IsVerdict c.args.built.now c.args.trace.now.steps.items) c.in-Bad.is c.in_ok-check.ensures.verdict) h
+
+pub take_steps-requires-clause-out : goal.take_steps-requires-clause-out
+take_steps-requires-clause-out g c κs within = none-out (store_of c.into_open-state.result) c.into_open-state.ensures.home
+
+pub returns-in_err-take_steps-clause-only : goal.returns-in_err-take_steps-clause-only
+returns-in_err-take_steps-clause-only g c =
+    let s = c.args.built.now in
+    let ms = meanings g.B.Body.meaning s (map Some c.args.bodies.now) in
+    let fault = c.in_err-take_steps.field-0.0 in
+    one_fault s ms c.args.state c.args.trace.now.steps.items c.from_residual-in_err-take_steps.result fault c.from_residual-in_err-take_steps.ensures.1
+    (subst₂ (λ (start : State) (steps : List Step). IsReplayFault s ms start steps fault) c.into_open-state.ensures.state c.deref.ensures.value c.in_err-take_steps.ensures.stopped)
+
+pub into_state-requires : goal.into_state-requires
+into_state-requires g c = all-home (store_of c.take_steps.new.state) c.law-2.ensures.laid c.in_ok-take_steps.ensures.out
+
+pub returns-clause-only : goal.returns-clause-only
+returns-clause-only g c = λ other h.
+    let s = c.args.built.now in
+    let ms = meanings g.B.Body.meaning s (map Some c.args.bodies.now) in
+    one_replay s ms c.args.state c.args.trace.now.steps.items (Ok c.into_state.result) other
+    (subst₂ (λ (start : State) (steps : List Step). IsReplay s ms start steps (Ok c.into_state.result)) c.into_open-state.ensures.state c.deref.ensures.value
+    (subst (λ (w : State). IsReplay s ms c.into_open-state.result.state c.deref.result.now (Ok w)) (sym c.into_state.ensures) c.in_ok-take_steps.ensures.replayed)) h
+
+pub returns-clause-agreement : goal.returns-clause-agreement
+returns-clause-agreement g c =
+    let s = c.args.built.now in
+    let ms = meanings g.B.Body.meaning s (map Some c.args.bodies.now) in
+    replay_agrees g.B.Body.meaning s c.args.bodies.now c.args.state (reverse c.args.trace.now.steps.items) c.into_state.result c.law.ensures c.requires.memories c.shape.ensures c.fitting_keep.ensures
+    (subst₂ (λ (start : State) (steps : List Step). IsReplay s ms start steps (Ok c.into_state.result)) c.into_open-state.ensures.state c.deref.ensures.value
+    (subst (λ (w : State). IsReplay s ms c.into_open-state.result.state c.deref.result.now (Ok w)) (sym c.into_state.ensures) c.in_ok-take_steps.ensures.replayed))
