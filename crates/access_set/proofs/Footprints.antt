@@ -207,13 +207,18 @@ meet_is q r f g is other = same_tests (footprints_meet f g) (queries_meet q r)
 
 -- ---- queries by their footprints
 
--- one query more
+-- queries behind queries
+pub footprints_both : (queries others : List (List Term)) (footprints more : List Footprint) → AreFootprints queries footprints → AreFootprints others more →
+    AreFootprints (queries ++ others) (footprints ++ more)
+footprints_both [] others [] more are those = those
+footprints_both [] others (f ∷ footprints) more are those = absurd are
+footprints_both (q ∷ queries) others [] more are those = absurd are
+footprints_both (q ∷ queries) others (f ∷ footprints) more are those = (are.0, footprints_both queries others footprints more are.1 those)
+
+-- and so of one query more
 pub footprints_more : (queries : List (List Term)) (footprints : List Footprint) (q : List Term) (f : Footprint) → AreFootprints queries footprints → IsFootprint q f →
     AreFootprints (queries ++ q ∷ []) (footprints ++ f ∷ [])
-footprints_more [] [] q f are is = (is, tt)
-footprints_more [] (g ∷ footprints) q f are is = absurd are
-footprints_more (r ∷ queries) [] q f are is = absurd are
-footprints_more (r ∷ queries) (g ∷ footprints) q f are is = (are.0, footprints_more queries footprints q f are.1 is)
+footprints_more queries footprints q f are is = footprints_both queries (q ∷ []) footprints (f ∷ []) are (is, tt)
 
 -- whether a query conflicts with some others
 some_meet : (q : List Term) (f : Footprint) (others : List (List Term)) (footprints : List Footprint) → IsFootprint q f → AreFootprints others footprints →

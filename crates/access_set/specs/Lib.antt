@@ -1,3 +1,4 @@
 pub mod Meets
 pub mod Datum
 pub mod Footprints
+pub mod Union

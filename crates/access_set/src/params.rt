@@ -1,11 +1,12 @@
 // The parameters of a system.
 
-ghost use Rattle.std.specs.Prelude.{◌≡◌, ◌==◌, [], ◌∷◌, ◌++◌, map, OnOk, OnErr, None};
+ghost use Rattle.std.specs.Prelude.{◌≡◌, ◌==◌, [], ◌∷◌, ◌++◌, map, IfOk, OnOk, OnErr, None};
 ghost use Rattle.kinds.specs.Res.{res_number, event_number};
 ghost use Rattle.std.specs.List.{list_any};
 ghost use Rattle.model.specs.access.Access.{no_params, names_resource, names_event};
 ghost use Rattle.model.specs.Lists.{has};
 ghost use Rattle.access_set.specs.Footprints.{AreFootprints};
+ghost use Rattle.access_set.specs.Union.{union};
 
 use crate::footprint::Footprint;
 use kinds::res::{Event, Res};
@@ -54,6 +55,29 @@ impl Params {
             writes: Vec::new(alloc),
             spawns: None,
         }
+    }
+
+    /// What a query alone touches. It wants memory for a list of one query.
+    pub fn of_query(alloc: Global, query: Query) -> Result<Self, AllocError>
+        ensures { IfOk result (λ access. access ≡ record no_params { queries = query ∷ [] }) }
+    {
+        let mut access = Params::new(alloc);
+        access.add_query(query)?;
+        Ok(access)
+    }
+
+    /// What both touch: the queries, resources and event kinds of the one, then those of the other. The ids are those of the one. Where memory
+    /// is wanting both are dropped.
+    pub fn union(mut self, mut other: Params) -> Result<Self, AllocError>
+        ensures { IfOk result (λ both. both ≡ union self other) }
+    {
+        self.footprints.append(&mut other.footprints)?;
+        self.queries.append(&mut other.queries)?;
+        self.res.append(&mut other.res)?;
+        self.res_mut.append(&mut other.res_mut)?;
+        self.reads.append(&mut other.reads)?;
+        self.writes.append(&mut other.writes)?;
+        Ok(self)
     }
 
     /// Adds a query after the others. Where memory is wanting the parameters stay as they were.

@@ -4,14 +4,25 @@ use access_set::conflict::conflicts;
 use access_set::params::Params;
 use access_set::self_conflict::conflicts_within;
 use kinds::kind::Kind;
+use kinds::res::{Event, Res};
 use query::{Query, Term};
 use std::alloc::{AllocError, Global};
 use std::test::Fail;
 
 // The access of one query.
 fn access(alloc: Global, terms: &[Term]) -> Result<Params, AllocError> {
+    Params::of_query(alloc, Query::of_terms(alloc, terms)?)
+}
+
+// The resources that one system adds up, and where it leaves the sum.
+fn sums(alloc: Global, read: &[Res], written: Res) -> Result<Params, AllocError> {
     let mut params = Params::new(alloc);
-    params.add_query(Query::of_terms(alloc, terms)?)?;
+    for x in read {
+        params.add_res(*x)?;
+    }
+    params.add_res_mut(written)?;
+    params.add_reads(Event::Hit)?;
+    params.add_writes(Event::Done)?;
     Ok(params)
 }
 
@@ -76,5 +87,44 @@ fn parameters_conflict_among_themselves(rt: HostRuntime) -> Result<(), Fail> {
     assert!(rt; !conflicts_within(&params));
     params.add_query(Query::of_terms(alloc, &[Term::Read(Kind::Health)])?)?;
     assert!(rt; conflicts_within(&params));
+    Ok(())
+}
+
+#[test]
+fn two_systems_touch_what_each_does(rt: HostRuntime) -> Result<(), Fail> {
+    let alloc = rt.alloc();
+    let aging = access(alloc, &[Term::Mut(Kind::Timer)])?;
+    let summing = sums(alloc, &[Res::Round, Res::Seed], Res::Total)?;
+    let both = access(alloc, &[Term::Mut(Kind::Timer)])?.union(sums(
+        alloc,
+        &[Res::Round, Res::Seed],
+        Res::Total,
+    )?)?;
+    assert!(rt; !conflicts(&aging, &summing));
+    assert!(rt; conflicts(&both, &aging));
+    assert!(rt; conflicts(&both, &summing));
+    assert!(rt; both.queries().len() == 1 && both.res() == [Res::Round, Res::Seed].as_slice());
+    assert!(rt; both.res_mut() == [Res::Total].as_slice());
+    assert!(rt;
+        both.reads() == [Event::Hit].as_slice() && both.writes() == [Event::Done].as_slice()
+    );
+    let reading = access(alloc, &[Term::Read(Kind::Timer)])?;
+    assert!(rt; conflicts(&both, &reading));
+    let elsewhere = access(alloc, &[Term::Mut(Kind::Score)])?;
+    assert!(rt; !conflicts(&both, &elsewhere));
+    Ok(())
+}
+
+#[test]
+fn a_large_union(rt: HostRuntime) -> Result<(), Fail> {
+    let alloc = rt.alloc();
+    let mut many = Params::new(alloc);
+    for _ in 0..20_000 {
+        many = many.union(access(alloc, &[Term::Read(Kind::Score)])?)?;
+    }
+    assert!(rt; many.queries().len() == 20_000);
+    assert!(rt; !conflicts_within(&many));
+    let all = many.union(access(alloc, &[Term::Mut(Kind::Score)])?)?;
+    assert!(rt; conflicts_within(&all));
     Ok(())
 }

@@ -7,6 +7,7 @@ use Rattle.model.specs.declared.steps.StepFault.{StepFault}
 use Rattle.model.specs.steps.Schedule.{Schedule}
 use Rattle.model.specs.steps.Lawful.{IsLawful, IsComplete, May}
 use Rattle.model.specs.steps.Faults.{IsFirstFault}
+use Rattle.model.proofs.order.Histories as histories
 use Rattle.model.proofs.faults.ExactFaults.{faults_are_exact}
 use Rattle.executor_core.specs.Stands.{Stand, Stands}
 use Rattle.trace_checker.specs.declared.check.Verdict.{Verdict}
@@ -14,11 +15,6 @@ use Rattle.trace_checker.specs.declared.check.Verdict.TheVariants.{Complete, Unf
 use Rattle.executor_core.specs.declared.trace.Trace.{Trace}
 use Rattle.trace_checker.specs.Grammar.{steps_of}
 use Rattle.trace_checker.specs.Verdicts.{IsRefusedAt, IsVerdict, AreVerdicts}
-
--- what comes before a lawful list's later steps is lawful
-pub lawful_before : (s : Schedule) (later h : List Step) → IsLawful s (later ++ h) → IsLawful s h
-lawful_before s [] h lawful = lawful
-lawful_before s (step ∷ later) h lawful = lawful_before s later h lawful.1
 
 -- the history of steps of which one is known
 pub history_at : (front : List Step) (step : Step) (rest : List Step) → reverse (front ++ step ∷ rest) ≡ reverse rest ++ step ∷ reverse front
@@ -29,7 +25,7 @@ history_at front step rest =
 pub may_at : (s : Schedule) (steps front : List Step) (step : Step) (rest : List Step) → steps ≡ front ++ step ∷ rest → IsLawful s (reverse steps) → May s (reverse front) step
 may_at s steps front step rest e lawful =
     let k = subst (λ h. IsLawful s h) (ap reverse e ∙ history_at front step rest) lawful in
-    (lawful_before s (reverse rest) (step ∷ reverse front) k).0
+    histories.may_at s (reverse rest) (reverse front) step k
 
 -- steps that are lawful have none that is refused
 lawful_refutes : (s : Schedule) (steps : List Step) (n : ℕ) (fault : StepFault) → IsRefusedAt s steps n fault → IsLawful s (reverse steps) → ⊥

@@ -13,6 +13,7 @@ use Rattle.model.specs.runs.Meaning.{Interleaved, interleaved, interleaved_step,
 use Rattle.model.specs.runs.Causes.{Cause, unless, serial_cause, serial_cause_at, serial_cause_of}
 use Rattle.model.specs.runs.Causes.Cause.{NoTick}
 use Rattle.model.specs.runs.Runs.{IsSoundRun}
+use Rattle.model.proofs.order.Histories.{lawful_before}
 use Rattle.model.proofs.faults.Causes.{then-parts, lacks-serial}
 use Rattle.model.proofs.serial.Interleaving.{interleaved_serial, same_shown}
 use Rattle.model.proofs.serial.Soundness.{runs_are_sound}
@@ -27,10 +28,6 @@ pub ends : {A : Type 0} (later other : List A) (front back : List A) → later +
 ends [] other front back e = inl (other, e)
 ends (x ∷ later) [] front back e = inr (x ∷ later, sym e)
 ends (x ∷ later) (y ∷ other) front back e = ends later other front back (ap (drop 1) e)
-
-lawful-before : (s : Schedule) (later front : List Step) → IsLawful s (later ++ front) → IsLawful s front
-lawful-before s [] front lawful = lawful
-lawful-before s (step ∷ later) front lawful = lawful-before s later front lawful.1
 
 module _ (s : Schedule) (bodies : List BodyMeaning) (start : State) where
   answers-before : (later front : List Step) → HasSerialAnswers s bodies start (later ++ front) → HasSerialAnswers s bodies start front
@@ -125,7 +122,7 @@ module _ (s : Schedule) (bodies : List BodyMeaning) (start : State) where
     replayed_wrong w n is wrong =
         let here = Cond wrong.condition wrong.answer ∷ wrong.front in
         let true_ones = true-before wrong.later here (subst (HasTrueAnswers s bodies start) wrong.whole is.run.answers) in
-        let lawful = lawful-before s wrong.later here (subst (IsLawful s) wrong.whole is.run.lawful) in
+        let lawful = lawful_before s wrong.later here (subst (IsLawful s) wrong.whole is.run.lawful) in
         let there = woven-before wrong.later here is.sound.woven (subst (λ x. interleaved s bodies start x ≡ Some is.sound.woven) wrong.whole is.sound.woven_meaning) in
         let before = then-parts (interleaved s bodies start wrong.front) (interleaved_step s bodies (Cond wrong.condition wrong.answer)) there.0 there.1 in
         wrong.wrong (subst (IsTrueAnswer s (Cond wrong.condition wrong.answer)) before.1 true_ones.0 ∙ same-answer wrong.front wrong.condition wrong.answer before.0 wrong.run lawful before.1 wrong.meaning)

@@ -1,0 +1,14 @@
+-- What commands say to the definitions.
+use Rattle.model.specs.shown.Outcome as outcome
+use Rattle.model.specs.shown.Outcome.Command.{Spawn, Insert, Remove, Despawn}
+use Rattle.kinds.specs.Kind.{kind_number}
+use Rattle.kinds.specs.Value.{value_number, value_words}
+use Rattle.command_queue.specs.declared.command.Command.{Command}
+use Rattle.command_queue.specs.declared.command.Command.TheVariants as the
+
+-- a command, by the number of its kind and the words of its component
+abbrev pub command_of : Command → outcome.Command
+command_of (the.Spawn e) = Spawn e
+command_of (the.Insert e value) = Insert e (value_number value) (value_words value)
+command_of (the.Remove e kind) = Remove e (kind_number kind)
+command_of (the.Despawn e) = Despawn e

@@ -1,0 +1,100 @@
+// The commands of one system.
+
+ghost use Rattle.std.specs.Prelude.{◌≡◌, ◌++◌, ◌∷◌, [], OnOk, OnErr, map};
+ghost use Rattle.model.specs.shown.Outcome.Command.{Spawn, Insert, Remove, Despawn};
+ghost use Rattle.kinds.specs.Kind.{kind_number};
+ghost use Rattle.command_queue.specs.Commands.{command_of};
+
+use crate::command::Command;
+use entity_table::Entity;
+use kinds::component::Component;
+use kinds::kind::Kind;
+use std::alloc::{AllocError, Global};
+use std::marker::Model;
+
+/// The commands that one system issued, in order of issue. Contracts see them by the numbers of kinds and the words of components.
+#[derive(Drop, Debug)]
+pub struct CommandBuffer {
+    commands: Vec<Command>,
+}
+
+impl Model for CommandBuffer {
+    ghost use Rattle.std.specs.Prelude.{List, map};
+    ghost use Rattle.model.specs.shown.Outcome as outcome;
+    ghost use Rattle.command_queue.specs.Commands.{command_of};
+
+    ghost Value = { List outcome.Command };
+
+    ghost view = { λ b. map command_of b.commands.items };
+}
+
+impl CommandBuffer {
+    /// No command was
+    pub fn new(alloc: Global) -> Self
+        ensures { result ≡ [] }
+    {
+        CommandBuffer {
+            commands: Vec::new(alloc),
+        }
+    }
+
+    /// The entity of a granted id is to live. Where memory is wanting nothing is
+    pub fn spawn(&mut self, e: Entity) -> Result<(), AllocError>
+        ensures ok { OnOk result (self.new ≡ self.old ++ Spawn e ∷ []) }
+        ensures err { OnErr result (self.new ≡ self.old) }
+    {
+        self.issue(Command::Spawn(e))
+    }
+
+    /// The entity is to have a component. Where memory is wanting nothing is
+    pub fn insert<C: Component>(&mut self, e: Entity, component: C) -> Result<(), AllocError>
+        ensures ok { OnOk result (self.new ≡ self.old ++ Insert e C.NUMBER (C.words component) ∷ []) }
+        ensures err { OnErr result (self.new ≡ self.old) }
+    {
+        self.issue(Command::Insert(e, component.into_value()))
+    }
+
+    /// The entity is to have no component of a kind. Where memory is wanting nothing is
+    pub fn remove(&mut self, e: Entity, kind: Kind) -> Result<(), AllocError>
+        ensures ok { OnOk result (self.new ≡ self.old ++ Remove e (kind_number kind) ∷ []) }
+        ensures err { OnErr result (self.new ≡ self.old) }
+    {
+        self.issue(Command::Remove(e, kind))
+    }
+
+    /// The entity is to live no more. Where memory is wanting nothing is
+    pub fn despawn(&mut self, e: Entity) -> Result<(), AllocError>
+        ensures ok { OnOk result (self.new ≡ self.old ++ Despawn e ∷ []) }
+        ensures err { OnErr result (self.new ≡ self.old) }
+    {
+        self.issue(Command::Despawn(e))
+    }
+
+    // Issues a command after the others.
+    fn issue(&mut self, command: Command) -> Result<(), AllocError>
+        ensures ok { OnOk result (self.new ≡ self.old ++ command_of command ∷ []) }
+        ensures err { OnErr result (self.new ≡ self.old) }
+    {
+        self.commands.push(command)?;
+        Ok(())
+    }
+
+    /// Whether no command was
+    pub fn is_empty(&self) -> bool {
+        self.commands.is_empty()
+    }
+
+    /// Forgets all commands. The room stays for others.
+    pub fn clear(&mut self)
+        ensures { self.new ≡ [] }
+    {
+        self.commands.clear();
+    }
+
+    /// The commands, in order of issue.
+    pub fn commands(&self) -> &[Command]
+        ensures { map command_of result.now ≡ self.now }
+    {
+        self.commands.as_slice()
+    }
+}
