@@ -1,7 +1,8 @@
 -- Commands count on from what was passed over before.
 use Rattle.std.proofs.Common.{◌≡◌, ℕ, suc, ◌+◌, ◌≤◌, Bool, true, false, cond, List, [], ◌∷◌, min, refl, sym, ap, ap₂, ◌∙◌, arith}
 use Rattle.model.specs.Lists.{update_at}
-use Rattle.model.specs.state.State.{Entity, Slot, most_passed_over}
+use Rattle.model.specs.declared.entities.Entity.{Entity}
+use Rattle.model.specs.state.State.{Slot, most_passed_over}
 use Rattle.model.specs.state.Commands.{CommandTarget, is_alive, if_alive, apply_command, apply_buffer}
 use Rattle.model.specs.shown.Outcome.{Command}
 use Rattle.model.specs.shown.Outcome.Command.{Spawn, Insert, Remove, Despawn}

@@ -1,6 +1,6 @@
 // A state in a run: a tick, a system shown what it may see, an outcome laid over the world, a condition asked.
 
-ghost use Rattle.std.specs.Prelude.{◌≡◌, ◌<◌, ◌≤◌, ◌↔◌, ◌++◌, List, [], false, map, length, get_or, All, IfOk, OnOk, OnErr, IsErr, IsErrOf};
+ghost use Rattle.std.specs.Prelude.{◌≡◌, ◌+◌, ◌<◌, ◌≤◌, ◌↔◌, ◌++◌, List, [], false, map, min, length, get_or, All, IfOk, OnOk, OnErr, IsErr, IsErrOf};
 ghost use Rattle.std.specs.List.{AllByRecursion};
 ghost use Rattle.kinds.specs.Res.{event_number};
 ghost use Rattle.model.specs.state.State.{most_indices, most_passed_over, no_memory, register_count};
@@ -198,7 +198,7 @@ impl OpenState {
         ensures home { AreAllHome self.new.layout }
     {
         let passed = apply(alloc, &mut self.world, buffers, order, tick)?;
-        self.passed_over = MOST_PASSED_OVER.min(self.passed_over.saturating_add(passed));
+        self.passed_over = counted_on(self.passed_over, passed);
         Ok(())
     }
 
@@ -338,4 +338,16 @@ fn keep_registers(memories: &mut [Memory], system: usize, registers: [i64; 8])
 {
     let memory = &mut memories[system];
     memory.set_registers(registers);
+}
+
+// So many commands passed over and so many more, cut at the greatest count.
+fn counted_on(before: u64, more: u64) -> u64
+    ensures { result ≡ min (before + more) most_passed_over }
+{
+    let sum = before.saturating_add(more);
+    if sum < MOST_PASSED_OVER {
+        sum
+    } else {
+        MOST_PASSED_OVER
+    }
 }

@@ -96,6 +96,7 @@ impl View {
         let values = ViewValues::open(params, memory, world);
         let unread = EventLists::unread(alloc, params.reads(), memory.cursors(), events)?;
         let sent = EventLists::empty(alloc, params.writes())?;
+        let issued = ViewCommands::open(params, granted, commands);
         let queries = open_queries(alloc, params.queries(), world, memory.last_run(), tick)?;
         Ok(View {
             tick,
@@ -103,7 +104,7 @@ impl View {
             values,
             unread,
             sent,
-            issued: ViewCommands::open(params, granted, commands),
+            issued,
         })
     }
 

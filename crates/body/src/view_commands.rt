@@ -1,6 +1,6 @@
 // The ids that a system is granted at its start, and the commands that it issues.
 
-ghost use Rattle.std.specs.Prelude.{◌≡◌, ◌<◌, ◌∷◌, ◌++◌, true, [], length, is_some, OnOk, OnErr};
+ghost use Rattle.std.specs.Prelude.{◌≡◌, ◌<◌, true, false, [], length, is_some, OnOk, OnErr};
 ghost use Rattle.kinds.specs.Kind.{kind_number};
 ghost use Rattle.model.specs.shown.Outcome.Command.{Spawn, Insert, Remove, Despawn};
 ghost use Rattle.body.specs.Issued.{IssuedSeen, granted_in, with_issued};
