@@ -1,6 +1,6 @@
 // The commands of one system.
 
-ghost use Rattle.std.specs.Prelude.{◌≡◌, ◌++◌, ◌∷◌, [], OnOk, OnErr, map};
+ghost use Rattle.std.specs.Prelude.{◌≡◌, ◌==◌, ◌++◌, ◌∷◌, [], OnOk, OnErr, length, map};
 ghost use Rattle.model.specs.shown.Outcome.Command.{Spawn, Insert, Remove, Despawn};
 ghost use Rattle.kinds.specs.Kind.{kind_number};
 ghost use Rattle.command_queue.specs.Commands.{command_of};
@@ -29,7 +29,7 @@ impl Model for CommandBuffer {
 }
 
 impl CommandBuffer {
-    /// No command was
+    /// No command was issued.
     pub fn new(alloc: Global) -> Self
         ensures { result ≡ [] }
     {
@@ -38,7 +38,7 @@ impl CommandBuffer {
         }
     }
 
-    /// The entity of a granted id is to live. Where memory is wanting nothing is
+    /// The entity of a granted id is to live. Where memory is wanting nothing is issued.
     pub fn spawn(&mut self, e: Entity) -> Result<(), AllocError>
         ensures ok { OnOk result (self.new ≡ self.old ++ Spawn e ∷ []) }
         ensures err { OnErr result (self.new ≡ self.old) }
@@ -46,7 +46,7 @@ impl CommandBuffer {
         self.issue(Command::Spawn(e))
     }
 
-    /// The entity is to have a component. Where memory is wanting nothing is
+    /// The entity is to have a component. Where memory is wanting nothing is issued.
     pub fn insert<C: Component>(&mut self, e: Entity, component: C) -> Result<(), AllocError>
         ensures ok { OnOk result (self.new ≡ self.old ++ Insert e C.NUMBER (C.words component) ∷ []) }
         ensures err { OnErr result (self.new ≡ self.old) }
@@ -54,7 +54,7 @@ impl CommandBuffer {
         self.issue(Command::Insert(e, component.into_value()))
     }
 
-    /// The entity is to have no component of a kind. Where memory is wanting nothing is
+    /// The entity is to have no component of a kind. Where memory is wanting nothing is issued.
     pub fn remove(&mut self, e: Entity, kind: Kind) -> Result<(), AllocError>
         ensures ok { OnOk result (self.new ≡ self.old ++ Remove e (kind_number kind) ∷ []) }
         ensures err { OnErr result (self.new ≡ self.old) }
@@ -62,7 +62,7 @@ impl CommandBuffer {
         self.issue(Command::Remove(e, kind))
     }
 
-    /// The entity is to live no more. Where memory is wanting nothing is
+    /// The entity is to live no more. Where memory is wanting nothing is issued.
     pub fn despawn(&mut self, e: Entity) -> Result<(), AllocError>
         ensures ok { OnOk result (self.new ≡ self.old ++ Despawn e ∷ []) }
         ensures err { OnErr result (self.new ≡ self.old) }
@@ -79,8 +79,10 @@ impl CommandBuffer {
         Ok(())
     }
 
-    /// Whether no command was
-    pub fn is_empty(&self) -> bool {
+    /// Whether no command was issued.
+    pub fn is_empty(&self) -> bool
+        ensures { result ≡ (length self.now == 0) }
+    {
         self.commands.is_empty()
     }
 
