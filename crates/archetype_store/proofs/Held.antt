@@ -1,5 +1,5 @@
 -- What a change of one row leaves in tables.
-use Rattle.std.proofs.Common.{◌≡◌, ◌≢◌, ℕ, zero, suc, ◌<◌, Bool, true, false, cond, ◌==◌, ◌&&◌, ◌⊎◌, inl, inr, List, [], ◌∷◌, ◌++◌, length, set, map, Option, Some, None, option_map, is_some, option_and_then, ℤ, Result, Ok, Err, IfOk, refl, sym, ap, ap₂, ◌∙◌, arith}
+use Rattle.std.proofs.Common.{◌≡◌, ◌≢◌, ℕ, zero, suc, ◌<◌, ◌≤◌, Bool, true, false, cond, ◌==◌, ◌&&◌, ◌⊎◌, inl, inr, List, [], ◌∷◌, ◌++◌, length, set, map, Option, Some, None, option_map, is_some, option_and_then, ℤ, Result, Ok, Err, IfOk, refl, sym, ap, ap₂, ◌∙◌, arith}
 use Rattle.std.proofs.lemmas.Bool.Decides.{nat_tests}
 use Rattle.std.proofs.lemmas.Bool.{cases_eq, eq-eqb, ne_eqb}
 use Rattle.std.proofs.lemmas.List.{get_or-set_same, get_or-set_other}
@@ -16,7 +16,7 @@ use Rattle.column_store.specs.Cells.{stamped_number, changed_cell}
 use Rattle.column_store.specs.Kinds.{AreBelow}
 use Rattle.column_store.specs.Order.{is_before, is_same, AreRising}
 use Rattle.column_store.specs.Components.{components_of}
-use Rattle.column_store.specs.Table.{TableRow, TableValue, is_owned, row_of, put_row, new_row, without_row, update_row, empty_table, with_cell_at, cell_of_kind, cell_in, write_cell}
+use Rattle.column_store.specs.Table.{TableRow, TableValue, is_owned, row_of, put_row, new_row, without_row, update_row, renewed_row, empty_table, with_cell_at, cell_of_kind, cell_in, write_cell}
 use Rattle.column_store.proofs.Made.{same_entity}
 use Rattle.column_store.proofs.Rising.{before_apart, after_apart}
 use Rattle.column_store.proofs.Rows.{row_of-no_entity}
@@ -174,12 +174,17 @@ layout_more : (tables : List TableValue) (kinds : List ℕ) → layout_of (table
 layout_more [] kinds = refl
 layout_more (t ∷ ts) kinds = ap₂ (cond (is_there t.rows)) (ap (λ us. archetype_of t ∷ us) (layout_more ts kinds)) (layout_more ts kinds)
 
+longer_more : (tables : List TableValue) (kinds : List ℕ) → length tables ≤ length (tables ++ empty_table kinds ∷ [])
+longer_more [] kinds = omega arith
+longer_more (t ∷ ts) kinds = let l = longer_more ts kinds in omega arith
+
 -- a table of other kinds is made
 pub grown_more : (tables : List TableValue) (kinds : List ℕ) → IsShape kinds (empty_table kinds).standings → AllByRecursion (λ t. t.kinds ≢ kinds) tables → AreShaped tables → AreUnlike tables →
     IsGrown tables (tables ++ empty_table kinds ∷ [])
 grown_more tables kinds s new shaped unlike = record {
   held = held_more tables kinds;
   kinds = kinds_more tables kinds;
+  longer = longer_more tables kinds;
   shaped = shaped_more tables kinds s shaped;
   unlike = unlike_more tables kinds new unlike;
   owned = owned_more tables kinds;
@@ -206,6 +211,20 @@ module _ (tables : List TableValue) (table : ℕ) (there new : TableValue) (e : 
       (ap shape_of made ∙ ap shape_of is)
       (λ x other. ap (λ u. held_in u x) made ∙ ap (option_map (components_of there.kinds)) (without_other e x there.rows other) ∙ ap (λ u. held_in u x) is)
       (ap (λ u. held_in u e) made ∙ ap (option_map (components_of there.kinds)) (without_same e there.rows rising))
+
+  -- all of it is replaced
+  pub held_renewed : (ss : List StampedValue) → table < length tables → there ≡ table_at tables table → there.kinds ≡ map stamped_number ss → is_some (held_in there e) ≡ true →
+      new ≡ record { kinds = there.kinds; standings = there.standings; rows = update_row e (renewed_row ss) there.rows } →
+      IsHeldNow tables (set tables table new) table e (Some (map component_of ss))
+  held_renewed ss within is kinds some made = held_set tables table new e (Some (map component_of ss)) within
+      (ap shape_of made ∙ ap shape_of is)
+      (λ x other. ap (λ u. held_in u x) made ∙ ap (option_map (components_of there.kinds)) (update_other e x (renewed_row ss) there.rows (λ r. refl) other) ∙ ap (λ u. held_in u x) is)
+      (ap (λ u. held_in u e) made ∙ ap (option_map (components_of there.kinds)) (update_same e (renewed_row ss) there.rows (λ r. refl)) ∙ go (row_of e there.rows) some)
+    where
+      go : (o : Option TableRow) → is_some (option_map (components_of there.kinds) o) ≡ true →
+          option_map (components_of there.kinds) (option_map (renewed_row ss) o) ≡ Some (map component_of ss)
+      go None h = absurd (cc)
+      go (Some r) h = ap (λ row. Some row) (ap (λ ks. components_of ks (renewed_row ss r)) kinds ∙ components_new r.entity ss)
 
   -- one of its cells is written
   pub held_written : (kind : ℕ) (words : List ℤ) (tick : ℕ) → table < length tables → there ≡ table_at tables table → AreBelow there.kinds →

@@ -112,13 +112,13 @@ unlike_from (t ∷ ts) h = (each_from t.kinds ts h.0, unlike_from ts h.1)
 pub shaped_kept : (ts us : List TableValue) → map shape_of us ≡ map shape_of ts → AreShaped ts → AreShaped us
 shaped_kept ts us e h = shaped_from us (subst AreShaped (sym e) (shaped_of ts h))
 
-unlike_kept : (ts us : List TableValue) → map shape_of us ≡ map shape_of ts → AreUnlike ts → AreUnlike us
+pub unlike_kept : (ts us : List TableValue) → map shape_of us ≡ map shape_of ts → AreUnlike ts → AreUnlike us
 unlike_kept ts us e h = unlike_from us (subst AreUnlike (sym e) (unlike_of ts h))
 
 kinds_of_shapes : (ts : List TableValue) (t : ℕ) → kinds_at (map shape_of ts) t ≡ kinds_at ts t
 kinds_of_shapes ts t = ap (λ (u : TableValue). u.kinds) (get_or-map shape_of ts t (empty_table []))
 
-kinds_kept : (ts us : List TableValue) → map shape_of us ≡ map shape_of ts → (t : ℕ) → kinds_at us t ≡ kinds_at ts t
+pub kinds_kept : (ts us : List TableValue) → map shape_of us ≡ map shape_of ts → (t : ℕ) → kinds_at us t ≡ kinds_at ts t
 kinds_kept ts us e t = sym (kinds_of_shapes us t) ∙ ap (λ vs. kinds_at vs t) e ∙ kinds_of_shapes ts t
 
 -- ---- a row that was moved
@@ -137,15 +137,15 @@ module _ (T T' : List TableValue) (P P' : List (Option EntityLocation)) (e : Ent
   place_other : IsMoved T T' P P' e to row → (i : ℕ) → (i ≡ e.index → ⊥) → place_of P' i ≡ place_of P i
   place_other m i apart = m.place i ∙ with_at_apart e.index i (placed_where e to) (place_of P) apart
 
-  agree_here : (o : Option ℕ) (t : ℕ) → is_some (held_where o row t) ≡ is_place (placed_where e o) e.generation t
+  pub agree_here : (o : Option ℕ) (t : ℕ) → is_some (held_where o row t) ≡ is_place (placed_where e o) e.generation t
   agree_here None t = refl
   agree_here (Some u) t = some_cond (t == u) row ∙ placed_test t u e.generation
 
-  not_placed : (o : Option EntityLocation) (x : Entity) (t : ℕ) → IsHolder e.generation (holder_in o) → x.index ≡ e.index → is_same e x ≡ false → is_place o x.generation t ≡ false
+  pub not_placed : (o : Option EntityLocation) (x : Entity) (t : ℕ) → IsHolder e.generation (holder_in o) → x.index ≡ e.index → is_same e x ≡ false → is_place o x.generation t ≡ false
   not_placed None x t fits same apart = refl
   not_placed (Some p) x t fits same apart = ap (λ b. b && (p.table == t)) (generations_apart x.index p.generation x.generation e same apart fits)
 
-  fits_where : (o : Option ℕ) → IsHolder e.generation (holder_in (placed_where e o))
+  pub fits_where : (o : Option ℕ) → IsHolder e.generation (holder_in (placed_where e o))
   fits_where None = tt
   fits_where (Some u) = refl
 
@@ -165,7 +165,7 @@ module _ (T T' : List TableValue) (P P' : List (Option EntityLocation)) (e : Ent
           (ap is_some (m.here t) ∙ agree_here to t ∙ sym (ap (λ o. is_place o e.generation t) (place_here m)))
       go false apart = other apart (cases_eq x.index e.index)
 
-  kinds_where : (o : Option ℕ) → ((t : ℕ) → o ≡ Some t → map (λ (c : Component). c.kind) row ≡ kinds_at T t) → (t : ℕ) → IsOfKinds (kinds_at T t) (held_where o row t)
+  pub kinds_where : (o : Option ℕ) → ((t : ℕ) → o ≡ Some t → map (λ (c : Component). c.kind) row ≡ kinds_at T t) → (t : ℕ) → IsOfKinds (kinds_at T t) (held_where o row t)
   kinds_where None h t = tt
   kinds_where (Some u) h t = by (t == u) refl
     where

@@ -4,6 +4,10 @@ pub mod Held
 pub mod KindSets
 pub mod Laid
 pub mod Moves
+pub mod RowMoves
+pub mod SameRows
+pub mod Settled
+pub mod Changed
 pub mod Steps
 pub mod SlotRows
 pub mod BareSlots

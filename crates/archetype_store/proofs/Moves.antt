@@ -15,7 +15,7 @@ use Rattle.archetype_store.proofs.Laid.{with_at_same, with_at_apart, row_seen, h
 -- ---- places
 
 -- a place that is written
-placed_set : (P : List (Option EntityLocation)) (i : ℕ) (o : Option EntityLocation) → i < length P → (j : ℕ) → place_of (set P i o) j ≡ with_at i o (place_of P) j
+pub placed_set : (P : List (Option EntityLocation)) (i : ℕ) (o : Option EntityLocation) → i < length P → (j : ℕ) → place_of (set P i o) j ≡ with_at i o (place_of P) j
 placed_set P i o l j = go (cases_eq j i)
   where
     go : (j ≡ i) ⊎ (j ≡ i → ⊥) → place_of (set P i o) j ≡ with_at i o (place_of P) j

@@ -2,23 +2,25 @@
 use Rattle.std.proofs.Common.{◌≡◌, ℕ, ◌≤◌, Bool, true, false, cond, ◌==◌, ◌&&◌, ◌⊎◌, inl, inr, Result, Ok, Err, ℤ, pos, List, [], ◌∷◌, length, get_or, Some, None, refl, ap, sym, ◌∙◌, arith, eqb-true}
 use Rattle.std.specs.Prelude.{OnOk, OnErr, IsErrOf}
 use Rattle.std.specs.List.{AllByRecursion}
-use Rattle.kinds.specs.declared.value.Value.{Value}
 use Rattle.kinds.specs.declared.value.Value.TheVariants as value
-use Rattle.kinds.specs.Value.{value_number, value_words}
 use Rattle.kinds.specs.Components.{widths}
 use Rattle.model.specs.declared.entities.Entity.{Entity}
 use Rattle.model.specs.Lists.{update_at}
 use Rattle.model.specs.state.State.{Slot, World, fresh_slot, most_indices}
-use Rattle.model.specs.state.Rows.{insert_component, remove_component}
+use Rattle.model.specs.state.Rows.{IsRising, insert_component, remove_component}
 use Rattle.model.specs.state.Ids.{has_ids, grant}
 use Rattle.model.specs.state.Commands.{is_alive, spawned, freed, with_row, release}
 use Rattle.model.specs.state.Loaded.{resource_given}
-use Rattle.model.specs.shown.Overlay.{slot_after, resource_after}
-use Rattle.model.specs.state.Shape.{IsSlot, IsWorld}
-use Rattle.model.proofs.lists.Each.{each-update_at}
-use Rattle.model.proofs.lists.Lists.{length-update_at}
-use Rattle.model.proofs.shape.Slots.{slot-spawned, slot-inserted, slot-removed, slot-after, slot-freed, slots-grant, length-grant, slots-release, length-release}
+use Rattle.model.specs.shown.Overlay.{resource_after}
+use Rattle.model.specs.state.Shape.{IsComponent, IsSlot, IsWorld}
+use Rattle.model.proofs.lists.Each.{each-update_at, each-map_index}
+use Rattle.model.proofs.lists.Lists.{length-update_at, length-map_index}
+use Rattle.model.proofs.shape.Slots.{slot-spawned, slot-inserted, slot-removed, slot-freed, slots-grant, length-grant, slots-release, length-release}
 use Rattle.entity_table.specs.Ids.{spawned_all, settled}
+use Rattle.archetype_store.specs.declared.change.Fate.{Fate}
+use Rattle.archetype_store.specs.declared.change.Fate.TheVariants as the
+use Rattle.archetype_store.specs.declared.change.EntityChange.{EntityChange}
+use Rattle.archetype_store.specs.Changes.{components_left, slot_left, change_at, changed, CanChange}
 use Rattle.archetype_store.specs.Row.{only}
 use Rattle.archetype_store.specs.Store.{with_slots, with_slot, with_resource}
 
@@ -29,6 +31,11 @@ pub outcome_of : {T E : Type 0} (r : Result T E) (fault : E) (test : Bool) (P Q 
 outcome_of (Ok x) fault true P Q p q h = inl (refl, p)
 outcome_of (Ok x) fault false P Q p q h = let e = h refl in cc
 outcome_of (Err e) fault test P Q p q h = inr q
+
+-- what one has done that refuses only for want of memory
+pub outcome_either : {T E : Type 0} (r : Result T E) (P Q : Type 0) → OnOk r P → OnErr r Q → P ⊎ Q
+outcome_either (Ok x) P Q p q = inl p
+outcome_either (Err e) P Q p q = inr q
 
 -- ---- worlds
 
@@ -93,3 +100,29 @@ world-spawn_all W w (e ∷ es) p = world-spawn_all W (with_slot e.index (spawned
 
 pub world-settle : (W : ℕ → ℕ) (w : World) (used unused : List Entity) → IsWorld W w → IsWorld W (with_slots (settled used unused) w)
 world-settle W w used unused p = world-release W (with_slots (spawned_all used) w) unused (world-spawn_all W w used p)
+
+-- ---- changes of entities
+
+left-shape : (W : ℕ → ℕ) (clock : ℕ) (fate : Fate) (s : Slot) → IsRising (components_left fate) → AllByRecursion (IsComponent W clock) (components_left fate) → IsSlot W clock s → IsSlot W clock (slot_left fate s)
+left-shape W clock (the.Lives components) s rising all h = record {
+  least = h.least;
+  most = h.most;
+  came_back = λ is. absurd (cc);
+  retired = λ is. absurd (cc);
+  no_row = λ is. absurd (cc);
+  rising = rising;
+  components = all;
+}
+left-shape W clock the.Dies s rising all h = slot-freed W clock s h
+
+changed-shape : (w : World) (cs : List EntityChange) → AllByRecursion (CanChange w) cs → (i : ℕ) (s : Slot) → IsSlot widths w.clock s → IsSlot widths w.clock (change_at cs i s)
+changed-shape w [] can i s h = h
+changed-shape w (c ∷ cs) can i s h = go (i == c.entity.index) (changed-shape w cs can.1 i s h)
+  where
+    go : (b : Bool) → IsSlot widths w.clock (change_at cs i s) → IsSlot widths w.clock (cond b (slot_left c.fate s) (change_at cs i s))
+    go true more = left-shape widths w.clock c.fate s can.0.rising can.0.components h
+    go false more = more
+
+pub world-changed : (w : World) (cs : List EntityChange) → AllByRecursion (CanChange w) cs → IsWorld widths w → IsWorld widths (with_slots (changed cs) w)
+world-changed w cs can p = world-slots widths w (changed cs w.slots) (each-map_index (IsSlot widths w.clock) (IsSlot widths w.clock) (change_at cs) (λ i s h. changed-shape w cs can i s h) w.slots p.slots)
+    (let e = length-map_index (change_at cs) w.slots in omega (arith, p.few)) p

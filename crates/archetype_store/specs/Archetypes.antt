@@ -7,6 +7,8 @@ use Rattle.model.specs.state.Rows.{cell_at}
 use Rattle.model.specs.declared.entities.Entity.{Entity}
 use Rattle.column_store.specs.Order.{is_same}
 use Rattle.column_store.specs.Table.{TableValue}
+use Rattle.archetype_store.specs.declared.change.EntityChange.{EntityChange}
+use Rattle.archetype_store.specs.Changes.{components_left}
 use Rattle.archetype_store.specs.declared.locations.EntityLocation.{EntityLocation}
 use Rattle.archetype_store.specs.Layout.{Archetype, layout_of, archetype_at, is_in_archetype, with_home, IsArchetype, AreOfOtherKinds}
 use Rattle.archetype_store.specs.Tables.{kinds_at, held_at, row_or_none, AreShaped, AreUnlike, AreBareHome, AreUnshared}
@@ -44,6 +46,20 @@ pub record AreAlike (old new : ArchetypesValue) : Type 0 where
 pub record HasRow (old : ArchetypesValue) (e : Entity) (row : List Component) (new : ArchetypesValue) : Type 0 where
   pub rows : (i : ℕ) → row_of new.rows i ≡ with_at e.index row (row_of old.rows) i
   pub holders : (i : ℕ) → holder_of new.holders i ≡ with_at e.index (holder_if row e.generation) (holder_of old.holders) i
+
+-- the row of an index after changes, and who has it
+abbrev pub row_changed : List EntityChange → ℕ → List Component → List Component
+row_changed [] index row = row
+row_changed (c ∷ cs) index row = cond (index == c.entity.index) (components_left c.fate) (row_changed cs index row)
+
+abbrev pub holder_changed : List EntityChange → ℕ → Option ℕ → Option ℕ
+holder_changed [] index holder = holder
+holder_changed (c ∷ cs) index holder = cond (index == c.entity.index) (holder_if (components_left c.fate) c.entity.generation) (holder_changed cs index holder)
+
+-- the entities that are changed have the rows that are told now, and each other index what it had
+pub record HaveRows (old : ArchetypesValue) (cs : List EntityChange) (new : ArchetypesValue) : Type 0 where
+  pub rows : (i : ℕ) → row_of new.rows i ≡ row_changed cs i (row_of old.rows i)
+  pub holders : (i : ℕ) → holder_of new.holders i ≡ holder_changed cs i (holder_of old.holders i)
 
 -- the layout is that of the rows: who is in an archetype has a row of just its kinds, who has a row is in one, none is without
 -- entities, and no two have the same kinds

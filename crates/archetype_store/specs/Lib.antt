@@ -9,3 +9,5 @@ pub mod Store
 pub mod View
 pub mod Lending
 pub mod Overlays
+pub mod Changes
+pub mod RowMoves

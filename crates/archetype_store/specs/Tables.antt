@@ -1,5 +1,5 @@
 -- Tables of archetypes: what they hold of an entity, and what a change of one row leaves.
-use Rattle.std.specs.Prelude.{◌≡◌, ◌≢◌, ℕ, zero, suc, ◌<◌, Bool, true, false, cond, ◌==◌, ◌&&◌, List, [], ◌∷◌, length, get_or, map, Option, Some, None, option_map}
+use Rattle.std.specs.Prelude.{◌≡◌, ◌≢◌, ℕ, zero, suc, ◌<◌, ◌≤◌, Bool, true, false, cond, ◌==◌, ◌&&◌, List, [], ◌∷◌, length, get_or, map, Option, Some, None, option_map}
 use Rattle.std.specs.List.{AllByRecursion, list_all}
 use Rattle.model.specs.Lists.{is_there}
 use Rattle.model.specs.state.State.{Cell, Component}
@@ -112,6 +112,7 @@ pub record IsHeldNow (old new : List TableValue) (table : ℕ) (e : Entity) (hel
 pub record IsGrown (old new : List TableValue) : Type 0 where
   pub held : (t : ℕ) (x : Entity) → held_at new t x ≡ held_at old t x
   pub kinds : (t : ℕ) → t < length old → kinds_at new t ≡ kinds_at old t
+  pub longer : length old ≤ length new
   pub shaped : AreShaped new
   pub unlike : AreUnlike new
   pub owned : AreOwned old → AreOwned new

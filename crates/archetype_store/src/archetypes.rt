@@ -11,15 +11,19 @@ ghost use Rattle.kinds.specs.Kind.{kind_number};
 ghost use Rattle.archetype_store.specs.Layout.{archetype_at, column_home, with_home, AreAllHome};
 ghost use Rattle.std.specs.List.{AllByRecursion};
 ghost use Rattle.column_store.specs.Order.{AreRising};
+ghost use Rattle.column_store.specs.Kinds.{AreBelow};
+ghost use Rattle.archetype_store.specs.Changes.{row_left, AreOfOtherIndices};
 ghost use Rattle.archetype_store.specs.View.{kinds_seen, entities_seen};
-ghost use Rattle.archetype_store.specs.Archetypes.{row_of, holder_of, row_cells, IsHolder, AreAlike, HasRow, IsFilled, IsLaidOut};
+ghost use Rattle.archetype_store.specs.Archetypes.{row_of, holder_of, row_cells, IsHolder, AreAlike, HasRow, HaveRows, IsFilled, IsLaidOut};
 
+use crate::change::EntityChange;
 use crate::lay::{clear_in, insert_in, remove_in};
 use crate::lending::{
     column_at, home_at, lend_at, share_at, share_entities_at, table_of_archetype,
 };
 use crate::locations::{EntityLocation, place_at, reach};
 use crate::owning::own_all;
+use crate::row_moves::change_in;
 use crate::tables::{ArchetypeView, components_at, find_at, has_at, views_of};
 use change_ticks::clock::Tick;
 use column_store::stamped::{StampedColumn, StampedValue};
@@ -231,6 +235,21 @@ impl Archetypes {
         }
         own_all(&mut self.tables, &mut self.shared)?;
         remove_in(&mut self.tables, &mut self.places, e, number)
+    }
+
+    /// Makes these changes, no two of one index: each entity is left with just the components that are told. Where memory is wanting all rows stay
+    /// as they were.
+    pub fn change(&mut self, changes: &[EntityChange]) -> Result<(), AllocError>
+        requires apart { AreOfOtherIndices changes.now }
+        requires below { AllByRecursion (λ c. AreBelow (map stamped_number (row_left c.fate))) changes.now }
+        requires holders { AllByRecursion (λ c. IsHolder c.entity.generation (holder_of self.old.holders c.entity.index)) changes.now }
+        requires home { AreAllHome self.old.layout }
+        ensures ok { OnOk result (HaveRows self.old changes.now self.new) }
+        ensures err { OnErr result (AreAlike self.old self.new) }
+        ensures home { AreAllHome self.new.layout }
+    {
+        own_all(&mut self.tables, &mut self.shared)?;
+        change_in(&mut self.tables, &mut self.places, changes)
     }
 
     /// Takes all components of an entity away. Memory can be wanting only where columns were read elsewhere too; then all rows stay as

@@ -2,6 +2,7 @@
 #![tactic(auto)]
 
 mod archetypes;
+pub mod change;
 mod columns;
 mod components;
 pub mod fault;
@@ -11,6 +12,8 @@ mod lending;
 mod locations;
 mod owning;
 mod resources;
+mod row_moves;
+mod settling;
 pub mod slot;
 mod slots;
 pub mod store;

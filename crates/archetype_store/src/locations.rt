@@ -1,6 +1,6 @@
 // Where the entities of indices are: in which table, and at which generation.
 
-ghost use Rattle.std.specs.Prelude.{◌≡◌, ◌<◌, ℕ, length, OnOk};
+ghost use Rattle.std.specs.Prelude.{◌≡◌, ◌<◌, ◌≤◌, ℕ, length, OnOk};
 ghost use Rattle.archetype_store.specs.Archetypes.{place_of};
 
 use std::alloc::AllocError;
@@ -27,6 +27,7 @@ pub(crate) fn place_at(places: &[Option<EntityLocation>], index: u32) -> Option<
 pub(crate) fn reach(places: &mut Vec<Option<EntityLocation>>, index: u32) -> Result<(), AllocError>
     ensures same { (k : ℕ) → place_of places.new.items k ≡ place_of places.old.items k }
     ensures ok { OnOk result (index < length places.new.items) }
+    ensures longer { length places.old.items ≤ length places.new.items }
 {
     while places.len() <= index as usize {
         places.push(None)?;

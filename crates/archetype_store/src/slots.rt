@@ -3,7 +3,7 @@
 ghost use Rattle.std.specs.Prelude.{◌≡◌, ◌++◌, ◌≤◌, ◌<◌, ◌↔◌, ℕ, true, false, [], Some, length, map, option_map, is_some, All, IsTrue, IfSome, IfNone, MatchOption, IfOk, OnOk, OnErr, IsErrOf};
 ghost use Rattle.kinds.specs.Value.{value_number, value_words};
 ghost use Rattle.model.specs.Lists.{update_at};
-ghost use Rattle.model.specs.state.Rows.{row_at, insert_component, remove_component};
+ghost use Rattle.model.specs.state.Rows.{IsRising, row_at, insert_component, remove_component};
 ghost use Rattle.model.specs.state.Ids as ids;
 ghost use Rattle.model.specs.state.Commands as commands;
 ghost use Rattle.model.specs.state.Commands.{is_alive, spawned, freed, with_row};
@@ -13,6 +13,7 @@ ghost use Rattle.archetype_store.specs.Row.{component_of};
 ghost use Rattle.std.specs.Arc.{arc_value};
 ghost use Rattle.kinds.specs.Kind.{kind_number};
 ghost use Rattle.archetype_store.specs.Slot.{cell_of, column_cells, bare_of};
+ghost use Rattle.archetype_store.specs.Changes.{changed, components_left, AreOfOtherIndices, IsHeldBy};
 ghost use Rattle.archetype_store.specs.Store.{slots_with};
 ghost use Rattle.archetype_store.specs.Archetypes.{row_of};
 ghost use Rattle.archetype_store.specs.Layout.{archetype_at, column_home, with_home, IsLayoutOf, AreAllHome};
@@ -21,7 +22,9 @@ ghost use Rattle.column_store.specs.Order.{AreRising};
 ghost use Rattle.archetype_store.specs.View.{kinds_seen, entities_seen};
 
 use crate::archetypes::Archetypes;
+use crate::change::EntityChange;
 use crate::fault::StoreFault;
+use crate::settling::settle_all;
 use crate::slot::Slot;
 use crate::tables::ArchetypeView;
 use change_ticks::clock::Tick;
@@ -286,6 +289,22 @@ impl Slots {
         }
         self.archetypes.clear(e)?;
         self.book.despawn(e);
+        Ok(())
+    }
+
+    /// Makes these changes, no two of one index: each entity lives with just the components that are told, or no more. Where memory is wanting
+    /// the slots are as they were.
+    pub fn change(&mut self, changes: &[EntityChange]) -> Result<(), AllocError>
+        requires home { AreAllHome self.old.layout }
+        requires apart { AreOfOtherIndices changes.now }
+        requires held { AllByRecursion (IsHeldBy self.old.slots) changes.now }
+        requires rising { AllByRecursion (λ c. IsRising (components_left c.fate)) changes.now }
+        ensures ok { OnOk result (self.new.slots ≡ changed changes.now self.old.slots) }
+        ensures err { OnErr result (self.new ≡ self.old) }
+        ensures home { AreAllHome self.new.layout }
+    {
+        self.archetypes.change(changes)?;
+        settle_all(&mut self.book, changes);
         Ok(())
     }
 

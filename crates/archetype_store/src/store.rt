@@ -22,8 +22,10 @@ ghost use Rattle.archetype_store.specs.Lending.{CanTake, CanShare, CanComeHome, 
 ghost use Rattle.column_store.specs.Order.{AreRising};
 ghost use Rattle.archetype_store.specs.View.{kinds_seen, entities_seen};
 ghost use Rattle.archetype_store.specs.Resources.{changed_of};
+ghost use Rattle.archetype_store.specs.Changes.{changed, AreOfOtherIndices, CanChange};
 ghost use Rattle.archetype_store.specs.Store.{empty_world, with_slots, with_slot, with_resource, at_clock, stamp_of, homed_in, IsPast};
 
+use crate::change::EntityChange;
 pub use crate::columns::{ColumnAt, SharedColumn, TakenColumn};
 use crate::fault::{GrantFault, StoreFault};
 use crate::resources::Resources;
@@ -352,6 +354,19 @@ impl World {
         ensures absent { IsErrOf result StoreFault.Memory → is_some (cell_of self.old.state.slots e (kind_number kind)) ≡ true }
     {
         self.slots.remove(e, kind.number())
+    }
+
+    /// Makes these changes, no two of one index: an entity that is left alive has just the components that are told, and no other's change. Where
+    /// memory is wanting nothing has changed.
+    pub fn change(&mut self, changes: &[EntityChange]) -> Result<(), AllocError>
+        requires home { AreAllHome self.old.layout }
+        requires apart { AreOfOtherIndices changes.now }
+        requires can { AllByRecursion (CanChange self.old.state) changes.now }
+        ensures ok { OnOk result (self.new.state ≡ with_slots (changed changes.now) self.old.state) }
+        ensures err { OnErr result (self.new ≡ self.old) }
+        ensures home { AreAllHome self.new.layout }
+    {
+        self.slots.change(changes)
     }
 
     /// The component of this kind of an entity that lives.

@@ -210,6 +210,23 @@ pub(crate) fn put_at(
     there.put(e, components)
 }
 
+// Replaces the components of an entity that is in a table by others of its kinds.
+pub(crate) fn renew_at(
+    tables: &mut Vec<Table>,
+    table: usize,
+    e: Entity,
+    components: &[StampedValue],
+)
+    requires shaped { AreShaped tables.old.items }
+    requires there { IsSome (held_at tables.old.items table e) }
+    requires kinds { kinds_at tables.old.items table ≡ map stamped_number components.now }
+    requires owned { AreOwned tables.old.items }
+    ensures { IsHeldNow tables.old.items tables.new.items table e (Some (map component_of components.now)) }
+{
+    let there = &mut tables[table];
+    there.renew(e, components);
+}
+
 // Removes the row of an entity.
 pub(crate) fn remove_at(tables: &mut Vec<Table>, table: usize, e: Entity)
     requires shaped { AreShaped tables.old.items }

@@ -33,6 +33,14 @@ cells_of-set (x ∷ ws) [] i w tick s d h l e = absurd (omega arith)
 cells_of-set (x ∷ ws) (y ∷ ss) zero w tick s d h l e = set_first x w y s tick (cells_of ws ss) e
 cells_of-set (x ∷ ws) (y ∷ ss) (suc i) w tick s d h l e = ap (λ cs. cell_of x y ∷ cs) (cells_of-set ws ss i w tick s d (omega arith) (omega arith) e)
 
+-- a write of words and of both stamps
+pub cells_of-replace : (ws : List (List ℤ)) (ss : List Stamp) (i : ℕ) (w : List ℤ) (s : Stamp) → length ws ≡ length ss → i < length ss →
+    cells_of (set ws i w) (set ss i s) ≡ update_at i (λ _. cell_of w s) (cells_of ws ss)
+cells_of-replace [] ss i w s h l = absurd (omega arith)
+cells_of-replace (x ∷ ws) [] i w s h l = absurd (omega arith)
+cells_of-replace (x ∷ ws) (y ∷ ss) zero w s h l = refl
+cells_of-replace (x ∷ ws) (y ∷ ss) (suc i) w s h l = ap (λ cs. cell_of x y ∷ cs) (cells_of-replace ws ss i w s (omega arith) (omega arith))
+
 -- an insertion of both
 pub cells_of-insert : (ws : List (List ℤ)) (ss : List Stamp) (i : ℕ) (w : List ℤ) (s : Stamp) → length ws ≡ length ss → i ≤ length ss →
     cells_of (insert ws i w) (insert ss i s) ≡ insert (cells_of ws ss) i (cell_of w s)
@@ -75,4 +83,4 @@ get-there (y ∷ ys) (suc i) x l e = get-there ys i x (omega arith) e
 pub length-removed : {A B : Type 0} (xs : List A) (ys : List B) (i : ℕ) → length xs ≡ length ys → i < length ys → length (remove xs i) ≡ length (remove ys i)
 length-removed xs ys i h l = omega (arith, length-remove xs i (omega arith), length-remove ys i l)
 
-pub ruleset cell_edits = (length-cells_of, get-cells_of, cells_of-set, cells_of-insert, cells_of-remove, words-cells_of, stamp-cells_of, get-there, length-removed)
+pub ruleset cell_edits = (length-cells_of, get-cells_of, cells_of-set, cells_of-replace, cells_of-insert, cells_of-remove, words-cells_of, stamp-cells_of, get-there, length-removed)

@@ -13,7 +13,7 @@ use Rattle.column_store.specs.Places.{IsPlace, IsNowhere, IsGap}
 use Rattle.column_store.specs.Column.{ColumnCells}
 use Rattle.column_store.specs.Table.{Standing, ColumnSlotValue, TableRow, put_row}
 use Rattle.column_store.specs.Table.Standing.{Owned}
-use Rattle.column_store.specs.Inside.{cell_at, tail_in, write_in, remove_in, insert_all, rows_of, IsOfLength}
+use Rattle.column_store.specs.Inside.{cell_at, tail_in, write_in, remove_in, insert_all, replace_all, rows_of, IsOfLength}
 use Rattle.column_store.proofs.Lists.{map-update_at, map-update_at_same, get-map}
 
 -- a row with f applied to the cell of a column
@@ -130,6 +130,48 @@ module _ (w : List ℤ) (t : ℕ) where
       (ap (rows_of es) (map-update_at tail_in (write_in (suc i) w t) (write_in i w t) (write_behind i) j ps)
       ∙ rows_of-write es (map tail_in ps) i j)
 
+-- ---- all cells of a row replaced
+
+renewed_heads : (n : ℕ) (ps : List ColumnSlotValue) (cs : List Cell) → length ps ≡ length cs → AllByRecursion (IsOfLength (suc n)) ps → map (cell_at 0) (replace_all 0 ps cs) ≡ map (λ c. Some c) cs
+renewed_heads n [] [] l h = refl
+renewed_heads n [] (c ∷ cs) l h = absurd (omega arith)
+renewed_heads n (p ∷ ps) [] l h = absurd (omega arith)
+renewed_heads n (p ∷ ps) (c ∷ cs) l h = ap₂ ◌∷◌ (go p.column.cells h.0) (renewed_heads n ps cs (omega arith) h.1)
+  where
+    go : (cells : List Cell) → length cells ≡ suc n → slice_get (update_at 0 (λ _. c) cells) 0 ≡ Some c
+    go [] k = absurd (omega arith)
+    go (x ∷ xs) k = refl
+
+kept_heads : (i : ℕ) (ps : List ColumnSlotValue) (cs : List Cell) → map (cell_at 0) (replace_all (suc i) ps cs) ≡ map (cell_at 0) ps
+kept_heads i [] cs = refl
+kept_heads i (p ∷ ps) [] = refl
+kept_heads i (p ∷ ps) (c ∷ cs) = ap₂ ◌∷◌ (head_kept i (λ _. c) p.column.cells) (kept_heads i ps cs)
+
+renewed_tails : (ps : List ColumnSlotValue) (cs : List Cell) → map tail_in (replace_all 0 ps cs) ≡ map tail_in ps
+renewed_tails [] cs = refl
+renewed_tails (p ∷ ps) [] = refl
+renewed_tails (p ∷ ps) (c ∷ cs) = ap₂ ◌∷◌ (ap (slot p.standing p.column.kind) (tail_kept (λ _. c) p.column.cells)) (renewed_tails ps cs)
+
+later_renewed : (i : ℕ) (ps : List ColumnSlotValue) (cs : List Cell) → map tail_in (replace_all (suc i) ps cs) ≡ replace_all i (map tail_in ps) cs
+later_renewed i [] cs = refl
+later_renewed i (p ∷ ps) [] = refl
+later_renewed i (p ∷ ps) (c ∷ cs) = ap₂ ◌∷◌ (ap (slot p.standing p.column.kind) (tail_updated i (λ _. c) p.column.cells)) (later_renewed i ps cs)
+
+shorter_tails : (n : ℕ) (ps : List ColumnSlotValue) → AllByRecursion (IsOfLength (suc n)) ps → AllByRecursion (IsOfLength n) (map tail_in ps)
+shorter_tails n [] h = tt
+shorter_tails n (p ∷ ps) h = (go p.column.cells h.0, shorter_tails n ps h.1)
+  where
+    go : (cells : List Cell) → length cells ≡ suc n → length (tail_of cells) ≡ n
+    go [] l = absurd (omega arith)
+    go (x ∷ xs) l = omega arith
+
+pub rows_of-replace : (es : List Entity) (ps : List ColumnSlotValue) (cs : List Cell) (i : ℕ) → length ps ≡ length cs → AllByRecursion (IsOfLength (length es)) ps →
+    rows_of es (replace_all i ps cs) ≡ update_at i (λ (r : TableRow). row r.entity (map (λ c. Some c) cs)) (rows_of es ps)
+rows_of-replace [] ps cs i l h = refl
+rows_of-replace (e ∷ es) ps cs zero l h = row_cons e _ _ _ _ (renewed_heads (length es) ps cs l h) (ap (rows_of es) (renewed_tails ps cs))
+rows_of-replace (e ∷ es) ps cs (suc i) l h = row_cons e _ _ _ _ (kept_heads i ps cs)
+    (ap (rows_of es) (later_renewed i ps cs) ∙ rows_of-replace es (map tail_in ps) cs i (length-map ps tail_in ∙ l) (shorter_tails (length es) ps h))
+
 -- ---- columns that leave or come home
 
 -- rows depend on the columns alone, wherever they stand
@@ -168,14 +210,6 @@ rows_of-home (e ∷ es) ps j k (c ∷ cs) l = row_cons e _ _ _ _
     (ap (rows_of es) (map-update_at tail_in (λ _. slot Owned k (c ∷ cs)) (λ _. slot Owned k cs) (λ p. refl) j ps) ∙ rows_of-home es (map tail_in ps) j k cs (omega arith))
 
 -- ---- a further row
-
-tails_of_length : (n : ℕ) (ps : List ColumnSlotValue) → AllByRecursion (IsOfLength (suc n)) ps → AllByRecursion (IsOfLength n) (map tail_in ps)
-tails_of_length n [] h = tt
-tails_of_length n (p ∷ ps) h = (go p.column.cells h.0, tails_of_length n ps h.1)
-  where
-    go : (cells : List Cell) → length cells ≡ suc n → length (tail_of cells) ≡ n
-    go [] l = absurd (omega arith)
-    go (x ∷ xs) l = omega arith
 
 first_heads : (n : ℕ) (ps : List ColumnSlotValue) (cs : List Cell) → length ps ≡ length cs → AllByRecursion (IsOfLength n) ps → map (cell_at 0) (insert_all 0 ps cs) ≡ map (λ c. Some c) cs
 first_heads n [] [] l h = refl
@@ -227,7 +261,7 @@ rows_of-insert [] e ps cs (suc i) l h le = absurd (omega arith)
 rows_of-insert (x ∷ es) e ps cs zero l h le = row_cons e _ _ _ _ (first_heads (length (x ∷ es)) ps cs l h) (ap (rows_of (x ∷ es)) (first_tails (length (x ∷ es)) ps cs l h))
 rows_of-insert (x ∷ es) e ps cs (suc i) l h le = row_cons x _ _ _ _ (later_heads (length es) i ps cs l h)
     (ap (rows_of (insert es i e)) (later_tails (length es) i ps cs l h)
-    ∙ rows_of-insert es e (map tail_in ps) cs i (length-tails ps cs l) (tails_of_length (length es) ps h) (omega arith))
+    ∙ rows_of-insert es e (map tail_in ps) cs i (length-tails ps cs l) (shorter_tails (length es) ps h) (omega arith))
 
 -- ---- a row less
 
@@ -260,4 +294,4 @@ pub rows_of-remove : (es : List Entity) (ps : List ColumnSlotValue) (i : ℕ) �
 rows_of-remove [] ps i h l = absurd (omega arith)
 rows_of-remove (x ∷ es) ps zero h l = ap (rows_of es) (removed_first ps)
 rows_of-remove (x ∷ es) ps (suc i) h l = row_cons x _ _ _ _ (removed_heads (length es) i ps h)
-    (ap (rows_of (remove es i)) (removed_tails (length es) i ps h) ∙ rows_of-remove es (map tail_in ps) i (tails_of_length (length es) ps h) (omega arith))
+    (ap (rows_of (remove es i)) (removed_tails (length es) i ps h) ∙ rows_of-remove es (map tail_in ps) i (shorter_tails (length es) ps h) (omega arith))

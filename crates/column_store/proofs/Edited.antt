@@ -8,13 +8,13 @@ use Rattle.column_store.specs.declared.stamped.StampedValue.{StampedValue}
 use Rattle.column_store.specs.Cells.{stamped_number, stamped_cell}
 use Rattle.column_store.specs.Order.{is_same}
 use Rattle.column_store.specs.Places.{IsNowhere}
-use Rattle.column_store.specs.Table.{Standing, ColumnSlotValue, TableRow, TableValue, is_home, is_owned, row_of, put_row, new_row, without_row}
+use Rattle.column_store.specs.Table.{Standing, ColumnSlotValue, TableRow, TableValue, is_home, is_owned, row_of, put_row, new_row, without_row, update_row, renewed_row}
 use Rattle.column_store.specs.Table.Standing.{Owned, Shared, Away}
-use Rattle.column_store.specs.Inside.{standing_in, kind_in, tail_in, remove_in, insert_all, rows_of, table_of, IsOfLength, IsAtHome, IsOwned, HoldsRow, OwnsRow, AllTake, IsTable, IsPutAt, IsRemovedAt, IsThere}
+use Rattle.column_store.specs.Inside.{standing_in, kind_in, tail_in, remove_in, insert_all, rows_of, table_of, IsOfLength, IsAtHome, IsOwned, HoldsRow, OwnsRow, AllTake, AllRenew, IsTable, IsPutAt, IsRemovedAt, IsRenewedAt, IsThere}
 use Rattle.column_store.proofs.Rows.{row_of-nowhere}
 use Rattle.column_store.proofs.Columns.{nowhere-rows_of}
-use Rattle.column_store.proofs.Tables.{place-within, length-of_kinds, table-put, table-remove}
-use Rattle.column_store.proofs.Kept.{all_take, kept-insert, kept-remove}
+use Rattle.column_store.proofs.Tables.{place-within, length-of_kinds, table-put, table-remove, table-renew}
+use Rattle.column_store.proofs.Kept.{all_take, all_renew, kept-insert, kept-remove, kept-replace}
 
 -- ---- columns that are at home, or the table's alone
 
@@ -129,3 +129,21 @@ pub removed_kept : (ns : List ℕ) (es es' : List Entity) (ps ps' : List ColumnS
 removed_kept ns es es' ps ps' e h p =
     subst (IsTable ns es') (sym p.columns_after) (subst (λ xs. IsTable ns xs (map (remove_in p.row) ps)) (sym p.entities_after)
     (kept-remove ns es ps p.row (place-within (λ x. is_same x e) es p.row p.place) h))
+
+-- ---- a row whose components are replaced
+
+-- the columns take components of their kinds
+pub renews_row : (ns : List ℕ) (es : List Entity) (ps : List ColumnSlotValue) (ss : List StampedValue) → IsTable ns es ps → list_all is_owned (map standing_in ps) ≡ true → map stamped_number ss ≡ ns →
+    (i : ℕ) → i < length es → AllRenew i ps ss
+renews_row ns es ps ss h owned k i l = all_renew ns ps (length es) i ss h.of_kinds h.of_length (all_owned ps owned) l k
+
+module _ (ns : List ℕ) (es : List Entity) (ps ps' : List ColumnSlotValue) (e : Entity) (ss : List StampedValue) where
+  pub renewed_table : IsTable ns es ps → map stamped_number ss ≡ ns → IsRenewedAt e ss es ps ps' →
+      table_of ns es ps' ≡ record { kinds = ns; standings = map standing_in ps; rows = update_row e (renewed_row ss) (rows_of es ps) }
+  renewed_table h k p =
+      ap (table_of ns es) p.columns_after
+      ∙ table-renew ns es ps e p.row (map stamped_cell ss) (as_many ns ps ss h.of_kinds k) h.of_length p.place
+      ∙ ap (λ cells. let t : TableValue = record { kinds = ns; standings = map standing_in ps; rows = update_row e (λ (r : TableRow). let s : TableRow = record { entity = r.entity; cells = cells } in s) (rows_of es ps) } in t) (some_cells ss)
+
+  pub renewed_kept : IsTable ns es ps → IsRenewedAt e ss es ps ps' → IsTable ns es ps'
+  renewed_kept h p = subst (IsTable ns es) (sym p.columns_after) (kept-replace ns es ps (map stamped_cell ss) p.row h)

@@ -15,7 +15,7 @@ use Rattle.column_store.specs.Column.{ColumnCells}
 use Rattle.column_store.specs.Order.{is_before, is_same, AreRising}
 use Rattle.column_store.specs.Places.{IsPlace, IsNowhere, IsGap}
 use Rattle.column_store.specs.Table.{Standing, ColumnSlotValue}
-use Rattle.column_store.specs.Inside.{kind_in, standing_at, owned_slot, with_cells, write_in, insert_in, remove_in, insert_all, IsOfLength, IsOwned, Takes, AllTake, IsTable}
+use Rattle.column_store.specs.Inside.{kind_in, standing_at, owned_slot, with_cells, write_in, insert_in, remove_in, insert_all, replace_all, IsOfLength, IsOwned, Takes, AllTake, AllRenew, IsTable}
 use Rattle.column_store.proofs.Lists.{map-update_at_same, each-updated, each-insert, each-remove, remove-insert}
 use Rattle.column_store.proofs.Rising.{before_trans, after_rest}
 
@@ -130,6 +130,46 @@ all_take (m ∷ ns) (p ∷ ps) n i (s ∷ ss) k h o le e =
     let kind : p.column.kind ≡ m = cc in
     let rest : map kind_in ps ≡ ns = cc in
     (record { owned = o.0; kind = kind ∙ sym same; within = omega arith }, all_take ns ps n i ss rest h.1 o.1 le (cc))
+
+-- ---- a row whose components are replaced
+
+kinds-replace : (ps : List ColumnSlotValue) (cs : List Cell) (i : ℕ) → map kind_in (replace_all i ps cs) ≡ map kind_in ps
+kinds-replace [] cs i = refl
+kinds-replace (p ∷ ps) [] i = refl
+kinds-replace (p ∷ ps) (c ∷ cs) i = ap (λ ks. p.column.kind ∷ ks) (kinds-replace ps cs i)
+
+lengths-replace : (n : ℕ) (ps : List ColumnSlotValue) (cs : List Cell) (i : ℕ) → AllByRecursion (IsOfLength n) ps → AllByRecursion (IsOfLength n) (replace_all i ps cs)
+lengths-replace n [] cs i h = tt
+lengths-replace n (p ∷ ps) [] i h = h
+lengths-replace n (p ∷ ps) (c ∷ cs) i h = (length-update_at i (λ _. c) p.column.cells ∙ h.0, lengths-replace n ps cs i h.1)
+
+pub kept-replace : (ns : List ℕ) (es : List Entity) (ps : List ColumnSlotValue) (cs : List Cell) (i : ℕ) → IsTable ns es ps → IsTable ns es (replace_all i ps cs)
+kept-replace ns es ps cs i h = record {
+  below = h.below;
+  rising = h.rising;
+  of_kinds = kinds-replace ps cs i ∙ h.of_kinds;
+  of_length = lengths-replace (length es) ps cs i h.of_length;
+}
+
+-- nothing is replaced where there is no component
+pub replace_all-none : (i : ℕ) (ps : List ColumnSlotValue) (ss : List StampedValue) → length ss ≡ 0 → ps ≡ replace_all i ps (map stamped_cell ss)
+replace_all-none i [] ss l = refl
+replace_all-none i (p ∷ ps) [] l = refl
+replace_all-none i (p ∷ ps) (s ∷ ss) l = absurd (omega arith)
+
+-- the columns take the components, where all are the table's alone and the components are of the kinds
+pub all_renew : (ns : List ℕ) (ps : List ColumnSlotValue) (n i : ℕ) (ss : List StampedValue) → map kind_in ps ≡ ns → AllByRecursion (IsOfLength n) ps → AllByRecursion IsOwned ps → i < n →
+    map stamped_number ss ≡ ns → AllRenew i ps ss
+all_renew ns [] n i [] k h o l e = tt
+all_renew ns [] n i (s ∷ ss) k h o l e = absurd (cc)
+all_renew ns (p ∷ ps) n i [] k h o l e = absurd (cc)
+all_renew [] (p ∷ ps) n i (s ∷ ss) k h o l e = absurd (cc)
+all_renew (m ∷ ns) (p ∷ ps) n i (s ∷ ss) k h o l e =
+    let many : length p.column.cells ≡ n = h.0 in
+    let same : stamped_number s ≡ m = cc in
+    let kind : p.column.kind ≡ m = cc in
+    let rest : map kind_in ps ≡ ns = cc in
+    (record { owned = o.0; kind = kind ∙ sym same; within = omega arith }, all_renew ns ps n i ss rest h.1 o.1 l (cc))
 
 -- ---- a row less
 

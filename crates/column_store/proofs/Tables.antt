@@ -10,12 +10,12 @@ use Rattle.column_store.specs.Cells.{changed_cell}
 use Rattle.column_store.specs.Column.{ColumnCells}
 use Rattle.column_store.specs.Order.{is_same}
 use Rattle.column_store.specs.Places.{IsPlace, IsNowhere, IsGap}
-use Rattle.column_store.specs.Table.{Standing, ColumnSlotValue, TableRow, TableValue, is_home, row_of, put_row, without_row, with_cell_at, cell_of_kind, filled_rows, cell_in, standing_of, kind_cells, write_cell, moved_to, owned, homed, IsAlike}
+use Rattle.column_store.specs.Table.{Standing, ColumnSlotValue, TableRow, TableValue, is_home, row_of, put_row, without_row, update_row, with_cell_at, cell_of_kind, filled_rows, cell_in, standing_of, kind_cells, write_cell, moved_to, owned, homed, IsAlike}
 use Rattle.column_store.specs.Table.Standing.{Owned}
-use Rattle.column_store.specs.Inside.{standing_in, kind_in, standing_at, owned_slot, cell_at, tail_in, write_in, remove_in, insert_all, rows_of, table_of, IsOfLength, AreAlike}
+use Rattle.column_store.specs.Inside.{standing_in, kind_in, standing_at, owned_slot, cell_at, tail_in, write_in, remove_in, insert_all, replace_all, rows_of, table_of, IsOfLength, AreAlike}
 use Rattle.column_store.proofs.Lists.{map-update_at, map-update_at_same, update_at-same, get-map}
 use Rattle.column_store.proofs.Rows.{row_of-place, row_of-nowhere, update_row-place, without_row-place, at_kind-place, at_kind-nowhere, update_kind-place}
-use Rattle.column_store.proofs.Columns.{with_cell, cell_of_column, filled, get_or-rows_of, place-rows_of, nowhere-rows_of, put_row-rows_of, rows_of-write, rows_of-columns, cells-rows_of, rows_of-home, rows_of-insert, rows_of-remove}
+use Rattle.column_store.proofs.Columns.{with_cell, cell_of_column, filled, get_or-rows_of, place-rows_of, nowhere-rows_of, put_row-rows_of, rows_of-write, rows_of-columns, cells-rows_of, rows_of-home, rows_of-insert, rows_of-remove, rows_of-replace}
 
 pub place-within : {A : Type 0} (test : A → Bool) (xs : List A) (i : ℕ) → IsPlace test xs i → i < length xs
 place-within test [] i p = absurd p
@@ -145,3 +145,14 @@ module _ (ns : List ℕ) (es : List Entity) (ps : List ColumnSlotValue) (e : Ent
       go : (ps : List ColumnSlotValue) (i : ℕ) → map standing_in (map (remove_in i) ps) ≡ map standing_in ps
       go [] i = refl
       go (p ∷ ps) i = ap (λ ss. p.standing ∷ ss) (go ps i)
+
+  pub table-renew : (cs : List Cell) → length ps ≡ length cs → AllByRecursion (IsOfLength (length es)) ps → IsPlace (λ x. is_same x e) es i →
+      table_of ns es (replace_all i ps cs)
+      ≡ record { kinds = ns; standings = map standing_in ps; rows = update_row e (λ (r : TableRow). let s : TableRow = record { entity = r.entity; cells = map (λ c. Some c) cs } in s) (rows_of es ps) }
+  table-renew cs l h at = made ns _ _ _ _ (go ps cs i)
+      (rows_of-replace es ps cs i l h ∙ sym (update_row-place e (λ (r : TableRow). let s : TableRow = record { entity = r.entity; cells = map (λ c. Some c) cs } in s) (rows_of es ps) i (place-rows_of e es ps i at)))
+    where
+      go : (ps : List ColumnSlotValue) (cs : List Cell) (i : ℕ) → map standing_in (replace_all i ps cs) ≡ map standing_in ps
+      go [] cs i = refl
+      go (p ∷ ps) [] i = refl
+      go (p ∷ ps) (c ∷ cs) i = ap (λ ss. p.standing ∷ ss) (go ps cs i)

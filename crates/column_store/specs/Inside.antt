@@ -53,6 +53,9 @@ insert_in row cell p = with_cells (λ cells. insert cells row cell) p
 abbrev pub remove_in : ℕ → ColumnSlotValue → ColumnSlotValue
 remove_in row p = with_cells (λ cells. remove cells row) p
 
+abbrev pub replace_in : ℕ → Cell → ColumnSlotValue → ColumnSlotValue
+replace_in row cell p = with_cells (update_at row (λ _. cell)) p
+
 abbrev pub IsOfLength : ℕ → ColumnSlotValue → Type 0
 IsOfLength n p = length p.column.cells ≡ n
 
@@ -68,6 +71,12 @@ pub record Takes (row : ℕ) (p : ColumnSlotValue) (s : StampedValue) : Type 0 w
   pub owned : is_owned p.standing ≡ true
   pub kind : p.column.kind ≡ stamped_number s
   pub within : row ≤ length p.column.cells
+
+-- a column of the table's alone, in which a component of its kind can replace that of a row
+pub record Renews (row : ℕ) (p : ColumnSlotValue) (s : StampedValue) : Type 0 where
+  pub owned : is_owned p.standing ≡ true
+  pub kind : p.column.kind ≡ stamped_number s
+  pub within : row < length p.column.cells
 
 -- the column of a kind without cells
 abbrev pub empty_column : Kind → ColumnSlotValue
@@ -105,6 +114,18 @@ AllTake row [] [] = Unit {0}
 AllTake row [] (s ∷ ss) = ⊥
 AllTake row (p ∷ ps) [] = ⊥
 AllTake row (p ∷ ps) (s ∷ ss) = Takes row p s × AllTake row ps ss
+
+-- a cell of each column is replaced
+abbrev pub replace_all : ℕ → List ColumnSlotValue → List Cell → List ColumnSlotValue
+replace_all row [] cells = []
+replace_all row (p ∷ ps) [] = p ∷ ps
+replace_all row (p ∷ ps) (c ∷ cs) = replace_in row c p ∷ replace_all row ps cs
+
+abbrev pub AllRenew : ℕ → List ColumnSlotValue → List StampedValue → Type 0
+AllRenew row [] [] = Unit {0}
+AllRenew row [] (s ∷ ss) = ⊥
+AllRenew row (p ∷ ps) [] = ⊥
+AllRenew row (p ∷ ps) (s ∷ ss) = Renews row p s × AllRenew row ps ss
 
 -- what holds of the inside of every table
 pub record IsTable (kinds : List ℕ) (entities : List Entity) (columns : List ColumnSlotValue) : Type 0 where
@@ -180,6 +201,12 @@ pub record IsRemovedAt (e : Entity) (entities entities' : List Entity) (columns 
   pub place : IsPlace (λ x. is_same x e) entities row
   pub entities_after : entities' ≡ remove entities row
   pub columns_after : columns' ≡ map (remove_in row) columns
+
+-- the entity's components were replaced
+pub record IsRenewedAt (e : Entity) (components : List StampedValue) (entities : List Entity) (columns columns' : List ColumnSlotValue) : Type 0 where
+  pub row : ℕ
+  pub place : IsPlace (λ x. is_same x e) entities row
+  pub columns_after : columns' ≡ replace_all row columns (map stamped_cell components)
 
 -- these are the entity's components, in the order of the columns
 pub record AreReadAt (e : Entity) (components : List StampedValue) (entities : List Entity) (columns : List ColumnSlotValue) : Type 0 where

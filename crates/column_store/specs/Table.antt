@@ -79,6 +79,10 @@ abbrev pub update_row : Entity → (TableRow → TableRow) → List TableRow →
 update_row e f [] = []
 update_row e f (row ∷ rows) = cond (is_same row.entity e) (f row ∷ rows) (row ∷ update_row e f rows)
 
+-- a row that has these components in place of its own
+abbrev pub renewed_row : List StampedValue → TableRow → TableRow
+renewed_row components row = record { entity = row.entity; cells = map (λ s. Some (stamped_cell s)) components }
+
 -- a row with f applied to its cell of a kind
 abbrev pub with_cell_at : List ℕ → ℕ → (Option Cell → Option Cell) → TableRow → TableRow
 with_cell_at kinds kind f row = record { entity = row.entity; cells = update_kind kinds kind f row.cells }

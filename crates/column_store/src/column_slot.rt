@@ -7,7 +7,7 @@ ghost use Rattle.kinds.specs.Value.{value_number, value_words};
 ghost use Rattle.column_store.specs.Cells.{stamped_number, stamped_cell};
 ghost use Rattle.column_store.specs.Table.{is_home};
 ghost use Rattle.column_store.specs.Table.Standing.{Owned, Away};
-ghost use Rattle.column_store.specs.Inside.{cell_at, kind_in, standing_at, owned_slot, empty_column, write_in, insert_in, remove_in, insert_all, HoldsRow, OwnsRow, Takes, AllTake, IsAtHome, IsOwned, AreAlike};
+ghost use Rattle.column_store.specs.Inside.{cell_at, kind_in, standing_at, owned_slot, empty_column, write_in, insert_in, remove_in, replace_in, insert_all, replace_all, HoldsRow, OwnsRow, Takes, AllTake, Renews, AllRenew, IsAtHome, IsOwned, AreAlike};
 
 use crate::stamped::{StampedColumn, StampedValue};
 use change_ticks::clock::Tick;
@@ -167,6 +167,17 @@ impl ColumnSlot {
         }
     }
 
+    // Replaces the component at a row, with its stamp.
+    fn replace(&mut self, row: usize, component: StampedValue)
+        requires { Renews row self.old component }
+        ensures { self.new ≡ replace_in row (stamped_cell component) self.old }
+    {
+        match &mut self.spot {
+            Spot::Home(column) => column.replace(row, component),
+            _ => unreachable!(),
+        }
+    }
+
     // Inserts a component before a row. Where memory is wanting the column stays as it was.
     fn insert(&mut self, row: usize, component: StampedValue) -> Result<(), AllocError>
         requires { Takes row self.old component }
@@ -243,6 +254,20 @@ pub(crate) fn insert_row(
         return Err(AllocError);
     }
     Ok(())
+}
+
+// Replaces a row of components, one in each column.
+pub(crate) fn replace_row(columns: &mut [ColumnSlot], row: usize, components: &[StampedValue])
+    requires { AllRenew row columns.old components.now }
+    ensures { columns.new ≡ replace_all row columns.old (map stamped_cell components.now) }
+{
+    let Some((component, other_components)) = components.split_first() else {
+        return;
+    };
+    if let Some((column, other_columns)) = columns.split_first_mut() {
+        column.replace(row, *component);
+        replace_row(other_columns, row, other_components);
+    }
 }
 
 // Removes a row from each column.

@@ -8,9 +8,9 @@ ghost use Rattle.column_store.specs.Cells.{stamped_number, stamped_cell};
 ghost use Rattle.column_store.specs.Table.{Standing, is_not_away, is_own_if, cell_in, standing_of, kind_cells, write_cell, lent, homed, IsHome, IsAlike};
 ghost use Rattle.column_store.specs.Order.{AreRising};
 ghost use Rattle.std.specs.Arc.{arc_value};
-ghost use Rattle.column_store.specs.Inside.{table_of, IsTable, IsPlaced, IsAbsent, IsKindPlaced, IsNoKind, AllTake, IsPutAt, IsRemovedAt, IsThere, AreReadAt, HoldsRow, OwnsRow};
+ghost use Rattle.column_store.specs.Inside.{table_of, IsTable, IsPlaced, IsAbsent, IsKindPlaced, IsNoKind, AllTake, IsPutAt, IsRemovedAt, IsRenewedAt, AllRenew, IsThere, AreReadAt, HoldsRow, OwnsRow};
 
-use crate::column_slot::{ColumnSlot, insert_row, read_row, remove_row};
+use crate::column_slot::{ColumnSlot, insert_row, read_row, remove_row, replace_row};
 use crate::entity_list::EntityList;
 use crate::order::{column_in, gap_in, row_in};
 use crate::stamped::{StampedColumn, StampedValue};
@@ -205,6 +205,24 @@ pub(crate) fn remove_in(entities: &mut EntityList, columns: &mut [ColumnSlot], e
             entities.remove(row);
             remove_row(columns, row);
         }
+    }
+}
+
+// Replaces the components of an entity.
+pub(crate) fn renew_in(
+    entities: &[Entity],
+    columns: &mut [ColumnSlot],
+    e: Entity,
+    components: &[StampedValue],
+)
+    requires rising { AreRising entities.now }
+    requires there { IsThere e entities.now }
+    requires renew { (row : ℕ) → row < length entities.now → AllRenew row columns.old components.now }
+    ensures { IsRenewedAt e components.now entities.now columns.old columns.new }
+{
+    match row_in(entities, e) {
+        None => unreachable!(),
+        Some(row) => replace_row(columns, row, components),
     }
 }
 

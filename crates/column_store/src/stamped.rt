@@ -139,6 +139,16 @@ impl StampedColumn {
         self.stamps[place].changed = tick;
     }
 
+    /// Replaces the component at a place by one of the column's kind, with the stamp of that.
+    pub fn replace(&mut self, place: usize, component: StampedValue)
+        requires kind { self.old.kind ≡ stamped_number component }
+        requires within { place < length self.old.cells }
+        ensures { self.new ≡ record self.old { cells = update_at place (λ _. stamped_cell component) self.old.cells } }
+    {
+        set_value(&mut self.column, place, component.value);
+        self.stamps[place] = component.stamp;
+    }
+
     /// Inserts a component of the column's kind before a place. Where memory is wanting the column stays as it was.
     pub fn insert(&mut self, place: usize, component: StampedValue) -> Result<(), AllocError>
         requires kind { self.old.kind ≡ stamped_number component }

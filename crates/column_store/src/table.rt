@@ -9,13 +9,14 @@ ghost use Rattle.column_store.specs.Cells.{stamped_number, stamped_cell, stamp_o
 ghost use Rattle.column_store.specs.Kinds.{in_order, AreBelow};
 ghost use Rattle.column_store.specs.Order.{AreRising};
 ghost use Rattle.std.specs.Arc.{arc_value};
-ghost use Rattle.column_store.specs.Table.{Standing, empty_table, is_home, is_owned, is_not_away, is_own_if, row_of, put_row, new_row, without_row, cell_in, standing_of, kind_cells, write_cell, lent, owned, homed, IsHome, IsAlike};
+ghost use Rattle.column_store.specs.Table.{Standing, empty_table, is_home, is_owned, is_not_away, is_own_if, row_of, put_row, new_row, without_row, update_row, renewed_row, cell_in, standing_of, kind_cells, write_cell, lent, owned, homed, IsHome, IsAlike};
 
 use crate::column_slot::{ColumnSlot, empty_columns, own_each};
 use crate::entity_list::EntityList;
 use crate::order::row_in;
 use crate::parts::{
-    among, find_in, home_in, lend_in, put_in, read_in, remove_in, seen_in, share_in, write_in,
+    among, find_in, home_in, lend_in, put_in, read_in, remove_in, renew_in, seen_in, share_in,
+    write_in,
 };
 use crate::stamped::{StampedColumn, StampedValue};
 use change_ticks::clock::Tick;
@@ -192,6 +193,16 @@ impl Table {
         ensures err { OnErr result (self.new ≡ self.old) }
     {
         put_in(&mut self.entities, &mut self.columns, e, components)
+    }
+
+    /// Replaces all components of an entity, which are in the order of the kinds, with their stamps.
+    pub fn renew(&mut self, e: Entity, components: &[StampedValue])
+        requires there { IsSome (row_of e self.old.rows) }
+        requires kinds { map stamped_number components.now ≡ self.old.kinds }
+        requires owned { IsTrue (list_all is_owned self.old.standings) }
+        ensures { self.new ≡ record self.old { rows = update_row e (renewed_row components.now) self.old.rows } }
+    {
+        renew_in(self.entities.as_slice(), &mut self.columns, e, components);
     }
 
     /// Removes the row of an entity.

@@ -1,4 +1,5 @@
 -- What commands say to the definitions.
+use Rattle.std.specs.Prelude.{ℕ, List, [], get_or, flat_map}
 use Rattle.model.specs.shown.Outcome as outcome
 use Rattle.model.specs.shown.Outcome.Command.{Spawn, Insert, Remove, Despawn}
 use Rattle.kinds.specs.Kind.{kind_number}
@@ -12,3 +13,7 @@ command_of (the.Spawn e) = Spawn e
 command_of (the.Insert e value) = Insert e (value_number value) (value_words value)
 command_of (the.Remove e kind) = Remove e (kind_number kind)
 command_of (the.Despawn e) = Despawn e
+
+-- the commands of the buffers of these numbers, one buffer after the other
+abbrev pub commands_of : List (List outcome.Command) → List ℕ → List outcome.Command
+commands_of buffers order = flat_map (λ n. get_or buffers n []) order

@@ -1,5 +1,8 @@
-// Commands: what systems ask of the structure of the world, kept in order of issue until a sync point.
+// Commands: what systems ask of the structure of the world, kept in order of issue until a sync point, and done there.
 #![tactic(auto)]
 
+pub mod apply;
 pub mod buffer;
 pub mod command;
+mod pending;
+mod rows;

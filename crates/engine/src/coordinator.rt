@@ -68,7 +68,7 @@ fn run_once<'s, M: Mode<'s>, B: Body + 's>(
     ensures meanings { OnOk result (meanings B.meaning built.now slots.new ≡ meanings B.meaning built.now slots.old) }
     ensures home { OnOk result (AreAllHome state.new.layout) }
 {
-    let mut pool = Pool::new(alloc)?;
+    let mut pool = Pool::new(alloc);
     let trace = run_turns(alloc, built, slots, state, &mut pool, mode);
     drain(&mut pool, mode);
     trace

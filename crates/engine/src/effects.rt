@@ -108,24 +108,25 @@ fn prepare(
     built: &Built,
     state: &mut OpenState,
     system: u32,
-) -> Result<View, RunFault>
+) -> Result<Box<View>, RunFault>
     requires known { system < length built.now.systems }
     requires memories { HasMemories built.now state.old.state }
     requires home { AllByRecursion (λ query. ArePickedHome query state.old.layout) (params_of built.now system).queries }
-    ensures params { IfOk result (λ view. view.params ≡ params_of built.now system) }
-    ensures shown { IfOk result (λ view. view.shown ≡ shown (params_of built.now system) (memory_of_system state.old.state system) state.old.state []) }
-    ensures untouched { IfOk result (λ view. view.outcome ≡ untouched view.params view.shown) }
-    ensures tick { IfOk result (λ view. view.opening.tick ≡ next_tick state.old.state) }
-    ensures written { IfOk result (λ view. AllByRecursion (IsWrittenBy (params_of built.now system).queries state.old.layout) (lent_in view.opening.taken)) }
-    ensures held { IfOk result (λ view. (others : List (List Column)) → AreOut (store_of state.old) others → AreOut (store_of state.new) (others ++ view.opening.taken)) }
-    ensures noted { IfOk result (λ view. state.new ≡ record { state = noted system (params_of built.now system).reads (next_tick state.old.state) (ticked state.old.state); layout = with_away (lent_in view.opening.taken) state.old.layout }) }
+    ensures params { IfOk result (λ view. view.value.params ≡ params_of built.now system) }
+    ensures shown { IfOk result (λ view. view.value.shown ≡ shown (params_of built.now system) (memory_of_system state.old.state system) state.old.state []) }
+    ensures untouched { IfOk result (λ view. view.value.outcome ≡ untouched view.value.params view.value.shown) }
+    ensures tick { IfOk result (λ view. view.value.opening.tick ≡ next_tick state.old.state) }
+    ensures written { IfOk result (λ view. AllByRecursion (IsWrittenBy (params_of built.now system).queries state.old.layout) (lent_in view.value.opening.taken)) }
+    ensures held { IfOk result (λ view. (others : List (List Column)) → AreOut (store_of state.old) others → AreOut (store_of state.new) (others ++ view.value.opening.taken)) }
+    ensures noted { IfOk result (λ view. state.new ≡ record { state = noted system (params_of built.now system).reads (next_tick state.old.state) (ticked state.old.state); layout = with_away (lent_in view.value.opening.taken) state.old.layout }) }
     ensures spent { IsErrOf result RunFault.ClockSpent ↔ (has_tick state.old.state ≡ false) }
     ensures only { (f : RunFault) → result ≡ Err f → (f ≡ RunFault.ClockSpent) ⊎ (f ≡ RunFault.Memory) }
 {
     let params = built.params(system);
     built.apart();
     let tick = state.coming()?;
-    let view = state.open(alloc, params, system as usize, tick)?;
+    let opened = state.open(alloc, params, system as usize, tick)?;
+    let view = Box::new(alloc, opened)?;
     let Ok(_) = state.next() else {
         unreachable!();
     };
@@ -226,16 +227,16 @@ fn settle<B: Body>(
     requires known { done.system < length built.now.systems }
     requires slot { done.system < length slots.old }
     requires memory { done.system < length state.old.state.systems }
-    requires lent { AreLent (store_of state.old) done.view.opening.taken }
-    requires past { done.view.opening.tick ≤ state.old.state.world.clock }
-    ensures numbers { OnOk result (has_event_numbers (events_sent done.view.params.writes done.view.outcome.events) state.old.state.events ≡ true) }
+    requires lent { AreLent (store_of state.old) done.view.value.opening.taken }
+    requires past { done.view.value.opening.tick ≤ state.old.state.world.clock }
+    ensures numbers { OnOk result (has_event_numbers (events_sent done.view.value.params.writes done.view.value.outcome.events) state.old.state.events ≡ true) }
     ensures answer { OnOk result (done.answer ≡ Ok tt) }
     ensures slots { OnOk result (slots.new ≡ set slots.old done.system (Some done.body)) }
-    ensures laid { OnOk result (state.new ≡ record { state = laid done.system done.view.opening.tick done.view state.old.state; layout = with_back (lent_in done.view.opening.taken) state.old.layout }) }
-    ensures held { OnOk result ((front rest : List (List Column)) → AreOut (store_of state.old) (front ++ (done.view.opening.taken ++ rest)) → AreOut (store_of state.new) (front ++ rest)) }
-    ensures commands { done.view.outcome.commands ≡ [] }
+    ensures laid { OnOk result (state.new ≡ record { state = laid done.system done.view.value.opening.tick done.view.value state.old.state; layout = with_back (lent_in done.view.value.opening.taken) state.old.layout }) }
+    ensures held { OnOk result ((front rest : List (List Column)) → AreOut (store_of state.old) (front ++ (done.view.value.opening.taken ++ rest)) → AreOut (store_of state.new) (front ++ rest)) }
+    ensures commands { done.view.value.outcome.commands ≡ [] }
     ensures refused { (k : ℕ) → result ≡ Err (RunFault.BodyFault k) → done.answer ≡ Err (Refused k) }
-    ensures spent { result ≡ Err RunFault.ClockSpent → (done.answer ≡ Ok tt) × (has_event_numbers (events_sent done.view.params.writes done.view.outcome.events) state.old.state.events ≡ false) }
+    ensures spent { result ≡ Err RunFault.ClockSpent → (done.answer ≡ Ok tt) × (has_event_numbers (events_sent done.view.value.params.writes done.view.value.outcome.events) state.old.state.events ≡ false) }
     ensures unspoiled { result ≡ Err RunFault.Spoiled → ⊥ }
     ensures unworked { result ≡ Err RunFault.NoWorker → ⊥ }
 {
@@ -249,7 +250,7 @@ fn settle<B: Body>(
     slots[system as usize] = Some(body);
     match answer {
         Ok(()) => {
-            state.close(view, system as usize)?;
+            state.close(Box::into_inner(view), system as usize)?;
             Ok(())
         }
         Err(BodyFault::Memory) => Err(RunFault::Memory),

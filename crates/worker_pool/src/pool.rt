@@ -37,8 +37,8 @@ impl<B: Body> Model for Out<B> {
     ghost Value = { JobOut B };
 
     ghost view = { λ o. elim o.work [
-      | Here start ↦ record { number = start.number; system = start.system; body = start.body; view = start.view; there = false }
-      | There child ↦ record { number = child.promise.start.value.number; system = child.promise.start.value.system; body = child.promise.start.value.body; view = child.promise.start.value.view; there = true }
+      | Here start ↦ record { number = start.number; system = start.system; body = start.body; view = start.view.value; there = false }
+      | There child ↦ record { number = child.promise.start.value.number; system = child.promise.start.value.system; body = child.promise.start.value.body; view = child.promise.start.value.view.value; there = true }
     ] };
 }
 
@@ -50,7 +50,7 @@ impl<B: Body> Out<B> {
 
     // What comes of the job.
     fn finish<J: Joins>(self, mode: &J) -> Option<Done<B>>
-        ensures ran { IfSome result (λ done. Ran B.meaning B.fits self.system self.body self.view done.system done.body done.view done.answer) }
+        ensures ran { IfSome result (λ done. Ran B.meaning B.fits self.system self.body self.view done.system done.body done.view.value done.answer) }
         ensures none { IfNone result (self.there ≡ true) }
         ensures joins { IsTrue (J.joins mode.now) → IsSome result }
     {
@@ -61,12 +61,30 @@ impl<B: Body> Out<B> {
     }
 }
 
+// Where threads tell that they are done.
+#[derive(Drop)]
+struct Notices {
+    bell: Sender<u64>,
+    heard: Receiver<u64>,
+}
+
+// What a thread rings when it is done. The first that is asked for makes the channel.
+fn bell_of(alloc: Global, notices: &mut Option<Notices>) -> Result<Sender<u64>, AllocError> {
+    if let Some(made) = notices {
+        return made.bell.clone();
+    }
+    let (bell, heard) = crossbeam_channel::bounded(alloc, MOST_NOTICES)?;
+    let rung = bell.clone()?;
+    *notices = Some(Notices { bell, heard });
+    Ok(rung)
+}
+
 /// The jobs that are out. Contracts see them as a list, in the order in which they were handed out.
 #[derive(Drop)]
 pub struct Pool<B: Body> {
+    alloc: Global,
     out: Vec<Out<B>>,
-    notices: Receiver<u64>,
-    bell: Sender<u64>,
+    notices: Option<Notices>,
 }
 
 impl<B: Body> Model for Pool<B> {
@@ -80,15 +98,14 @@ impl<B: Body> Model for Pool<B> {
 
 impl<B: Body> Pool<B> {
     /// A pool with no job out.
-    pub fn new(alloc: Global) -> Result<Self, AllocError>
-        ensures { IfOk result (λ pool. pool ≡ []) }
+    pub fn new(alloc: Global) -> Self
+        ensures { result ≡ [] }
     {
-        let (bell, notices) = crossbeam_channel::bounded(alloc, MOST_NOTICES)?;
-        Ok(Pool {
+        Pool {
+            alloc,
             out: Vec::new(alloc),
-            notices,
-            bell,
-        })
+            notices: None,
+        }
     }
 
     /// How many jobs are out.
@@ -103,11 +120,26 @@ impl<B: Body> Pool<B> {
     pub fn hand_out<'s, M: Mode<'s>>(&mut self, mode: &M, start: Start<B>) -> Result<(), HandFault>
     where
         B: 's,
-        ensures ok { OnOk result (self.new ≡ self.old ++ record { number = start.number; system = start.system; body = start.body; view = start.view; there = M.has_scope mode.now } ∷ []) }
+        ensures ok { OnOk result (self.new ≡ self.old ++ record { number = start.number; system = start.system; body = start.body; view = start.view.value; there = M.has_scope mode.now } ∷ []) }
         ensures err { OnErr result (self.new ≡ self.old) }
         ensures worker { result ≡ Err HandFault.NoWorker → M.has_scope mode.now ≡ true }
     {
         self.give(mode.scope(), mode.line(), mode.gate(), start)
+    }
+
+    // The place of a job that is done, the first where none is told of.
+    fn place_of_done<N: Line>(&self, line: N) -> usize
+        requires { 0 < length self.now }
+        ensures { result < length self.now }
+    {
+        let Some(notices) = &self.notices else {
+            return 0;
+        };
+        let number = line.hear(&notices.heard).unwrap_or(0);
+        self.out
+            .iter()
+            .position(|out| out.is_told(number))
+            .unwrap_or(0)
     }
 
     // Hands a job out to a thread of the scope, or keeps it where there is none.
@@ -120,7 +152,7 @@ impl<B: Body> Pool<B> {
     ) -> Result<(), HandFault>
     where
         B: 's,
-        ensures ok { OnOk result (self.new ≡ self.old ++ record { number = start.number; system = start.system; body = start.body; view = start.view; there = is_some scope.entry } ∷ []) }
+        ensures ok { OnOk result (self.new ≡ self.old ++ record { number = start.number; system = start.system; body = start.body; view = start.view.value; there = is_some scope.entry } ∷ []) }
         ensures err { OnErr result (self.new ≡ self.old) }
         ensures worker { result ≡ Err HandFault.NoWorker → is_some scope.entry ≡ true }
     {
@@ -129,7 +161,7 @@ impl<B: Body> Pool<B> {
         let work = match scope {
             None => Work::Here(start),
             Some(scope) => {
-                let bell = self.bell.clone()?;
+                let bell = bell_of(self.alloc, &mut self.notices)?;
                 let promise = DoneOf::of(&start);
                 let job = move || {
                     gate.enter(number);
@@ -155,17 +187,12 @@ impl<B: Body> Pool<B> {
     where
         B: 's,
         requires { 0 < length self.old }
-        ensures ran { IfSome result (λ done. (i : ℕ) × IsSomeAnd (slice_get self.old i) (λ job. Ran B.meaning B.fits job.system job.body job.view done.system done.body done.view done.answer) × (self.new ≡ remove self.old i)) }
+        ensures ran { IfSome result (λ done. (i : ℕ) × IsSomeAnd (slice_get self.old i) (λ job. Ran B.meaning B.fits job.system job.body job.view done.system done.body done.view.value done.answer) × (self.new ≡ remove self.old i)) }
         ensures none { IfNone result ((i : ℕ) × IsSomeAnd (slice_get self.old i) (λ job. job.there ≡ true)) }
         ensures joins { IsTrue (M.joins mode.now) → IsSome result }
         ensures shorter { length self.new + 1 ≡ length self.old }
     {
-        let heard = mode.line().hear(&self.notices).unwrap_or(0);
-        let at = self
-            .out
-            .iter()
-            .position(|out| out.is_told(heard))
-            .unwrap_or(0);
+        let at = self.place_of_done(mode.line());
         self.out.remove(at).finish(mode)
     }
 }

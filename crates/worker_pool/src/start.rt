@@ -18,10 +18,10 @@ pub struct Start<B: Body> {
     pub system: u32,
     /// Its body.
     pub body: B,
-    /// What it is shown.
-    pub view: View,
-    ghost fits: { IsTrue (B.fits body view.params) },
-    ghost untouched: { view.outcome ≡ untouched view.params view.shown },
+    /// What it is shown, in a box: a job is moved often, and a view is large.
+    pub view: Box<View>,
+    ghost fits: { IsTrue (B.fits body view.value.params) },
+    ghost untouched: { view.value.outcome ≡ untouched view.value.params view.value.shown },
 }
 
 /// A body that has run.
@@ -32,14 +32,14 @@ pub struct Done<B> {
     /// Its body.
     pub body: B,
     /// What it was shown and what it wrote.
-    pub view: View,
+    pub view: Box<View>,
     /// What it answered.
     pub answer: Result<(), BodyFault>,
 }
 
 /// Runs the body of a start.
 pub fn run_start<B: Body>(start: Start<B>) -> Done<B>
-    ensures { Ran B.meaning B.fits start.system start.body start.view result.system result.body result.view result.answer }
+    ensures { Ran B.meaning B.fits start.system start.body start.view.value result.system result.body result.view.value result.answer }
 {
     let Start {
         number: _,
@@ -73,5 +73,5 @@ impl<B: Body> DoneOf<B> {
 }
 
 impl<B: Body> Promise<Done<B>> for DoneOf<B> {
-    ghost kept_by = { λ p d. Ran B.meaning B.fits p.start.value.system p.start.value.body p.start.value.view d.system d.body d.view d.answer };
+    ghost kept_by = { λ p d. Ran B.meaning B.fits p.start.value.system p.start.value.body p.start.value.view.value d.system d.body d.view.value d.answer };
 }

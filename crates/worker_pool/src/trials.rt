@@ -58,7 +58,7 @@ fn start_of(alloc: Global, number: u64, system: u32) -> Result<Start<Refusing>, 
         number,
         system,
         body: Refusing { number: 7 },
-        view,
+        view: Box::new(alloc, view)?,
     })
 }
 
@@ -80,7 +80,7 @@ fn refused(done: &Option<Done<Refusing>>, system: u32) -> bool {
 
 #[test]
 fn one_thread(rt: HostRuntime) -> Result<(), Fail> {
-    let mut pool = Pool::new(rt.alloc())?;
+    let mut pool = Pool::new(rt.alloc());
     pool.hand_out(&Single, start_of(rt.alloc(), 1, 5)?)?;
     assert_eq!(rt; pool.count(), 1);
     assert!(rt; refused(&next(&mut pool, &Single), 5));
@@ -121,7 +121,7 @@ fn two_in_scope<'s, E: 's, R: Threads + Wait + Copy + Send + 's, G: Gate + 's>(
     alloc: Global,
 ) -> Result<bool, HandFault> {
     let mode = Workers::new(2, scope, runtime, gate);
-    let mut pool = Pool::new(alloc)?;
+    let mut pool = Pool::new(alloc);
     pool.hand_out(&mode, start_of(alloc, 1, 0)?)?;
     pool.hand_out(&mode, start_of(alloc, 2, 1)?)?;
     let one = next(&mut pool, &mode);

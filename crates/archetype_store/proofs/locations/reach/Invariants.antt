@@ -1,9 +1,12 @@
-use Rattle.std.proofs.Common.{◌≡◌, ◌-◌, ℕ, suc, vec_len}
+use Rattle.std.proofs.Common.{◌≡◌, ◌≤◌, length, ◌-◌, ℕ, suc, vec_len}
 use Rattle.archetype_store.specs.Archetypes.{place_of}
 use Rattle.archetype_store.proofs.locations.reach.Given as goal
 
 abbrev pub invariant-loop-places : goal.invariant-loop-places
-invariant-loop-places l = (k : ℕ) → place_of l.places.items k ≡ place_of l.initial.places.items k
+invariant-loop-places l = record {
+  same : (k : ℕ) → place_of l.places.items k ≡ place_of l.initial.places.items k;
+  longer : length l.initial.places.items ≤ length l.places.items;
+}
 
 abbrev pub decreases-loop-places : goal.decreases-loop-places
 decreases-loop-places l = suc l.index - vec_len l.places

@@ -1,10 +1,10 @@
-use Rattle.std.proofs.Common.{refl, rules}
+use Rattle.std.proofs.Common.{refl}
 use denote.Param.Send.{sendable}
 use Rattle.engine.proofs.coordinator.run_once.Goals as goal
 
 pub run_turns-trace-requires : goal.run_turns-trace-requires
 run_turns-trace-requires g c = λ lifetimes.
-    (c.type_bounds.send-B, (c.type_bounds.send-M-Line, (c.type_bounds.send-M-Gate, (c.type_bounds.sync-M-Gate, ((refl, tt), (c.requires.suits, (c.requires.home, c.in_ok-pool.ensures)))))))
+    (c.type_bounds.send-B, (c.type_bounds.send-M-Line, (c.type_bounds.send-M-Gate, (c.type_bounds.sync-M-Gate, ((refl, tt), (c.requires.suits, (c.requires.home, c.new-pool.ensures)))))))
 
 pub drain-requires : goal.drain-requires
 drain-requires g c = λ lifetimes.

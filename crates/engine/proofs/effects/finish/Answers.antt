@@ -13,9 +13,9 @@ settle-requires-clause-known g c = λ lifetimes lives.
     let out = c.args.pool.now in
     let left = c.bring_back.new.self in
     let ran = c.in-Some.ensures.ran in
-    let back = back_from meaning fits out left done.system done.body done.view done.answer ran.0 ran.1 ran.2 in
+    let back = back_from meaning fits out left done.system done.body done.view.value done.answer ran.0 ran.1 ran.2 in
     let placed = c.requires.placed in
-    back_known meaning fits out left done.system done.body done.view done.answer there s placed.0 c.args.slots.now c.args.state.now back placed.1
+    back_known meaning fits out left done.system done.body done.view.value done.answer there s placed.0 c.args.slots.now c.args.state.now back placed.1
 
 pub settle-requires-clause-slot : goal.settle-requires-clause-slot
 settle-requires-clause-slot g c = λ lifetimes lives.
@@ -27,9 +27,9 @@ settle-requires-clause-slot g c = λ lifetimes lives.
     let out = c.args.pool.now in
     let left = c.bring_back.new.self in
     let ran = c.in-Some.ensures.ran in
-    let back = back_from meaning fits out left done.system done.body done.view done.answer ran.0 ran.1 ran.2 in
+    let back = back_from meaning fits out left done.system done.body done.view.value done.answer ran.0 ran.1 ran.2 in
     let placed = c.requires.placed in
-    back_slot meaning fits out left done.system done.body done.view done.answer there s placed.0 c.args.slots.now c.args.state.now back placed.1
+    back_slot meaning fits out left done.system done.body done.view.value done.answer there s placed.0 c.args.slots.now c.args.state.now back placed.1
 
 pub settle-requires-clause-memory : goal.settle-requires-clause-memory
 settle-requires-clause-memory g c = λ lifetimes lives.
@@ -41,9 +41,9 @@ settle-requires-clause-memory g c = λ lifetimes lives.
     let out = c.args.pool.now in
     let left = c.bring_back.new.self in
     let ran = c.in-Some.ensures.ran in
-    let back = back_from meaning fits out left done.system done.body done.view done.answer ran.0 ran.1 ran.2 in
+    let back = back_from meaning fits out left done.system done.body done.view.value done.answer ran.0 ran.1 ran.2 in
     let placed = c.requires.placed in
-    back_memory meaning fits out left done.system done.body done.view done.answer there s placed.0 c.args.slots.now c.args.state.now back placed.1
+    back_memory meaning fits out left done.system done.body done.view.value done.answer there s placed.0 c.args.slots.now c.args.state.now back placed.1
 
 pub settle-requires-clause-lent : goal.settle-requires-clause-lent
 settle-requires-clause-lent g c = λ lifetimes lives.
@@ -55,9 +55,9 @@ settle-requires-clause-lent g c = λ lifetimes lives.
     let out = c.args.pool.now in
     let left = c.bring_back.new.self in
     let ran = c.in-Some.ensures.ran in
-    let back = back_from meaning fits out left done.system done.body done.view done.answer ran.0 ran.1 ran.2 in
+    let back = back_from meaning fits out left done.system done.body done.view.value done.answer ran.0 ran.1 ran.2 in
     let placed = c.requires.placed in
-    back_lent meaning fits out left done.system done.body done.view done.answer there s placed.0 c.args.slots.now c.args.state.now back placed.1
+    back_lent meaning fits out left done.system done.body done.view.value done.answer there s placed.0 c.args.slots.now c.args.state.now back placed.1
 
 pub settle-requires-clause-past : goal.settle-requires-clause-past
 settle-requires-clause-past g c = λ lifetimes lives.
@@ -69,9 +69,9 @@ settle-requires-clause-past g c = λ lifetimes lives.
     let out = c.args.pool.now in
     let left = c.bring_back.new.self in
     let ran = c.in-Some.ensures.ran in
-    let back = back_from meaning fits out left done.system done.body done.view done.answer ran.0 ran.1 ran.2 in
+    let back = back_from meaning fits out left done.system done.body done.view.value done.answer ran.0 ran.1 ran.2 in
     let placed = c.requires.placed in
-    back_past meaning fits out left done.system done.body done.view done.answer there s placed.0 c.args.slots.now c.args.state.now back placed.1
+    back_past meaning fits out left done.system done.body done.view.value done.answer there s placed.0 c.args.slots.now c.args.state.now back placed.1
 
 pub returns-in_default-clause-worker : goal.returns-in_default-clause-worker
 returns-in_default-clause-worker g c = λ e.
@@ -89,8 +89,8 @@ returns-clause-running g c =
     let out = c.args.pool.now in
     let left = c.bring_back.new.self in
     let ran = c.in-Some.ensures.ran in
-    let back = back_from meaning fits out left done.system done.body done.view done.answer ran.0 ran.1 ran.2 in
-    (back.job, back_in meaning fits out left done.system done.body done.view done.answer there s c.requires.placed.0 c.args.slots.now c.args.state.now back c.requires.placed.1, sym back.ran.same_system)
+    let back = back_from meaning fits out left done.system done.body done.view.value done.answer ran.0 ran.1 ran.2 in
+    (back.job, back_in meaning fits out left done.system done.body done.view.value done.answer there s c.requires.placed.0 c.args.slots.now c.args.state.now back c.requires.placed.1, sym back.ran.same_system)
 
 pub returns-clause-finished : goal.returns-clause-finished
 returns-clause-finished g c = λ bodies placed.
@@ -102,9 +102,9 @@ returns-clause-finished g c = λ bodies placed.
     let out = c.args.pool.now in
     let left = c.bring_back.new.self in
     let ran = c.in-Some.ensures.ran in
-    let back = back_from meaning fits out left done.system done.body done.view done.answer ran.0 ran.1 ran.2 in
+    let back = back_from meaning fits out left done.system done.body done.view.value done.answer ran.0 ran.1 ran.2 in
     let ok = c.in_ok-settle.ensures in
-    back_finished meaning fits out left done.system done.body done.view done.answer there s bodies c.args.slots.now c.args.state.now back placed c.settle.new.state ok.answer ok.numbers ok.laid ok.held ok.commands
+    back_finished meaning fits out left done.system done.body done.view.value done.answer there s bodies c.args.slots.now c.args.state.now back placed c.settle.new.state ok.answer ok.numbers ok.laid ok.held ok.commands
 
 pub returns-clause-placed : goal.returns-clause-placed
 returns-clause-placed g c = λ bodies placed.
@@ -116,10 +116,10 @@ returns-clause-placed g c = λ bodies placed.
     let out = c.args.pool.now in
     let left = c.bring_back.new.self in
     let ran = c.in-Some.ensures.ran in
-    let back = back_from meaning fits out left done.system done.body done.view done.answer ran.0 ran.1 ran.2 in
+    let back = back_from meaning fits out left done.system done.body done.view.value done.answer ran.0 ran.1 ran.2 in
     let ok = c.in_ok-settle.ensures in
     subst (λ slots. Placed meaning fits there s bodies slots left c.settle.new.state) (sym ok.slots)
-    (back_placed meaning fits out left done.system done.body done.view done.answer there s bodies c.args.slots.now c.args.state.now back placed c.settle.new.state ok.answer ok.numbers ok.laid ok.held ok.commands)
+    (back_placed meaning fits out left done.system done.body done.view.value done.answer there s bodies c.args.slots.now c.args.state.now back placed c.settle.new.state ok.answer ok.numbers ok.laid ok.held ok.commands)
 
 pub returns-in_err-settle-clause-refused : goal.returns-in_err-settle-clause-refused
 returns-in_err-settle-clause-refused g c = λ k e bodies placed.
@@ -131,11 +131,11 @@ returns-in_err-settle-clause-refused g c = λ k e bodies placed.
     let out = c.args.pool.now in
     let left = c.bring_back.new.self in
     let ran = c.in-Some.ensures.ran in
-    let back = back_from meaning fits out left done.system done.body done.view done.answer ran.0 ran.1 ran.2 in
+    let back = back_from meaning fits out left done.system done.body done.view.value done.answer ran.0 ran.1 ran.2 in
     let answer = c.in_err-settle.ensures.refused k (let q = c.from_residual.ensures in let p = rw e at q.1 in cc) in (
       back.job,
-      back_in meaning fits out left done.system done.body done.view done.answer there s bodies c.args.slots.now c.args.state.now back placed,
-      back_refused meaning fits out left done.system done.body done.view done.answer there s bodies c.args.slots.now c.args.state.now back placed k answer,
+      back_in meaning fits out left done.system done.body done.view.value done.answer there s bodies c.args.slots.now c.args.state.now back placed,
+      back_refused meaning fits out left done.system done.body done.view.value done.answer there s bodies c.args.slots.now c.args.state.now back placed k answer,
     )
 
 pub returns-in_err-settle-clause-spent : goal.returns-in_err-settle-clause-spent
@@ -148,9 +148,9 @@ returns-in_err-settle-clause-spent g c = λ e bodies placed.
     let out = c.args.pool.now in
     let left = c.bring_back.new.self in
     let ran = c.in-Some.ensures.ran in
-    let back = back_from meaning fits out left done.system done.body done.view done.answer ran.0 ran.1 ran.2 in
+    let back = back_from meaning fits out left done.system done.body done.view.value done.answer ran.0 ran.1 ran.2 in
     let spent = c.in_err-settle.ensures.spent (let q = c.from_residual.ensures in let p = rw e at q.1 in cc) in (
       back.job,
-      back_in meaning fits out left done.system done.body done.view done.answer there s bodies c.args.slots.now c.args.state.now back placed,
-      back_unsent meaning fits out left done.system done.body done.view done.answer there s bodies c.args.slots.now c.args.state.now back placed spent.0 c.in_err-settle.ensures.commands spent.1,
+      back_in meaning fits out left done.system done.body done.view.value done.answer there s bodies c.args.slots.now c.args.state.now back placed,
+      back_unsent meaning fits out left done.system done.body done.view.value done.answer there s bodies c.args.slots.now c.args.state.now back placed spent.0 c.in_err-settle.ensures.commands spent.1,
     )

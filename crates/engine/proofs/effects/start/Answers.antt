@@ -20,7 +20,7 @@ pub returns-in-Ok-clause-started : goal.returns-in-Ok-clause-started
 returns-in-Ok-clause-started g c = λ bodies.
     let s = c.args.built.now in
     let n = c.args.system in
-    let job : JobOut g.row.B.Denot = record { number = c.args.number; system = n; body = c.take_body-body.result; view = c.in_ok-view.view; there = g.M.Hosts.has_scope c.args.mode.now } in
+    let job : JobOut g.row.B.Denot = record { number = c.args.number; system = n; body = c.take_body-body.result; view = c.in_ok-view.view.value; there = g.M.Hosts.has_scope c.args.mode.now } in
     let ok = c.in_ok-view.ensures in
     let handed : IsHanded s n c.args.state.now c.prepare.new.state job = record { system = refl; params = ok.params; shown_there = ok.shown; tick = ok.tick; written = ok.written; held = ok.held; is_later = ok.noted } in
     let alone = subst (λ (p : Params). p.spawns ≡ None) c.params.ensures c.law.ensures in
@@ -32,7 +32,7 @@ returns-in-Ok-clause-placed g c = λ bodies placed.
     let s = c.args.built.now in
     let n = c.args.system in
     let there = g.M.Hosts.has_scope c.args.mode.now in
-    let job : JobOut g.row.B.Denot = record { number = c.args.number; system = n; body = c.take_body-body.result; view = c.in_ok-view.view; there = there } in
+    let job : JobOut g.row.B.Denot = record { number = c.args.number; system = n; body = c.take_body-body.result; view = c.in_ok-view.view.value; there = there } in
     let ok = c.in_ok-view.ensures in
     let handed : IsHanded s n c.args.state.now c.prepare.new.state job = record { system = refl; params = ok.params; shown_there = ok.shown; tick = ok.tick; written = ok.written; held = ok.held; is_later = ok.noted } in
     subst (λ (out : List (JobOut g.row.B.Denot)). Placed g.B.Body.meaning g.B.Body.fits there s bodies c.take_body-body.new.slots out c.prepare.new.state) (sym c.in-Ok.ensures.ok)

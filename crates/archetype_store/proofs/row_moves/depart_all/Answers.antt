@@ -1,0 +1,30 @@
+use Rattle.std.proofs.Common.{◌≡◌, Some}
+use Rattle.archetype_store.specs.declared.locations.EntityLocation.{EntityLocation}
+use Rattle.archetype_store.specs.declared.row_moves.RowMove.{RowMove}
+use Rattle.archetype_store.specs.RowMoves.{placing_of, departed, CanDepart}
+use Rattle.archetype_store.proofs.Laid.{shaped_kept}
+use Rattle.archetype_store.proofs.Standings.{owned_kept}
+use Rattle.archetype_store.proofs.RowMoves.{next_step, not_yet, of_item, depart_kept}
+use Rattle.archetype_store.proofs.row_moves.depart_all.Goals as goal
+
+pub depart-requires-clause-shaped : goal.depart-requires-clause-shaped
+depart-requires-clause-shaped c = shaped_kept c.args.tables.now.items c.loop-row.tables.items c.loop-row.invariant.shapes c.requires.shaped
+
+pub depart-requires-clause-owned : goal.depart-requires-clause-owned
+depart-requires-clause-owned c = owned_kept c.args.tables.now.items c.loop-row.tables.items c.loop-row.invariant.shapes c.requires.owned
+
+pub depart-requires-clause-can : goal.depart-requires-clause-can
+depart-requires-clause-can c =
+    let old = c.args.tables.now.items in
+    let now = c.loop-row.tables.items in
+    let rows = c.args.rows.now in
+    let m = c.row-item.result in
+    λ from is. depart_kept old now (placing_of m) from c.loop-row.invariant.shapes
+    (not_yet departed old now now rows c.loop-row.row-index m c.loop-row-test.true c.row-item.is c.requires.apart c.loop-row.invariant from.table)
+    (of_item departed old now now rows c.loop-row.row-index m c.loop-row-test.true c.row-item.is c.requires.apart c.loop-row.invariant
+    (λ (r : RowMove). (from : EntityLocation) → r.from ≡ Some from → CanDepart old (placing_of r) from) c.requires.can from is)
+
+pub loop-row-preserved : goal.loop-row-preserved
+loop-row-preserved c =
+    next_step departed c.args.tables.now.items c.loop-row.tables.items c.depart.new.tables.items c.args.rows.now c.loop-row.row-index c.row-item.result c.loop-row-test.true c.row-item.is
+    c.requires.apart c.loop-row.invariant c.depart.ensures

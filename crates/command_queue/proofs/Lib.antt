@@ -1,0 +1,5 @@
+pub mod RowPlaces
+pub mod Puts
+pub mod Targets
+pub mod Inserted
+pub mod Spawns

@@ -1,0 +1,70 @@
+-- What commands make of entities before it is done in the world: changes of entities, one for an index.
+use Rattle.std.specs.Prelude.{ℕ, suc, ◌≡◌, ◌≢◌, Bool, true, false, cond, ◌==◌, List, [], ◌∷◌, get_or, nat_eq, Option, Some, None, option_map}
+use Rattle.std.specs.List.{AllByRecursion}
+use Rattle.std.specs.HashMap.{HashMap, get}
+use Rattle.model.specs.declared.entities.Entity.{Entity}
+use Rattle.model.specs.state.State.{Slot, World}
+use Rattle.model.specs.state.Commands.{CommandTarget, is_alive}
+use Rattle.entity_table.specs.Ids.{IsGranted}
+use Rattle.archetype_store.specs.Changes.{changed, AreOfOtherIndices, CanChange}
+use Rattle.archetype_store.specs.declared.change.Fate.{Fate}
+use Rattle.archetype_store.specs.declared.change.Fate.TheVariants as the
+use Rattle.archetype_store.specs.declared.change.EntityChange.{EntityChange}
+use Rattle.command_queue.specs.declared.pending.Pending.{Pending}
+use Rattle.command_queue.specs.declared.pending.Found.{Found}
+use Rattle.command_queue.specs.declared.pending.Found.TheVariants as found
+
+-- whether an entity is left alive
+abbrev pub is_left_alive : Fate → Bool
+is_left_alive (the.Lives components) = true
+is_left_alive the.Dies = false
+
+-- the place of the change of an index
+abbrev pub place_of : ℕ → List EntityChange → Option ℕ
+place_of index [] = None
+place_of index (c ∷ cs) = cond (c.entity.index == index) (Some 0) (option_map suc (place_of index cs))
+
+-- the changes with another one: it replaces that of its index, else it comes last
+abbrev pub put_change : EntityChange → List EntityChange → List EntityChange
+put_change c [] = c ∷ []
+put_change c (d ∷ ds) = cond (d.entity.index == c.entity.index) (c ∷ ds) (d ∷ put_change c ds)
+
+-- a map tells the place of each change by its index
+abbrev pub ArePlaced : {S : Type 0} → HashMap ℕ ℕ S → List EntityChange → Type 0
+ArePlaced places cs = (index : ℕ) → get nat_eq places index ≡ place_of index cs
+
+-- changes that a world can make, no two of one index
+pub record AreChanges (w : World) (cs : List EntityChange) : Type 0 where
+  pub apart : AreOfOtherIndices cs
+  pub can : AllByRecursion (CanChange w) cs
+
+-- the same, with the places told
+pub record IsPending (w : World) (p : Pending) : Type 0 where
+  pub changes : AreChanges w p.changes.items
+  pub places : ArePlaced p.places p.changes.items
+
+-- what is left once the changes are made
+abbrev pub target_of : World → Pending → CommandTarget
+target_of w p = record { slots = changed p.changes.items w.slots; passed_over = p.passed_over }
+
+-- the change at a place leaves the entity alive
+pub record IsKept (cs : List EntityChange) (e : Entity) (place : ℕ) : Type 0 where
+  pub place_is : place_of e.index cs ≡ Some place
+  pub entity : (d : EntityChange) → (get_or cs place d).entity ≡ e
+  pub lasts : (d : EntityChange) → is_left_alive (get_or cs place d).fate ≡ true
+
+-- how an entity stands: it lives by the change at a place, it lives and has no change, or it doesn't live
+abbrev pub Stands : List Slot → List EntityChange → Entity → Found → Type 0
+Stands slots cs e (found.Changed place) = IsKept cs e place
+Stands slots cs e found.Unchanged = (is_alive slots e ≡ true) × (place_of e.index cs ≡ None)
+Stands slots cs e found.Dead = is_alive (changed cs slots) e ≡ false
+
+-- the place of the change of an entity that lives, none where it doesn't live
+abbrev pub IsOpen : List Slot → List EntityChange → Entity → Option ℕ → Type 0
+IsOpen slots cs e (Some place) = IsKept cs e place
+IsOpen slots cs e None = is_alive (changed cs slots) e ≡ false
+
+-- ids that can be spawned one after the other: each is granted, none is named twice
+abbrev pub CanSpawn : List Slot → List Entity → Type 0
+CanSpawn slots [] = Unit {0}
+CanSpawn slots (e ∷ es) = IsGranted slots e × AllByRecursion (λ d. e ≢ d) es × CanSpawn slots es

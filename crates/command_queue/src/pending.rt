@@ -1,0 +1,238 @@
+// What commands make of entities, kept until it is done in the world.
+
+ghost use Rattle.std.specs.Prelude.{ℕ, ◌≡◌, ◌≤◌, ◌∷◌, [], None, map, min, suc, OnOk, IfOk};
+ghost use Rattle.kinds.specs.Kind.{kind_number};
+ghost use Rattle.kinds.specs.Value.{value_number, value_words};
+ghost use Rattle.model.specs.state.State.{most_passed_over};
+ghost use Rattle.model.specs.state.Commands.{apply_command, apply_buffer};
+ghost use Rattle.model.specs.shown.Outcome.{spawned_by};
+ghost use Rattle.model.specs.shown.Outcome.Command.{Insert, Remove, Despawn};
+ghost use Rattle.archetype_store.specs.Layout.{AreAllHome};
+ghost use Rattle.command_queue.specs.Commands.{command_of};
+ghost use Rattle.command_queue.specs.Pending.{place_of, put_change, ArePlaced, IsPending, target_of, Stands, IsOpen, CanSpawn};
+
+use crate::command::Command;
+use crate::rows::{insert_left, keeps, remove_left};
+use archetype_store::change::{EntityChange, Fate};
+use archetype_store::store::World;
+use change_ticks::clock::Tick;
+use entity_table::Entity;
+use indexmap::IndexMap;
+use kinds::kind::Kind;
+use kinds::value::Value;
+use std::alloc::{AllocError, Global};
+
+// The greatest count of commands passed over.
+const MOST_PASSED_OVER: u64 = 1 << 62;
+
+// How an entity stands once the commands so far are done.
+#[derive(Clone, Copy, Debug)]
+pub(crate) enum Found {
+    // It lives, as the change at this place leaves it.
+    Changed(usize),
+    // It lives, and no command changed it.
+    Unchanged,
+    // It doesn't live.
+    Dead,
+}
+
+// What the commands so far make of entities: the last change of each, its place by its index, and how many commands were passed over.
+#[derive(Drop)]
+pub(crate) struct Pending {
+    pub(crate) changes: Vec<EntityChange>,
+    places: IndexMap<u32, usize>,
+    pub(crate) passed_over: u64,
+}
+
+impl Pending {
+    // No command was done.
+    pub(crate) fn new(alloc: Global) -> Self
+        ensures changes { result.changes.items ≡ [] }
+        ensures places { ArePlaced result.places [] }
+        ensures passed { result.passed_over ≡ 0 }
+    {
+        Pending {
+            changes: Vec::new(alloc),
+            places: IndexMap::new(alloc),
+            passed_over: 0,
+        }
+    }
+
+    // Adds the first change of an index.
+    fn add(&mut self, change: EntityChange) -> Result<(), AllocError>
+        requires placed { ArePlaced self.old.places self.old.changes.items }
+        requires first { place_of change.entity.index self.old.changes.items ≡ None }
+        ensures changes { OnOk result (self.new.changes.items ≡ put_change change self.old.changes.items) }
+        ensures placed { OnOk result (ArePlaced self.new.places self.new.changes.items) }
+        ensures passed { self.new.passed_over ≡ self.old.passed_over }
+    {
+        self.places.insert(change.entity.index, self.changes.len())?;
+        self.changes.push(change)?;
+        Ok(())
+    }
+
+    // Counts a command that is passed over.
+    fn pass_over(&mut self)
+        ensures changes { self.new.changes ≡ self.old.changes }
+        ensures places { self.new.places ≡ self.old.places }
+        ensures passed { self.new.passed_over ≡ min (suc self.old.passed_over) most_passed_over }
+    {
+        if self.passed_over < MOST_PASSED_OVER {
+            self.passed_over += 1;
+        } else {
+            self.passed_over = MOST_PASSED_OVER;
+        }
+    }
+
+    // How an entity stands.
+    fn find(&self, world: &World, e: Entity) -> Found
+        requires { IsPending world.now.state self.now }
+        ensures { Stands world.now.state.slots self.now.changes.items e result }
+    {
+        match self.places.get(&e.index) {
+            None => {
+                if world.lives(e) {
+                    Found::Unchanged
+                } else {
+                    Found::Dead
+                }
+            }
+            Some(place) => {
+                if keeps(&self.changes[*place], e.generation) {
+                    Found::Changed(*place)
+                } else {
+                    Found::Dead
+                }
+            }
+        }
+    }
+
+    // The place of the change of an entity that lives: where it had none it gets one, which leaves it as it is.
+    fn open(&mut self, alloc: Global, world: &World, e: Entity) -> Result<Option<usize>, AllocError>
+        requires home { AreAllHome world.now.layout }
+        requires pending { IsPending world.now.state self.old }
+        ensures pending { OnOk result (IsPending world.now.state self.new) }
+        ensures same { OnOk result (target_of world.now.state self.new ≡ target_of world.now.state self.old) }
+        ensures open { IfOk result (IsOpen world.now.state.slots self.new.changes.items e) }
+    {
+        match self.find(world, e) {
+            Found::Dead => Ok(None),
+            Found::Changed(place) => Ok(Some(place)),
+            Found::Unchanged => {
+                // Tells that the components of a world are of its shape.
+                let _now = world.now();
+                let place = self.changes.len();
+                let fate = Fate::Lives(world.components(alloc, e.index)?);
+                self.add(EntityChange { entity: e, fate })?;
+                Ok(Some(place))
+            }
+        }
+    }
+
+    // Inserts a component of an entity that lives.
+    fn insert(
+        &mut self,
+        alloc: Global,
+        world: &World,
+        e: Entity,
+        value: Value,
+        tick: Tick,
+    ) -> Result<(), AllocError>
+        requires past { tick ≤ world.now.state.clock }
+        requires home { AreAllHome world.now.layout }
+        requires pending { IsPending world.now.state self.old }
+        ensures pending { OnOk result (IsPending world.now.state self.new) }
+        ensures done { OnOk result (target_of world.now.state self.new ≡ apply_command tick (target_of world.now.state self.old) (Insert e (value_number value) (value_words value))) }
+    {
+        match self.open(alloc, world, e)? {
+            None => self.pass_over(),
+            Some(place) => insert_left(&mut self.changes[place], value, tick)?,
+        }
+        Ok(())
+    }
+
+    // Removes the component of a kind of an entity that lives.
+    fn remove(
+        &mut self,
+        alloc: Global,
+        world: &World,
+        e: Entity,
+        kind: Kind,
+    ) -> Result<(), AllocError>
+        requires home { AreAllHome world.now.layout }
+        requires pending { IsPending world.now.state self.old }
+        ensures pending { OnOk result (IsPending world.now.state self.new) }
+        ensures done { (tick : ℕ) → OnOk result (target_of world.now.state self.new ≡ apply_command tick (target_of world.now.state self.old) (Remove e (kind_number kind))) }
+    {
+        match self.open(alloc, world, e)? {
+            None => self.pass_over(),
+            Some(place) => remove_left(&mut self.changes[place], kind.number()),
+        }
+        Ok(())
+    }
+
+    // An entity that lives dies.
+    fn despawn(&mut self, world: &World, e: Entity) -> Result<(), AllocError>
+        requires { IsPending world.now.state self.old }
+        ensures pending { OnOk result (IsPending world.now.state self.new) }
+        ensures done { (tick : ℕ) → OnOk result (target_of world.now.state self.new ≡ apply_command tick (target_of world.now.state self.old) (Despawn e)) }
+    {
+        match self.find(world, e) {
+            Found::Dead => self.pass_over(),
+            Found::Changed(place) => self.changes[place].fate = Fate::Dies,
+            Found::Unchanged => self.add(EntityChange {
+                entity: e,
+                fate: Fate::Dies,
+            })?,
+        }
+        Ok(())
+    }
+
+    // Does one command.
+    fn command(
+        &mut self,
+        alloc: Global,
+        world: &World,
+        command: Command,
+        tick: Tick,
+    ) -> Result<(), AllocError>
+        requires past { tick ≤ world.now.state.clock }
+        requires home { AreAllHome world.now.layout }
+        requires pending { IsPending world.now.state self.old }
+        requires spawns { CanSpawn (target_of world.now.state self.old).slots (spawned_by (command_of command ∷ [])) }
+        ensures pending { OnOk result (IsPending world.now.state self.new) }
+        ensures done { OnOk result (target_of world.now.state self.new ≡ apply_command tick (target_of world.now.state self.old) (command_of command)) }
+    {
+        match command {
+            Command::Spawn(e) => {
+                let fate = Fate::Lives(Vec::new(alloc));
+                self.add(EntityChange { entity: e, fate })?;
+                Ok(())
+            }
+            Command::Insert(e, value) => self.insert(alloc, world, e, value, tick),
+            Command::Remove(e, kind) => self.remove(alloc, world, e, kind),
+            Command::Despawn(e) => self.despawn(world, e),
+        }
+    }
+
+    // Does the commands of a buffer, in order of issue.
+    pub(crate) fn buffer(
+        &mut self,
+        alloc: Global,
+        world: &World,
+        commands: &[Command],
+        tick: Tick,
+    ) -> Result<(), AllocError>
+        requires past { tick ≤ world.now.state.clock }
+        requires home { AreAllHome world.now.layout }
+        requires pending { IsPending world.now.state self.old }
+        requires spawns { CanSpawn (target_of world.now.state self.old).slots (spawned_by (map command_of commands.now)) }
+        ensures pending { OnOk result (IsPending world.now.state self.new) }
+        ensures done { OnOk result (target_of world.now.state self.new ≡ apply_buffer tick (target_of world.now.state self.old) (map command_of commands.now)) }
+    {
+        for command in commands {
+            self.command(alloc, world, *command, tick)?;
+        }
+        Ok(())
+    }
+}
