@@ -112,10 +112,11 @@ impl OpenState {
         )
     }
 
-    /// What holds of every state: there aren't too many indices, and the layout is that of the world.
+    /// What holds of every state: there aren't too many indices, the layout is that of the world, and no last run is above the clock.
     pub fn law(&self)
         ensures few { length self.now.state.world.slots ≤ most_indices }
         ensures laid { IsLayoutOf self.now.state.world.slots self.now.layout }
+        ensures memories { AreInTime self.now.state.world.clock self.now.state.systems self.now.state.conditions }
     {
         self.world.laid();
         let _ = self.world.now();

@@ -1,5 +1,5 @@
 -- What the systems of a schedule have left for the sync points of their levels: the commands of those that finished, and the ids granted to each.
-use Rattle.std.specs.Prelude.{ℕ, ◌<◌, ◌≡◌, List, [], length, set, get_or}
+use Rattle.std.specs.Prelude.{ℕ, ◌<◌, ◌≡◌, List, [], ◌∷◌, length, set, get_or, flat_map}
 use Rattle.model.specs.Lists.{IsIn}
 use Rattle.model.specs.declared.entities.Entity.{Entity}
 use Rattle.model.specs.state.State.{Slot, State}
@@ -31,6 +31,15 @@ with_commands n commands left = record { levels = left.levels; commands = set le
 
 abbrev pub with_grants : ℕ → List Entity → LeftValue → LeftValue
 with_grants n ids left = record { levels = left.levels; commands = left.commands; grants = set left.grants n ids }
+
+-- the lists by system with those of these systems emptied
+abbrev pub emptied : {A : Type 0} → List ℕ → List (List A) → List (List A)
+emptied [] lists = lists
+emptied (n ∷ ns) lists = emptied ns (set lists n [])
+
+-- the ids granted to these systems, one system after the other
+abbrev pub grants_of : List (List Entity) → List ℕ → List Entity
+grants_of grants ns = flat_map (λ n. get_or grants n []) ns
 
 -- it is for a schedule: there is a place for each system, and of each level its systems in schedule order
 pub record IsLeftFor (s : Schedule) (left : LeftValue) : Type 0 where

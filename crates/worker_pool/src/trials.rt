@@ -14,6 +14,7 @@ use body::memory::Memory;
 use body::system_body::{Body, BodyFault};
 use body::view::View;
 use change_ticks::clock::Clock;
+use command_queue::buffer::CommandBuffer;
 use event_buffers::buffers::Events;
 use std::alloc::{AllocError, Global};
 use std::sync::{Condvar, Mutex, Wait};
@@ -53,6 +54,8 @@ fn start_of(alloc: Global, number: u64, system: u32) -> Result<Start<Refusing>, 
         &Events::new(alloc),
         &mut world,
         2,
+        Vec::new(alloc),
+        CommandBuffer::new(alloc),
     )?;
     Ok(Start {
         number,

@@ -1,17 +1,40 @@
 use Rattle.std.proofs.Common.{◌++◌, sym, ap, ◌∙◌, subst}
+use Rattle.std.specs.Option.{unwrap_or}
+use Rattle.model.specs.state.Ids.{granted_ids}
+use Rattle.model.specs.access.Access.{Params}
 use Rattle.model.specs.access.SelfConflict.{ConflictWithin}
+use Rattle.model.specs.runs.RunState.{memory_of_system}
+use Rattle.model.specs.shown.Input.{shown}
 use Rattle.body.specs.Out.{AreOut}
 use Rattle.body.specs.Seen.{Seen}
 use Rattle.body.specs.Steps.{StateValue, store_of}
 use Rattle.body.proofs.Outs.{out-same}
+use Rattle.engine.proofs.GrantedIds.{out_grant, shown_grant}
 use Rattle.engine.proofs.effects.prepare.Goals as goal
 
 pub open-requires-clause-apart : goal.open-requires-clause-apart
 open-requires-clause-apart c = λ conflict. c.apart.ensures c.args.system c.requires.known (subst ConflictWithin c.params-params.ensures conflict)
 
+pub returns-clause-shown : goal.returns-clause-shown
+returns-clause-shown c =
+    let n = c.args.system in
+    let w = c.args.state.now in
+    let p = c.params-params.result.now in
+    let memory = memory_of_system w.state n in
+    let granted = c.in_ok-granted.granted.items in
+    ap (λ (v : Seen). v.shown) c.in_ok-view.ensures.ok
+    ∙ c.in_ok-opened.ensures.shown
+    ∙ ap (λ (x : StateValue). shown p (memory_of_system x.state n) x.state granted) c.in_ok-granted.ensures.granted
+    ∙ shown_grant p memory (unwrap_or p.spawns 0) w.state granted
+    ∙ ap (shown p memory w.state) c.in_ok-granted.ensures.ids
+    ∙ ap (λ (q : Params). shown q memory w.state (granted_ids (unwrap_or q.spawns 0) w.state.world.slots)) c.params-params.ensures
+
 pub returns-clause-held : goal.returns-clause-held
 returns-clause-held c = λ others held.
+    let w = c.args.state.now in
+    let p = c.params-params.result.now in
+    let before = subst (λ (x : StateValue). AreOut (store_of x) others) (sym c.in_ok-granted.ensures.granted) (out_grant (unwrap_or p.spawns 0) w.state.world w.layout others held) in
     out-same (store_of c.open.new.self) (store_of c.note.new.self) (others ++ c.in_ok-view.view.value.opening.taken)
     (ap (λ (s : StateValue). s.state.world.slots) (c.note.ensures) ∙ ap (λ (s : StateValue). s.state.world.slots) c.in-Ok.ensures.moved)
     (ap (λ (s : StateValue). s.layout) (c.note.ensures) ∙ ap (λ (s : StateValue). s.layout) c.in-Ok.ensures.moved)
-    (subst (λ (v : Seen). AreOut (store_of c.open.new.self) (others ++ v.opening.taken)) (sym c.in_ok-view.ensures.ok) (c.in_ok-opened.ensures.out others held))
+    (subst (λ (v : Seen). AreOut (store_of c.open.new.self) (others ++ v.opening.taken)) (sym c.in_ok-view.ensures.ok) (c.in_ok-opened.ensures.out others before))
