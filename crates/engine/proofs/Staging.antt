@@ -166,7 +166,7 @@ module _ {B : Type 0} (width : ℕ) (s : Schedule) (bodies : List BodyMeaning) (
       wide = stage.wide;
       complete = complete;
       answers = stage.answers;
-      end = woven state out;
+      end = woven state left out;
       meaning = stage.meaning;
       leaves = refl;
     }

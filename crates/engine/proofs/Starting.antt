@@ -24,10 +24,10 @@ use Rattle.engine.specs.Starts.{granted_at_start, ids_at_start}
 use Rattle.engine.proofs.InHand.{in_hand_grant}
 use Rattle.engine.proofs.Placing.{IsHanded}
 
-registers-at : (clock : ℕ) (ms : List Memory) (n : ℕ) → n < length ms → IsInTime clock ms → length (get_or ms n no_memory).registers ≡ register_count
-registers-at clock [] n known h = absurd (omega (arith, known))
-registers-at clock (m ∷ ms) zero known h = h.0.registers
-registers-at clock (m ∷ ms) (suc n) known h = registers-at clock ms n (omega (arith, known)) h.1
+pub registers_at : (clock : ℕ) (ms : List Memory) (n : ℕ) → n < length ms → IsInTime clock ms → length (get_or ms n no_memory).registers ≡ register_count
+registers_at clock [] n known h = absurd (omega (arith, known))
+registers_at clock (m ∷ ms) zero known h = h.0.registers
+registers_at clock (m ∷ ms) (suc n) known h = registers_at clock ms n (omega (arith, known)) h.1
 
 -- as many ids are granted as are asked for
 pub length-granted_ids : (n : ℕ) (slots : List Slot) → length (granted_ids n slots) ≡ n
@@ -81,7 +81,7 @@ module _ {B : Type 0} (s : Schedule) (n : ℕ) (w later : StateValue) (left : Le
       subst (λ (x : JobOut B). CanBeShown (params_of s x.system) x.view.shown) (sym same)
       (subst (λ m. CanBeShown (params_of s m) job.view.shown) (sym handed.system)
       (subst (CanBeShown (params_of s n)) (sym handed.shown_there)
-      (can_be_shown (params_of s n) (memory_of_system w.state n) w.state (registers-at w.state.world.clock w.state.systems n (let e = memories.systems in omega (arith, e, known)) in_time.systems_in))))
+      (can_be_shown (params_of s n) (memory_of_system w.state n) w.state (registers_at w.state.world.clock w.state.systems n (let e = memories.systems in omega (arith, e, known)) in_time.systems_in))))
   shown-one j (inr (inr none)) = absurd none
 
   pub in_hand_start : InHand s (with_grants n (ids_at_start s n w.state) left) (out ++ job ∷ []) later

@@ -13,7 +13,7 @@ use Rattle.model.specs.steps.Ready.{IsReady}
 use Rattle.model.specs.runs.RunState.{body_of, next_tick, opening}
 use Rattle.archetype_store.specs.Layout.{Archetype, AreAllHome, IsLayoutOf}
 use Rattle.body.specs.Lent.{lent_in}
-use Rattle.body.specs.Out.{IsApartFrom, IsWrittenBy}
+use Rattle.body.specs.Out.{IsWrittenBy}
 use Rattle.body.specs.Steps.{StateValue, store_of, ticked}
 use Rattle.body.proofs.Outs.{out-same, all-home, home-apart, none-out}
 use Rattle.executor_core.specs.Stands.{Stand, Stands}
@@ -23,10 +23,12 @@ use Rattle.engine.specs.declared.turn.Turn.TheVariants as turn
 use Rattle.engine.specs.declared.turn.Quiet.{Quiet}
 use Rattle.engine.specs.declared.turn.Quiet.TheVariants as quiet
 use Rattle.engine.specs.Quiets.{IsAllowed as IsAllowedQuiet, after_quiet}
-use Rattle.engine.specs.Jobs.{systems_of, held_by, InHand, IsPlaced, Placed}
+use Rattle.engine.specs.Jobs.{systems_of, held_by, woven, CanBegin, InHand, IsPlaced, Placed}
 use Rattle.engine.specs.Left.{LeftValue, AreInHand, IsLeftFor, IsNothingLeft}
 use Rattle.engine.specs.Meanings.{body_at, meanings, HasMemories, Suits}
 use Rattle.engine.specs.Stage.{Stage, IsTake, IsTurn}
+use Rattle.model.proofs.progress.Single.{wide_lawful}
+use Rattle.engine.proofs.Fresh.{interleaved_fresh}
 use Rattle.engine.proofs.Placing.{start-free, apart-held, placed_first, suits_last, means_last}
 use Rattle.engine.proofs.Staging.{holds_there}
 use Rattle.engine.proofs.Remembering.{memories_at, memories_open, memories_asked}
@@ -60,17 +62,13 @@ no_elements (x ∷ xs) e = absurd (omega (arith, e))
 
 -- ---- what a start asks
 
-pub record IsAllowed {B : Type 0} (s : Schedule) (n : ℕ) (out : List (JobOut B)) (w : StateValue) : Type 0 where
-  pub known : n < length s.systems
-  pub home : has n (systems_of out) ≡ false
-  pub apart : AllByRecursion (IsApartFrom (params_of s n) w.layout) (lent_in (held_by out))
-
 module _ {B : Type 0} (meaning : B → Params → BodyMeaning) (fits : B → Params → Bool) (where_is : Bool) (s : Schedule) (bodies : List BodyMeaning) (slots : List (Option B)) (out : List (JobOut B)) (w : StateValue) (placed : Placed meaning fits where_is s bodies slots out w) where
-  pub start_allowed : (width : ℕ) (start : State) (h : List Step) (left : LeftValue) (n : ℕ) → Stage width s bodies start h w.state left out → MayStart s h n → IsAllowed s n out w
+  pub start_allowed : (width : ℕ) (start : State) (h : List Step) (left : LeftValue) (n : ℕ) → Stage width s bodies start h w.state left out → MayStart s h n → CanBegin s n left out w
   start_allowed width start h left n stage may =
       let holds = holds_there width s bodies start h w.state left out stage in
       record {
         known = may.free.known;
+        fresh = interleaved_fresh s bodies start h (woven w.state left out) (wide_lawful width s h stage.wide) stage.meaning n may.free.waits;
         home = start-free meaning fits where_is s bodies slots out w placed left h holds n may;
         apart = apart-held meaning fits where_is s bodies slots out w placed left h holds (params_of s n) may.apart;
       }

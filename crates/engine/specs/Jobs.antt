@@ -11,10 +11,10 @@ use Rattle.model.specs.runs.Meaning.{Interleaved}
 use Rattle.body.specs.Columns.{Column}
 use Rattle.body.specs.Keeps.{CanBeShown}
 use Rattle.body.specs.Lent.{lent_in}
-use Rattle.body.specs.Out.{AreOut, IsWrittenBy}
+use Rattle.body.specs.Out.{AreOut, IsApartFrom, IsWrittenBy}
 use Rattle.body.specs.Steps.{StateValue, store_of}
 use Rattle.worker_pool.specs.JobOut.{JobOut}
-use Rattle.engine.specs.Left.{LeftValue, AreInHand, IsLeftFor, grants_at, run_with}
+use Rattle.engine.specs.Left.{LeftValue, AreInHand, IsLeftFor, commands_at, grants_at, run_with}
 use Rattle.engine.specs.Meanings.{body_at, HasMemories}
 
 -- the running system of a job, the systems of jobs, and the columns that they hold
@@ -69,3 +69,11 @@ pub record InHand {B : Type 0} (s : Schedule) (left : LeftValue) (out : List (Jo
   pub ids : AreInHand w.state.world.slots left
   pub granted : (job : JobOut B) → IsIn job out → job.view.shown.granted ≡ grants_at left job.system
   pub showing : (job : JobOut B) → IsIn job out → CanBeShown (params_of s job.system) job.view.shown
+
+-- a system that may be started: it is one of the schedule, it isn't out and has left no commands, and none that is out holds a column that it
+-- writes, or writes one that it reads
+pub record CanBegin {B : Type 0} (s : Schedule) (n : ℕ) (left : LeftValue) (out : List (JobOut B)) (w : StateValue) : Type 0 where
+  pub known : n < length s.systems
+  pub home : has n (systems_of out) ≡ false
+  pub fresh : commands_at left n ≡ []
+  pub apart : AllByRecursion (IsApartFrom (params_of s n) w.layout) (lent_in (held_by out))

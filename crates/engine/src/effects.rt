@@ -4,7 +4,7 @@
 ghost use Rattle.std.specs.Prelude.{◌≡◌, ◌<◌, ◌≤◌, ◌+◌, ◌↔◌, ◌⊎◌, ◌++◌, ℕ, List, [], true, false, length, set, Some, None, Ok, Err, is_some, IfOk, OnOk, OnErr, IsErr, IsErrOf};
 ghost use Rattle.std.specs.List.{AllByRecursion};
 ghost use Rattle.model.specs.declared.steps.Step.TheVariants.{Start as Begin, Finish, Sync};
-ghost use Rattle.model.specs.Lists.{has, IsIn};
+ghost use Rattle.model.specs.Lists.{IsIn};
 ghost use Rattle.model.specs.shown.Input.{shown};
 ghost use Rattle.model.specs.shown.Outcome.{BodyMeaning, events_sent, untouched};
 ghost use Rattle.model.specs.shown.Overlay.{has_event_numbers};
@@ -17,13 +17,14 @@ ghost use Rattle.model.specs.runs.Causes.{Cause as cause};
 ghost use Rattle.query_plan.specs.Standing.{ArePickedHome};
 ghost use Rattle.body.specs.declared.system_body.BodyFault.TheVariants.{Refused};
 ghost use Rattle.body.specs.Columns.{Column};
+ghost use Rattle.body.specs.Keeps.{CanBeShown};
 ghost use Rattle.body.specs.Lent.{AreLent, lent_in, with_away, with_back};
-ghost use Rattle.body.specs.Out.{IsWrittenBy, AreOut, IsApartFrom};
-ghost use Rattle.body.specs.Steps.{asked_at, laid, noted, store_of, ticked};
+ghost use Rattle.body.specs.Out.{IsWrittenBy, AreOut};
+ghost use Rattle.body.specs.Steps.{AreInTime, asked_at, laid, noted, store_of, ticked};
 ghost use Rattle.worker_pool.specs.JobOut.{JobOut};
 ghost use Rattle.engine.specs.Meanings.{body_at, AllKeepWithin, HasMemories};
 ghost use Rattle.engine.specs.Quiets.{IsAllowed, IsStepOf, TakesTick, after_quiet};
-ghost use Rattle.engine.specs.Jobs.{systems_of, held_by, woven, InHand, Placed};
+ghost use Rattle.engine.specs.Jobs.{woven, CanBegin, InHand, Placed};
 ghost use Rattle.engine.specs.Left.{IsLeftFor, commands_at, with_commands, with_grants};
 ghost use Rattle.engine.specs.Starts.{granted_at_start, has_ids_at_start, ids_at_start};
 
@@ -119,8 +120,10 @@ fn prepare(
     requires home { AllByRecursion (λ query. ArePickedHome query state.old.layout) (params_of built.now system).queries }
     requires suits { IsLeftFor built.now left.old }
     requires fresh { commands_at left.old system ≡ [] }
+    requires in_time { AreInTime state.old.state.world.clock state.old.state.systems state.old.state.conditions }
     ensures params { IfOk result (λ view. view.value.params ≡ params_of built.now system) }
     ensures shown { IfOk result (λ view. view.value.shown ≡ shown (params_of built.now system) (memory_of_system state.old.state system) state.old.state (ids_at_start built.now system state.old.state)) }
+    ensures showing { IfOk result (λ view. CanBeShown view.value.params view.value.shown) }
     ensures untouched { IfOk result (λ view. view.value.outcome ≡ untouched view.value.params view.value.shown) }
     ensures tick { IfOk result (λ view. view.value.opening.tick ≡ next_tick state.old.state) }
     ensures written { IfOk result (λ view. AllByRecursion (IsWrittenBy (params_of built.now system).queries state.old.layout) (lent_in view.value.opening.taken)) }
@@ -172,12 +175,9 @@ pub(crate) fn start<'s, M: Mode<'s>, B: Body + 's>(
     system: u32,
     number: u64,
 ) -> Result<(), RunFault>
-    requires known { system < length built.now.systems }
+    requires allowed { CanBegin built.now system left.old pool.old state.old }
     requires placed { (bodies : List BodyMeaning) × Placed B.meaning B.fits (M.has_scope mode.now) built.now bodies slots.old pool.old state.old }
-    requires home { has system (systems_of pool.old) ≡ false }
-    requires apart { AllByRecursion (IsApartFrom (params_of built.now system) state.old.layout) (lent_in (held_by pool.old)) }
     requires hand { InHand built.now left.old pool.old state.old }
-    requires fresh { commands_at left.old system ≡ [] }
     ensures started { OnOk result ((bodies : List BodyMeaning) → interleaved_step built.now bodies (Begin system) (woven state.old.state left.old pool.old) ≡ Some (woven state.new.state left.new pool.new)) }
     ensures placed { OnOk result ((bodies : List BodyMeaning) → Placed B.meaning B.fits (M.has_scope mode.now) built.now bodies slots.old pool.old state.old → Placed B.meaning B.fits (M.has_scope mode.now) built.now bodies slots.new pool.new state.new) }
     ensures hand { OnOk result (InHand built.now left.new pool.new state.new) }

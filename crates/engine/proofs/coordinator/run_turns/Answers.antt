@@ -12,11 +12,9 @@ use Rattle.engine.specs.Meanings.{meanings}
 use Rattle.engine.specs.Stage.{Stage, IsTurn}
 use Rattle.engine.proofs.Placing.{meanings_count}
 use Rattle.engine.proofs.Staging.{stage_open, stage_start, stage_quiet, stage_sync, may_quiet, stage_finish, stage_end, running_there, none_out, none_there, stops_open, stops_start, stops_ids, stops_quiet, stops_sync, stops_finish, falls}
-use Rattle.engine.proofs.Fresh.{interleaved_fresh}
 use Rattle.engine.proofs.InHand.{in_hand_nothing}
 use Rattle.engine.proofs.Remembering.{memories_synced}
-use Rattle.model.proofs.progress.Single.{wide_lawful}
-use Rattle.engine.specs.Jobs.{woven}
+
 use Rattle.engine.proofs.Turns.{turn_start, turn_quiet, turn_sync, turn_collect, waits, start_allowed, quiet_allowed, placed_quiet, placed_open, placed_synced, in_hand_none, in_hand_quiet, suits_end, means_end, home_end}
 use Rattle.engine.proofs.coordinator.run_turns.Goals as goal
 
@@ -56,7 +54,7 @@ start-requires g c = λ lifetimes.
     let next = turn_start core s h c.count.result c.width-width.result c.in-Some.turn inv.schedule inv.stands c.in-Some.ensures c.in-Start.system c.in-Start.is in
     let n = c.in-Start.system in
     let allowed = start_allowed meaning fits there s bodies c.loop-turn.slots out w inv.placed width start h left n inv.stage next.allowed in
-    (c.type_bounds.send-B, (c.type_bounds.send-M-Line, (c.type_bounds.send-M-Gate, (c.type_bounds.sync-M-Gate, ((refl, tt), (allowed.known, ((bodies, inv.placed), (allowed.home, (allowed.apart, (inv.hand, interleaved_fresh s bodies start h (woven w.state left out) (wide_lawful width s h inv.stage.wide) inv.stage.meaning n next.allowed.free.waits))))))))))
+    (c.type_bounds.send-B, (c.type_bounds.send-M-Line, (c.type_bounds.send-M-Gate, (c.type_bounds.sync-M-Gate, ((refl, tt), (allowed, ((bodies, inv.placed), inv.hand)))))))
 
 pub returns-in_err-start-in-Start-clause-clock : goal.returns-in_err-start-in-Start-clause-clock
 returns-in_err-start-in-Start-clause-clock g c = λ e.
@@ -322,7 +320,7 @@ sync-requires-clause-home g c =
     let k = c.in-Sync.point in
     let free : length out < width = let r = next.room in let a = c.count.ensures in let b = c.width-width.ensures.width in omega arith in
     let none = none_out width s bodies start h w.state left out inv.stage k next.allowed in
-    home_end meaning fits there s bodies c.loop-turn.slots out w inv.placed none c.law-2.ensures.laid
+    home_end meaning fits there s bodies c.loop-turn.slots out w inv.placed none c.law-in-Sync.ensures.laid
 
 pub returns-in_err-sync-in-Sync-clause-clock : goal.returns-in_err-sync-in-Sync-clause-clock
 returns-in_err-sync-in-Sync-clause-clock g c = λ e.

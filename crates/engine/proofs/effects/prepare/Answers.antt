@@ -1,4 +1,4 @@
-use Rattle.std.proofs.Common.{◌++◌, sym, ap, ◌∙◌, subst}
+use Rattle.std.proofs.Common.{◌++◌, sym, ap, ◌∙◌, subst, arith}
 use Rattle.std.specs.Option.{unwrap_or}
 use Rattle.model.specs.state.Ids.{granted_ids}
 use Rattle.model.specs.access.Access.{Params}
@@ -9,7 +9,10 @@ use Rattle.body.specs.Out.{AreOut}
 use Rattle.body.specs.Seen.{Seen}
 use Rattle.body.specs.Steps.{StateValue, store_of}
 use Rattle.body.proofs.Outs.{out-same}
+use Rattle.body.specs.Keeps.{CanBeShown}
+use Rattle.model.specs.steps.Schedule.{params_of}
 use Rattle.engine.proofs.GrantedIds.{out_grant, shown_grant}
+use Rattle.engine.proofs.Starting.{can_be_shown, registers_at}
 use Rattle.engine.proofs.effects.prepare.Goals as goal
 
 pub open-requires-clause-apart : goal.open-requires-clause-apart
@@ -38,3 +41,14 @@ returns-clause-held c = λ others held.
     (ap (λ (s : StateValue). s.state.world.slots) (c.note.ensures) ∙ ap (λ (s : StateValue). s.state.world.slots) c.in-Ok.ensures.moved)
     (ap (λ (s : StateValue). s.layout) (c.note.ensures) ∙ ap (λ (s : StateValue). s.layout) c.in-Ok.ensures.moved)
     (subst (λ (v : Seen). AreOut (store_of c.open.new.self) (others ++ v.opening.taken)) (sym c.in_ok-view.ensures.ok) (c.in_ok-opened.ensures.out others before))
+
+pub returns-clause-showing : goal.returns-clause-showing
+returns-clause-showing c =
+    let s = c.args.built.now in
+    let n = c.args.system in
+    let w = c.args.state.now.state in
+    let shows = returns-clause-shown c in
+    let with_params = λ (p : Params). CanBeShown p c.in_ok-view.view.value.shown in
+    subst with_params (sym (ap (λ (v : Seen). v.params) c.in_ok-view.ensures.ok ∙ c.in_ok-opened.ensures.params ∙ c.params-params.ensures))
+    (subst (CanBeShown (params_of s n)) (sym shows)
+    (can_be_shown (params_of s n) (memory_of_system w n) w (registers_at w.world.clock w.systems n (let e = c.requires.memories.systems in let k = c.requires.known in omega (arith, e, k)) c.requires.in_time.systems_in)))

@@ -14,7 +14,7 @@ use Rattle.engine.proofs.effects.start.Goals as goal
 
 pub prepare-requires-clause-home : goal.prepare-requires-clause-home
 prepare-requires-clause-home g c =
-    home-apart (store_of c.args.state.now) (held_by c.args.pool.now) (params_of c.args.built.now c.args.system) c.law.ensures.laid c.requires.placed.1.held c.requires.apart
+    home-apart (store_of c.args.state.now) (held_by c.args.pool.now) (params_of c.args.built.now c.args.system) c.law.ensures.laid c.requires.placed.1.held c.requires.allowed.apart
 
 pub returns-in-Ok-clause-started : goal.returns-in-Ok-clause-started
 returns-in-Ok-clause-started g c = λ bodies.
@@ -27,7 +27,7 @@ returns-in-Ok-clause-started g c = λ bodies.
     let job : JobOut g.row.B.Denot = record { number = c.args.number; system = n; body = c.take_body-body.result; view = c.in_ok-view.view.value; there = g.M.Hosts.has_scope c.args.mode.now } in
     let ok = c.in_ok-view.ensures in
     let handed : IsHanded s n w later job = record { system = refl; params = ok.params; shown_there = ok.shown; tick = ok.tick; written = ok.written; held = ok.held; is_later = ok.noted } in
-    let place : n < length left.grants = let e = c.requires.hand.suits.grant_count in let k = c.requires.known in omega (arith, e, k) in
+    let place : n < length left.grants = let e = c.requires.hand.suits.grant_count in let k = c.requires.allowed.known in omega (arith, e, k) in
     subst (λ (x : LeftValue). interleaved_step s bodies (Begin n) (woven w.state left out) ≡ Some (woven later.state x c.hand_out.new.self)) (sym ok.left)
     (subst (λ (xs : List (JobOut g.row.B.Denot)). interleaved_step s bodies (Begin n) (woven w.state left out) ≡ Some (woven later.state (with_grants n (ids_at_start s n w.state) left) xs)) (sym c.in-Ok.ensures.ok)
     (start_there g.B.Body.meaning g.B.Body.fits job.there s bodies n w later left out job place ok.has.0 ok.has.1 handed))
@@ -42,7 +42,7 @@ returns-in-Ok-clause-placed g c = λ bodies placed.
     let handed : IsHanded s n c.args.state.now c.prepare.new.state job = record { system = refl; params = ok.params; shown_there = ok.shown; tick = ok.tick; written = ok.written; held = ok.held; is_later = ok.noted } in
     subst (λ (out : List (JobOut g.row.B.Denot)). Placed g.B.Body.meaning g.B.Body.fits there s bodies c.take_body-body.new.slots out c.prepare.new.state) (sym c.in-Ok.ensures.ok)
     (subst (λ slots. Placed g.B.Body.meaning g.B.Body.fits there s bodies slots (c.args.pool.now ++ job ∷ []) c.prepare.new.state) (sym c.take_body-body.ensures.left)
-    (placed_start g.B.Body.meaning g.B.Body.fits there s bodies c.args.slots.now c.args.pool.now c.args.state.now placed n c.prepare.new.state job c.requires.known c.requires.home c.take_body-body.ensures.body handed refl))
+    (placed_start g.B.Body.meaning g.B.Body.fits there s bodies c.args.slots.now c.args.pool.now c.args.state.now placed n c.prepare.new.state job c.requires.allowed.known c.requires.allowed.home c.take_body-body.ensures.body handed refl))
 
 pub returns-in-Ok-clause-hand : goal.returns-in-Ok-clause-hand
 returns-in-Ok-clause-hand g c =
@@ -57,4 +57,4 @@ returns-in-Ok-clause-hand g c =
     let handed : IsHanded s n w later job = record { system = refl; params = ok.params; shown_there = ok.shown; tick = ok.tick; written = ok.written; held = ok.held; is_later = ok.noted } in
     subst (λ (x : LeftValue). InHand s x c.hand_out.new.self later) (sym ok.left)
     (subst (λ (xs : List (JobOut g.row.B.Denot)). InHand s (with_grants n (ids_at_start s n w.state) left) xs later) (sym c.in-Ok.ensures.ok)
-    (in_hand_start s n w later left out job c.requires.known c.requires.placed.1.memories c.law.ensures.memories c.requires.hand c.requires.fresh handed c.requires.home))
+    (in_hand_start s n w later left out job c.requires.allowed.known c.requires.placed.1.memories c.law.ensures.memories c.requires.hand c.requires.allowed.fresh handed c.requires.allowed.home))
