@@ -21,7 +21,7 @@ use Rattle.model.proofs.lists.Each.{each-weaker}
 use Rattle.model.specs.declared.steps.Step.{Step}
 use Rattle.model.specs.steps.Lawful.{MayStart, MeetsRunning}
 use Rattle.model.proofs.serial.Holding.{Holds, apart_start}
-use Rattle.model.proofs.lists.Lists.{length-update_at, IsIn-append, IsIn_left, IsIn_right, IsIn_from_has}
+use Rattle.model.proofs.lists.Lists.{IsIn-append, IsIn_left, IsIn_right, IsIn_from_has}
 use Rattle.model.proofs.lists.Members.{in-map}
 use Rattle.archetype_store.specs.declared.columns.TakenColumn.{TakenColumn}
 use Rattle.archetype_store.specs.Layout.{Archetype, AreAllHome}

@@ -1,5 +1,5 @@
 -- A state keeps the memories of its schedule: as a system starts or ends, as a condition is asked, as the clock goes on.
-use Rattle.std.proofs.Common.{ℕ, ℤ, ◌<◌, Bool, true, false, ◌≡◌, ◌==◌, List, length, get_or, refl, sym, ◌∙◌, ap, subst, arith}
+use Rattle.std.proofs.Common.{ℕ, ◌<◌, Bool, true, false, ◌≡◌, ◌==◌, List, length, get_or, refl, sym, ◌∙◌, ap, subst, arith}
 use Rattle.std.proofs.lemmas.Bool.{eq-eqb, eqb-true, false≢true}
 use Rattle.std.proofs.lemmas.List.{length-map}
 use Rattle.entity_table.proofs.Edits.{get_or-update_at}
@@ -7,7 +7,7 @@ use Rattle.model.specs.Lists.{update_at}
 use Rattle.model.specs.state.State.{EventQueue, Memory, Slot, State, no_memory}
 use Rattle.model.specs.state.Events.{queue_of}
 use Rattle.model.specs.steps.Schedule.{Schedule, params_of, access_of}
-use Rattle.model.specs.runs.RunState.{RunState, after_sync, memory_after_run, next_tick, opening, with_registers}
+use Rattle.model.specs.runs.RunState.{RunState, after_sync, memory_after_run, opening, with_registers}
 use Rattle.model.proofs.lists.Lists.{length-update_at, get_or-update_at_other, get_or-update_at-view}
 use Rattle.body.specs.Seen.{Seen}
 use Rattle.body.specs.Steps.{asked_at, at_clock, laid, noted, with_slots_in}

@@ -1,5 +1,5 @@
 -- A job that has come back.
-use Rattle.std.proofs.Common.{ℕ, ◌<◌, ◌≤◌, Bool, true, false, ◌≡◌, ◌⊎◌, List, [], ◌∷◌, ◌++◌, length, set, remove, slice_get, Option, Some, None, Result, Ok, Err, inl, inr, refl, sym, ◌∙◌, ap, subst, arith}
+use Rattle.std.proofs.Common.{ℕ, ◌<◌, ◌≤◌, Bool, true, false, ◌≡◌, ◌⊎◌, List, ◌∷◌, ◌++◌, length, set, remove, slice_get, Option, Some, None, Result, Ok, Err, inl, inr, refl, sym, ◌∙◌, ap, subst, arith}
 use Rattle.std.proofs.lemmas.List.{length-set}
 use Rattle.std.specs.Option.{IsSomeAnd}
 use Rattle.model.specs.declared.steps.Step.TheVariants.{Finish}
@@ -26,7 +26,7 @@ use Rattle.body.specs.Steps.{StateValue, laid, store_of}
 use Rattle.worker_pool.specs.JobOut.{JobOut}
 use Rattle.worker_pool.specs.Ran.{Ran}
 use Rattle.engine.specs.Jobs.{woven, InHand, IsJob, Placed}
-use Rattle.engine.specs.Left.{LeftValue, IsLeftFor, grants_at, with_commands}
+use Rattle.engine.specs.Left.{LeftValue, grants_at, with_commands}
 use Rattle.engine.specs.Meanings.{AllKeepWithin}
 use Rattle.engine.proofs.InHand.{AreAlike, alike_after, in_hand_alike, in_hand_put}
 use Rattle.engine.proofs.Placing.{around, IsOutcomeOf, IsReturned, lent-there, refused_there, unsent_there, finish_there, placed_finish}
@@ -126,8 +126,8 @@ module _ {B : Type 0} (meaning : B → Params → BodyMeaning) (fits : B → Par
           let job = back.job in
           let is = back-job in
           let within = keep job.system is.known after.shown after.outcome
-              (subst (CanBeShown (params_of s job.system)) (sym back.ran.same_shown) (hand.showing job back_in))
-              (ap (body_of bodies job.system) back.ran.same_shown ∙ ap (λ (m : BodyMeaning). m job.view.shown) (sym is.means) ∙ ap (λ p. meaning job.body p job.view.shown) (sym is.params) ∙ (outcome-back ok).answered) in
+          (subst (CanBeShown (params_of s job.system)) (sym back.ran.same_shown) (hand.showing job back_in))
+          (ap (body_of bodies job.system) back.ran.same_shown ∙ ap (λ (m : BodyMeaning). m job.view.shown) (sym is.means) ∙ ap (λ p. meaning job.body p job.view.shown) (sym is.params) ∙ (outcome-back ok).answered) in
           subst (λ ids. AreSpawns ids (spawned_by after.outcome.commands))
           (ap (λ (x : Shown). x.granted) back.ran.same_shown ∙ hand.granted job back_in ∙ ap (grants_at left) (sym back.ran.same_system)) within.spawns
 

@@ -1,7 +1,7 @@
 -- How a run goes on from turn to turn, ends and stops.
-use Rattle.std.proofs.Common.{ℕ, zero, suc, ◌+◌, ◌-◌, ◌<◌, ◌≤◌, Bool, true, false, ◌≡◌, ◌==◌, ◌||◌, ◌⊎◌, ◌↔◌, inl, inr, List, [], ◌∷◌, ◌++◌, length, map, reverse, Option, Some, None, IsSome, refl, sym, ◌∙◌, ap, subst, cond, arith}
+use Rattle.std.proofs.Common.{ℕ, suc, ◌+◌, ◌-◌, ◌<◌, ◌≤◌, Bool, true, false, ◌≡◌, ◌==◌, ◌||◌, ◌⊎◌, ◌↔◌, inl, inr, List, [], ◌∷◌, ◌++◌, length, map, reverse, Option, Some, None, IsSome, refl, sym, ◌∙◌, ap, subst, cond, arith}
 use Rattle.std.proofs.lemmas.Bool.{eq-eqb, or_left, false≢true, false_from_ne_true}
-use Rattle.std.proofs.lemmas.List.{length-reverse, reverse-append}
+use Rattle.std.proofs.lemmas.List.{length-reverse}
 use Rattle.std.specs.Option.{option_and_then}
 use Rattle.model.specs.declared.steps.Step.{Step}
 use Rattle.model.specs.declared.steps.Step.TheVariants.{Cond, Start, Skip, Finish, Sync}
@@ -12,9 +12,9 @@ use Rattle.model.specs.shown.Outcome.{BodyMeaning}
 use Rattle.model.specs.steps.Schedule.{Schedule}
 use Rattle.model.specs.steps.Lawful.{IsLawful, IsComplete, May, MayStart, MaySync, NoneRuns, runs}
 use Rattle.model.specs.steps.Ready.{IsReady}
-use Rattle.model.specs.steps.Widths.{IsWide, IsNextWide, without, running_after}
+use Rattle.model.specs.steps.Widths.{IsNextWide, without, running_after}
 use Rattle.model.specs.runs.RunState.{RunState, between, begin_run, has_tick, after_sync, answer_of}
-use Rattle.model.specs.runs.Meaning.{Interleaved, with_running_systems, interleaved, interleaved_step, IsTrueAnswer}
+use Rattle.model.specs.runs.Meaning.{with_running_systems, interleaved, interleaved_step, IsTrueAnswer}
 use Rattle.model.specs.runs.Causes.{Cause, unless, interleaved_cause, interleaved_cause_of, interleaved_cause_at}
 use Rattle.model.specs.runs.Causes.Cause.{NoTick, NoIds}
 use Rattle.model.specs.runs.WideRuns.{IsWideRun, AreWideRuns, WideStops, IsWideStopped}
@@ -27,7 +27,7 @@ use Rattle.model.proofs.faults.Causes.{lacks-interleaved}
 use Rattle.model.proofs.serial.Holding.{Holds, holds}
 use Rattle.executor_core.specs.Stands.{Stand, Stands, room}
 use Rattle.worker_pool.specs.JobOut.{JobOut}
-use Rattle.engine.specs.Jobs.{running_of, systems_of, woven}
+use Rattle.engine.specs.Jobs.{running_of, woven}
 use Rattle.engine.specs.Left.{LeftValue, IsNothingLeft, run_with}
 use Rattle.engine.specs.declared.turn.Quiet.{Quiet}
 use Rattle.engine.specs.declared.turn.Quiet.TheVariants as quiet
@@ -122,6 +122,7 @@ module _ {B : Type 0} (width : ℕ) (s : Schedule) (bodies : List BodyMeaning) (
           answers = (tt, stage.answers);
           meaning = ap (option_and_then (interleaved_step s bodies (Skip n))) stage.meaning;
         })
+
     -- after a sync point
     pub stage_sync : (k : ℕ) (state' : State) (left' : LeftValue) → length out < width → IsReady s h (Some (ready.Sync k)) → MaySync s h k → has_tick state ≡ true →
         run_with state' left' ≡ after_sync s k (run_with state left) → Stage width s bodies start (Sync k ∷ h) state' left' out

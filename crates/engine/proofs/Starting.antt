@@ -1,5 +1,5 @@
 -- What is in hand as a system starts.
-use Rattle.std.proofs.Common.{ℕ, zero, suc, ◌<◌, ◌≡◌, ◌⊎◌, inl, inr, false, List, [], ◌∷◌, ◌++◌, ◌+◌, length, length-append, set, get_or, refl, sym, ◌∙◌, ap, subst, arith}
+use Rattle.std.proofs.Common.{ℕ, zero, suc, ◌<◌, ◌≡◌, ◌⊎◌, inl, inr, false, List, [], ◌∷◌, ◌++◌, ◌+◌, length, length-append, get_or, refl, sym, ◌∙◌, ap, subst, arith}
 use Rattle.std.proofs.lemmas.Bool.{false≢true}
 use Rattle.std.proofs.lemmas.List.{get_or-set_other, get_or-set_same, length-map, length-set}
 use Rattle.std.specs.Option.{unwrap_or}
@@ -20,7 +20,7 @@ use Rattle.worker_pool.specs.JobOut.{JobOut}
 use Rattle.engine.specs.Jobs.{InHand, systems_of}
 use Rattle.engine.specs.Left.{LeftValue, AreInHand, commands_at, grants_at, with_grants}
 use Rattle.engine.specs.Meanings.{HasMemories}
-use Rattle.engine.specs.Starts.{granted_at_start, ids_at_start}
+use Rattle.engine.specs.Starts.{ids_at_start}
 use Rattle.engine.proofs.InHand.{in_hand_grant}
 use Rattle.engine.proofs.Placing.{IsHanded}
 

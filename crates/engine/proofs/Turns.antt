@@ -1,5 +1,5 @@
 -- A turn of the loop: what is next, and what is known once it is done.
-use Rattle.std.proofs.Common.{ℕ, ◌<◌, ◌≤◌, Bool, true, false, ◌≡◌, ◌⊎◌, inl, inr, List, [], ◌∷◌, length, map, Option, Some, None, refl, sym, ◌∙◌, ap, subst, arith}
+use Rattle.std.proofs.Common.{ℕ, ◌<◌, ◌≤◌, Bool, ◌≡◌, ◌⊎◌, inl, inr, List, [], ◌∷◌, length, Option, Some, None, refl, sym, ◌∙◌, ap, subst, arith}
 use Rattle.std.specs.List.{AllByRecursion}
 use Rattle.model.specs.declared.steps.Step.{Step}
 use Rattle.model.specs.declared.steps.Ready.TheVariants as ready
@@ -24,7 +24,7 @@ use Rattle.engine.specs.declared.turn.Quiet.{Quiet}
 use Rattle.engine.specs.declared.turn.Quiet.TheVariants as quiet
 use Rattle.engine.specs.Quiets.{IsAllowed as IsAllowedQuiet, after_quiet}
 use Rattle.engine.specs.Jobs.{systems_of, held_by, woven, CanBegin, InHand, IsPlaced, Placed}
-use Rattle.engine.specs.Left.{LeftValue, AreInHand, IsLeftFor, IsNothingLeft}
+use Rattle.engine.specs.Left.{LeftValue, AreInHand, IsLeftFor}
 use Rattle.engine.specs.Meanings.{body_at, meanings, HasMemories, Suits}
 use Rattle.engine.specs.Stage.{Stage, IsTake, IsTurn}
 use Rattle.model.proofs.progress.Single.{wide_lawful}

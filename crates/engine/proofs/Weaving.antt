@@ -1,5 +1,5 @@
 -- What a start, a finish, a sync point and a condition do to an interleaved run.
-use Rattle.std.proofs.Common.{ℕ, ℤ, ◌<◌, Bool, true, false, ◌≡◌, ◌↔◌, ◌&&◌, List, [], ◌∷◌, ◌++◌, length, Option, Some, Result, Ok, refl, sym, ◌∙◌, ap, ap₂}
+use Rattle.std.proofs.Common.{ℕ, ◌<◌, Bool, true, false, ◌≡◌, ◌↔◌, ◌&&◌, List, [], ◌∷◌, ◌++◌, length, Option, Some, Result, Ok, refl, sym, ◌∙◌, ap, ap₂}
 use Rattle.std.proofs.lemmas.Bool.{true_from_ne_false}
 use Rattle.std.specs.Option.{option_and_then}
 use Rattle.model.specs.declared.steps.Step.TheVariants.{Cond, Start, Finish, Sync}

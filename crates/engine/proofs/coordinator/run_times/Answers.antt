@@ -1,4 +1,4 @@
-use Rattle.std.proofs.Common.{◌≡◌, ◌<◌, ◌∷◌, [], List, Err, length, map, length-append, ap, refl, sym, ◌∙◌, subst, arith}
+use Rattle.std.proofs.Common.{◌<◌, ◌∷◌, [], List, length, map, length-append, ap, refl, sym, ◌∙◌, subst, arith}
 use Rattle.std.proofs.Math.Logic.{⊎_map}
 use Rattle.std.proofs.lemmas.List.{length-map, map-append}
 use Rattle.model.specs.declared.steps.Step.{Step}
@@ -74,6 +74,19 @@ returns-in_err-trace-clause-refusal g c = λ k e.
 
 pub run_once-requires : goal.run_once-requires
 run_once-requires g c = λ lifetimes.
-    let inv = c.loop-run.invariant in
-    (c.type_bounds.send-B, (c.type_bounds.send-M-Line, (c.type_bounds.send-M-Gate, (c.type_bounds.sync-M-Gate, ((refl, tt),
-    (inv.suits, (subst (AllKeepWithin c.args.built.now) (sym inv.meant) c.requires.keeps, (inv.home, inv.left))))))))
+    let inv = c.loop-run.invariant in (
+      c.type_bounds.send-B,
+      (
+        c.type_bounds.send-M-Line,
+        (
+          c.type_bounds.send-M-Gate,
+          (
+            c.type_bounds.sync-M-Gate,
+            (
+              (refl, tt),
+              (inv.suits, (subst (AllKeepWithin c.args.built.now) (sym inv.meant) c.requires.keeps, (inv.home, inv.left))),
+            ),
+          ),
+        ),
+      ),
+    )

@@ -1,4 +1,4 @@
-use Rattle.std.proofs.Common.{◌≡◌, ◌<◌, inl, inr, ◌∷◌, [], List, length, reverse, Some, Err, refl, sym, ap, ◌∙◌, subst, true, arith}
+use Rattle.std.proofs.Common.{◌≡◌, ◌<◌, inl, inr, ◌∷◌, List, length, reverse, Some, Err, refl, sym, ap, ◌∙◌, subst, true, arith}
 use Rattle.engine.specs.declared.faults.RunFault.{RunFault}
 use Rattle.engine.specs.declared.turn.Turn.TheVariants as turn
 use Rattle.model.specs.declared.steps.Step.{Step}
@@ -11,10 +11,9 @@ use Rattle.executor_core.specs.Stands.{Stands}
 use Rattle.engine.specs.Meanings.{meanings}
 use Rattle.engine.specs.Stage.{Stage, IsTurn}
 use Rattle.engine.proofs.Placing.{meanings_count}
-use Rattle.engine.proofs.Staging.{stage_open, stage_start, stage_quiet, stage_sync, may_quiet, stage_finish, stage_end, running_there, none_out, none_there, stops_open, stops_start, stops_ids, stops_quiet, stops_sync, stops_finish, falls}
+use Rattle.engine.proofs.Staging.{stage_open, stage_start, stage_quiet, stage_sync, may_quiet, stage_finish, stage_end, running_there, none_out, none_there, stops_start, stops_ids, stops_quiet, stops_sync, stops_finish, falls}
 use Rattle.engine.proofs.InHand.{in_hand_nothing}
 use Rattle.engine.proofs.Remembering.{memories_synced}
-
 use Rattle.engine.proofs.Turns.{turn_start, turn_quiet, turn_sync, turn_collect, waits, start_allowed, quiet_allowed, placed_quiet, placed_open, placed_synced, in_hand_none, in_hand_quiet, suits_end, means_end, home_end}
 use Rattle.engine.proofs.coordinator.run_turns.Goals as goal
 

@@ -1,4 +1,4 @@
-use Rattle.std.proofs.Common.{◌≡◌, ◌-◌, ◌≤◌, length, reverse}
+use Rattle.std.proofs.Common.{◌≡◌, ◌-◌, length, reverse}
 use Rattle.executor_core.specs.Stands.{Stands, room}
 use Rattle.engine.specs.Jobs.{InHand, Placed}
 use Rattle.engine.specs.Meanings.{meanings}

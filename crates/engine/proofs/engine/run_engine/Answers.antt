@@ -1,10 +1,9 @@
-use Rattle.std.proofs.Common.{◌≡◌, ℕ, List, map, Option, Err, refl, sym, ap, ◌∙◌, subst}
+use Rattle.std.proofs.Common.{ℕ, List, map, Option, refl, sym, ap, ◌∙◌, subst}
 use Rattle.std.proofs.Math.Logic.{⊎_map}
 use Rattle.model.specs.state.Agreement.{AgreesWithAll}
 use Rattle.model.specs.state.State.{State}
 use Rattle.model.specs.runs.Causes.{Cause}
 use Rattle.model.specs.runs.Causes.Cause.{NoTick, NoIds, NoEventNumber, Refused}
-use Rattle.model.specs.runs.Runs.{IsStopped}
 use Rattle.model.specs.runs.WideRuns.{AreWideRuns, IsWideStopped}
 use Rattle.engine.specs.History.{history_of}
 use Rattle.engine.specs.EngineValue.{EngineValue}

@@ -1,4 +1,4 @@
-use Rattle.std.proofs.Common.{◌≡◌, ◌<◌, ℕ, List, true, false, length, map, Some, Err, inr, refl, sym, ap, ◌∙◌, subst, arith}
+use Rattle.std.proofs.Common.{◌≡◌, true, false, length, map, Some, Err, inr, refl, sym, ap, ◌∙◌, subst, arith}
 use Rattle.std.proofs.lemmas.List.{length-map}
 use Rattle.engine.specs.declared.faults.NewFault.TheVariants.{Misfit}
 use Rattle.engine.specs.Meanings.{meanings, fits_at, AllKeepWithin, HasMemories, IsFirstMisfit}
