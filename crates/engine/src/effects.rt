@@ -1,36 +1,35 @@
 // What the opening, a start, a finish and what needs no body do to the state, to the bodies, to what systems have left and to the jobs that
 // are out.
 
-ghost use Rattle.std.specs.Prelude.{◌≡◌, ◌<◌, ◌≤◌, ◌+◌, ◌↔◌, ◌⊎◌, ◌++◌, ℕ, List, [], true, false, length, set, Some, None, Ok, Err, is_some, IfOk, OnOk, OnErr, IsErr, IsErrOf};
+ghost use Rattle.std.specs.Prelude.{◌≡◌, ◌<◌, ◌≤◌, ◌+◌, ◌↔◌, ◌++◌, ℕ, List, true, false, length, set, Some, None, Ok, Err, is_some, IfOk, OnOk, IsErr};
 ghost use Rattle.std.specs.List.{AllByRecursion};
-ghost use Rattle.model.specs.declared.steps.Step.TheVariants.{Start as Begin, Finish, Sync};
+ghost use Rattle.model.specs.declared.steps.Step.TheVariants.{Start as Begin, Finish};
 ghost use Rattle.model.specs.Lists.{IsIn};
 ghost use Rattle.model.specs.shown.Input.{shown};
-ghost use Rattle.model.specs.shown.Outcome.{BodyMeaning, events_sent, untouched};
+ghost use Rattle.model.specs.shown.Outcome.{BodyMeaning, events_sent};
 ghost use Rattle.model.specs.shown.Overlay.{has_event_numbers};
 ghost use Rattle.model.specs.access.Condition.{holds};
-ghost use Rattle.model.specs.steps.Schedule.{params_of, access_of, condition_of};
-ghost use Rattle.model.specs.runs.RunState.{between, begin_run, opening, has_tick, next_tick, memory_of_condition, memory_of_system};
+ghost use Rattle.model.specs.steps.Schedule.{access_of, condition_of};
+ghost use Rattle.model.specs.runs.RunState.{between, begin_run, opening, has_tick, next_tick, memory_of_condition};
 ghost use Rattle.model.specs.runs.Meaning.{interleaved_step};
 ghost use Rattle.model.specs.runs.Causes.{interleaved_cause_of};
 ghost use Rattle.model.specs.runs.Causes.{Cause as cause};
 ghost use Rattle.query_plan.specs.Standing.{ArePickedHome};
 ghost use Rattle.body.specs.declared.system_body.BodyFault.TheVariants.{Refused};
 ghost use Rattle.body.specs.Columns.{Column};
-ghost use Rattle.body.specs.Keeps.{CanBeShown};
-ghost use Rattle.body.specs.Lent.{AreLent, lent_in, with_away, with_back};
-ghost use Rattle.body.specs.Out.{IsWrittenBy, AreOut};
-ghost use Rattle.body.specs.Steps.{AreInTime, asked_at, laid, noted, store_of, ticked};
+ghost use Rattle.body.specs.Lent.{AreLent, lent_in, with_back};
+ghost use Rattle.body.specs.Out.{AreOut};
+ghost use Rattle.body.specs.Steps.{asked_at, laid, store_of, ticked};
 ghost use Rattle.worker_pool.specs.JobOut.{JobOut};
 ghost use Rattle.engine.specs.Meanings.{body_at, AllKeepWithin, HasMemories};
 ghost use Rattle.engine.specs.Quiets.{IsAllowed, IsStepOf, TakesTick, after_quiet};
 ghost use Rattle.engine.specs.Jobs.{woven, CanBegin, InHand, Placed};
-ghost use Rattle.engine.specs.Left.{IsLeftFor, commands_at, with_commands, with_grants};
-ghost use Rattle.engine.specs.Starts.{granted_at_start, has_ids_at_start, ids_at_start};
+ghost use Rattle.engine.specs.Left.{IsLeftFor, with_commands};
+ghost use Rattle.engine.specs.Starts.{has_ids_at_start};
 
 use crate::faults::RunFault;
-use crate::granting::grant_to;
 use crate::left::Left;
+use crate::showing::show;
 use crate::turn::Quiet;
 use body::open_state::OpenState;
 use body::system_body::{Body, BodyFault};
@@ -106,50 +105,6 @@ fn ask(
     Ok(answer)
 }
 
-// What a system is shown as it starts, with the ids that it is granted, and a buffer for its commands: its run is noted at the tick to come,
-// which becomes the clock.
-fn prepare(
-    alloc: Global,
-    built: &Built,
-    state: &mut OpenState,
-    left: &mut Left,
-    system: u32,
-) -> Result<Box<View>, RunFault>
-    requires known { system < length built.now.systems }
-    requires memories { HasMemories built.now state.old.state }
-    requires home { AllByRecursion (λ query. ArePickedHome query state.old.layout) (params_of built.now system).queries }
-    requires suits { IsLeftFor built.now left.old }
-    requires fresh { commands_at left.old system ≡ [] }
-    requires in_time { AreInTime state.old.state.world.clock state.old.state.systems state.old.state.conditions }
-    ensures params { IfOk result (λ view. view.value.params ≡ params_of built.now system) }
-    ensures shown { IfOk result (λ view. view.value.shown ≡ shown (params_of built.now system) (memory_of_system state.old.state system) state.old.state (ids_at_start built.now system state.old.state)) }
-    ensures showing { IfOk result (λ view. CanBeShown view.value.params view.value.shown) }
-    ensures untouched { IfOk result (λ view. view.value.outcome ≡ untouched view.value.params view.value.shown) }
-    ensures tick { IfOk result (λ view. view.value.opening.tick ≡ next_tick state.old.state) }
-    ensures written { IfOk result (λ view. AllByRecursion (IsWrittenBy (params_of built.now system).queries state.old.layout) (lent_in view.value.opening.taken)) }
-    ensures held { IfOk result (λ view. (others : List (List Column)) → AreOut (store_of state.old) others → AreOut (store_of state.new) (others ++ view.value.opening.taken)) }
-    ensures noted { IfOk result (λ view. state.new ≡ record { state = noted system (params_of built.now system).reads (next_tick state.old.state) (ticked (granted_at_start built.now system state.old.state)); layout = with_away (lent_in view.value.opening.taken) state.old.layout }) }
-    ensures left { OnOk result (left.new ≡ with_grants system (ids_at_start built.now system state.old.state) left.old) }
-    ensures has { OnOk result ((has_tick state.old.state ≡ true) × (has_ids_at_start built.now system state.old.state ≡ true)) }
-    ensures spent { result ≡ Err RunFault.ClockSpent → has_tick state.old.state ≡ false }
-    ensures ids { result ≡ Err RunFault.IdsSpent → (has_tick state.old.state ≡ true) × (has_ids_at_start built.now system state.old.state ≡ false) }
-    ensures only { (f : RunFault) → result ≡ Err f → (f ≡ RunFault.ClockSpent) ⊎ ((f ≡ RunFault.IdsSpent) ⊎ (f ≡ RunFault.Memory)) }
-{
-    let params = built.params(system);
-    built.apart();
-    let tick = state.coming()?;
-    let granted = grant_to(alloc, params, state)?;
-    left.note_grant(system as usize, Vec::from_slice(alloc, &granted)?);
-    let commands = left.take_buffer(alloc, system as usize);
-    let opened = state.open(alloc, params, system as usize, tick, granted, commands)?;
-    let view = Box::new(alloc, opened)?;
-    let Ok(_) = state.next() else {
-        unreachable!();
-    };
-    state.note(system as usize, params, tick);
-    Ok(view)
-}
-
 // Takes the body of a system from its place.
 fn take_body<B: Body>(slots: &mut [Option<B>], system: usize) -> B
     requires there { is_some (body_at slots.old system) ≡ true }
@@ -189,7 +144,8 @@ pub(crate) fn start<'s, M: Mode<'s>, B: Body + 's>(
     ensures unrefused { (k : ℕ) → result ≡ Err (RunFault.BodyFault k) → ⊥ }
 {
     state.law();
-    let view = prepare(alloc, built, state, left, system)?;
+    let shown = show(alloc, built, state, left, system)?;
+    let view = Box::new(alloc, shown)?;
     let body = take_body(slots, system as usize);
     match pool.hand_out(
         mode,

@@ -9,6 +9,7 @@ pub mod first_state;
 pub mod fitting;
 pub mod granting;
 pub mod left;
+pub mod showing;
 pub mod turn;
 
 pub use engine::Engine;

@@ -4,6 +4,7 @@ pub mod Lines
 pub mod Runs
 pub mod Verdicts
 pub mod ReplayFaults
+pub mod Reaching
 pub mod WholeStarts
 pub mod Taking
 pub mod Agreeing

@@ -13,7 +13,7 @@ use Rattle.body.specs.Keeps.{CanBeShown}
 use Rattle.model.specs.steps.Schedule.{params_of}
 use Rattle.engine.proofs.GrantedIds.{out_grant, shown_grant}
 use Rattle.engine.proofs.Starting.{can_be_shown, registers_at}
-use Rattle.engine.proofs.effects.prepare.Goals as goal
+use Rattle.engine.proofs.showing.show.Goals as goal
 
 pub open-requires-clause-apart : goal.open-requires-clause-apart
 open-requires-clause-apart c = λ conflict. c.apart.ensures c.args.system c.requires.known (subst ConflictWithin c.params-params.ensures conflict)
@@ -25,8 +25,7 @@ returns-clause-shown c =
     let p = c.params-params.result.now in
     let memory = memory_of_system w.state n in
     let granted = c.in_ok-granted.granted.items in
-    ap (λ (v : Seen). v.shown) c.in_ok-view.ensures.ok
-    ∙ c.in_ok-opened.ensures.shown
+    c.in_ok-view.ensures.shown
     ∙ ap (λ (x : StateValue). shown p (memory_of_system x.state n) x.state granted) c.in_ok-granted.ensures.granted
     ∙ shown_grant p memory (unwrap_or p.spawns 0) w.state granted
     ∙ ap (shown p memory w.state) c.in_ok-granted.ensures.ids
@@ -37,10 +36,10 @@ returns-clause-held c = λ others held.
     let w = c.args.state.now in
     let p = c.params-params.result.now in
     let before = subst (λ (x : StateValue). AreOut (store_of x) others) (sym c.in_ok-granted.ensures.granted) (out_grant (unwrap_or p.spawns 0) w.state.world w.layout others held) in
-    out-same (store_of c.open.new.self) (store_of c.note.new.self) (others ++ c.in_ok-view.view.value.opening.taken)
+    out-same (store_of c.open.new.self) (store_of c.note.new.self) (others ++ c.in_ok-view.view.opening.taken)
     (ap (λ (s : StateValue). s.state.world.slots) (c.note.ensures) ∙ ap (λ (s : StateValue). s.state.world.slots) c.in-Ok.ensures.moved)
     (ap (λ (s : StateValue). s.layout) (c.note.ensures) ∙ ap (λ (s : StateValue). s.layout) c.in-Ok.ensures.moved)
-    (subst (λ (v : Seen). AreOut (store_of c.open.new.self) (others ++ v.opening.taken)) (sym c.in_ok-view.ensures.ok) (c.in_ok-opened.ensures.out others before))
+    (c.in_ok-view.ensures.out others before)
 
 pub returns-clause-showing : goal.returns-clause-showing
 returns-clause-showing c =
@@ -48,7 +47,7 @@ returns-clause-showing c =
     let n = c.args.system in
     let w = c.args.state.now.state in
     let shows = returns-clause-shown c in
-    let with_params = λ (p : Params). CanBeShown p c.in_ok-view.view.value.shown in
-    subst with_params (sym (ap (λ (v : Seen). v.params) c.in_ok-view.ensures.ok ∙ c.in_ok-opened.ensures.params ∙ c.params-params.ensures))
+    let with_params = λ (p : Params). CanBeShown p c.in_ok-view.view.shown in
+    subst with_params (sym (c.in_ok-view.ensures.params ∙ c.params-params.ensures))
     (subst (CanBeShown (params_of s n)) (sym shows)
-    (can_be_shown (params_of s n) (memory_of_system w n) w (registers_at w.world.clock w.systems n (let e = c.requires.memories.systems in let k = c.requires.known in omega (arith, e, k)) c.requires.in_time.systems_in)))
+    (can_be_shown (params_of s n) (memory_of_system w n) w (registers_at w.world.clock w.systems n (let e = c.requires.memories.systems in let k = c.requires.known in omega (arith, e, k)) c.law.ensures.memories.systems_in)))
