@@ -11,10 +11,11 @@ use Rattle.engine.specs.Left.{LeftValue, with_grants}
 use Rattle.engine.specs.Starts.{ids_at_start}
 use Rattle.engine.proofs.Placing.{IsHanded, start_there, placed_start}
 use Rattle.engine.proofs.Starting.{in_hand_start}
+use denote.Param.Send.{sendable}
 use Rattle.engine.proofs.effects.start.Goals as goal
 
-pub show-shown-requires-clause-home : goal.show-shown-requires-clause-home
-show-shown-requires-clause-home g c =
+pub show-requires-clause-home : goal.show-requires-clause-home
+show-requires-clause-home g c =
     home-apart (store_of c.args.state.now) (held_by c.args.pool.now) (params_of c.args.built.now c.args.system) c.law.ensures.laid c.requires.placed.1.held c.requires.allowed.apart
 
 pub returns-in-Ok-clause-started : goal.returns-in-Ok-clause-started
@@ -64,3 +65,7 @@ returns-in-Ok-clause-hand g c =
     subst (λ (x : LeftValue). InHand s x c.hand_out.new.self later) (sym ok.left)
     (subst (λ (xs : List (JobOut g.row.B.Denot)). InHand s (with_grants n (ids_at_start s n w.state) left) xs later) (sym c.in-Ok.ensures.ok)
     (in_hand_start s n w later left out job c.requires.allowed.known c.requires.placed.1.memories c.law.ensures.memories c.requires.hand c.requires.allowed.fresh handed c.requires.allowed.home))
+
+pub hand_out-requires : goal.hand_out-requires
+hand_out-requires g c = λ lifetimes.
+    (search sendable depth 40, (search sendable depth 40, (search sendable depth 40, (search sendable depth 40, (refl, tt)))))

@@ -3,6 +3,7 @@ use Rattle.std.proofs.lemmas.Bool.{true_from_ne_false}
 use Rattle.model.specs.declared.steps.Step.TheVariants.{Start as Begin}
 use Rattle.model.specs.runs.RunState.{next_tick}
 use Rattle.model.specs.runs.Causes.Cause.{Refused}
+use Rattle.body.specs.Lent.{AreLent}
 use Rattle.body.specs.Out.{AreOut}
 use Rattle.body.specs.Seen.{Opening}
 use Rattle.body.specs.Steps.{StateValue, laid, store_of}
@@ -18,8 +19,8 @@ use Rattle.trace_checker.proofs.Taking.{handed_on}
 use Rattle.trace_checker.proofs.WholeStarts.{body_fit, in_hand_kept, is_answered, is_refused, left_for_start, meanings_after, suits_after, memories_after, noted_known, refusal_stops, unsent_stops, start_stops, start_taken, unsent_told}
 use Rattle.trace_checker.proofs.replay.start.Goals as goal
 
-pub show-view-requires-clause-home : goal.show-view-requires-clause-home
-show-view-requires-clause-home g c =
+pub show-requires-clause-home : goal.show-requires-clause-home
+show-requires-clause-home g c =
     home-apart (store_of c.args.state.now) [] (params_of c.args.built.now c.args.system) c.law.ensures.laid c.requires.out tt
 
 pub run_body-requires-clause-fits : goal.run_body-requires-clause-fits
@@ -65,6 +66,10 @@ pub close-requires-clause-known : goal.close-requires-clause-known
 close-requires-clause-known g c =
     noted_known c.args.built.now c.args.state.now.state c.show.new.state.state c.args.system (next_tick c.args.state.now.state) c.requires.suits.memories c.requires.known
     (ap (λ (x : StateValue). x.state) c.in_ok-view.ensures.noted)
+
+pub close-requires-clause-lent : goal.close-requires-clause-lent
+close-requires-clause-lent g c =
+    subst (λ (o : Opening). AreLent (store_of c.show.new.state) o.taken) (sym c.run_body.ensures.opening) (c.in_ok-view.ensures.held [] c.requires.out).lent
 
 pub returns-in_err-commands-clause-stopped : goal.returns-in_err-commands-clause-stopped
 returns-in_err-commands-clause-stopped g c =
