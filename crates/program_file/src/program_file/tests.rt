@@ -254,6 +254,46 @@ fn systems_are_refused(rt: HostRuntime) -> Result<(), Fail> {
     Ok(())
 }
 
+// Files of systems with Commands.
+const COMMANDS: [(&str, &str); 7] = [
+    ("system = [{ name = \"a\", spawns = 4294967295 }]", ""),
+    (
+        "system = [{ name = \"a\", spawns = 4294967296 }]",
+        "refused P2 system 0",
+    ),
+    (
+        "system = [{ name = \"a\", spawns = -1 }]",
+        "refused P2 system 0",
+    ),
+    (
+        "system = [{ name = \"a\", spawns = [2] }]",
+        "refused P2 system 0",
+    ),
+    ("set = [{ name = \"a\", spawns = 1 }]", "refused P2 set 0"),
+    (
+        "system = [{ name = \"a\", spawns = 0, do = [{ code = [\"spawn g0\", \" insert  g01 Position 1 r0\", \"insert row Frozen\", \"remove row Health\", \"despawn g4294967295 \"] }] }]",
+        "",
+    ),
+    (
+        "system = [{ name = \"a\", do = [{ code = [\"spawn row\"] }] }]",
+        "refused P3 system 0",
+    ),
+];
+
+#[test]
+fn commands_are_read(rt: HostRuntime) -> Result<(), Fail> {
+    assert_eq!(rt; first_other(rt.alloc(), COMMANDS.as_slice())?, None);
+    let document = document_of(
+        rt.alloc(),
+        b"system = [{ name = \"a\", spawns = 3 }, { name = \"b\" }]",
+    )?;
+    let tree = ProgramFile::read(rt.alloc(), &document)?;
+    assert_eq!(rt; tree.systems.len(), 2);
+    assert_eq!(rt; tree.systems[0].spawns, Some(3));
+    assert_eq!(rt; tree.systems[1].spawns, None);
+    Ok(())
+}
+
 // Files of systems with events.
 const EVENTS: [(&str, &str); 14] = [
     (
