@@ -2,6 +2,8 @@
 #![tactic(auto)]
 
 #[cfg(test)]
+mod applying;
+#[cfg(test)]
 mod commands;
 #[cfg(test)]
 mod conflicts;
