@@ -100,52 +100,52 @@ fn an_emission(rt: HostRuntime) -> Result<(), Fail> {
 }
 
 #[test]
-fn commands(rt: HostRuntime) -> Result<(), Fail> {
-    let alloc = rt.alloc();
-    let spawn = Instruction::read(alloc, " spawn  g04294967295")?;
-    assert_eq!(rt; spawn, Instruction::Spawn { slot: u32::MAX });
-    let insert = Instruction::read(alloc, "insert row Position -1 r2")?;
-    assert_eq!(rt;
-        insert,
-        Instruction::Insert {
-            subject: Subject::Row,
-            kind: Kind::Position,
-            values: Values::Two(Source::Integer(-1), Source::Register(2))
-        }
-    );
-    let frozen = Instruction::read(alloc, "insert g1 Frozen")?;
-    assert_eq!(rt;
-        frozen,
-        Instruction::Insert {
-            subject: Subject::Granted(1),
-            kind: Kind::Frozen,
-            values: Values::Empty
-        }
-    );
-    let many = Instruction::read(alloc, "insert g1 Health 1 event Total")?;
-    assert_eq!(rt;
-        many,
-        Instruction::Insert {
-            subject: Subject::Granted(1),
-            kind: Kind::Health,
-            values: Values::Many
-        }
-    );
-    let remove = Instruction::read(alloc, "remove row Team")?;
-    assert_eq!(rt;
-        remove,
-        Instruction::Remove {
-            subject: Subject::Row,
-            kind: Kind::Team
-        }
-    );
-    let despawn = Instruction::read(alloc, "despawn g0 ")?;
-    assert_eq!(rt;
-        despawn,
-        Instruction::Despawn {
-            subject: Subject::Granted(0)
-        }
-    );
+fn inserts(rt: HostRuntime) -> Result<(), Fail> {
+    let row = Subject::Row;
+    let first = Subject::Granted(1);
+    let two = Values::Two(Source::Integer(-1), Source::Register(2));
+    for (text, subject, kind, values) in [
+        ("insert row Position -1 r2", row, Kind::Position, two),
+        ("insert g1 Frozen", first, Kind::Frozen, Values::Empty),
+        (
+            "insert g1 Health 1 event Total",
+            first,
+            Kind::Health,
+            Values::Many,
+        ),
+    ] {
+        let insert = Instruction::read(rt.alloc(), text)?;
+        let wanted = Instruction::Insert {
+            subject,
+            kind,
+            values,
+        };
+        assert_eq!(rt; insert, wanted, "at {text}");
+    }
+    Ok(())
+}
+
+#[test]
+fn other_commands(rt: HostRuntime) -> Result<(), Fail> {
+    let row = Subject::Row;
+    let first = Subject::Granted(0);
+    for (text, wanted) in [
+        (
+            " spawn  g04294967295",
+            Instruction::Spawn { slot: u32::MAX },
+        ),
+        (
+            "remove row Team",
+            Instruction::Remove {
+                subject: row,
+                kind: Kind::Team,
+            },
+        ),
+        ("despawn g0 ", Instruction::Despawn { subject: first }),
+    ] {
+        let command = Instruction::read(rt.alloc(), text)?;
+        assert_eq!(rt; command, wanted, "at {text}");
+    }
     Ok(())
 }
 
