@@ -1,6 +1,6 @@
 // Command lines over files whose systems spawn, insert, remove and despawn.
 
-use crate::served::{first_other, serve_file, world};
+use crate::served::{NEVER, Served, first_other, serve_file, serve_until, world};
 use std::alloc::{AllocError, Global};
 use std::test::Fail;
 
@@ -188,5 +188,77 @@ fn bullets_live_three_runs(rt: HostRuntime) -> Result<(), Fail> {
         text.as_str(),
     )?;
     assert_eq!(rt; other, None);
+    Ok(())
+}
+
+// What a command leaves that takes a trace.
+fn served(alloc: Global, line: &str, file: &str, trace: &str) -> Result<Served, Fail> {
+    serve_until(alloc, line, file, trace.as_bytes(), NEVER)
+}
+
+// Two systems in no order, each of which spawns an entity of its own.
+fn spawners(alloc: Global) -> Result<String, AllocError> {
+    let mut file = once(
+        alloc,
+        "a",
+        "spawns = 1",
+        "\"spawn g0\", \"insert g0 Score 1\"",
+    )?;
+    let other = once(
+        alloc,
+        "b",
+        "spawns = 1",
+        "\"spawn g0\", \"insert g0 Score 2\"",
+    )?;
+    file.push_str(other.as_str())?;
+    Ok(file)
+}
+
+#[test]
+fn who_started_first_is_granted_the_lesser_id(rt: HostRuntime) -> Result<(), Fail> {
+    let alloc = rt.alloc();
+    let file = spawners(alloc)?;
+    for (trace, entities) in [
+        (
+            "R 1\nS 0\nF 0\nS 1\nF 1\nY 0\n",
+            "0v1 Score 1\n1v1 Score 2\n",
+        ),
+        (
+            "R 1\nS 1\nF 1\nS 0\nF 0\nY 0\n",
+            "0v1 Score 2\n1v1 Score 1\n",
+        ),
+        (
+            "R 1\nS 1\nS 0\nF 0\nF 1\nY 0\n",
+            "0v1 Score 2\n1v1 Score 1\n",
+        ),
+    ] {
+        let text = world(alloc, 1, entities)?;
+        let answer = served(alloc, "ecsrun replay a.toml b.txt", file.as_str(), trace)?;
+        assert_eq!(rt; answer.out.as_slice(), text.as_bytes(), "at {trace}");
+    }
+    Ok(())
+}
+
+#[test]
+fn fronts_of_a_run_with_two_sync_points_are_unfinished(rt: HostRuntime) -> Result<(), Fail> {
+    let alloc = rt.alloc();
+    let mut file = once(
+        alloc,
+        "a",
+        "spawns = 1\nbefore = [\"b\"]",
+        "\"spawn g0\"",
+    )?;
+    file.push_str(once(alloc, "b", "", "")?.as_str())?;
+    let mut trace = String::from_str(alloc, "R 1\n")?;
+    for step in ["S 0\n", "F 0\n", "Y 0\n", "S 1\n", "F 1\n", "Y 1\n"] {
+        let answer = served(alloc, "ecsrun check a.toml b.txt", file.as_str(), trace.as_str())?;
+        assert_eq!(rt; answer.out.as_slice(), b"run 1 unfinished\n".as_slice(), "at {trace}");
+        trace.push_str(step)?;
+    }
+    let answer = served(alloc, "ecsrun check a.toml b.txt", file.as_str(), trace.as_str())?;
+    assert_eq!(rt; answer.out.as_slice(), b"run 1 complete\n".as_slice());
+    let answer = served(alloc, "ecsrun replay a.toml b.txt", file.as_str(), trace.as_str())?;
+    let text = world(alloc, 1, "0v1\n")?;
+    assert_eq!(rt; answer.out.as_slice(), text.as_bytes());
     Ok(())
 }
