@@ -6,9 +6,7 @@ use std::test::Fail;
 
 // A system of this name with these keys, and code that runs once.
 fn once(alloc: Global, name: &str, keys: &str, code: &str) -> Result<String, AllocError> {
-    format!(in alloc;
-        "[[system]]\nname = \"{name}\"\n{keys}\n[[system.do]]\ncode = [{code}]\n"
-    )
+    format!(in alloc; "[[system]]\nname = \"{name}\"\n{keys}\n[[system.do]]\ncode = [{code}]\n")
 }
 
 // A system of this name with these keys, and code for each row of its first query.
@@ -49,7 +47,11 @@ fn ids_come_back_with_their_next_generation(rt: HostRuntime) -> Result<(), Fail>
         ),
     ] {
         let text = world(alloc, runs, entities)?;
-        assert_eq!(rt; first_other(rt, alloc, line, file.as_str(), text.as_str())?, None, "at {line}");
+        assert_eq!(rt;
+            first_other(rt, alloc, line, file.as_str(), text.as_str())?,
+            None,
+            "at {line}"
+        );
     }
     Ok(())
 }
@@ -57,15 +59,13 @@ fn ids_come_back_with_their_next_generation(rt: HostRuntime) -> Result<(), Fail>
 #[test]
 fn who_spawns_and_despawns_leaves_nobody(rt: HostRuntime) -> Result<(), Fail> {
     let alloc = rt.alloc();
-    let file = once(
-        alloc,
-        "a",
-        "spawns = 1",
-        "\"spawn g0\", \"despawn g0\"",
-    )?;
+    let file = once(alloc, "a", "spawns = 1", "\"spawn g0\", \"despawn g0\"")?;
     let text = world(alloc, 3, "")?;
     let line = "ecsrun run a.toml --times 3";
-    assert_eq!(rt; first_other(rt, alloc, line, file.as_str(), text.as_str())?, None);
+    assert_eq!(rt;
+        first_other(rt, alloc, line, file.as_str(), text.as_str())?,
+        None
+    );
     Ok(())
 }
 
@@ -80,7 +80,10 @@ fn an_insert_before_its_spawn_is_passed_over(rt: HostRuntime) -> Result<(), Fail
     )?;
     let text = printed(alloc, 1, 0, "0v1\n", 1)?;
     let line = "ecsrun run a.toml";
-    assert_eq!(rt; first_other(rt, alloc, line, file.as_str(), text.as_str())?, None);
+    assert_eq!(rt;
+        first_other(rt, alloc, line, file.as_str(), text.as_str())?,
+        None
+    );
     Ok(())
 }
 
@@ -111,7 +114,11 @@ fn who_comes_after_a_sync_point_sees_who_was_spawned(rt: HostRuntime) -> Result<
         file.push_str(count.as_str())?;
         let text = printed(alloc, 1, total, "0v1 Score 1\n", 0)?;
         let line = "ecsrun run a.toml";
-        assert_eq!(rt; first_other(rt, alloc, line, file.as_str(), text.as_str())?, None, "at {order}");
+        assert_eq!(rt;
+            first_other(rt, alloc, line, file.as_str(), text.as_str())?,
+            None,
+            "at {order}"
+        );
         let line = "ecsrun run a.toml --trace b.txt";
         let answer = serve_file(alloc, line, file.as_str())?;
         assert_eq!(rt; answer.record.as_slice(), record.as_bytes(), "at {order}");
@@ -129,7 +136,10 @@ fn a_second_despawn_is_passed_over(rt: HostRuntime) -> Result<(), Fail> {
     }
     let text = printed(alloc, 1, 0, "", 1)?;
     let line = "ecsrun run a.toml";
-    assert_eq!(rt; first_other(rt, alloc, line, file.as_str(), text.as_str())?, None);
+    assert_eq!(rt;
+        first_other(rt, alloc, line, file.as_str(), text.as_str())?,
+        None
+    );
     let answer = serve_file(alloc, "ecsrun ambiguities a.toml", file.as_str())?;
     assert_eq!(rt; answer.out.as_slice(), b"settled no\n".as_slice());
     Ok(())
@@ -143,7 +153,11 @@ fn what_is_removed_is_not_removed_again(rt: HostRuntime) -> Result<(), Fail> {
     file.push_str(each(alloc, "a", keys, "\"remove row Frozen\"")?.as_str())?;
     for (line, runs) in [("ecsrun run a.toml", 1), ("ecsrun run a.toml --times 2", 2)] {
         let text = world(alloc, runs, "0v1\n")?;
-        assert_eq!(rt; first_other(rt, alloc, line, file.as_str(), text.as_str())?, None, "at {line}");
+        assert_eq!(rt;
+            first_other(rt, alloc, line, file.as_str(), text.as_str())?,
+            None,
+            "at {line}"
+        );
     }
     Ok(())
 }
@@ -156,7 +170,11 @@ fn commands_that_may_not_be_are_refused(rt: HostRuntime) -> Result<(), Fail> {
         ("spawns = 1", "\"spawn g1\"", "refused X6 a 0 0"),
         ("res = [\"Total\"]", "\"set Total 1\"", "refused X2 a 0 0"),
         ("", "\"spawn g0\"", "refused X6 a 0 0"),
-        ("spawns = 1", "\"spawn g0\", \"spawn g0\"", "refused X6 a 0 1"),
+        (
+            "spawns = 1",
+            "\"spawn g0\", \"spawn g0\"",
+            "refused X6 a 0 1",
+        ),
         ("spawns = 1", "\"insert g9 Health\"", "refused X3 a 0 0"),
         ("spawns = 1", "\"despawn row\"", "refused X1 a 0 0"),
         ("spawns = 1025", "\"spawn g0\"", "refused B12 5"),
@@ -165,7 +183,11 @@ fn commands_that_may_not_be_are_refused(rt: HostRuntime) -> Result<(), Fail> {
         let file = once(alloc, "a", keys, code)?;
         let answer = serve_file(alloc, "ecsrun run a.toml", file.as_str())?;
         let line = format!(in alloc; "{told}\n")?;
-        assert_eq!(rt; answer.faults.as_slice(), line.as_bytes(), "at {keys} {code}");
+        assert_eq!(rt;
+            answer.faults.as_slice(),
+            line.as_bytes(),
+            "at {keys} {code}"
+        );
         assert_eq!(rt; answer.status, 1, "at {keys} {code}");
     }
     Ok(())
@@ -242,22 +264,36 @@ fn who_started_first_is_granted_the_lesser_id(rt: HostRuntime) -> Result<(), Fai
 #[test]
 fn fronts_of_a_run_with_two_sync_points_are_unfinished(rt: HostRuntime) -> Result<(), Fail> {
     let alloc = rt.alloc();
-    let mut file = once(
-        alloc,
-        "a",
-        "spawns = 1\nbefore = [\"b\"]",
-        "\"spawn g0\"",
-    )?;
+    let mut file = once(alloc, "a", "spawns = 1\nbefore = [\"b\"]", "\"spawn g0\"")?;
     file.push_str(once(alloc, "b", "", "")?.as_str())?;
     let mut trace = String::from_str(alloc, "R 1\n")?;
     for step in ["S 0\n", "F 0\n", "Y 0\n", "S 1\n", "F 1\n", "Y 1\n"] {
-        let answer = served(alloc, "ecsrun check a.toml b.txt", file.as_str(), trace.as_str())?;
-        assert_eq!(rt; answer.out.as_slice(), b"run 1 unfinished\n".as_slice(), "at {trace}");
+        let answer = served(
+            alloc,
+            "ecsrun check a.toml b.txt",
+            file.as_str(),
+            trace.as_str(),
+        )?;
+        assert_eq!(rt;
+            answer.out.as_slice(),
+            b"run 1 unfinished\n".as_slice(),
+            "at {trace}"
+        );
         trace.push_str(step)?;
     }
-    let answer = served(alloc, "ecsrun check a.toml b.txt", file.as_str(), trace.as_str())?;
+    let answer = served(
+        alloc,
+        "ecsrun check a.toml b.txt",
+        file.as_str(),
+        trace.as_str(),
+    )?;
     assert_eq!(rt; answer.out.as_slice(), b"run 1 complete\n".as_slice());
-    let answer = served(alloc, "ecsrun replay a.toml b.txt", file.as_str(), trace.as_str())?;
+    let answer = served(
+        alloc,
+        "ecsrun replay a.toml b.txt",
+        file.as_str(),
+        trace.as_str(),
+    )?;
     let text = world(alloc, 1, "0v1\n")?;
     assert_eq!(rt; answer.out.as_slice(), text.as_bytes());
     Ok(())

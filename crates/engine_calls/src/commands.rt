@@ -54,11 +54,7 @@ fn spawning(alloc: Global, living: u32, spawns: u32) -> Result<Engine<ScriptBody
     let mut bodies = Vec::new(alloc);
     bodies.push(script(alloc, &granted, Rounds::Once, "spawn g0")?)?;
     let mut desc = ScheduleDesc::new(alloc);
-    desc.add_system(SystemDesc::new(
-        alloc,
-        String::from_str(alloc, "a")?,
-        granted,
-    ))?;
+    desc.add_system(SystemDesc::new(alloc, String::from_str(alloc, "a")?, granted))?;
     let built = build(alloc, desc)?;
     let world = world_of_many(alloc, Clock::at(1), living)?;
     let state = first_state(alloc, &built, world)?;
@@ -69,11 +65,20 @@ fn spawning(alloc: Global, living: u32, spawns: u32) -> Result<Engine<ScriptBody
 fn ids_are_spent(rt: HostRuntime) -> Result<(), Fail> {
     let alloc = rt.alloc();
     let mut engine = spawning(alloc, 1_048_575, 2)?;
-    assert_eq!(rt; engine.run(alloc, 1, &Single).err(), Some(RunFault::IdsSpent));
-    assert_eq!(rt; engine.run(alloc, 1, &Single).err(), Some(RunFault::Spoiled));
+    assert_eq!(rt;
+        engine.run(alloc, 1, &Single).err(),
+        Some(RunFault::IdsSpent)
+    );
+    assert_eq!(rt;
+        engine.run(alloc, 1, &Single).err(),
+        Some(RunFault::Spoiled)
+    );
     let mut engine = spawning(alloc, 1_048_575, 1)?;
     assert_eq!(rt; engine.run(alloc, 1, &Single).err(), None);
-    assert_eq!(rt; engine.run(alloc, 1, &Single).err(), Some(RunFault::IdsSpent));
+    assert_eq!(rt;
+        engine.run(alloc, 1, &Single).err(),
+        Some(RunFault::IdsSpent)
+    );
     Ok(())
 }
 
@@ -167,12 +172,9 @@ impl<R: Wait + Watch + Send + Sync + Drop> Gate for Holding<R> {
         }
         let patience = self.patience;
         let has_left = self.has_left.lock(&self.runtime);
-        let _passed = self.changed.wait_timeout_while(
-            &self.runtime,
-            has_left,
-            patience,
-            |has_left| !*has_left,
-        );
+        let _passed = self
+            .changed
+            .wait_timeout_while(&self.runtime, has_left, patience, |has_left| !*has_left);
     }
 
     fn leave(&self, number: u64) {
