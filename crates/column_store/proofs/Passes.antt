@@ -1,9 +1,8 @@
 -- Lists that go with a table's entities, where some entities go.
 use Rattle.std.proofs.Common.{◌≡◌, ℕ, ℤ, zero, suc, ◌+◌, ◌<◌, ◌≤◌, Bool, true, false, cond, ◌++◌, List, [], ◌∷◌, length, get_or, set, take, drop, map, refl, sym, ap, ap₂, ◌∙◌, arith}
-use Rattle.std.proofs.lemmas.List.{length-map, drop_more, take-set-le, take_more_set, map-append, take-map, drop-map, length-set}
+use Rattle.std.proofs.lemmas.List.{length-map, drop_more, take_more_set, map-append, take-map, drop-map, length-set}
 use Rattle.model.specs.declared.entities.Entity.{Entity}
 use Rattle.change_ticks.specs.declared.stamp.Stamp.{Stamp}
-use Rattle.model.specs.state.State.{Cell}
 use Rattle.std.specs.List.{AllByRecursion}
 use Rattle.column_store.specs.Order.{is_before, is_same, AreRising}
 use Rattle.column_store.specs.Column.{cell_of, cells_of}

@@ -1,5 +1,5 @@
 -- What is left of a table whose rows of some entities are removed in one pass.
-use Rattle.std.proofs.Common.{◌≡◌, ℕ, zero, suc, Bool, true, false, cond, ◌||◌, List, [], ◌∷◌, length, map, refl, sym, ap, ap₂, subst, ◌∙◌, arith}
+use Rattle.std.proofs.Common.{◌≡◌, ℕ, suc, Bool, true, false, cond, ◌||◌, List, [], ◌∷◌, length, map, refl, sym, ap, ap₂, subst, ◌∙◌, arith}
 use Rattle.std.specs.List.{AllByRecursion}
 use Rattle.std.specs.Prelude.{slice_get, IsSome}
 use Rattle.model.specs.Lists.{tail_of}
@@ -7,10 +7,9 @@ use Rattle.model.specs.state.State.{Cell}
 use Rattle.model.specs.declared.entities.Entity.{Entity}
 use Rattle.model.proofs.lists.Each.{each-weaker, each-map}
 use Rattle.column_store.specs.Order.{is_before, is_same, AreRising}
-use Rattle.column_store.specs.Column.{ColumnCells}
 use Rattle.column_store.specs.Places.{IsPlace, IsNowhere}
 use Rattle.column_store.specs.Keeping.{kept, kept_from, keep_all, keep_in, OwnsRows}
-use Rattle.column_store.specs.Table.{Standing, ColumnSlotValue, TableRow, TableValue, row_of, is_among, without_rows}
+use Rattle.column_store.specs.Table.{Standing, ColumnSlotValue, TableRow, row_of, is_among, without_rows}
 use Rattle.column_store.specs.Inside.{standing_in, kind_in, cell_at, tail_in, rows_of, table_of, IsOfLength, IsOwned, IsTable, IsThere}
 use Rattle.column_store.proofs.Columns.{shorter_tails}
 use Rattle.column_store.proofs.Edited.{there_from_rows}

@@ -1,4 +1,4 @@
-use Rattle.std.proofs.Common.{◌≡◌, ◌<◌, length, get_or, sym, ◌∙◌, arith}
+use Rattle.std.proofs.Common.{◌<◌, length, sym, ◌∙◌, arith}
 use Rattle.std.proofs.lemmas.List.{get_or_default}
 use Rattle.column_store.proofs.Passes.{pass_gone, pass_stays, pass_end}
 use Rattle.column_store.proofs.keeping.keep.Goals.{then-is_next, else-is_next}
