@@ -21,3 +21,4 @@ pub mod ColumnOverlays
 pub mod TakenColumns
 pub mod KindsHome
 pub mod Returned
+pub mod Departures

@@ -148,7 +148,8 @@ fn arrive_all(tables: &mut Vec<Table>, rows: &[RowMove<'_>]) -> Result<(), Alloc
     Ok(())
 }
 
-// Removes rows from where they were, or replaces their components where they stay.
+// Removes rows from where they were, or replaces their components where they stay. The last row is the first: where rows are in rising ids,
+// those that leave a table together are removed from its end on, and where all of them leave none is shifted.
 fn depart_all(tables: &mut Vec<Table>, rows: &[RowMove<'_>])
     requires shaped { AreShaped tables.old.items }
     requires owned { AreOwned tables.old.items }
@@ -156,8 +157,8 @@ fn depart_all(tables: &mut Vec<Table>, rows: &[RowMove<'_>])
     requires can { AllByRecursion (λ m. (from : EntityLocation) → m.from ≡ Some from → CanDepart tables.old.items (placing_of m) from) rows.now }
     ensures { AreSteps departed tables.old.items tables.new.items (map placing_of rows.now) }
 {
-    for row in rows {
-        depart(tables, row);
+    for at in (0..rows.len()).rev() {
+        depart(tables, &rows[at]);
     }
 }
 

@@ -10,3 +10,5 @@ pub mod Edited
 pub mod Made
 pub mod TheirComponents
 pub mod Wide
+pub mod Passes
+pub mod Removed

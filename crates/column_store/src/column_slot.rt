@@ -1,6 +1,6 @@
 // The slots of columns in a table, and what is done to all columns at a row.
 
-ghost use Rattle.std.specs.Prelude.{◌≡◌, ◌≤◌, ℕ, true, map, option_map, Some, IfOk, IfErr, OnOk, OnErr};
+ghost use Rattle.std.specs.Prelude.{◌≡◌, ◌≤◌, ℕ, true, length, map, option_map, Some, IfOk, IfErr, OnOk, OnErr};
 ghost use Rattle.std.specs.List.{AllByRecursion};
 ghost use Rattle.std.specs.Arc.{arc_value};
 ghost use Rattle.kinds.specs.Value.{value_number, value_words};
@@ -8,9 +8,11 @@ ghost use Rattle.column_store.specs.Cells.{stamped_number, stamped_cell};
 ghost use Rattle.column_store.specs.Table.{is_home};
 ghost use Rattle.column_store.specs.Table.Standing.{Owned, Away};
 ghost use Rattle.column_store.specs.Inside.{cell_at, kind_in, standing_at, owned_slot, empty_column, write_in, insert_in, remove_in, replace_in, insert_all, replace_all, HoldsRow, OwnsRow, Takes, AllTake, Renews, AllRenew, IsAtHome, IsOwned, AreAlike};
+ghost use Rattle.column_store.specs.Keeping.{keep_in, OwnsRows};
 
 use crate::stamped::{StampedColumn, StampedValue};
 use change_ticks::clock::Tick;
+use entity_table::Entity;
 use kinds::kind::Kind;
 use kinds::value::Value;
 use std::alloc::{AllocError, Global};
@@ -200,6 +202,18 @@ impl ColumnSlot {
             _ => unreachable!(),
         }
     }
+
+    // Leaves the components of the entities that stay. Those before a row stay where they are.
+    fn keep(&mut self, first: usize, entities: &[Entity], gone: &[Entity])
+        requires owned { OwnsRows (length entities.now) self.old }
+        requires within { first ≤ length entities.now }
+        ensures { self.new ≡ keep_in first gone.now entities.now self.old }
+    {
+        match &mut self.spot {
+            Spot::Home(column) => column.keep(first, entities, gone),
+            _ => unreachable!(),
+        }
+    }
 }
 
 // The column of an owner of it: moved where there is no other, else copied. Where memory is wanting the owner has it as before.
@@ -278,6 +292,23 @@ pub(crate) fn remove_row(columns: &mut [ColumnSlot], row: usize)
     if let Some((column, other_columns)) = columns.split_first_mut() {
         column.remove(row);
         remove_row(other_columns, row);
+    }
+}
+
+// Leaves the rows of the entities that stay in each column. Those before a row stay where they are.
+pub(crate) fn keep_rows(
+    columns: &mut [ColumnSlot],
+    first: usize,
+    entities: &[Entity],
+    gone: &[Entity],
+)
+    requires owned { AllByRecursion (OwnsRows (length entities.now)) columns.old }
+    requires within { first ≤ length entities.now }
+    ensures { columns.new ≡ map (keep_in first gone.now entities.now) columns.old }
+{
+    if let Some((column, other_columns)) = columns.split_first_mut() {
+        column.keep(first, entities, gone);
+        keep_rows(other_columns, first, entities, gone);
     }
 }
 

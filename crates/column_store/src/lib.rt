@@ -3,6 +3,7 @@
 
 mod column_slot;
 mod entity_list;
+mod keeping;
 pub mod laws;
 mod order;
 mod parts;

@@ -24,7 +24,7 @@ pub(crate) fn gap_in(entities: &[Entity], e: Entity) -> usize
 }
 
 // Whether two ids are one.
-fn is_same(one: Entity, other: Entity) -> bool
+pub(crate) fn is_same(one: Entity, other: Entity) -> bool
     ensures { result ≡ is_same one other }
 {
     one == other

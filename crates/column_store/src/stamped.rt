@@ -7,12 +7,16 @@ ghost use Rattle.kinds.specs.Value.{value_number, value_words};
 ghost use Rattle.kinds.specs.Components.{widths};
 ghost use Rattle.model.specs.Lists.{update_at};
 ghost use Rattle.column_store.specs.Cells.{stamped_number, stamped_cell, stamp_of, changed_cell};
+ghost use Rattle.column_store.specs.Keeping.{kept_from};
 
+use crate::keeping::keep;
 use crate::typed::{
-    component_at, copied, empty, insert_value, remove_value, set_component, set_value, value_at,
+    component_at, copied, empty, insert_value, keep_values, remove_value, set_component, set_value,
+    value_at,
 };
 use change_ticks::clock::Tick;
 use change_ticks::stamp::Stamp;
+use entity_table::Entity;
 use kinds::column::Column;
 use kinds::component::Component;
 use kinds::kind::Kind;
@@ -171,5 +175,16 @@ impl StampedColumn {
     {
         remove_value(&mut self.column, place);
         self.stamps.remove(place);
+    }
+
+    // Leaves the components of the entities that stay. Those before a place stay where they are.
+    #[tactic(auto, using(crate::proofs::Passes::cell_passes))]
+    pub(crate) fn keep(&mut self, first: usize, entities: &[Entity], gone: &[Entity])
+        requires alike { length self.old.cells ≡ length entities.now }
+        requires within { first ≤ length entities.now }
+        ensures { self.new ≡ record self.old { cells = kept_from first gone.now entities.now self.old.cells } }
+    {
+        keep_values(&mut self.column, first, entities, gone);
+        keep(&mut self.stamps, first, entities, gone);
     }
 }

@@ -1,7 +1,7 @@
 // Tables.
 
 ghost use Rattle.std.specs.Prelude.{◌≡◌, ◌<◌, ◌∷◌, [], true, length, map, option_map, Some, IsSome, IsNone, IfSome, IfOk, OnOk, OnErr, IsTrue, slice_get, is_some};
-ghost use Rattle.std.specs.List.{list_all};
+ghost use Rattle.std.specs.List.{list_all, AllByRecursion};
 ghost use Rattle.kinds.specs.Kind.{kind_number};
 ghost use Rattle.kinds.specs.declared.kind.Kind.TheVariants as the_kinds;
 ghost use Rattle.kinds.specs.Value.{value_number, value_words};
@@ -9,14 +9,14 @@ ghost use Rattle.column_store.specs.Cells.{stamped_number, stamped_cell, stamp_o
 ghost use Rattle.column_store.specs.Kinds.{in_order, AreBelow};
 ghost use Rattle.column_store.specs.Order.{AreRising};
 ghost use Rattle.std.specs.Arc.{arc_value};
-ghost use Rattle.column_store.specs.Table.{Standing, empty_table, is_home, is_owned, is_not_away, is_own_if, row_of, put_row, new_row, without_row, update_row, renewed_row, cell_in, standing_of, kind_cells, write_cell, lent, owned, homed, IsHome, IsAlike};
+ghost use Rattle.column_store.specs.Table.{Standing, empty_table, is_home, is_owned, is_not_away, is_own_if, row_of, put_row, new_row, without_row, without_rows, update_row, renewed_row, cell_in, standing_of, kind_cells, write_cell, lent, owned, homed, IsHome, IsAlike};
 
 use crate::column_slot::{ColumnSlot, empty_columns, own_each};
 use crate::entity_list::EntityList;
 use crate::order::row_in;
 use crate::parts::{
-    among, find_in, home_in, lend_in, put_in, read_in, remove_in, renew_in, seen_in, share_in,
-    write_in,
+    among, find_in, home_in, lend_in, put_in, read_in, remove_all_in, remove_in, renew_in, seen_in,
+    share_in, write_in,
 };
 use crate::stamped::{StampedColumn, StampedValue};
 use change_ticks::clock::Tick;
@@ -212,6 +212,16 @@ impl Table {
         ensures { self.new ≡ record self.old { rows = without_row e self.old.rows } }
     {
         remove_in(&mut self.entities, &mut self.columns, e);
+    }
+
+    /// Removes the rows of entities, whose ids rise, in one pass over the rows from the first of them on.
+    pub fn remove_all(&mut self, gone: &[Entity])
+        requires rising { AreRising gone.now }
+        requires there { AllByRecursion (λ e. IsSome (row_of e self.old.rows)) gone.now }
+        requires owned { IsTrue (list_all is_owned self.old.standings) }
+        ensures { self.new ≡ record self.old { rows = without_rows gone.now self.old.rows } }
+    {
+        remove_all_in(&mut self.entities, &mut self.columns, gone);
     }
 
     /// The components of an entity, in the order of the kinds.

@@ -4,7 +4,10 @@ ghost use Rattle.std.specs.Prelude.{◌≡◌, ◌<◌, ◌≤◌, [], ◌∷◌
 ghost use Rattle.kinds.specs.Kind.{kind_number};
 ghost use Rattle.kinds.specs.Value.{value_number, value_words};
 ghost use Rattle.kinds.specs.Column.{column_number, column_words};
+ghost use Rattle.column_store.specs.Keeping.{kept_from};
 
+use crate::keeping::keep;
+use entity_table::Entity;
 use kinds::column::Column;
 use kinds::component::Component;
 use kinds::each_kind;
@@ -171,6 +174,35 @@ fn remove_value_of<C: Component>(column: &mut Column, place: usize)
         Some(items) => {
             items.remove(place);
         }
+        None => unreachable!(),
+    }
+}
+
+// Leaves the components of the entities that stay. Those before a place stay where they are.
+pub(crate) fn keep_values(column: &mut Column, first: usize, entities: &[Entity], gone: &[Entity])
+    requires alike { length (column_words column.old) ≡ length entities.now }
+    requires within { first ≤ length entities.now }
+    ensures number { column_number column.new ≡ column_number column.old }
+    ensures words { column_words column.new ≡ kept_from first gone.now entities.now (column_words column.old) }
+{
+    each_kind!(column.kind(), K => { keep_values_of::<K>(column, first, entities, gone) })
+}
+
+#[tactic(auto, using(crate::proofs::Passes::passes))]
+fn keep_values_of<C: Component>(
+    column: &mut Column,
+    first: usize,
+    entities: &[Entity],
+    gone: &[Entity],
+)
+    requires kind { column_number column.old ≡ C.NUMBER }
+    requires alike { length (column_words column.old) ≡ length entities.now }
+    requires within { first ≤ length entities.now }
+    ensures number { column_number column.new ≡ column_number column.old }
+    ensures words { column_words column.new ≡ kept_from first gone.now entities.now (column_words column.old) }
+{
+    match C::in_column_mut(column) {
+        Some(items) => keep(items, first, entities, gone),
         None => unreachable!(),
     }
 }
