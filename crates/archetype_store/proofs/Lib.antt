@@ -21,4 +21,9 @@ pub mod ColumnOverlays
 pub mod TakenColumns
 pub mod KindsHome
 pub mod Returned
-pub mod Departures
+pub mod GoneRows
+pub mod Gathered
+pub mod Noted
+pub mod Leaving
+pub mod Leavers
+pub mod Origins

@@ -11,3 +11,4 @@ pub mod Lending
 pub mod Overlays
 pub mod Changes
 pub mod RowMoves
+pub mod Gathering

@@ -15,7 +15,7 @@ ghost use Rattle.column_store.specs.Table.Standing.{Away};
 ghost use Rattle.archetype_store.specs.Row.{component_of, only};
 ghost use Rattle.archetype_store.specs.Layout.{layout_of};
 ghost use Rattle.archetype_store.specs.View.{kinds_seen, entities_seen};
-ghost use Rattle.archetype_store.specs.Tables.{table_at, kinds_at, held_at, row_or_none, are_same, AreShaped, AreUnlike, AreHome, AreOwned, IsHeldNow, IsGrown};
+ghost use Rattle.archetype_store.specs.Tables.{table_at, kinds_at, held_at, row_or_none, are_same, AreShaped, AreUnlike, AreGone, AreHome, AreOwned, IsHeldNow, IsGrown};
 
 use change_ticks::clock::Tick;
 use column_store::stamped::StampedValue;
@@ -238,4 +238,16 @@ pub(crate) fn remove_at(tables: &mut Vec<Table>, table: usize, e: Entity)
     // Tells that ids rise, so that none of them is there twice.
     let _entities = there.entities();
     there.remove(e);
+}
+
+// Removes the rows of entities that are in a table, whose ids rise, in one pass.
+pub(crate) fn remove_all_at(tables: &mut Vec<Table>, table: usize, gone: &[Entity])
+    requires within { table < length tables.old.items }
+    requires rising { AreRising gone.now }
+    requires there { AllByRecursion (λ e. IsSome (held_at tables.old.items table e)) gone.now }
+    requires owned { AreOwned tables.old.items }
+    ensures { AreGone tables.old.items tables.new.items table gone.now }
+{
+    let there = &mut tables[table];
+    there.remove_all(gone);
 }

@@ -12,3 +12,4 @@ pub mod TheirComponents
 pub mod Wide
 pub mod Passes
 pub mod Removed
+pub mod Joined

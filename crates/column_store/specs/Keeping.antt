@@ -1,8 +1,8 @@
 -- Lists that go with a table's entities, one element for each: what is left of them where some entities go.
-use Rattle.std.specs.Prelude.{◌≡◌, ℕ, Bool, true, false, cond, length, ◌++◌, List, [], ◌∷◌, take, drop}
+use Rattle.std.specs.Prelude.{◌≡◌, ℕ, Bool, true, false, ◌||◌, cond, length, ◌++◌, List, [], ◌∷◌, take, drop}
 use Rattle.model.specs.declared.entities.Entity.{Entity}
 use Rattle.column_store.specs.Order.{is_same}
-use Rattle.column_store.specs.Table.{ColumnSlotValue, is_owned}
+use Rattle.column_store.specs.Table.{ColumnSlotValue, is_owned, is_among}
 use Rattle.column_store.specs.Inside.{with_cells}
 
 -- whether an entity is the first of some
@@ -33,3 +33,7 @@ keep_in first gone es p = with_cells (kept_from first gone es) p
 pub record OwnsRows (n : ℕ) (p : ColumnSlotValue) : Type 0 where
   pub owned : is_owned p.standing ≡ true
   pub long : length p.column.cells ≡ n
+
+-- an entity was added to others
+abbrev pub IsJoined : Entity → List Entity → List Entity → Type 0
+IsJoined e old new = (x : Entity) → is_among x new ≡ (is_same x e || is_among x old)

@@ -5,7 +5,7 @@ mod column_slot;
 mod entity_list;
 mod keeping;
 pub mod laws;
-mod order;
+pub mod order;
 mod parts;
 pub mod stamped;
 pub mod table;
