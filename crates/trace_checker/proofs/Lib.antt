@@ -4,7 +4,6 @@ pub mod Lines
 pub mod Runs
 pub mod Verdicts
 pub mod ReplayFaults
-pub mod Reaching
 pub mod WholeStarts
 pub mod Taking
 pub mod Agreeing

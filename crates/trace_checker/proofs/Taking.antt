@@ -19,10 +19,10 @@ use Rattle.engine.proofs.InHand.{run_with_nothing}
 use Rattle.trace_checker.specs.declared.replay.ReplayFault.{ReplayFault}
 use Rattle.trace_checker.specs.declared.replay.ReplayFault.TheVariants as replay
 use Rattle.model.specs.runs.Replays.{IsReplayed, IsWrongAnswer, IsReplayStopped}
-use Rattle.trace_checker.specs.Reached.{IsReached, IsStepTaken}
+use Rattle.model.specs.runs.Replays.{IsReached, IsStepTaken}
 use Rattle.trace_checker.specs.ReplayFaults.{IsKnown, IsReplayFault, IsStepFault}
 use Rattle.trace_checker.proofs.Verdicts.{history_at, history_more, cut_at, may_at}
-use Rattle.trace_checker.proofs.Reaching.{reached_open, reached_more, reached_end, wrong_at, stopped_at, stopped_open}
+use Rattle.model.proofs.serial.Replaying.{reached_open, reached_more, reached_end, wrong_at, stopped_at, stopped_open}
 
 -- an error that is handed on
 pub handed_on : {T F : Type 0} (P : F → Type 0) (r : Result T F) (fault : F) → IsErrAnd r (λ told. told ≡ fault) → P fault → IfErr r P

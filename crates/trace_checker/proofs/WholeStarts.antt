@@ -38,7 +38,7 @@ use Rattle.engine.proofs.Keeping.{bodies_keep}
 use Rattle.engine.proofs.Placing.{placed_first}
 use Rattle.engine.proofs.Remembering.{memories_asked, memories_at, memories_laid, memories_noted, memories_slots, memories_synced}
 use Rattle.engine.proofs.Weaving.{over, IsAnswered, numbers_of, ask_woven, finish_woven, start_woven, ungranted_woven, unsent_woven, unticked_woven}
-use Rattle.trace_checker.specs.Reached.{IsStepTaken}
+use Rattle.model.specs.runs.Replays.{IsStepTaken}
 use Rattle.trace_checker.specs.ReplayFaults.{HasRun, IsStoppedHere}
 
 -- ---- bodies in their places

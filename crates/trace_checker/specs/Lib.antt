@@ -2,4 +2,3 @@ pub mod Grammar
 pub mod TextFaults
 pub mod Verdicts
 pub mod ReplayFaults
-pub mod Reached

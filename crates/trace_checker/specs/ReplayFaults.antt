@@ -19,7 +19,7 @@ use Rattle.trace_checker.specs.declared.replay.ReplayFault.{ReplayFault}
 use Rattle.trace_checker.specs.declared.replay.ReplayFault.TheVariants as replay
 use Rattle.trace_checker.specs.Verdicts.{IsVerdict}
 use Rattle.model.specs.runs.Replays.{IsReplayed, IsWrongAnswer, IsReplayStopped}
-use Rattle.trace_checker.specs.Reached.{IsWrongHere}
+use Rattle.model.specs.runs.Replays.{IsWrongHere}
 
 -- which fault tells of a cause
 abbrev pub IsToldAs : Cause → RunFault → Type 0

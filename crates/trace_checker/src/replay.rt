@@ -17,7 +17,7 @@ ghost use Rattle.engine.specs.declared.faults.RunFault.TheVariants.{Memory};
 ghost use Rattle.engine.specs.Left.{LeftValue, AreInHand, IsLeftFor, IsNothingLeft, commands_at, run_with};
 ghost use Rattle.engine.specs.Meanings.{meanings, AllKeepWithin, HasMemories, Suits};
 ghost use Rattle.trace_checker.specs.declared.replay.ReplayFault.TheVariants.{Run};
-ghost use Rattle.trace_checker.specs.Reached.{IsStepTaken};
+ghost use Rattle.model.specs.runs.Replays.{IsStepTaken};
 ghost use Rattle.trace_checker.specs.ReplayFaults.{HasRun, IsKnown, IsReplay, IsReplayFault, IsStepFault, IsStoppedHere};
 
 use crate::check::{Verdict, check};

@@ -13,7 +13,7 @@ use Rattle.engine.specs.Left.{LeftValue, AreInHand, IsLeftFor, run_with, with_co
 use Rattle.engine.specs.Meanings.{HasMemories, meanings}
 use Rattle.engine.specs.Starts.{ids_at_start}
 use Rattle.engine.proofs.Weaving.{numbers_of}
-use Rattle.trace_checker.specs.Reached.{IsStepTaken}
+use Rattle.model.specs.runs.Replays.{IsStepTaken}
 use Rattle.trace_checker.specs.ReplayFaults.{IsStoppedHere}
 use Rattle.trace_checker.proofs.Taking.{handed_on}
 use Rattle.trace_checker.proofs.WholeStarts.{body_fit, in_hand_kept, is_answered, is_refused, left_for_start, meanings_after, suits_after, memories_after, noted_known, refusal_stops, unsent_stops, start_stops, start_taken, unsent_told}

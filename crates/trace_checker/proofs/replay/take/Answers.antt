@@ -5,7 +5,7 @@ use Rattle.engine.specs.Meanings.{meanings}
 use Rattle.body.specs.Steps.{StateValue, store_of}
 use Rattle.body.proofs.Outs.{all-home, none-out}
 use Rattle.trace_checker.specs.declared.replay.ReplayFault.TheVariants as replay
-use Rattle.trace_checker.specs.Reached.{IsStepTaken}
+use Rattle.model.specs.runs.Replays.{IsStepTaken}
 use Rattle.trace_checker.specs.ReplayFaults.{IsStepFault}
 use Rattle.trace_checker.proofs.Taking.{handed_on}
 use Rattle.trace_checker.proofs.WholeStarts.{ask_stops, ask_taken, same_bool, suits_asked, suits_synced}

@@ -11,7 +11,7 @@ use Rattle.engine.specs.Left.{run_with}
 use Rattle.engine.specs.Meanings.{meanings, Suits}
 use Rattle.engine.proofs.InHand.{in_hand_nothing}
 use Rattle.engine.proofs.Remembering.{memories_open}
-use Rattle.trace_checker.specs.Reached.{IsReached}
+use Rattle.model.specs.runs.Replays.{IsReached}
 use Rattle.trace_checker.specs.ReplayFaults.{IsReplayFault, IsStepFault}
 use Rattle.trace_checker.proofs.Taking.{fault_at, fault_open, fresh_at, handed_on, known_at, reached_all, reached_begun}
 use Rattle.trace_checker.proofs.replay.take_steps.Goals as goal

@@ -3,7 +3,7 @@ use Rattle.body.specs.Out.{AreOut}
 use Rattle.body.specs.Steps.{store_of}
 use Rattle.engine.specs.Left.{AreInHand, IsLeftFor, run_with}
 use Rattle.engine.specs.Meanings.{meanings, Suits}
-use Rattle.trace_checker.specs.Reached.{IsReached}
+use Rattle.model.specs.runs.Replays.{IsReached}
 use Rattle.trace_checker.proofs.replay.take_steps.Given as goal
 
 -- the steps so far are taken, the bodies mean what they meant and suit the state, no column is away, and what systems have left is for the schedule,
