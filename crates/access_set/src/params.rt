@@ -1,6 +1,6 @@
 // The parameters of a system.
 
-ghost use Rattle.std.specs.Prelude.{◌≡◌, ◌==◌, [], ◌∷◌, ◌++◌, map, IfOk, OnOk, OnErr, None};
+ghost use Rattle.std.specs.Prelude.{◌≡◌, ◌==◌, [], ◌∷◌, ◌++◌, map, IfOk, OnOk, OnErr, Some};
 ghost use Rattle.kinds.specs.Res.{res_number, event_number};
 ghost use Rattle.std.specs.List.{list_any};
 ghost use Rattle.model.specs.access.Access.{no_params, names_resource, names_event};
@@ -29,7 +29,7 @@ pub struct Params {
 }
 
 impl Model for Params {
-    ghost use Rattle.std.specs.Prelude.{◌≡◌, map, None};
+    ghost use Rattle.std.specs.Prelude.{map};
     ghost use Rattle.model.specs.access.Access as access;
     ghost use Rattle.kinds.specs.Res.{res_number, event_number};
     ghost use Rattle.access_set.specs.Footprints.{AreFootprints};
@@ -38,7 +38,7 @@ impl Model for Params {
 
     ghost view = { λ p. record { queries = p.queries.items; res = map res_number p.res.items; res_mut = map res_number p.res_mut.items; reads = map event_number p.reads.items; writes = map event_number p.writes.items; spawns = p.spawns } };
 
-    ghost invariant = { λ p. (p.spawns ≡ None) × AreFootprints p.queries.items p.footprints.items };
+    ghost invariant = { λ p. AreFootprints p.queries.items p.footprints.items };
 }
 
 impl Params {
@@ -130,11 +130,11 @@ impl Params {
         Ok(())
     }
 
-    /// There are no commands yet.
-    pub fn law(&self)
-        ensures { self.now.spawns ≡ None }
+    /// Gives the system Commands, with so many ids that it is granted at each start.
+    pub fn set_spawns(&mut self, count: u32)
+        ensures { self.new ≡ record self.old { spawns = Some count } }
     {
-        let _ = &self.spawns;
+        self.spawns = Some(count);
     }
 
     /// The queries, in order.

@@ -4,5 +4,3 @@
 mod before;
 mod races;
 pub mod report;
-#[cfg(test)]
-mod tests;

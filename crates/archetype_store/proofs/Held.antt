@@ -35,7 +35,7 @@ pub same_self : (e : Entity) → is_same e e ≡ true
 same_self e = same_pair e.index e.generation
 
 -- the row that was put in is found
-put_same : (e : Entity) (new : TableRow) (rows : List TableRow) → new.entity ≡ e → row_of e (put_row new rows) ≡ Some new
+pub put_same : (e : Entity) (new : TableRow) (rows : List TableRow) → new.entity ≡ e → row_of e (put_row new rows) ≡ Some new
 put_same e new [] h = ap (λ b. cond b (Some new) None) (ap (λ x. is_same x e) h ∙ same_self e)
 put_same e new (r ∷ rs) h = go (is_before r.entity new.entity) refl (put_same e new rs h)
   where
@@ -47,7 +47,7 @@ put_same e new (r ∷ rs) h = go (is_before r.entity new.entity) refl (put_same 
     go false k more = first (row_of e (r ∷ rs))
 
 -- and no other one is hidden
-put_other : (x : Entity) (new : TableRow) (rows : List TableRow) → is_same new.entity x ≡ false → row_of x (put_row new rows) ≡ row_of x rows
+pub put_other : (x : Entity) (new : TableRow) (rows : List TableRow) → is_same new.entity x ≡ false → row_of x (put_row new rows) ≡ row_of x rows
 put_other x new [] h = ap (λ b. cond b (Some new) None) h
 put_other x new (r ∷ rs) h = go (is_before r.entity new.entity) (put_other x new rs h)
   where
@@ -98,7 +98,7 @@ update_other e x f (r ∷ rs) h other = go (is_same r.entity e) refl (update_oth
 -- ---- components
 
 -- the components of a row that was made of them
-components_new : (e : Entity) (ss : List StampedValue) → components_of (map stamped_number ss) (new_row e ss) ≡ map component_of ss
+pub components_new : (e : Entity) (ss : List StampedValue) → components_of (map stamped_number ss) (new_row e ss) ≡ map component_of ss
 components_new e [] = refl
 components_new e (s ∷ ss) = ap (λ cs. component_of s ∷ cs) (components_new e ss)
 

@@ -21,3 +21,12 @@ pub mod ColumnOverlays
 pub mod TakenColumns
 pub mod KindsHome
 pub mod Returned
+pub mod GoneRows
+pub mod Gathered
+pub mod Noted
+pub mod Leaving
+pub mod Leavers
+pub mod Origins
+pub mod ByTable
+pub mod Coming
+pub mod Came

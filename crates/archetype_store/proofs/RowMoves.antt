@@ -7,14 +7,14 @@ use Rattle.std.proofs.lemmas.List.{length-map, take_more, get_or-map}
 use Rattle.std.specs.List.{AllByRecursion}
 use Rattle.model.specs.state.State.{Component}
 use Rattle.model.specs.declared.entities.Entity.{Entity}
-use Rattle.model.proofs.lists.Each.{each-weaker, each-at}
+use Rattle.model.proofs.lists.Each.{each-at}
 use Rattle.column_store.specs.Order.{is_same}
 use Rattle.column_store.specs.Table.{TableValue}
 use Rattle.column_store.proofs.Made.{same_entity}
 use Rattle.archetype_store.specs.declared.locations.EntityLocation.{EntityLocation}
 use Rattle.archetype_store.specs.declared.row_moves.RowMove.{RowMove}
-use Rattle.archetype_store.specs.Tables.{held_at, shape_of, IsHeldNow}
-use Rattle.archetype_store.specs.RowMoves.{Placing, placing_of, row_placed, arrives_in, is_table, arrived, withdrawn, held_after, place_left, place_after, AreOfOthers, AreSteps, CanArrive, CanDepart, IsStep}
+use Rattle.archetype_store.specs.Tables.{held_at, shape_of}
+use Rattle.archetype_store.specs.RowMoves.{Placing, placing_of, row_placed, arrives_in, is_table, arrived, withdrawn, held_after, place_left, place_after, AreOfOthers, AreSteps, CanDepart, IsStep}
 use Rattle.archetype_store.specs.Archetypes.{place_of}
 use Rattle.archetype_store.proofs.Laid.{kinds_kept}
 use Rattle.archetype_store.proofs.Moves.{placed_set}
@@ -76,24 +76,6 @@ pub steps_next : (f : Placing → ℕ → Option (List Component) → Option (Li
 steps_next f A B C ps i d l apart so_far step =
     subst (AreSteps f A C) (sym (take_more ps i d l)) (steps_more f A B C (take i ps) (get_or ps i d) (apart_before ps i d l apart) so_far step)
 
--- ---- one step
-
--- a row that comes into no other table
-none_in : (f : Bool → Option (List Component) → Option (List Component)) (o : Option ℕ) → o ≡ None → ((held : Option (List Component)) → f false held ≡ held) → (t : ℕ) (held : Option (List Component)) →
-    f (is_table o t) held ≡ held
-none_in f o none h t held = ap (λ (u : Option ℕ). f (is_table u t) held) none ∙ h held
-
-pub step_stays : (T : List TableValue) (p : Placing) → arrives_in p ≡ None → IsStep arrived T T p
-step_stays T p none = record { others = λ t x other. refl; here = λ t. sym (none_in (λ b held. cond b (Some (row_placed p)) held) (arrives_in p) none (λ held. refl) t (held_at T t p.entity)); shapes = refl }
-
--- one that comes into a table
-pub step_arrived : (T T' : List TableValue) (p : Placing) (to : ℕ) → arrives_in p ≡ Some to → IsHeldNow T T' to p.entity (Some (row_placed p)) → IsStep arrived T T' p
-step_arrived T T' p to is now = record {
-  others = now.others;
-  here = λ t. now.here t ∙ sym (ap (λ (u : Option ℕ). cond (is_table u t) (Some (row_placed p)) (held_at T t p.entity)) is);
-  shapes = now.shapes;
-}
-
 -- ---- the loops
 
 -- an item, and what it is to the definitions
@@ -120,16 +102,10 @@ module _ (f : Placing → ℕ → Option (List Component) → Option (List Compo
   pub of_item : (P : RowMove → Type 0) → AllByRecursion P rows → P m
   of_item P h = subst P (sym is) (each-at P rows i m l h)
 
-as_many_tables : (A B : List TableValue) → map shape_of B ≡ map shape_of A → length B ≡ length A
+pub as_many_tables : (A B : List TableValue) → map shape_of B ≡ map shape_of A → length B ≡ length A
 as_many_tables A B h = sym (length-map B shape_of) ∙ ap length h ∙ length-map A shape_of
 
--- a row can come or leave in tables of the same shapes that hold the same of its entity
-pub arrive_kept : (A B : List TableValue) (p : Placing) (t : ℕ) → map shape_of B ≡ map shape_of A → held_at B t p.entity ≡ held_at A t p.entity → CanArrive A p t → CanArrive B p t
-arrive_kept A B p t shapes same can = record {
-  target = record { within = subst (λ n. t < n) (sym (as_many_tables A B shapes)) can.target.within; kinds = kinds_kept A B shapes t ∙ can.target.kinds; there = can.target.there };
-  absent = same ∙ can.absent;
-}
-
+-- a row can leave in tables of the same shapes that hold the same of its entity
 pub depart_kept : (A B : List TableValue) (p : Placing) (from : EntityLocation) → map shape_of B ≡ map shape_of A → held_at B from.table p.entity ≡ held_at A from.table p.entity → CanDepart A p from → CanDepart B p from
 depart_kept A B p from shapes same can = record {
   there = ap is_some same ∙ can.there;
@@ -168,7 +144,7 @@ module _ (P Q : List (Option EntityLocation)) (rows : List RowMove) (n : ℕ) (m
           ∙ sym (place_last (take n (map placing_of rows)) (placing_of m) i (place_of P i) (eqb-true i m.change.now.entity.index same) before)
       go false other = ap (λ b. cond b (place_left (placing_of m)) (place_of Q i)) other ∙ so_far i ∙ sym (place_skipped (take n (map placing_of rows)) (placing_of m) i (place_of P i) other)
 
--- ---- rows that came and are taken away again
+-- ---- what holds of each
 
 pub each_from : {A : Type 0} (P : A → Type 0) (xs : List A) → ((i : ℕ) (d : A) → i < length xs → P (get_or xs i d)) → AllByRecursion P xs
 each_from P [] h = tt
@@ -183,27 +159,13 @@ held_own f (p ∷ ps) (suc i) d l h t held =
     ap (λ b. cond b (f p t held) (held_after f ps t (get_or ps i d).entity held)) (index_apart p.entity (get_or ps i d).entity (apart_after p ps i d (omega arith) h.0))
     ∙ held_own f ps i d (omega arith) h.1 t held
 
-came : (p : Placing) (t : ℕ) (o : Option ℕ) → o ≡ Some t → (held : Option (List Component)) → is_some (cond (is_table o t) (Some (row_placed p)) held) ≡ true
-came p t o is held = ap (λ (u : Option ℕ). is_some (cond (is_table u t) (Some (row_placed p)) held)) is ∙ ap (λ b. is_some (cond b (Some (row_placed p)) held)) (eq-eqb t t refl)
+-- ---- rows that came and are taken away again
 
--- rows that came are there
-pub arrived_there : (A B : List TableValue) (rows : List RowMove) → AreOfOthers (map placing_of rows) → AreSteps arrived A B (map placing_of rows) →
-    AllByRecursion (λ m. (t : ℕ) → arrives_in (placing_of m) ≡ Some t → is_some (held_at B t m.change.now.entity) ≡ true) rows
-arrived_there A B rows apart steps = each_from _ rows (λ i d l t is. go i d l t is)
-  where
-    go : (i : ℕ) (d : RowMove) → i < length rows → (t : ℕ) → arrives_in (placing_of (get_or rows i d)) ≡ Some t → is_some (held_at B t (get_or rows i d).change.now.entity) ≡ true
-    go i d l t is =
-        let at : get_or (map placing_of rows) i (placing_of d) ≡ placing_of (get_or rows i d) = get_or-map placing_of rows i d (placing_of d) l in
-        let own = held_own arrived (map placing_of rows) i (placing_of d) (placings_within rows i l) apart t (held_at A t (get_or rows i d).change.now.entity) in
-        ap is_some (steps.held t (get_or rows i d).change.now.entity
-        ∙ subst (λ (p : Placing). held_after arrived (map placing_of rows) t p.entity (held_at A t (get_or rows i d).change.now.entity) ≡ arrived p t (held_at A t (get_or rows i d).change.now.entity)) at own)
-        ∙ came (placing_of (get_or rows i d)) t (arrives_in (placing_of (get_or rows i d))) is (held_at A t (get_or rows i d).change.now.entity)
-
-table_told : (o : Option ℕ) (t : ℕ) → is_table o t ≡ true → o ≡ Some t
+pub table_told : (o : Option ℕ) (t : ℕ) → is_table o t ≡ true → o ≡ Some t
 table_told None t h = absurd (cc)
 table_told (Some u) t h = ap (λ n. Some n) (sym (eqb-true t u h))
 
-undone : (ps : List Placing) (t : ℕ) (x : Entity) (held : Option (List Component)) → AllByRecursion (λ (p : Placing). is_same p.entity x ≡ true → arrives_in p ≡ Some t → held ≡ None) ps →
+pub undone : (ps : List Placing) (t : ℕ) (x : Entity) (held : Option (List Component)) → AllByRecursion (λ (p : Placing). is_same p.entity x ≡ true → arrives_in p ≡ Some t → held ≡ None) ps →
     held_after withdrawn ps t x (held_after arrived ps t x held) ≡ held
 undone [] t x held h = refl
 undone (p ∷ ps) t x held h = go (is_same p.entity x) refl (is_table (arrives_in p) t) refl (undone ps t x held h.1)
@@ -213,31 +175,6 @@ undone (p ∷ ps) t x held h = go (is_same p.entity x) refl (is_table (arrives_i
     go true same true at more = sym (h.0 same (table_told (arrives_in p) t at))
     go true same false at more = refl
     go false other d at more = more
-
-pub rows_restored : (A B C : List TableValue) (ps : List Placing) → AreSteps arrived A B ps → AreSteps withdrawn B C ps →
-    AllByRecursion (λ (p : Placing). (t : ℕ) → arrives_in p ≡ Some t → held_at A t p.entity ≡ None) ps → (t : ℕ) (x : Entity) → held_at C t x ≡ held_at A t x
-rows_restored A B C ps came gone none t x =
-    gone.held t x ∙ ap (held_after withdrawn ps t x) (came.held t x)
-    ∙ undone ps t x (held_at A t x) (each-weaker (λ (p : Placing). (t : ℕ) → arrives_in p ≡ Some t → held_at A t p.entity ≡ None) (λ (p : Placing). is_same p.entity x ≡ true → arrives_in p ≡ Some t → held_at A t x ≡ None)
-    (λ p h same at. subst (λ (y : Entity). held_at A t y ≡ None) (same_entity p.entity x same) (h t at)) ps none)
-
-pub placings_taken : (rows : List RowMove) (n : ℕ) → map placing_of (take n rows) ≡ take n (map placing_of rows)
-placings_taken [] zero = refl
-placings_taken [] (suc n) = refl
-placings_taken (m ∷ rows) zero = refl
-placings_taken (m ∷ rows) (suc n) = ap (λ ps. placing_of m ∷ ps) (placings_taken rows n)
-
-pub each-taken : {A : Type 0} (P : A → Type 0) (xs : List A) (n : ℕ) → AllByRecursion P xs → AllByRecursion P (take n xs)
-each-taken P [] zero h = tt
-each-taken P [] (suc n) h = tt
-each-taken P (x ∷ xs) zero h = tt
-each-taken P (x ∷ xs) (suc n) h = (h.0, each-taken P xs n h.1)
-
-pub others_taken : (ps : List Placing) (n : ℕ) → AreOfOthers ps → AreOfOthers (take n ps)
-others_taken [] zero h = tt
-others_taken [] (suc n) h = tt
-others_taken (p ∷ ps) zero h = tt
-others_taken (p ∷ ps) (suc n) h = (each-taken (λ (q : Placing). (q.entity.index == p.entity.index) ≡ false) ps n h.0, others_taken ps n h.1)
 
 -- what an error says
 pub at_error : {A E : Type 0} (r : Result A E) (Q : Type 0) → is_err r ≡ true → OnErr r Q → Q

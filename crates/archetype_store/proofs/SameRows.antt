@@ -74,7 +74,7 @@ same_entities (r ∷ rs) (q ∷ qs) h k same = go (is_same q.entity r.entity) re
 
 -- ---- tables
 
-some_row : (t : TableValue) (x : Entity) → is_some (held_in t x) ≡ is_some (row_of x t.rows)
+pub some_row : (t : TableValue) (x : Entity) → is_some (held_in t x) ≡ is_some (row_of x t.rows)
 some_row t x = go (row_of x t.rows)
   where
     go : (o : Option TableRow) → is_some (option_map (components_of t.kinds) o) ≡ is_some o

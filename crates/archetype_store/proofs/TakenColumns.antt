@@ -20,7 +20,7 @@ use Rattle.archetype_store.specs.declared.columns.SharedColumn.{SharedColumn}
 use Rattle.archetype_store.specs.Layout.{Archetype, archetype_at, column_home, with_column, with_home, AreOfOtherKinds, IsArchetype, IsLayoutOf}
 use Rattle.archetype_store.specs.Slot.{cell_of, column_cells}
 use Rattle.archetype_store.specs.Store.{StoreValue, with_slots, slots_with, homed_in, IsPast}
-use Rattle.archetype_store.specs.Lending.{CanTake, CanShare, CanComeHome, AreTaken, AreShared, IsColumn, IsAway, all_away, all_home}
+use Rattle.archetype_store.specs.Lending.{CanTake, CanComeHome, AreTaken, AreShared, IsColumn, IsAway, all_away, all_home}
 use Rattle.archetype_store.proofs.ArchetypeColumns.{length-update_kind}
 use Rattle.archetype_store.proofs.ColumnOverlays.{entities_home, same_again}
 

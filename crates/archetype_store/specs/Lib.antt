@@ -11,3 +11,5 @@ pub mod Lending
 pub mod Overlays
 pub mod Changes
 pub mod RowMoves
+pub mod Gathering
+pub mod Arrivals

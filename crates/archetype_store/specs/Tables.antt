@@ -8,7 +8,7 @@ use Rattle.archetype_store.specs.declared.locations.EntityLocation.{EntityLocati
 use Rattle.column_store.specs.Order.{is_same}
 use Rattle.column_store.specs.Components.{components_of}
 use Rattle.archetype_store.specs.Layout.{layout_of, IsShape}
-use Rattle.column_store.specs.Table.{Standing, TableValue, is_home, is_owned, empty_table, row_of, kind_cells, IsAlike}
+use Rattle.column_store.specs.Table.{Standing, TableValue, is_home, is_owned, empty_table, is_among, row_of, kind_cells, IsAlike}
 use Rattle.column_store.specs.Table.Standing.{Shared}
 
 -- the table of a number: past the end one without kinds
@@ -117,6 +117,11 @@ pub record IsGrown (old new : List TableValue) : Type 0 where
   pub unlike : AreUnlike new
   pub owned : AreOwned old → AreOwned new
   pub layout : layout_of new ≡ layout_of old
+
+-- a table no longer holds these entities, and nothing else has changed
+pub record AreGone (old new : List TableValue) (table : ℕ) (gone : List Entity) : Type 0 where
+  pub held : (t : ℕ) (x : Entity) → held_at new t x ≡ cond ((t == table) && is_among x gone) None (held_at old t x)
+  pub shapes : map shape_of new ≡ map shape_of old
 
 -- whether a place is in a table
 abbrev pub is_in : Option EntityLocation → ℕ → Bool

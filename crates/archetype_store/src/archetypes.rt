@@ -248,6 +248,9 @@ impl Archetypes {
         ensures err { OnErr result (AreAlike self.old self.new) }
         ensures home { AreAllHome self.new.layout }
     {
+        if changes.is_empty() {
+            return Ok(());
+        }
         own_all(&mut self.tables, &mut self.shared)?;
         change_in(&mut self.tables, &mut self.places, changes)
     }

@@ -6,6 +6,7 @@ pub mod change;
 mod columns;
 mod components;
 pub mod fault;
+mod gathering;
 pub mod laws;
 mod lay;
 mod lending;

@@ -8,12 +8,18 @@ ghost use Rattle.column_store.specs.Kinds.{AreBelow};
 ghost use Rattle.archetype_store.specs.Changes.{row_left, AreOfOtherIndices};
 ghost use Rattle.archetype_store.specs.Tables.{held_at, is_in, AreShaped, AreUnlike, AreOwned, IsGrown};
 ghost use Rattle.archetype_store.specs.Archetypes.{archetypes_of, holder_in, place_of, AreAlike, AreArchetypes, HaveRows, IsHolder};
-ghost use Rattle.archetype_store.specs.RowMoves.{placing_of, change_of, arrives_in, arrived, withdrawn, departed, place_left, place_after, AreOfOthers, AreRowsRising, AreSteps, CanArrive, CanDepart, IsPlanned, IsRestored, IsStep, IsTarget};
+ghost use Rattle.column_store.specs.Order.{AreRising};
+ghost use Rattle.archetype_store.specs.Arrivals.{AreArriving};
+ghost use Rattle.archetype_store.specs.Gathering.{goes_from, gone_at, renewed, AreLeaving, AreLeft};
+ghost use Rattle.archetype_store.specs.RowMoves.{placing_of, change_of, arrives_in, is_table, arrived, withdrawn, departed, place_left, place_after, AreOfOthers, AreRowsRising, AreSteps, CanArrive, CanDepart, IsPlanned, IsRestored, IsStep, IsTarget};
 
 use crate::change::EntityChange;
+use crate::gathering::{arriving_all, leaving_all};
 use crate::locations::{EntityLocation, place_at, reach};
-use crate::tables::{put_at, remove_at, renew_at, table_for};
+use crate::tables::{clear_at, put_all_at, remove_all_at, renew_at, table_for};
+use column_store::arrivals::Arrival;
 use column_store::table::Table;
+use entity_table::Entity;
 use std::alloc::{AllocError, Global};
 
 /// What becomes of the row of an entity: where it is, and the table of the row that it is left with.
@@ -26,12 +32,28 @@ pub(crate) struct RowMove<'a> {
 
 impl<'a> RowMove<'a> {
     // The table that the row newly comes into.
-    fn arrives_in(&self) -> Option<usize>
+    pub(crate) fn arrives_in(&self) -> Option<usize>
         ensures { result ≡ arrives_in (placing_of self.now) }
     {
         match self.to {
             None => None,
             Some(to) => { if self.is_in(to) { None } else { Some(to) } }
+        }
+    }
+
+    // The table that the row leaves.
+    pub(crate) fn leaves(&self) -> Option<usize>
+        ensures { (t : ℕ) → is_table result t ≡ goes_from (placing_of self.now) t }
+    {
+        match self.from {
+            None => None,
+            Some(from) => {
+                if self.to == Some(from.table) {
+                    None
+                } else {
+                    Some(from.table)
+                }
+            }
         }
     }
 
@@ -57,38 +79,24 @@ impl<'a> RowMove<'a> {
     }
 }
 
-// Lays a row where it newly comes into. Where memory is wanting the tables stay as they were.
-fn arrive(tables: &mut Vec<Table>, row: &RowMove<'_>) -> Result<(), AllocError>
-    requires shaped { AreShaped tables.old.items }
-    requires owned { AreOwned tables.old.items }
-    requires can { (t : ℕ) → arrives_in (placing_of row.now) ≡ Some t → CanArrive tables.old.items (placing_of row.now) t }
-    ensures ok { OnOk result (IsStep arrived tables.old.items tables.new.items (placing_of row.now)) }
-    ensures err { OnErr result (tables.new.items ≡ tables.old.items) }
-{
-    match row.arrives_in() {
-        None => Ok(()),
-        Some(table) => put_at(tables, table, row.change.entity, row.change.components()),
-    }
-}
-
-// Takes a row away again where it newly came into.
+// Takes a row away again where it newly came into, if it is there.
 fn withdraw(tables: &mut Vec<Table>, row: &RowMove<'_>)
     requires shaped { AreShaped tables.old.items }
     requires owned { AreOwned tables.old.items }
-    requires there { (t : ℕ) → arrives_in (placing_of row.now) ≡ Some t → IsSome (held_at tables.old.items t row.now.change.now.entity) }
+    requires within { (t : ℕ) → arrives_in (placing_of row.now) ≡ Some t → t < length tables.old.items }
     ensures { IsStep withdrawn tables.old.items tables.new.items (placing_of row.now) }
 {
     if let Some(table) = row.arrives_in() {
-        remove_at(tables, table, row.change.entity);
+        clear_at(tables, table, row.change.entity);
     }
 }
 
-// Removes a row from where it was, or replaces its components where it stays.
-fn depart(tables: &mut Vec<Table>, row: &RowMove<'_>)
+// Replaces the components of a row where it stays.
+fn renew(tables: &mut Vec<Table>, row: &RowMove<'_>)
     requires shaped { AreShaped tables.old.items }
     requires owned { AreOwned tables.old.items }
     requires can { (from : EntityLocation) → row.now.from ≡ Some from → CanDepart tables.old.items (placing_of row.now) from }
-    ensures { IsStep departed tables.old.items tables.new.items (placing_of row.now) }
+    ensures { IsStep renewed tables.old.items tables.new.items (placing_of row.now) }
 {
     let Some(from) = row.from else {
         return;
@@ -100,8 +108,19 @@ fn depart(tables: &mut Vec<Table>, row: &RowMove<'_>)
             row.change.entity,
             row.change.components(),
         );
-    } else {
-        remove_at(tables, from.table, row.change.entity);
+    }
+}
+
+// Replaces the components of rows where they stay.
+fn renew_all(tables: &mut Vec<Table>, rows: &[RowMove<'_>])
+    requires shaped { AreShaped tables.old.items }
+    requires owned { AreOwned tables.old.items }
+    requires apart { AreOfOthers (map placing_of rows.now) }
+    requires can { AllByRecursion (λ m. (from : EntityLocation) → m.from ≡ Some from → CanDepart tables.old.items (placing_of m) from) rows.now }
+    ensures { AreSteps renewed tables.old.items tables.new.items (map placing_of rows.now) }
+{
+    for row in rows {
+        renew(tables, row);
     }
 }
 
@@ -115,12 +134,12 @@ fn tell_order(tables: &[Table])
     }
 }
 
-// Takes rows away again where they newly came into.
+// Takes rows away again where they newly came into, those that are there.
 fn withdraw_all(tables: &mut Vec<Table>, rows: &[RowMove<'_>])
     requires shaped { AreShaped tables.old.items }
     requires owned { AreOwned tables.old.items }
     requires apart { AreOfOthers (map placing_of rows.now) }
-    requires there { AllByRecursion (λ m. (t : ℕ) → arrives_in (placing_of m) ≡ Some t → IsSome (held_at tables.old.items t m.change.now.entity)) rows.now }
+    requires within { AllByRecursion (λ m. (t : ℕ) → arrives_in (placing_of m) ≡ Some t → t < length tables.old.items) rows.now }
     ensures { AreSteps withdrawn tables.old.items tables.new.items (map placing_of rows.now) }
 {
     for row in rows {
@@ -128,19 +147,24 @@ fn withdraw_all(tables: &mut Vec<Table>, rows: &[RowMove<'_>])
     }
 }
 
-// Lays rows where they newly come into. Where memory is wanting all rows are as they were.
-fn arrive_all(tables: &mut Vec<Table>, rows: &[RowMove<'_>]) -> Result<(), AllocError>
+// Lays rows where they newly come into, each table in one pass. Where memory is wanting all rows are as they were.
+fn arrive_all(
+    tables: &mut Vec<Table>,
+    rows: &[RowMove<'_>],
+    arriving: &[Vec<Arrival<'_>>],
+) -> Result<(), AllocError>
     requires shaped { AreShaped tables.old.items }
     requires owned { AreOwned tables.old.items }
     requires apart { AreOfOthers (map placing_of rows.now) }
     requires can { AllByRecursion (λ m. (t : ℕ) → arrives_in (placing_of m) ≡ Some t → CanArrive tables.old.items (placing_of m) t) rows.now }
+    requires arriving { AreArriving (map placing_of rows.now) arriving.now (length tables.old.items) }
     ensures ok { OnOk result (AreSteps arrived tables.old.items tables.new.items (map placing_of rows.now)) }
     ensures err { OnErr result (IsRestored tables.old.items tables.new.items) }
 {
     tell_order(tables);
-    for at in 0..rows.len() {
-        if arrive(tables, &rows[at]).is_err() {
-            withdraw_all(tables, &rows[..at]);
+    for table in 0..arriving.len() {
+        if put_all_at(tables, table, &arriving[table]).is_err() {
+            withdraw_all(tables, rows);
             tell_order(tables);
             return Err(AllocError);
         }
@@ -148,17 +172,30 @@ fn arrive_all(tables: &mut Vec<Table>, rows: &[RowMove<'_>]) -> Result<(), Alloc
     Ok(())
 }
 
+// Removes rows from the tables that they leave, each table in one pass.
+fn leave_all(tables: &mut Vec<Table>, leaving: &[Vec<Entity>])
+    requires owned { AreOwned tables.old.items }
+    requires rising { AllByRecursion (λ list. AreRising list.items) leaving.now }
+    requires there { (t : ℕ) → AllByRecursion (λ e. IsSome (held_at tables.old.items t e)) (gone_at leaving.now t) }
+    requires many { length leaving.now ≡ length tables.old.items }
+    ensures { AreLeft leaving.now tables.old.items tables.new.items }
+{
+    for table in 0..leaving.len() {
+        remove_all_at(tables, table, &leaving[table]);
+    }
+}
+
 // Removes rows from where they were, or replaces their components where they stay.
-fn depart_all(tables: &mut Vec<Table>, rows: &[RowMove<'_>])
+fn depart_all(tables: &mut Vec<Table>, rows: &[RowMove<'_>], leaving: &[Vec<Entity>])
     requires shaped { AreShaped tables.old.items }
     requires owned { AreOwned tables.old.items }
     requires apart { AreOfOthers (map placing_of rows.now) }
     requires can { AllByRecursion (λ m. (from : EntityLocation) → m.from ≡ Some from → CanDepart tables.old.items (placing_of m) from) rows.now }
+    requires leaving { AreLeaving (map placing_of rows.now) leaving.now (length tables.old.items) }
     ensures { AreSteps departed tables.old.items tables.new.items (map placing_of rows.now) }
 {
-    for row in rows {
-        depart(tables, row);
-    }
+    renew_all(tables, rows);
+    leave_all(tables, leaving);
 }
 
 // Notes where rows went.
@@ -240,18 +277,22 @@ fn move_all(
     tables: &mut Vec<Table>,
     places: &mut Vec<Option<EntityLocation>>,
     rows: &[RowMove<'_>],
+    arriving: &[Vec<Arrival<'_>>],
+    leaving: &[Vec<Entity>],
 ) -> Result<(), AllocError>
     requires whole { AreArchetypes tables.old.items places.old.items }
     requires owned { AreOwned tables.old.items }
     requires apart { AreOfOtherIndices (map change_of rows.now) }
     requires planned { AllByRecursion (λ m. IsPlanned tables.old.items places.old.items (placing_of m)) rows.now }
+    requires arriving { AreArriving (map placing_of rows.now) arriving.now (length tables.old.items) }
+    requires leaving { AreLeaving (map placing_of rows.now) leaving.now (length tables.old.items) }
     ensures whole { AreArchetypes tables.new.items places.new.items }
     ensures owned { AreOwned tables.new.items }
     ensures ok { OnOk result (HaveRows (archetypes_of tables.old.items places.old.items) (map change_of rows.now) (archetypes_of tables.new.items places.new.items)) }
     ensures err { OnErr result (AreAlike (archetypes_of tables.old.items places.old.items) (archetypes_of tables.new.items places.new.items)) }
 {
-    arrive_all(tables, rows)?;
-    depart_all(tables, rows);
+    arrive_all(tables, rows, arriving)?;
+    depart_all(tables, rows, leaving);
     place_all(places, rows);
     Ok(())
 }
@@ -274,5 +315,7 @@ pub(crate) fn change_in(
 {
     let alloc = *tables.allocator();
     let rows = planned_all(alloc, tables, places, changes)?;
-    move_all(tables, places, &rows)
+    let arriving = arriving_all(alloc, tables.len(), &rows)?;
+    let leaving = leaving_all(alloc, tables.len(), &rows)?;
+    move_all(tables, places, &rows, &arriving, &leaving)
 }

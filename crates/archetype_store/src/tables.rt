@@ -12,12 +12,15 @@ ghost use Rattle.column_store.specs.Cells.{stamped_number};
 ghost use Rattle.column_store.specs.Kinds.{AreBelow};
 ghost use Rattle.column_store.specs.Table.{TableRow, empty_table, kind_cells, standing_of, lent, homed, IsHome};
 ghost use Rattle.column_store.specs.Table.Standing.{Away};
+ghost use Rattle.column_store.specs.Arriving.{entity_of};
+ghost use Rattle.archetype_store.specs.Arrivals.{HaveCome};
 ghost use Rattle.archetype_store.specs.Row.{component_of, only};
 ghost use Rattle.archetype_store.specs.Layout.{layout_of};
 ghost use Rattle.archetype_store.specs.View.{kinds_seen, entities_seen};
-ghost use Rattle.archetype_store.specs.Tables.{table_at, kinds_at, held_at, row_or_none, are_same, AreShaped, AreUnlike, AreHome, AreOwned, IsHeldNow, IsGrown};
+ghost use Rattle.archetype_store.specs.Tables.{table_at, kinds_at, held_at, row_or_none, are_same, AreShaped, AreUnlike, AreGone, AreHome, AreOwned, IsHeldNow, IsGrown};
 
 use change_ticks::clock::Tick;
+use column_store::arrivals::Arrival;
 use column_store::stamped::StampedValue;
 use column_store::table::Table;
 use entity_table::Entity;
@@ -210,6 +213,24 @@ pub(crate) fn put_at(
     there.put(e, components)
 }
 
+// Adds the rows of entities that aren't in a table, whose ids rise, in one pass. Where memory is wanting the tables stay as they were.
+pub(crate) fn put_all_at(
+    tables: &mut Vec<Table>,
+    table: usize,
+    arrivals: &[Arrival<'_>],
+) -> Result<(), AllocError>
+    requires within { table < length tables.old.items }
+    requires rising { AreRising (map entity_of arrivals.now) }
+    requires absent { AllByRecursion (λ a. held_at tables.old.items table a.entity ≡ None) arrivals.now }
+    requires kinds { AllByRecursion (λ a. map stamped_number a.components.now ≡ kinds_at tables.old.items table) arrivals.now }
+    requires owned { AreOwned tables.old.items }
+    ensures ok { OnOk result (HaveCome tables.old.items tables.new.items table arrivals.now) }
+    ensures err { OnErr result (tables.new.items ≡ tables.old.items) }
+{
+    let there = &mut tables[table];
+    there.put_all(arrivals)
+}
+
 // Replaces the components of an entity that is in a table by others of its kinds.
 pub(crate) fn renew_at(
     tables: &mut Vec<Table>,
@@ -238,4 +259,28 @@ pub(crate) fn remove_at(tables: &mut Vec<Table>, table: usize, e: Entity)
     // Tells that ids rise, so that none of them is there twice.
     let _entities = there.entities();
     there.remove(e);
+}
+
+// Removes the row of an entity, where it has one in a table.
+pub(crate) fn clear_at(tables: &mut Vec<Table>, table: usize, e: Entity)
+    requires shaped { AreShaped tables.old.items }
+    requires within { table < length tables.old.items }
+    requires owned { AreOwned tables.old.items }
+    ensures { IsHeldNow tables.old.items tables.new.items table e None }
+{
+    if tables[table].has(e) {
+        remove_at(tables, table, e);
+    }
+}
+
+// Removes the rows of entities that are in a table, whose ids rise, in one pass.
+pub(crate) fn remove_all_at(tables: &mut Vec<Table>, table: usize, gone: &[Entity])
+    requires within { table < length tables.old.items }
+    requires rising { AreRising gone.now }
+    requires there { AllByRecursion (λ e. IsSome (held_at tables.old.items table e)) gone.now }
+    requires owned { AreOwned tables.old.items }
+    ensures { AreGone tables.old.items tables.new.items table gone.now }
+{
+    let there = &mut tables[table];
+    there.remove_all(gone);
 }

@@ -63,8 +63,3 @@ pub all_mapped_at : {A B : Type 0} (P : B → Type 0) (f : A → B) (xs : List A
 all_mapped_at P f [] i x all low is = absurd (omega arith)
 all_mapped_at P f (y ∷ xs) zero x all low is = subst (λ z. P (f z)) (sym is) all.0
 all_mapped_at P f (y ∷ xs) (suc i) x all low is = all_mapped_at P f xs i x all.1 (omega arith) is
-
--- what holds of each holds of all
-pub all_each : {A : Type 0} (P : A → Type 0) (xs : List A) → ((x : A) → P x) → AllByRecursion P xs
-all_each P [] each = tt
-all_each P (x ∷ xs) each = (each x, all_each P xs each)

@@ -2,5 +2,3 @@
 #![tactic(auto)]
 
 pub mod answer;
-#[cfg(test)]
-mod tests;

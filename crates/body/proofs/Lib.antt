@@ -21,3 +21,4 @@ pub mod Pickings
 pub mod Openings
 pub mod QueryOpens
 pub mod Outs
+pub mod Counts

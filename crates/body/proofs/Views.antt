@@ -9,6 +9,7 @@ use Rattle.model.specs.access.Query.{Term, writes as model_writes}
 use Rattle.model.specs.access.Access.{Params}
 use Rattle.model.specs.shown.Input.{rows_of, shown, value_of, unread_of}
 use Rattle.event_buffers.specs.Lists.{ListsValue}
+use Rattle.body.specs.Issued.{IssuedSeen}
 use Rattle.body.specs.Seen.{Seen, with_words, with_written}
 use Rattle.body.specs.Sheet.{Sheet}
 use Rattle.body.specs.SeenOver.{seen_over, AreTogether}
@@ -17,25 +18,25 @@ use Rattle.body.proofs.Edits.{map-set_same, map-set_update}
 use Rattle.body.proofs.Gets.{same-some}
 
 -- a query that is shown is one of the queries
-pub query-within : (tick : ℕ) (qs : List Sheet) (values : ValuesSeen) (unread sent : ListsValue) (seen : Seen) (q : ℕ) → seen_over tick qs values unread sent ≡ seen → q < length seen.shown.rows → q < length qs
-query-within tick qs values unread sent seen q e l = let a = ap (λ (s : Seen). length s.shown.rows) e in let b = length-map qs (λ (s : Sheet). s.rows) in omega arith
+pub query-within : (tick : ℕ) (qs : List Sheet) (values : ValuesSeen) (unread sent : ListsValue) (issued : IssuedSeen) (seen : Seen) (q : ℕ) → seen_over tick qs values unread sent issued ≡ seen → q < length seen.shown.rows → q < length qs
+query-within tick qs values unread sent issued seen q e l = let a = ap (λ (s : Seen). length s.shown.rows) e in let b = length-map qs (λ (s : Sheet). s.rows) in omega arith
 
 -- a view over columns with words written
-pub seen_over-written : (tick : ℕ) (qs us : List Sheet) (values : ValuesSeen) (unread sent : ListsValue) (q r k : ℕ) (w : List ℤ) (d new : Sheet) → q < length qs → us ≡ set qs q new →
+pub seen_over-written : (tick : ℕ) (qs us : List Sheet) (values : ValuesSeen) (unread sent : ListsValue) (issued : IssuedSeen) (q r k : ℕ) (w : List ℤ) (d new : Sheet) → q < length qs → us ≡ set qs q new →
     new ≡ (let s = get_or qs q d in record { terms = s.terms; rows = s.rows; cells = update_at r (with_words s.terms k w) s.cells; taken = s.taken; tick = s.tick }) →
-    seen_over tick us values unread sent ≡ with_written (seen_over tick qs values unread sent) q r k w
-seen_over-written tick qs us values unread sent q r k w d new l e n =
+    seen_over tick us values unread sent issued ≡ with_written (seen_over tick qs values unread sent issued) q r k w
+seen_over-written tick qs us values unread sent issued q r k w d new l e n =
     let terms = get_or-map (λ (s : Sheet). s.terms) qs q d [] l in
-    ap (λ (xs : List Sheet). seen_over tick xs values unread sent) e
+    ap (λ (xs : List Sheet). seen_over tick xs values unread sent issued) e
     ∙ (λ i. record {
-      params = record { queries = map-set_same (λ (s : Sheet). s.terms) qs q new d (ap (λ (s : Sheet). s.terms) n) i; res = values.res; res_mut = values.res_mut; reads = unread.kinds; writes = sent.kinds; spawns = None };
-      shown = record { rows = map-set_same (λ (s : Sheet). s.rows) qs q new d (ap (λ (s : Sheet). s.rows) n) i; res = values.res_shown; res_mut = values.res_mut_shown; unread = unread.values; registers = values.registers_shown; granted = [] };
+      params = record { queries = map-set_same (λ (s : Sheet). s.terms) qs q new d (ap (λ (s : Sheet). s.terms) n) i; res = values.res; res_mut = values.res_mut; reads = unread.kinds; writes = sent.kinds; spawns = issued.spawns };
+      shown = record { rows = map-set_same (λ (s : Sheet). s.rows) qs q new d (ap (λ (s : Sheet). s.rows) n) i; res = values.res_shown; res_mut = values.res_mut_shown; unread = unread.values; registers = values.registers_shown; granted = issued.granted };
       outcome = record {
         cells = map-set_update (λ (s : Sheet). s.cells) (update_at r (with_words (get_or (map (λ (s : Sheet). s.terms) qs) q []) k w)) qs q new d
             (ap (λ (s : Sheet). s.cells) n ∙ ap (λ ts. update_at r (with_words ts k w) (get_or qs q d).cells) (sym terms)) i;
         res_mut = values.written;
         events = sent.values;
-        commands = [];
+        commands = issued.commands;
         registers = values.registers;
       };
       opening = record {
@@ -45,19 +46,19 @@ seen_over-written tick qs us values unread sent q r k w d new l e n =
     })
 
 -- what a view that is opened shows
-pub seen_over-shown : (params : Params) (memory : Memory) (events : List EventQueue) (world : World) (tick : ℕ) (qs : List Sheet) (values : ValuesSeen) (unread sent : ListsValue) →
+pub seen_over-shown : (params : Params) (memory : Memory) (events : List EventQueue) (world : World) (tick : ℕ) (qs : List Sheet) (values : ValuesSeen) (unread sent : ListsValue) (issued : IssuedSeen) →
     map (λ (s : Sheet). s.rows) qs ≡ map (λ query. rows_of query memory.last_run world.slots) params.queries → values ≡ first_values params world.resources memory.registers → unread.values ≡ unread_of events params.reads memory.cursors →
-    (state : State) → state.world ≡ world → state.events ≡ events → (seen_over tick qs values unread sent).shown ≡ shown params memory state []
+    (state : State) → state.world ≡ world → state.events ≡ events → (seen_over tick qs values unread sent issued).shown ≡ shown params memory state issued.granted
 unfolding shown
-seen_over-shown params memory events world tick qs values unread sent h v u state w es =
-    ap (λ (x : ValuesSeen). (seen_over tick qs x unread sent).shown) v
+seen_over-shown params memory events world tick qs values unread sent issued h v u state w es =
+    ap (λ (x : ValuesSeen). (seen_over tick qs x unread sent issued).shown) v
     ∙ (λ i. record {
       rows = (h ∙ ap (λ (v : World). map (λ query. rows_of query memory.last_run v.slots) params.queries) (sym w)) i;
       res = ap (λ (v : World). map (value_of v.resources) params.res) (sym w) i;
       res_mut = ap (λ (v : World). map (value_of v.resources) params.res_mut) (sym w) i;
       unread = (u ∙ ap (λ qs. unread_of qs params.reads memory.cursors) (sym es)) i;
       registers = memory.registers;
-      granted = [];
+      granted = issued.granted;
     })
 
 -- ---- the queries stay together as one of them is written

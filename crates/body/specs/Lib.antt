@@ -1,3 +1,4 @@
+pub mod Issued
 pub mod Seen
 pub mod Laid
 pub mod Steps

@@ -1,15 +1,17 @@
 -- What a body sees of its view: the parameters, what is shown, and the outcome so far. Reads and writes of one row, of a resource and of a
 -- register, and events.
-use Rattle.std.specs.Prelude.{ℕ, ℤ, pos, ◌==◌, Bool, cond, List, [], ◌∷◌, get_or, set, Option, Some, None, unwrap_or}
+use Rattle.std.specs.Prelude.{ℕ, ℤ, pos, ◌==◌, Bool, cond, List, [], ◌∷◌, ◌++◌, get_or, set, Option, Some, None, unwrap_or}
 use Rattle.std.specs.List.{list_any}
 use Rattle.model.specs.Lists.{first_some, is_number, update_at}
 use Rattle.model.specs.access.Query.{Term, written}
 pub use Rattle.model.specs.access.QueryFaults.{fetched}
 use Rattle.model.specs.access.Access.{Params}
 use Rattle.model.specs.shown.Input.{ShownRow, Shown}
-use Rattle.model.specs.shown.Outcome.{Outcome, words_in_row, value_written, events_sent}
+use Rattle.model.specs.declared.entities.Entity.{Entity}
+use Rattle.model.specs.shown.Outcome.{Command, Outcome, words_in_row, value_written, events_sent}
 use Rattle.event_buffers.specs.Lists.{with_event}
 use Rattle.body.specs.Columns.{Column}
+use Rattle.body.specs.Issued.{granted_in}
 
 -- what a view was opened over: the columns of each query as they were taken, and the tick at which what is written there counts as
 -- changed. For who opens and closes a view: a body's meaning doesn't take it
@@ -136,6 +138,27 @@ with_register seen register value = record {
     events = seen.outcome.events;
     commands = seen.outcome.commands;
     registers = set seen.outcome.registers register value;
+  };
+  opening = seen.opening;
+}
+
+-- ---- commands
+
+-- the id of a slot
+abbrev pub granted_at : Shown → ℕ → Entity
+granted_at shown slot = granted_in shown.granted slot
+
+-- a view with one more command
+abbrev pub with_command : Seen → Command → Seen
+with_command seen command = record {
+  params = seen.params;
+  shown = seen.shown;
+  outcome = record {
+    cells = seen.outcome.cells;
+    res_mut = seen.outcome.res_mut;
+    events = seen.outcome.events;
+    commands = seen.outcome.commands ++ command ∷ [];
+    registers = seen.outcome.registers;
   };
   opening = seen.opening;
 }

@@ -1,17 +1,19 @@
--- What is seen of a view over queries with these sheets, these values of resources and registers, and these events shown and sent.
-use Rattle.std.specs.Prelude.{ℕ, ◌≡◌, List, [], map, slice_get, Some, None}
+-- What is seen of a view over queries with these sheets, these values of resources and registers, these events shown and sent, and these
+-- ids and commands.
+use Rattle.std.specs.Prelude.{ℕ, ◌≡◌, List, map, slice_get, Some}
 use Rattle.std.specs.List.{AllByRecursion}
 use Rattle.event_buffers.specs.Lists.{ListsValue}
+use Rattle.body.specs.Issued.{IssuedSeen}
 use Rattle.body.specs.Seen.{Seen}
 use Rattle.body.specs.Sheet.{Sheet}
 use Rattle.body.specs.Together.{IsAlone}
 use Rattle.body.specs.Values.{ValuesSeen}
 
-abbrev pub seen_over : ℕ → List Sheet → ValuesSeen → ListsValue → ListsValue → Seen
-seen_over tick queries values unread sent = record {
-  params = record { queries = map (λ (q : Sheet). q.terms) queries; res = values.res; res_mut = values.res_mut; reads = unread.kinds; writes = sent.kinds; spawns = None };
-  shown = record { rows = map (λ (q : Sheet). q.rows) queries; res = values.res_shown; res_mut = values.res_mut_shown; unread = unread.values; registers = values.registers_shown; granted = [] };
-  outcome = record { cells = map (λ (q : Sheet). q.cells) queries; res_mut = values.written; events = sent.values; commands = []; registers = values.registers };
+abbrev pub seen_over : ℕ → List Sheet → ValuesSeen → ListsValue → ListsValue → IssuedSeen → Seen
+seen_over tick queries values unread sent issued = record {
+  params = record { queries = map (λ (q : Sheet). q.terms) queries; res = values.res; res_mut = values.res_mut; reads = unread.kinds; writes = sent.kinds; spawns = issued.spawns };
+  shown = record { rows = map (λ (q : Sheet). q.rows) queries; res = values.res_shown; res_mut = values.res_mut_shown; unread = unread.values; registers = values.registers_shown; granted = issued.granted };
+  outcome = record { cells = map (λ (q : Sheet). q.cells) queries; res_mut = values.written; events = sent.values; commands = issued.commands; registers = values.registers };
   opening = record { taken = map (λ (q : Sheet). q.taken) queries; tick = tick };
 }
 

@@ -5,7 +5,8 @@ use Rattle.archetype_store.specs.Layout.{Archetype, AreAllHome}
 use Rattle.archetype_store.specs.Store.{StoreValue}
 use Rattle.model.specs.Lists.{update_at}
 use Rattle.kinds.specs.Components.{widths}
-use Rattle.model.specs.state.State.{EventQueue, Memory, State, World, event_count, most_passed_over, register_count}
+use Rattle.model.specs.state.Commands.{CommandTarget}
+use Rattle.model.specs.state.State.{Slot, EventQueue, Memory, State, World, event_count, most_passed_over, register_count}
 use Rattle.model.specs.state.Shape.{IsWorld, IsQueue}
 use Rattle.model.specs.runs.RunState.{memory_after_run, next_tick, with_registers}
 use Rattle.model.specs.shown.Outcome.{events_sent}
@@ -66,9 +67,37 @@ pub record StateValue : Type 0 where
 abbrev pub store_of : StateValue → StoreValue
 store_of s = record { state = s.state.world; layout = s.layout }
 
--- the state of a world with these events and memories
+-- the state of a world with these events and memories, and so many commands passed over
+abbrev pub counted_state : World → List EventQueue → List Memory → List Memory → ℕ → State
+counted_state world events systems conditions passed_over = record { world = world; events = events; systems = systems; conditions = conditions; passed_over = passed_over }
+
+-- with none passed over
 abbrev pub state_of : World → List EventQueue → List Memory → List Memory → State
-state_of world events systems conditions = record { world = world; events = events; systems = systems; conditions = conditions; passed_over = 0 }
+state_of world events systems conditions = counted_state world events systems conditions 0
+
+-- the state with other slots
+abbrev pub with_slots_in : List Slot → State → State
+with_slots_in slots state = record {
+  world = record { slots = slots; resources = state.world.resources; clock = state.world.clock };
+  events = state.events;
+  systems = state.systems;
+  conditions = state.conditions;
+  passed_over = state.passed_over;
+}
+
+-- the state with what commands leave
+abbrev pub with_target : CommandTarget → State → State
+with_target target state = record {
+  world = record { slots = target.slots; resources = state.world.resources; clock = state.world.clock };
+  events = state.events;
+  systems = state.systems;
+  conditions = state.conditions;
+  passed_over = target.passed_over;
+}
+
+-- what commands change of a state
+abbrev pub target_in : State → CommandTarget
+target_in state = record { slots = state.world.slots; passed_over = state.passed_over }
 
 -- a memory whose last run isn't above the clock, with its registers
 pub record IsMemoryAt (clock : ℕ) (m : Memory) : Type 0 where
@@ -83,9 +112,15 @@ pub record AreInTime (clock : ℕ) (systems conditions : List Memory) : Type 0 w
   pub systems_in : IsInTime clock systems
   pub conditions_in : IsInTime clock conditions
 
--- what holds of a state that isn't in a run: that of its memories, and all columns are at home
-pub record IsState (world : StoreValue) (systems conditions : List Memory) : Type 0 where
+-- what holds of the parts of every state: that of its memories, and no more commands are counted than can be
+pub record ArePartsOf (clock : ℕ) (systems conditions : List Memory) (passed_over : ℕ) : Type 0 where
+  pub in_time : AreInTime clock systems conditions
+  pub counted : passed_over ≤ most_passed_over
+
+-- what holds of a state that isn't in a run: that of its parts, and all columns are at home
+pub record IsState (world : StoreValue) (systems conditions : List Memory) (passed_over : ℕ) : Type 0 where
   pub last_runs : AreInTime world.state.clock systems conditions
+  pub counted : passed_over ≤ most_passed_over
   pub home : AreAllHome world.layout
 
 -- what holds of every state of an engine, whatever the schedule

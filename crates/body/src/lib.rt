@@ -11,5 +11,6 @@ mod slot_table;
 pub mod state;
 pub mod system_body;
 pub mod view;
+mod view_commands;
 pub mod view_query;
 mod view_values;

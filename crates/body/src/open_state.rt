@@ -1,9 +1,14 @@
 // A state in a run: a tick, a system shown what it may see, an outcome laid over the world, a condition asked.
 
-ghost use Rattle.std.specs.Prelude.{◌≡◌, ◌<◌, ◌≤◌, ◌↔◌, ◌++◌, List, [], false, map, length, get_or, IfOk, OnOk, OnErr, IsErr, IsErrOf};
+ghost use Rattle.std.specs.Prelude.{◌≡◌, ◌+◌, ◌<◌, ◌≤◌, ◌↔◌, ◌++◌, List, [], false, map, min, length, get_or, All, IfOk, OnOk, OnErr, IsErr, IsErrOf};
 ghost use Rattle.std.specs.List.{AllByRecursion};
 ghost use Rattle.kinds.specs.Res.{event_number};
-ghost use Rattle.model.specs.state.State.{most_indices, no_memory, register_count};
+ghost use Rattle.model.specs.state.State.{most_indices, most_passed_over, no_memory, register_count};
+ghost use Rattle.model.specs.state.Ids as ids;
+ghost use Rattle.model.specs.state.Commands.{apply_buffer, release};
+ghost use Rattle.model.specs.shown.Outcome.{spawned_by};
+ghost use Rattle.entity_table.specs.Ids.{IsGranted, AreApart};
+ghost use Rattle.command_queue.specs.Commands.{commands_of};
 ghost use Rattle.model.specs.Lists.{update_at};
 ghost use Rattle.model.specs.access.Condition.{holds, queries_of};
 ghost use Rattle.model.specs.access.SelfConflict.{ConflictWithin};
@@ -17,21 +22,28 @@ ghost use Rattle.query_plan.specs.Standing.{ArePickedHome};
 ghost use Rattle.body.specs.Columns.{Column};
 ghost use Rattle.body.specs.Lent.{AreLent, lent_in, with_away, with_back};
 ghost use Rattle.body.specs.Out.{IsWrittenBy, AreOut};
-ghost use Rattle.body.specs.Steps.{AreInTime, HasShape, asked_at, at_clock, laid, noted, state_of, store_of};
+ghost use Rattle.body.specs.Steps.{AreInTime, HasShape, asked_at, at_clock, counted_state, laid, noted, store_of, target_in, with_slots_in, with_target};
 
 use crate::memory::Memory;
 use crate::state::{Memories, State};
 use crate::view::View;
 use access_set::params::Params;
+use archetype_store::fault::GrantFault;
 use archetype_store::store::World;
 use asking::answer::ask;
 use change_ticks::clock::{ClockSpent, LAST_TICK, Tick};
+use command_queue::apply::apply;
+use command_queue::buffer::CommandBuffer;
+use entity_table::Entity;
 use event_buffers::buffers::Events;
 use event_buffers::queue::SendFault;
 use kinds::res::Event;
 use run_condition::Cond;
 use std::alloc::{AllocError, Global};
 use std::marker::Model;
+
+// The greatest count of commands passed over.
+const MOST_PASSED_OVER: u64 = 1 << 62;
 
 /// A state in a run. While views are open over it, the columns that they write are away. Contracts see the state that the definitions
 /// speak of, in which a column that is away has the components with which it left, and beside it how components are laid out. No last run is
@@ -42,16 +54,17 @@ pub struct OpenState {
     events: Events,
     systems: Vec<Memory>,
     conditions: Vec<Memory>,
+    passed_over: u64,
 }
 
 impl Model for OpenState {
-    ghost use Rattle.body.specs.Steps.{StateValue, AreInTime, state_of};
+    ghost use Rattle.body.specs.Steps.{StateValue, ArePartsOf, counted_state};
 
     ghost Value = { StateValue };
 
-    ghost view = { λ s. record { state = state_of s.world.state s.events s.systems.items s.conditions.items; layout = s.world.layout } };
+    ghost view = { λ s. record { state = counted_state s.world.state s.events s.systems.items s.conditions.items s.passed_over; layout = s.world.layout } };
 
-    ghost invariant = { λ s. AreInTime s.world.state.clock s.systems.items s.conditions.items };
+    ghost invariant = { λ s. ArePartsOf s.world.state.clock s.systems.items s.conditions.items s.passed_over };
 }
 
 impl OpenState {
@@ -61,15 +74,18 @@ impl OpenState {
         events: Events,
         systems: Vec<Memory>,
         conditions: Vec<Memory>,
+        passed_over: u64,
     ) -> Self
-        requires { AreInTime world.state.clock systems.items conditions.items }
-        ensures { result ≡ record { state = state_of world.state events systems.items conditions.items; layout = world.layout } }
+        requires in_time { AreInTime world.state.clock systems.items conditions.items }
+        requires counted { passed_over ≤ most_passed_over }
+        ensures { result ≡ record { state = counted_state world.state events systems.items conditions.items passed_over; layout = world.layout } }
     {
         OpenState {
             world,
             events,
             systems,
             conditions,
+            passed_over,
         }
     }
 
@@ -83,21 +99,24 @@ impl OpenState {
             events,
             systems,
             conditions,
+            passed_over,
         } = self;
-        State::new(
+        State::of_parts(
             world,
             events,
             Memories {
                 systems,
                 conditions,
             },
+            passed_over,
         )
     }
 
-    /// What holds of every state: there aren't too many indices, and the layout is that of the world.
+    /// What holds of every state: there aren't too many indices, the layout is that of the world, and no last run is above the clock.
     pub fn law(&self)
         ensures few { length self.now.state.world.slots ≤ most_indices }
         ensures laid { IsLayoutOf self.now.state.world.slots self.now.layout }
+        ensures memories { AreInTime self.now.state.world.clock self.now.state.systems self.now.state.conditions }
     {
         self.world.laid();
         let _ = self.world.now();
@@ -151,7 +170,47 @@ impl OpenState {
         self.world.next()
     }
 
-    /// What a system with these parameters is shown of the state, with nothing written yet: what it writes will count as changed at a tick to
+    /// Grants so many ids: the least vacant indices, at their generations. After an error nothing has changed.
+    pub fn grant(&mut self, alloc: Global, count: u32) -> Result<Vec<Entity>, GrantFault>
+        ensures ok { IfOk result (λ granted. granted.items ≡ ids.granted_ids count self.old.state.world.slots) }
+        ensures granted { OnOk result (self.new ≡ record { state = with_slots_in (ids.grant count self.old.state.world.slots) self.old.state; layout = self.old.layout }) }
+        ensures spent { IsErrOf result GrantFault.IdsSpent ↔ (ids.has_ids count self.old.state.world.slots ≡ false) }
+        ensures err { OnErr result (self.new ≡ self.old) }
+    {
+        self.world.grant(alloc, count)
+    }
+
+    /// Does the commands of the buffers of these numbers at a tick that isn't above the clock: one buffer after the other, each in its order of
+    /// issue. Where memory is wanting nothing has changed.
+    pub fn apply(
+        &mut self,
+        alloc: Global,
+        buffers: &[CommandBuffer],
+        order: &[u32],
+        tick: Tick,
+    ) -> Result<(), AllocError>
+        requires past { tick ≤ self.old.state.world.clock }
+        requires home { AreAllHome self.old.layout }
+        requires known { All (λ n. n < length buffers.now) order.now }
+        requires granted { All (IsGranted self.old.state.world.slots) (spawned_by (commands_of buffers.now order.now)) }
+        requires apart { AreApart (spawned_by (commands_of buffers.now order.now)) }
+        ensures applied { OnOk result (self.new.state ≡ with_target (apply_buffer tick (target_in self.old.state) (commands_of buffers.now order.now)) self.old.state) }
+        ensures err { OnErr result (self.new ≡ self.old) }
+        ensures home { AreAllHome self.new.layout }
+    {
+        let passed = apply(alloc, &mut self.world, buffers, order, tick)?;
+        self.passed_over = counted_on(self.passed_over, passed);
+        Ok(())
+    }
+
+    /// Frees each of these ids that is still granted.
+    pub fn release(&mut self, granted: &[Entity])
+        ensures { self.new ≡ record { state = with_slots_in (release granted.now self.old.state.world.slots) self.old.state; layout = self.old.layout } }
+    {
+        self.world.release(granted);
+    }
+
+    /// What a system with these parameters is shown of the state, with these ids granted, and nothing written yet: what it writes will count as changed at a tick to
     /// come. The columns that it may write leave the state, by move, and those that it reads are shared. After an error the state is as it
     /// was.
     pub fn open(
@@ -160,13 +219,16 @@ impl OpenState {
         params: &Params,
         system: usize,
         tick: Tick,
+        granted: Vec<Entity>,
+        commands: CommandBuffer,
     ) -> Result<View, AllocError>
+        requires empty { commands ≡ [] }
         requires known { system < length self.old.state.systems }
         requires home { AllByRecursion (λ query. ArePickedHome query self.old.layout) params.now.queries }
         requires apart { ConflictWithin params.now → ⊥ }
         requires coming { self.old.state.world.clock < tick }
         ensures params { IfOk result (λ view. view.params ≡ params.now) }
-        ensures shown { IfOk result (λ view. view.shown ≡ input.shown params.now (memory_of_system self.old.state system) self.old.state []) }
+        ensures shown { IfOk result (λ view. view.shown ≡ input.shown params.now (memory_of_system self.old.state system) self.old.state granted.items) }
         ensures untouched { IfOk result (λ view. view.outcome ≡ outcome.untouched params.now view.shown) }
         ensures tick { IfOk result (λ view. view.opening.tick ≡ tick) }
         ensures written { IfOk result (λ view. AllByRecursion (IsWrittenBy params.now.queries self.old.layout) (lent_in view.opening.taken)) }
@@ -183,6 +245,8 @@ impl OpenState {
             &self.events,
             &mut self.world,
             tick,
+            granted,
+            commands,
         )
     }
 
@@ -239,20 +303,21 @@ impl OpenState {
 
     /// Brings the columns of a view of a system home, and so lays what was written over the state, at the tick of the view, which isn't above
     /// the clock: components, resources, events, and the registers of the system. What other views hold stays away. Where an event gets no
-    /// number, or memory is wanting, the state is of no more use.
-    pub fn close(&mut self, view: View, system: usize) -> Result<(), SendFault>
+    /// number, or memory is wanting, the state is of no more use. The commands.
+    pub fn close(&mut self, view: View, system: usize) -> Result<CommandBuffer, SendFault>
         requires known { system < length self.old.state.systems }
         requires lent { AreLent (store_of self.old) view.opening.taken }
         requires past { view.opening.tick ≤ self.old.state.world.clock }
         ensures laid { OnOk result (self.new ≡ record { state = laid system view.opening.tick view self.old.state; layout = with_back (lent_in view.opening.taken) self.old.layout }) }
         ensures out { OnOk result ((front rest : List (List Column)) → AreOut (store_of self.old) (front ++ (view.opening.taken ++ rest)) → AreOut (store_of self.new) (front ++ rest)) }
+        ensures commands { IfOk result (λ commands. commands ≡ view.outcome.commands) }
         ensures spent { IsErrOf result SendFault.NumbersSpent ↔ (has_event_numbers (events_sent view.params.writes view.outcome.events) self.old.state.events ≡ false) }
     {
         self.world.laid();
-        let (registers, sent) = view.close(&mut self.world);
+        let (registers, sent, commands) = view.close(&mut self.world);
         sent.send(&mut self.events)?;
         keep_registers(&mut self.systems, system, registers);
-        Ok(())
+        Ok(commands)
     }
 }
 
@@ -274,4 +339,16 @@ fn keep_registers(memories: &mut [Memory], system: usize, registers: [i64; 8])
 {
     let memory = &mut memories[system];
     memory.set_registers(registers);
+}
+
+// So many commands passed over and so many more, cut at the greatest count.
+fn counted_on(before: u64, more: u64) -> u64
+    ensures { result ≡ min (before + more) most_passed_over }
+{
+    let sum = before.saturating_add(more);
+    if sum < MOST_PASSED_OVER {
+        sum
+    } else {
+        MOST_PASSED_OVER
+    }
 }

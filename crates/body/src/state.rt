@@ -1,10 +1,10 @@
 // The state of an engine: the world, the kept events, and what systems and conditions remember.
 
-ghost use Rattle.std.specs.Prelude.{◌≡◌, ◌<◌, [], length, replicate, get_or};
-ghost use Rattle.model.specs.state.State.{no_memory, event_count, empty_queue};
+ghost use Rattle.std.specs.Prelude.{◌≡◌, ◌<◌, ◌≤◌, [], length, replicate, get_or};
+ghost use Rattle.model.specs.state.State.{no_memory, event_count, empty_queue, most_passed_over};
 ghost use Rattle.archetype_store.specs.Layout.{AreAllHome};
 ghost use Rattle.archetype_store.specs.Store.{empty_world};
-ghost use Rattle.body.specs.Steps.{AreInTime, HasShape, state_of};
+ghost use Rattle.body.specs.Steps.{AreInTime, HasShape, counted_state, state_of};
 
 use crate::memory::Memory;
 use crate::open_state::OpenState;
@@ -23,7 +23,7 @@ pub struct Memories {
     pub conditions: Vec<Memory>,
 }
 
-/// The state of an engine. Contracts see the state that the definitions speak of, with nothing passed over. No last run is above the
+/// The state of an engine. Contracts see the state that the definitions speak of. No last run is above the
 /// clock, each memory has its registers, and all columns are at home.
 #[derive(Drop, Debug)]
 pub struct State {
@@ -31,17 +31,18 @@ pub struct State {
     events: Events,
     systems: Vec<Memory>,
     conditions: Vec<Memory>,
+    passed_over: u64,
 }
 
 impl Model for State {
     ghost use Rattle.model.specs.state.State.{State as ModelState};
-    ghost use Rattle.body.specs.Steps.{IsState, state_of};
+    ghost use Rattle.body.specs.Steps.{IsState, counted_state};
 
     ghost Value = { ModelState };
 
-    ghost view = { λ s. state_of s.world.state s.events s.systems.items s.conditions.items };
+    ghost view = { λ s. counted_state s.world.state s.events s.systems.items s.conditions.items s.passed_over };
 
-    ghost invariant = { λ s. IsState s.world s.systems.items s.conditions.items };
+    ghost invariant = { λ s. IsState s.world s.systems.items s.conditions.items s.passed_over };
 }
 
 impl State {
@@ -54,10 +55,11 @@ impl State {
             events: Events::new(alloc),
             systems: Vec::new(alloc),
             conditions: Vec::new(alloc),
+            passed_over: 0,
         }
     }
 
-    /// The state of a world with these events and memories.
+    /// The state of a world with these events and memories, with nothing passed over.
     pub fn new(world: World, events: Events, memories: Memories) -> Self
         requires last_runs { AreInTime world.state.clock memories.systems.items memories.conditions.items }
         requires home { AreAllHome world.layout }
@@ -72,6 +74,32 @@ impl State {
             events,
             systems,
             conditions,
+            passed_over: 0,
+        }
+    }
+
+    // The state of these parts.
+    pub(crate) fn of_parts(
+        world: World,
+        events: Events,
+        memories: Memories,
+        passed_over: u64,
+    ) -> Self
+        requires last_runs { AreInTime world.state.clock memories.systems.items memories.conditions.items }
+        requires home { AreAllHome world.layout }
+        requires counted { passed_over ≤ most_passed_over }
+        ensures { result ≡ counted_state world.state events memories.systems.items memories.conditions.items passed_over }
+    {
+        let Memories {
+            systems,
+            conditions,
+        } = memories;
+        State {
+            world,
+            events,
+            systems,
+            conditions,
+            passed_over,
         }
     }
 
@@ -85,8 +113,9 @@ impl State {
             events,
             systems,
             conditions,
+            passed_over,
         } = self;
-        OpenState::of_parts(world, events, systems, conditions)
+        OpenState::of_parts(world, events, systems, conditions, passed_over)
     }
 
     /// What holds of every state, whatever the schedule.
@@ -127,12 +156,11 @@ impl State {
         self.conditions.len()
     }
 
-    /// How many commands were passed over. No system issues commands yet.
+    /// How many commands were passed over, at most 2^62.
     pub fn passed_over(&self) -> u64
         ensures { result ≡ self.now.passed_over }
     {
-        let _ = &self.systems;
-        0
+        self.passed_over
     }
 
     /// What a system remembers.

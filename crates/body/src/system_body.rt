@@ -5,7 +5,7 @@ ghost use Rattle.model.specs.access.Access.{Params as Uses};
 ghost use Rattle.model.specs.shown.Input.{Shown};
 ghost use Rattle.model.specs.shown.Outcome.{Outcome, untouched};
 ghost use Rattle.body.specs.Answers.{Answers};
-ghost use Rattle.body.specs.Keeps.{KeepsWithin};
+ghost use Rattle.body.specs.Keeps.{CanBeShown, KeepsWithin};
 
 use crate::view::View;
 use access_set::params::Params;
@@ -34,10 +34,11 @@ pub trait Body: Send + Drop {
         ensures exact { result ≡ fits self.now params.now }
         ensures keeps { IsTrue result → KeepsWithin params.now (meaning self.now params.now) };
 
-    /// Runs the body on a view in which nothing is written yet. What it leaves there is the outcome that it means by what it is shown, or it
+    /// Runs the body on a view that shows what a system with its parameters can be shown, and in which nothing is written yet. What it leaves there is the outcome that it means by what it is shown, or it
     /// answers the refusal that it means. It may want memory at any time. Its meaning, and what it fits, stay.
     fn run(&mut self, view: &mut View) -> Result<(), BodyFault>
         requires fits { IsTrue (fits self.old view.old.params) }
+        requires showing { CanBeShown view.old.params view.old.shown }
         requires untouched { view.old.outcome ≡ untouched view.old.params view.old.shown }
         ensures answer { Answers (meaning self.old view.old.params view.old.shown) view.new result }
         ensures shown { view.new.shown ≡ view.old.shown }

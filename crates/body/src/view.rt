@@ -1,32 +1,35 @@
 // A view: what a system is shown at its start, and its outcome so far, where the columns lie.
 
-ghost use Rattle.std.specs.Prelude.{◌≡◌, ◌<◌, ◌≤◌, [], length, get_or, pos, option_map, unwrap_or, IfOk, IsTrue, None, OnOk, OnErr};
+ghost use Rattle.std.specs.Prelude.{◌≡◌, ◌<◌, ◌≤◌, true, false, [], length, get_or, pos, option_map, is_some, unwrap_or, IfOk, IsTrue, OnOk, OnErr};
 ghost use Rattle.std.specs.List.{AllByRecursion};
 ghost use Rattle.kinds.specs.Kind.{kind_number};
 ghost use Rattle.kinds.specs.Res.{res_number, event_number};
 ghost use Rattle.kinds.specs.Components.{widths};
-ghost use Rattle.model.specs.Lists.{has};
+ghost use Rattle.model.specs.Lists.{has, IsIn};
 ghost use Rattle.model.specs.state.State.{State, register_count};
 ghost use Rattle.model.specs.access.Access.{names_resource};
 ghost use Rattle.model.specs.access.Query.{writes};
 ghost use Rattle.model.specs.access.SelfConflict.{ConflictWithin};
 ghost use Rattle.model.specs.shown.Input.{shown};
-ghost use Rattle.model.specs.shown.Outcome.{untouched, words_written};
+ghost use Rattle.model.specs.shown.Outcome.{spawned_by, untouched, words_written};
+ghost use Rattle.model.specs.shown.Outcome.Command.{Spawn, Insert, Remove, Despawn};
 ghost use Rattle.query_plan.specs.Standing.{ArePickedHome};
 ghost use Rattle.archetype_store.specs.Overlays.{AreReached};
 ghost use Rattle.body.specs.Laid.{world_after};
 ghost use Rattle.body.specs.Lent.{AreLent, lent_in, with_away, with_back};
 ghost use Rattle.body.specs.Out.{IsWrittenBy};
-ghost use Rattle.body.specs.Seen.{query_at, rows_at, row_at, read_at, with_written, resource_read, with_resource, with_register, events_shown, with_emitted};
+ghost use Rattle.body.specs.Seen.{query_at, rows_at, row_at, read_at, with_written, resource_read, with_resource, with_register, events_shown, with_emitted, granted_at, with_command};
 
 use crate::closing::put_home;
 use crate::memory::Memory;
 use crate::opening::open_queries;
+use crate::view_commands::ViewCommands;
 use crate::view_query::ViewQuery;
 use crate::view_values::ViewValues;
 use access_set::params::Params;
 use archetype_store::store::World;
 use change_ticks::clock::Tick;
+use command_queue::buffer::CommandBuffer;
 use entity_table::Entity;
 use event_buffers::buffers::Events;
 use event_buffers::lists::EventLists;
@@ -47,6 +50,7 @@ pub struct View {
     values: ViewValues,
     unread: EventLists,
     sent: EventLists,
+    issued: ViewCommands,
 }
 
 impl Model for View {
@@ -56,14 +60,14 @@ impl Model for View {
 
     ghost use Rattle.body.specs.SeenOver.{seen_over, AreTogether};
 
-    ghost view = { λ v. seen_over v.tick v.queries.items v.values v.unread v.sent };
+    ghost view = { λ v. seen_over v.tick v.queries.items v.values v.unread v.sent v.issued };
 
     ghost invariant = { λ v. AreTogether v.tick v.queries.items };
 }
 
 impl View {
-    /// What a system with these parameters and this memory is shown of a world and its events, and nothing written: what it writes will count as changed at
-    /// a tick to come. The columns that it may write leave the world, by move, and those that it reads are shared. After an error the
+    /// What a system with these parameters and this memory is shown of a world and its events, with these ids granted, and nothing written: what
+    /// it writes will count as changed at a tick to come. Its commands go into a buffer that has none. The columns that it may write leave the world, by move, and those that it reads are shared. After an error the
     /// world is as it was.
     pub fn open(
         alloc: Global,
@@ -72,12 +76,15 @@ impl View {
         events: &Events,
         world: &mut World,
         tick: Tick,
+        granted: Vec<Entity>,
+        commands: CommandBuffer,
     ) -> Result<Self, AllocError>
+        requires empty { commands ≡ [] }
         requires home { AllByRecursion (λ query. ArePickedHome query world.old.layout) params.now.queries }
         requires apart { ConflictWithin params.now → ⊥ }
         requires coming { world.old.state.clock < tick }
         ensures params { IfOk result (λ v. v.params ≡ params.now) }
-        ensures shown { IfOk result (λ v. (state : State) → state.world ≡ world.old.state → state.events ≡ events.now → v.shown ≡ shown params.now memory.now state []) }
+        ensures shown { IfOk result (λ v. (state : State) → state.world ≡ world.old.state → state.events ≡ events.now → v.shown ≡ shown params.now memory.now state granted.items) }
         ensures untouched { IfOk result (λ v. v.outcome ≡ untouched v.params v.shown) }
         ensures tick { IfOk result (λ v. v.opening.tick ≡ tick) }
         ensures written { IfOk result (λ v. AllByRecursion (IsWrittenBy params.now.queries world.old.layout) (lent_in v.opening.taken)) }
@@ -86,11 +93,10 @@ impl View {
         ensures back { IfOk result (λ v. with_back (lent_in v.opening.taken) world.new.layout ≡ world.old.layout) }
         ensures err { OnErr result (world.new ≡ world.old) }
     {
-        // Tell that there are no commands.
-        params.law();
         let values = ViewValues::open(params, memory, world);
         let unread = EventLists::unread(alloc, params.reads(), memory.cursors(), events)?;
         let sent = EventLists::empty(alloc, params.writes())?;
+        let issued = ViewCommands::open(params, granted, commands);
         let queries = open_queries(alloc, params.queries(), world, memory.last_run(), tick)?;
         Ok(View {
             tick,
@@ -98,16 +104,16 @@ impl View {
             values,
             unread,
             sent,
+            issued,
         })
     }
 
-    /// What holds of every view: it shows rows for each query, is of a system without commands, and has none.
+    /// What holds of every view: it shows rows for each query, and has commands only where its system has Commands.
     pub fn law(&self)
         ensures rows { length self.now.shown.rows ≡ length self.now.params.queries }
-        ensures alone { self.now.params.spawns ≡ None }
-        ensures commands { self.now.outcome.commands ≡ [] }
+        ensures commands { is_some self.now.params.spawns ≡ false → self.now.outcome.commands ≡ [] }
     {
-        let _tick = self.tick;
+        self.issued.law();
     }
 
     /// The tick at which what is written counts as changed.
@@ -118,14 +124,16 @@ impl View {
     }
 
     /// Brings the columns home, and so lays what was written over the world, and writes its resources. All else of the world stays. All that
-    /// was written is written in columns that the world lent. The registers, as they are in the end, and the events that were emitted.
-    pub fn close(self, world: &mut World) -> ([i64; 8], EventLists)
+    /// was written is written in columns that the world lent. The registers, as they are in the end, the events that were emitted, and the
+    /// commands.
+    pub fn close(self, world: &mut World) -> ([i64; 8], EventLists, CommandBuffer)
         requires lent { AreLent world.old self.opening.taken }
         requires past { self.opening.tick ≤ world.old.state.clock }
         ensures home { world.new ≡ record { state = world_after self.opening.tick self world.old.state; layout = with_back (lent_in self.opening.taken) world.old.layout } }
         ensures reach { AreReached world.old.layout (lent_in self.opening.taken) (words_written self.params.queries self.shown.rows self.outcome.cells) }
         ensures registers { result.0 ≡ self.outcome.registers }
         ensures sent { result.1 ≡ record { kinds = self.params.writes; values = self.outcome.events } }
+        ensures commands { result.2 ≡ self.outcome.commands }
     {
         // Tell how the layout is that of the state, and that no stamp is above the clock.
         world.laid();
@@ -136,10 +144,11 @@ impl View {
             values,
             unread: _unread,
             sent,
+            issued,
         } = self;
         put_home(queries, world);
         values.lay(tick, world);
-        (values.registers(), sent)
+        (values.registers(), sent, issued.into_commands())
     }
 
     /// How many rows a query has.
@@ -214,6 +223,59 @@ impl View {
         ensures err { OnErr result (self.new ≡ self.old) }
     {
         self.sent.push(kind, value)
+    }
+
+    /// How many ids were granted at the start.
+    pub fn granted_count(&self) -> usize
+        ensures { result ≡ length self.now.shown.granted }
+    {
+        self.issued.len()
+    }
+
+    /// The id of a slot, granted at the start.
+    pub fn granted(&self, slot: usize) -> Entity
+        requires { slot < length self.now.shown.granted }
+        ensures { result ≡ granted_at self.now.shown slot }
+    {
+        self.issued.granted(slot)
+    }
+
+    /// The entity of a slot is to live from the sync point on, with no component. Where memory is wanting nothing changes.
+    pub fn spawn(&mut self, slot: usize) -> Result<(), AllocError>
+        requires declared { is_some self.old.params.spawns ≡ true }
+        requires slot { slot < length self.old.shown.granted }
+        requires unspawned { IsIn (granted_at self.old.shown slot) (spawned_by self.old.outcome.commands) → ⊥ }
+        ensures ok { OnOk result (self.new ≡ with_command self.old (Spawn (granted_at self.old.shown slot))) }
+        ensures err { OnErr result (self.new ≡ self.old) }
+    {
+        self.issued.spawn(slot)
+    }
+
+    /// An entity is to have a component from the sync point on. Where memory is wanting nothing changes.
+    pub fn insert<C: Component>(&mut self, e: Entity, component: C) -> Result<(), AllocError>
+        requires { is_some self.old.params.spawns ≡ true }
+        ensures ok { OnOk result (self.new ≡ with_command self.old (Insert e C.NUMBER (C.words component))) }
+        ensures err { OnErr result (self.new ≡ self.old) }
+    {
+        self.issued.insert(e, component)
+    }
+
+    /// An entity is to have no component of a kind from the sync point on. Where memory is wanting nothing changes.
+    pub fn remove(&mut self, e: Entity, kind: Kind) -> Result<(), AllocError>
+        requires { is_some self.old.params.spawns ≡ true }
+        ensures ok { OnOk result (self.new ≡ with_command self.old (Remove e (kind_number kind))) }
+        ensures err { OnErr result (self.new ≡ self.old) }
+    {
+        self.issued.remove(e, kind)
+    }
+
+    /// An entity is to live no more from the sync point on. Where memory is wanting nothing changes.
+    pub fn despawn(&mut self, e: Entity) -> Result<(), AllocError>
+        requires { is_some self.old.params.spawns ≡ true }
+        ensures ok { OnOk result (self.new ≡ with_command self.old (Despawn e)) }
+        ensures err { OnErr result (self.new ≡ self.old) }
+    {
+        self.issued.despawn(e)
     }
 
     /// A register: what was put there last, else what is shown.

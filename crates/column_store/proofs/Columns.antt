@@ -157,7 +157,7 @@ later_renewed i [] cs = refl
 later_renewed i (p ∷ ps) [] = refl
 later_renewed i (p ∷ ps) (c ∷ cs) = ap₂ ◌∷◌ (ap (slot p.standing p.column.kind) (tail_updated i (λ _. c) p.column.cells)) (later_renewed i ps cs)
 
-shorter_tails : (n : ℕ) (ps : List ColumnSlotValue) → AllByRecursion (IsOfLength (suc n)) ps → AllByRecursion (IsOfLength n) (map tail_in ps)
+pub shorter_tails : (n : ℕ) (ps : List ColumnSlotValue) → AllByRecursion (IsOfLength (suc n)) ps → AllByRecursion (IsOfLength n) (map tail_in ps)
 shorter_tails n [] h = tt
 shorter_tails n (p ∷ ps) h = (go p.column.cells h.0, shorter_tails n ps h.1)
   where

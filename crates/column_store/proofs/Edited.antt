@@ -61,7 +61,7 @@ none_is : {A : Type 0} (o : Option A) → IsNone o → o ≡ None
 none_is None h = refl
 none_is (Some x) h = absurd (cc)
 
-head_none : (b : Bool) (r : TableRow) (o : Option TableRow) → cond b (Some r) o ≡ None → (b ≡ false) × (o ≡ None)
+pub head_none : (b : Bool) (r : TableRow) (o : Option TableRow) → cond b (Some r) o ≡ None → (b ≡ false) × (o ≡ None)
 head_none true r o h = absurd (cc)
 head_none false r o h = (refl, h)
 
@@ -93,7 +93,7 @@ some_cells : (ss : List StampedValue) → map (λ c. Some c) (map stamped_cell s
 some_cells [] = refl
 some_cells (s ∷ ss) = ap (λ cs. Some (stamped_cell s) ∷ cs) (some_cells ss)
 
-table_put : (ns : List ℕ) (es es' : List Entity) (ps ps' : List ColumnSlotValue) (e : Entity) (ss : List StampedValue) → IsTable ns es ps →
+pub table_put : (ns : List ℕ) (es es' : List Entity) (ps ps' : List ColumnSlotValue) (e : Entity) (ss : List StampedValue) → IsTable ns es ps →
     map stamped_number ss ≡ ns → IsPutAt e ss es es' ps ps' →
     table_of ns es' ps' ≡ record { kinds = ns; standings = map standing_in ps; rows = put_row (new_row e ss) (rows_of es ps) }
 table_put ns es es' ps ps' e ss h k p =
@@ -101,7 +101,7 @@ table_put ns es es' ps ps' e ss h k p =
     ∙ table-put ns es ps e p.row (map stamped_cell ss) (as_many ns ps ss h.of_kinds k) h.of_length p.within p.gap
     ∙ ap (λ cells. let t : TableValue = record { kinds = ns; standings = map standing_in ps; rows = put_row (record { entity = e; cells = cells }) (rows_of es ps) } in t) (some_cells ss)
 
-table_put_kept : (ns : List ℕ) (es es' : List Entity) (ps ps' : List ColumnSlotValue) (e : Entity) (ss : List StampedValue) → IsTable ns es ps →
+pub table_put_kept : (ns : List ℕ) (es es' : List Entity) (ps ps' : List ColumnSlotValue) (e : Entity) (ss : List StampedValue) → IsTable ns es ps →
     map stamped_number ss ≡ ns → IsNowhere (λ x. is_same x e) es → IsPutAt e ss es es' ps ps' → IsTable ns es' ps'
 table_put_kept ns es es' ps ps' e ss h k absent p =
     subst (IsTable ns es') (sym p.columns_after) (subst (λ xs. IsTable ns xs (insert_all p.row ps (map stamped_cell ss))) (sym p.entities_after)

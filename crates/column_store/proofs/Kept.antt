@@ -88,7 +88,7 @@ kept-columns ns es ps qs same h = record {
 
 -- ---- a row more
 
-rising-insert : (e : Entity) (es : List Entity) (i : ℕ) → AreRising es → IsGap e es i → IsNowhere (λ x. is_same x e) es → AreRising (insert es i e)
+pub rising-insert : (e : Entity) (es : List Entity) (i : ℕ) → AreRising es → IsGap e es i → IsNowhere (λ x. is_same x e) es → AreRising (insert es i e)
 rising-insert e [] zero r g a = (tt, tt)
 rising-insert e [] (suc i) r g a = absurd g
 rising-insert e (x ∷ es) zero r g a = let first = after_rest x e g a.0 in

@@ -10,3 +10,9 @@ pub mod Edited
 pub mod Made
 pub mod TheirComponents
 pub mod Wide
+pub mod Passes
+pub mod Removed
+pub mod Joined
+pub mod Merged
+pub mod Arrived
+pub mod Gathered

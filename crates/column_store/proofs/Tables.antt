@@ -25,7 +25,7 @@ place-within test (x ∷ xs) (suc i) p = let l = place-within test xs i p.1 in o
 pub length-of_kinds : (ns : List ℕ) (ps : List ColumnSlotValue) → map kind_in ps ≡ ns → length ns ≡ length ps
 length-of_kinds ns ps h = sym (ap length h) ∙ length-map ps kind_in
 
-made : (ns : List ℕ) (ss ts : List Standing) (rs qs : List TableRow) → ss ≡ ts → rs ≡ qs →
+pub made : (ns : List ℕ) (ss ts : List Standing) (rs qs : List TableRow) → ss ≡ ts → rs ≡ qs →
     (let t : TableValue = record { kinds = ns; standings = ss; rows = rs } in t) ≡ record { kinds = ns; standings = ts; rows = qs }
 made ns ss ts rs qs h k = ap₂ (λ s r. let t : TableValue = record { kinds = ns; standings = s; rows = r } in t) h k
 

@@ -8,3 +8,5 @@ pub mod Inside
 pub mod Components
 pub mod Spots
 pub mod EntityList
+pub mod Keeping
+pub mod Arriving

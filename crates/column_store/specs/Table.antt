@@ -1,5 +1,5 @@
 -- What a table is: the rows of the entities of one archetype, and which of its columns are at home.
-use Rattle.std.specs.Prelude.{◌≡◌, ℕ, ℤ, Bool, true, false, cond, List, [], ◌∷◌, map, Option, Some, None, option_map, option_and_then}
+use Rattle.std.specs.Prelude.{◌≡◌, ℕ, ℤ, Bool, true, false, ◌||◌, cond, List, [], ◌∷◌, map, Option, Some, None, option_map, option_and_then}
 use Rattle.model.specs.state.State.{Cell}
 use Rattle.model.specs.declared.entities.Entity.{Entity}
 use Rattle.column_store.specs.Order.{is_before, is_same}
@@ -73,6 +73,16 @@ put_row new (row ∷ rows) = cond (is_before row.entity new.entity) (row ∷ put
 abbrev pub without_row : Entity → List TableRow → List TableRow
 without_row e [] = []
 without_row e (row ∷ rows) = cond (is_same row.entity e) rows (row ∷ without_row e rows)
+
+-- whether an entity is among some
+abbrev pub is_among : Entity → List Entity → Bool
+is_among e [] = false
+is_among e (x ∷ xs) = is_same e x || is_among e xs
+
+-- rows without those of some entities
+abbrev pub without_rows : List Entity → List TableRow → List TableRow
+without_rows gone [] = []
+without_rows gone (row ∷ rows) = cond (is_among row.entity gone) (without_rows gone rows) (row ∷ without_rows gone rows)
 
 -- rows with f applied to that of an entity
 abbrev pub update_row : Entity → (TableRow → TableRow) → List TableRow → List TableRow

@@ -1,16 +1,21 @@
 // The slots of columns in a table, and what is done to all columns at a row.
 
-ghost use Rattle.std.specs.Prelude.{◌≡◌, ◌≤◌, ℕ, true, map, option_map, Some, IfOk, IfErr, OnOk, OnErr};
+ghost use Rattle.std.specs.Prelude.{◌≡◌, ◌≤◌, ℕ, true, length, map, option_map, Some, IfOk, IfErr, OnOk, OnErr};
 ghost use Rattle.std.specs.List.{AllByRecursion};
 ghost use Rattle.std.specs.Arc.{arc_value};
 ghost use Rattle.kinds.specs.Value.{value_number, value_words};
 ghost use Rattle.column_store.specs.Cells.{stamped_number, stamped_cell};
 ghost use Rattle.column_store.specs.Table.{is_home};
 ghost use Rattle.column_store.specs.Table.Standing.{Owned, Away};
-ghost use Rattle.column_store.specs.Inside.{cell_at, kind_in, standing_at, owned_slot, empty_column, write_in, insert_in, remove_in, replace_in, insert_all, replace_all, HoldsRow, OwnsRow, Takes, AllTake, Renews, AllRenew, IsAtHome, IsOwned, AreAlike};
+ghost use Rattle.column_store.specs.Inside.{cell_at, kind_in, standing_at, owned_slot, empty_column, write_in, insert_in, remove_in, replace_in, insert_all, replace_all, HoldsRow, OwnsRow, Takes, AllTake, with_cells, Renews, AllRenew, IsAtHome, IsOwned, AreAlike};
+ghost use Rattle.std.specs.Prelude.{slice_get};
+ghost use Rattle.column_store.specs.Keeping.{keep_in, OwnsRows};
+ghost use Rattle.column_store.specs.Arriving.{components_brought, cells_brought, laid, lay_all, IsMergeable};
 
+use crate::arrivals::{Arrival, components_of};
 use crate::stamped::{StampedColumn, StampedValue};
 use change_ticks::clock::Tick;
+use entity_table::Entity;
 use kinds::kind::Kind;
 use kinds::value::Value;
 use std::alloc::{AllocError, Global};
@@ -200,6 +205,18 @@ impl ColumnSlot {
             _ => unreachable!(),
         }
     }
+
+    // Leaves the components of the entities that stay. Those before a row stay where they are.
+    fn keep(&mut self, first: usize, entities: &[Entity], gone: &[Entity])
+        requires owned { OwnsRows (length entities.now) self.old }
+        requires within { first ≤ length entities.now }
+        ensures { self.new ≡ keep_in first gone.now entities.now self.old }
+    {
+        match &mut self.spot {
+            Spot::Home(column) => column.keep(first, entities, gone),
+            _ => unreachable!(),
+        }
+    }
 }
 
 // The column of an owner of it: moved where there is no other, else copied. Where memory is wanting the owner has it as before.
@@ -281,6 +298,23 @@ pub(crate) fn remove_row(columns: &mut [ColumnSlot], row: usize)
     }
 }
 
+// Leaves the rows of the entities that stay in each column. Those before a row stay where they are.
+pub(crate) fn keep_rows(
+    columns: &mut [ColumnSlot],
+    first: usize,
+    entities: &[Entity],
+    gone: &[Entity],
+)
+    requires owned { AllByRecursion (OwnsRows (length entities.now)) columns.old }
+    requires within { first ≤ length entities.now }
+    ensures { columns.new ≡ map (keep_in first gone.now entities.now) columns.old }
+{
+    if let Some((column, other_columns)) = columns.split_first_mut() {
+        column.keep(first, entities, gone);
+        keep_rows(other_columns, first, entities, gone);
+    }
+}
+
 // The components of a row, one of each column.
 pub(crate) fn read_row(
     alloc: Global,
@@ -307,4 +341,41 @@ pub(crate) fn empty_columns(alloc: Global, kinds: &[Kind]) -> Result<Vec<ColumnS
         columns.push(ColumnSlot::of(StampedColumn::new(alloc, *kind)))?;
     }
     Ok(columns)
+}
+
+// The slot of a column with the components of arrivals that come into it, each before the row of its gap.
+fn merged_slot(
+    alloc: Global,
+    slot: &ColumnSlot,
+    place: usize,
+    gaps: &[usize],
+    arrivals: &[Arrival<'_>],
+) -> Result<ColumnSlot, AllocError>
+    requires can { IsMergeable gaps.now slot.now }
+    requires as_many { length arrivals.now ≡ length gaps.now }
+    requires kinds { AllByRecursion (λ a. option_map stamped_number (slice_get a.components.now place) ≡ Some (kind_in slot.now)) arrivals.now }
+    ensures { IfOk result (λ p. p ≡ with_cells (laid 0 gaps.now (cells_brought place (map components_brought arrivals.now))) slot.now) }
+{
+    let components = components_of(alloc, arrivals, place)?;
+    let column = slot.seen().merged(alloc, gaps, &components)?;
+    Ok(ColumnSlot::of(column))
+}
+
+// The slots of columns with the components of arrivals, each row before that of its gap.
+pub(crate) fn merged_slots(
+    alloc: Global,
+    columns: &[ColumnSlot],
+    gaps: &[usize],
+    arrivals: &[Arrival<'_>],
+) -> Result<Vec<ColumnSlot>, AllocError>
+    requires can { AllByRecursion (IsMergeable gaps.now) columns.now }
+    requires as_many { length arrivals.now ≡ length gaps.now }
+    requires kinds { AllByRecursion (λ a. map stamped_number a.components.now ≡ map kind_in columns.now) arrivals.now }
+    ensures { IfOk result (λ slots. slots.items ≡ lay_all 0 gaps.now (map components_brought arrivals.now) columns.now) }
+{
+    let mut slots = Vec::new(alloc);
+    for place in 0..columns.len() {
+        slots.push(merged_slot(alloc, &columns[place], place, gaps, arrivals)?)?;
+    }
+    Ok(slots)
 }

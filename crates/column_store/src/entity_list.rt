@@ -3,7 +3,9 @@
 ghost use Rattle.std.specs.Prelude.{◌≡◌, ◌<◌, ◌≤◌, [], length, IfOk, OnOk, OnErr};
 ghost use Rattle.std.specs.Arc.{arc_value};
 ghost use Rattle.std.specs.List.{insert, remove};
+ghost use Rattle.column_store.specs.Keeping.{kept_from};
 
+use crate::keeping::keep_entities;
 use entity_table::Entity;
 use std::alloc::{AllocError, Global};
 use std::marker::Model;
@@ -40,6 +42,13 @@ impl EntityList {
         }
     }
 
+    // These entities.
+    pub(crate) fn of(list: Vec<Entity>) -> Self
+        ensures { result ≡ list.items }
+    {
+        EntityList { list, copy: None }
+    }
+
     // The entities.
     pub(crate) fn as_slice(&self) -> &[Entity]
         ensures { result.now ≡ self.now }
@@ -65,6 +74,15 @@ impl EntityList {
     {
         self.copy = None;
         self.list.remove(row);
+    }
+
+    // Leaves the entities that stay. Those before a row stay where they are.
+    pub(crate) fn keep(&mut self, first: usize, gone: &[Entity])
+        requires { first ≤ length self.old }
+        ensures { self.new ≡ kept_from first gone.now self.old self.old }
+    {
+        self.copy = None;
+        keep_entities(&mut self.list, first, gone);
     }
 
     // The entities, to be read elsewhere too.

@@ -1,10 +1,13 @@
 // Tables: the components of the entities of one archetype, in typed columns with stamps.
 #![tactic(auto)]
 
+pub mod arrivals;
 mod column_slot;
 mod entity_list;
+mod keeping;
 pub mod laws;
-mod order;
+mod merging;
+pub mod order;
 mod parts;
 pub mod stamped;
 pub mod table;

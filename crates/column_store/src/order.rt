@@ -1,12 +1,15 @@
 // The order of entities, and places in lists that are in order.
 
-ghost use Rattle.std.specs.Prelude.{◌≡◌, ◌==◌, MatchOption, position};
+ghost use Rattle.std.specs.Prelude.{◌≡◌, ◌==◌, false, MatchOption, OnOk, OnErr, position};
 ghost use Rattle.kinds.specs.Kind.{kind_number};
 ghost use Rattle.column_store.specs.Order.{is_before, is_same, AreRising};
 ghost use Rattle.column_store.specs.Places.{IsPlace, IsNowhere, IsGap};
+ghost use Rattle.column_store.specs.Table.{is_among};
+ghost use Rattle.column_store.specs.Keeping.{IsJoined};
 
 use entity_table::Entity;
 use kinds::kind::Kind;
+use std::alloc::AllocError;
 
 // Whether an id comes before another: by index, then by generation.
 pub(crate) fn is_before(one: Entity, other: Entity) -> bool
@@ -24,7 +27,7 @@ pub(crate) fn gap_in(entities: &[Entity], e: Entity) -> usize
 }
 
 // Whether two ids are one.
-fn is_same(one: Entity, other: Entity) -> bool
+pub(crate) fn is_same(one: Entity, other: Entity) -> bool
     ensures { result ≡ is_same one other }
 {
     one == other
@@ -45,6 +48,19 @@ pub(crate) fn row_in(entities: &[Entity], e: Entity) -> Option<usize>
     } else {
         None
     }
+}
+
+/// Adds an entity to others whose ids rise, at its place among them. Where memory is wanting they stay as they were.
+pub fn join(entities: &mut Vec<Entity>, e: Entity) -> Result<(), AllocError>
+    requires rising { AreRising entities.old.items }
+    requires absent { is_among e entities.old.items ≡ false }
+    ensures rising { AreRising entities.new.items }
+    ensures ok { OnOk result (IsJoined e entities.old.items entities.new.items) }
+    ensures err { OnErr result (entities.new.items ≡ entities.old.items) }
+{
+    let place = gap_in(entities, e);
+    entities.insert(place, e)?;
+    Ok(())
 }
 
 // The place of the kind with this number.

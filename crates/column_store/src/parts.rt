@@ -9,8 +9,9 @@ ghost use Rattle.column_store.specs.Table.{Standing, is_not_away, is_own_if, cel
 ghost use Rattle.column_store.specs.Order.{AreRising};
 ghost use Rattle.std.specs.Arc.{arc_value};
 ghost use Rattle.column_store.specs.Inside.{table_of, IsTable, IsPlaced, IsAbsent, IsKindPlaced, IsNoKind, AllTake, IsPutAt, IsRemovedAt, IsRenewedAt, AllRenew, IsThere, AreReadAt, HoldsRow, OwnsRow};
+ghost use Rattle.column_store.specs.Keeping.{kept, keep_all, OwnsRows};
 
-use crate::column_slot::{ColumnSlot, insert_row, read_row, remove_row, replace_row};
+use crate::column_slot::{ColumnSlot, insert_row, keep_rows, read_row, remove_row, replace_row};
 use crate::entity_list::EntityList;
 use crate::order::{column_in, gap_in, row_in};
 use crate::stamped::{StampedColumn, StampedValue};
@@ -208,6 +209,26 @@ pub(crate) fn remove_in(entities: &mut EntityList, columns: &mut [ColumnSlot], e
     }
 }
 
+// Removes the rows of entities, whose ids rise, in one pass over the rows from the first of them on.
+pub(crate) fn remove_all_in(entities: &mut EntityList, columns: &mut [ColumnSlot], gone: &[Entity])
+    requires rising { AreRising entities.old }
+    requires there { AllByRecursion (λ e. IsThere e entities.old) gone.now }
+    requires owned { AllByRecursion (OwnsRows (length entities.old)) columns.old }
+    ensures entities { entities.new ≡ kept gone.now entities.old entities.old }
+    ensures columns { columns.new ≡ map (keep_all gone.now entities.old) columns.old }
+{
+    let Some((first, _)) = gone.split_first() else {
+        return;
+    };
+    match row_in(entities.as_slice(), *first) {
+        None => unreachable!(),
+        Some(row) => {
+            keep_rows(columns, row, entities.as_slice(), gone);
+            entities.keep(row, gone);
+        }
+    }
+}
+
 // Replaces the components of an entity.
 pub(crate) fn renew_in(
     entities: &[Entity],
@@ -242,6 +263,13 @@ pub(crate) fn read_in(
         None => unreachable!(),
         Some(row) => read_row(alloc, columns, row),
     }
+}
+
+// The same kinds once more.
+pub(crate) fn copied_kinds(alloc: Global, kinds: &[Kind]) -> Result<Vec<Kind>, AllocError>
+    ensures { IfOk result (λ list. list.items ≡ kinds.now) }
+{
+    kinds.iter().copied().collect(alloc)
 }
 
 // Those of all the kinds that are among some.

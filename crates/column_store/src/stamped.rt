@@ -7,12 +7,19 @@ ghost use Rattle.kinds.specs.Value.{value_number, value_words};
 ghost use Rattle.kinds.specs.Components.{widths};
 ghost use Rattle.model.specs.Lists.{update_at};
 ghost use Rattle.column_store.specs.Cells.{stamped_number, stamped_cell, stamp_of, changed_cell};
+ghost use Rattle.std.specs.Prelude.{map};
+ghost use Rattle.column_store.specs.Keeping.{kept_from};
+ghost use Rattle.column_store.specs.Arriving.{laid, Fit};
 
+use crate::keeping::keep;
+use crate::merging::merged;
 use crate::typed::{
-    component_at, copied, empty, insert_value, remove_value, set_component, set_value, value_at,
+    component_at, copied, empty, insert_value, keep_values, merged_values, remove_value,
+    set_component, set_value, value_at,
 };
 use change_ticks::clock::Tick;
 use change_ticks::stamp::Stamp;
+use entity_table::Entity;
 use kinds::column::Column;
 use kinds::component::Component;
 use kinds::kind::Kind;
@@ -172,4 +179,41 @@ impl StampedColumn {
         remove_value(&mut self.column, place);
         self.stamps.remove(place);
     }
+
+    // Leaves the components of the entities that stay. Those before a place stay where they are.
+    #[tactic(auto, using(crate::proofs::Passes::cell_passes))]
+    pub(crate) fn keep(&mut self, first: usize, entities: &[Entity], gone: &[Entity])
+        requires alike { length self.old.cells ≡ length entities.now }
+        requires within { first ≤ length entities.now }
+        ensures { self.new ≡ record self.old { cells = kept_from first gone.now entities.now self.old.cells } }
+    {
+        keep_values(&mut self.column, first, entities, gone);
+        keep(&mut self.stamps, first, entities, gone);
+    }
+
+    // A column of the same components and further ones, each before the row of its gap.
+    #[tactic(auto, using(crate::proofs::Merged::cell_merges))]
+    pub(crate) fn merged(
+        &self,
+        alloc: Global,
+        gaps: &[usize],
+        components: &[StampedValue],
+    ) -> Result<Self, AllocError>
+        requires kind { AllByRecursion (λ s. stamped_number s ≡ self.now.kind) components.now }
+        requires as_many { length components.now ≡ length gaps.now }
+        requires fit { Fit 0 (length self.now.cells) gaps.now }
+        ensures { IfOk result (λ column. column ≡ record self.now { cells = laid 0 gaps.now (map stamped_cell components.now) self.now.cells }) }
+    {
+        let further = stamps_of(alloc, components)?;
+        let stamps = merged(alloc, &self.stamps, gaps, &further)?;
+        let column = merged_values(alloc, &self.column, gaps, components)?;
+        Ok(StampedColumn { column, stamps })
+    }
+}
+
+// The stamps of components.
+fn stamps_of(alloc: Global, components: &[StampedValue]) -> Result<Vec<Stamp>, AllocError>
+    ensures { IfOk result (λ list. list.items ≡ map (λ s. s.stamp) components.now) }
+{
+    components.iter().map(|s| s.stamp).collect(alloc)
 }

@@ -1,22 +1,24 @@
 // Tables.
 
-ghost use Rattle.std.specs.Prelude.{◌≡◌, ◌<◌, ◌∷◌, [], true, length, map, option_map, Some, IsSome, IsNone, IfSome, IfOk, OnOk, OnErr, IsTrue, slice_get, is_some};
-ghost use Rattle.std.specs.List.{list_all};
+ghost use Rattle.std.specs.Prelude.{◌≡◌, ◌<◌, length, map, option_map, Some, IsSome, IsNone, IfSome, IfOk, OnOk, OnErr, IsTrue, slice_get, is_some};
+ghost use Rattle.std.specs.List.{list_all, AllByRecursion};
 ghost use Rattle.kinds.specs.Kind.{kind_number};
-ghost use Rattle.kinds.specs.declared.kind.Kind.TheVariants as the_kinds;
 ghost use Rattle.kinds.specs.Value.{value_number, value_words};
 ghost use Rattle.column_store.specs.Cells.{stamped_number, stamped_cell, stamp_of};
 ghost use Rattle.column_store.specs.Kinds.{in_order, AreBelow};
 ghost use Rattle.column_store.specs.Order.{AreRising};
+ghost use Rattle.column_store.specs.Arriving.{entity_of, row_arriving, put_rows};
 ghost use Rattle.std.specs.Arc.{arc_value};
-ghost use Rattle.column_store.specs.Table.{Standing, empty_table, is_home, is_owned, is_not_away, is_own_if, row_of, put_row, new_row, without_row, update_row, renewed_row, cell_in, standing_of, kind_cells, write_cell, lent, owned, homed, IsHome, IsAlike};
+ghost use Rattle.column_store.specs.Table.{Standing, empty_table, is_home, is_owned, is_not_away, is_own_if, row_of, put_row, new_row, without_row, without_rows, update_row, renewed_row, cell_in, standing_of, kind_cells, write_cell, lent, owned, homed, IsHome, IsAlike};
 
-use crate::column_slot::{ColumnSlot, empty_columns, own_each};
+use crate::arrivals::{Arrival, entities_of, gaps_of};
+use crate::column_slot::{ColumnSlot, empty_columns, merged_slots, own_each};
 use crate::entity_list::EntityList;
-use crate::order::row_in;
+use crate::merging::merged;
+use crate::order::{is_before, row_in};
 use crate::parts::{
-    among, find_in, home_in, lend_in, put_in, read_in, remove_in, renew_in, seen_in, share_in,
-    write_in,
+    among, copied_kinds, find_in, home_in, lend_in, put_in, read_in, remove_all_in, remove_in,
+    renew_in, seen_in, share_in, write_in,
 };
 use crate::stamped::{StampedColumn, StampedValue};
 use change_ticks::clock::Tick;
@@ -49,6 +51,17 @@ impl Model for Table {
     ghost view = { λ t. table_of (map kind_number t.kinds.items) t.entities t.columns.items };
 
     ghost invariant = { λ t. IsTable (map kind_number t.kinds.items) t.entities t.columns.items };
+}
+
+// So many rows come into a table one by one, wherever they come.
+const FEW: usize = 4;
+
+// Whether the first of arrivals comes behind all entities.
+fn come_behind(entities: &[Entity], arrivals: &[Arrival<'_>]) -> bool {
+    match (entities.last(), arrivals.first()) {
+        (Some(last), Some(first)) => is_before(*last, first.entity),
+        _ => true,
+    }
 }
 
 impl Table {
@@ -195,6 +208,68 @@ impl Table {
         put_in(&mut self.entities, &mut self.columns, e, components)
     }
 
+    // Adds rows one after the other, each of which moves those behind it.
+    fn put_each(&mut self, arrivals: &[Arrival<'_>]) -> Result<(), AllocError>
+        requires rising { AreRising (map entity_of arrivals.now) }
+        requires absent { AllByRecursion (λ a. IsNone (row_of a.entity self.old.rows)) arrivals.now }
+        requires kinds { AllByRecursion (λ a. map stamped_number a.components.now ≡ self.old.kinds) arrivals.now }
+        requires owned { IsTrue (list_all is_owned self.old.standings) }
+        ensures ok { OnOk result (self.new ≡ record self.old { rows = put_rows (map row_arriving arrivals.now) self.old.rows }) }
+        ensures err { OnErr result (self.new ≡ self.old) }
+    {
+        for at in 0..arrivals.len() {
+            if self
+                .put(arrivals[at].entity, arrivals[at].components)
+                .is_err()
+            {
+                for back in 0..at {
+                    self.remove(arrivals[at - 1 - back].entity);
+                }
+                return Err(AllocError);
+            }
+        }
+        Ok(())
+    }
+
+    // The table with further rows, made in one pass over the rows.
+    fn merged(&self, arrivals: &[Arrival<'_>]) -> Result<Self, AllocError>
+        requires rising { AreRising (map entity_of arrivals.now) }
+        requires absent { AllByRecursion (λ a. IsNone (row_of a.entity self.now.rows)) arrivals.now }
+        requires kinds { AllByRecursion (λ a. map stamped_number a.components.now ≡ self.now.kinds) arrivals.now }
+        requires owned { IsTrue (list_all is_owned self.now.standings) }
+        ensures { IfOk result (λ table. table ≡ record self.now { rows = put_rows (map row_arriving arrivals.now) self.now.rows }) }
+    {
+        let alloc = *self.columns.allocator();
+        let gaps = gaps_of(alloc, self.entities.as_slice(), arrivals)?;
+        let further = entities_of(alloc, arrivals)?;
+        let entities = merged(alloc, self.entities.as_slice(), &gaps, &further)?;
+        let columns = merged_slots(alloc, &self.columns, &gaps, arrivals)?;
+        let kinds = copied_kinds(alloc, &self.kinds)?;
+        Ok(Table {
+            kinds,
+            entities: EntityList::of(entities),
+            columns,
+        })
+    }
+
+    /// Adds the rows of entities that aren't there, whose ids rise, each with its components in the order of the kinds, in one pass over the
+    /// rows; where they come behind all rows, no row is moved. Where memory is wanting the table stays as it was.
+    pub fn put_all(&mut self, arrivals: &[Arrival<'_>]) -> Result<(), AllocError>
+        requires rising { AreRising (map entity_of arrivals.now) }
+        requires absent { AllByRecursion (λ a. IsNone (row_of a.entity self.old.rows)) arrivals.now }
+        requires kinds { AllByRecursion (λ a. map stamped_number a.components.now ≡ self.old.kinds) arrivals.now }
+        requires owned { IsTrue (list_all is_owned self.old.standings) }
+        ensures ok { OnOk result (self.new ≡ record self.old { rows = put_rows (map row_arriving arrivals.now) self.old.rows }) }
+        ensures err { OnErr result (self.new ≡ self.old) }
+    {
+        if arrivals.len() <= FEW || come_behind(self.entities(), arrivals) {
+            return self.put_each(arrivals);
+        }
+        let table = self.merged(arrivals)?;
+        *self = table;
+        Ok(())
+    }
+
     /// Replaces all components of an entity, which are in the order of the kinds, with their stamps.
     pub fn renew(&mut self, e: Entity, components: &[StampedValue])
         requires there { IsSome (row_of e self.old.rows) }
@@ -212,6 +287,16 @@ impl Table {
         ensures { self.new ≡ record self.old { rows = without_row e self.old.rows } }
     {
         remove_in(&mut self.entities, &mut self.columns, e);
+    }
+
+    /// Removes the rows of entities, whose ids rise, in one pass over the rows from the first of them on.
+    pub fn remove_all(&mut self, gone: &[Entity])
+        requires rising { AreRising gone.now }
+        requires there { AllByRecursion (λ e. IsSome (row_of e self.old.rows)) gone.now }
+        requires owned { IsTrue (list_all is_owned self.old.standings) }
+        ensures { self.new ≡ record self.old { rows = without_rows gone.now self.old.rows } }
+    {
+        remove_all_in(&mut self.entities, &mut self.columns, gone);
     }
 
     /// The components of an entity, in the order of the kinds.
@@ -317,165 +402,5 @@ impl Table {
         ensures { self.new ≡ write_cell self.old e C.NUMBER (C.words component) tick }
     {
         self.write(e, component.into_value(), tick);
-    }
-}
-
-#[cfg(test)]
-mod tests {
-    use super::*;
-    use kinds::types::{Frozen, Health, Position};
-    use std::test::Fail;
-
-    const FIRST: Entity = Entity {
-        index: 0,
-        generation: 1,
-    };
-
-    const SECOND: Entity = Entity {
-        index: 1,
-        generation: 3,
-    };
-
-    // A component that was added at tick 1.
-    fn added(value: Value) -> StampedValue
-        ensures number { stamped_number result ≡ value_number value }
-    {
-        let stamp = Stamp {
-            added: 1,
-            changed: 1,
-        };
-        StampedValue { value, stamp }
-    }
-
-    #[test]
-    fn rows_in_rising_ids(rt: HostRuntime) -> Result<(), Fail> {
-        let mut table = Table::new(rt.alloc(), &[Kind::Health, Kind::Position])?;
-        assert_eq!(rt; table.kinds(), [Kind::Position, Kind::Health].as_slice());
-        let position = added(Value::Position(Position { x: 1, y: 2 }));
-        table.put(SECOND, &[position, added(Value::Health(Health { v: 5 }))])?;
-        assert!(rt; !table.has(FIRST));
-        table.put(FIRST, &[position, added(Value::Health(Health { v: 7 }))])?;
-        assert_eq!(rt; table.entities(), [FIRST, SECOND].as_slice());
-        let health = Value::Health(Health { v: 5 });
-        assert_eq!(rt; table.value(SECOND, Kind::Health), Some(health));
-        assert_eq!(rt; table.value(SECOND, Kind::Frozen), None);
-        Ok(())
-    }
-
-    #[test]
-    fn a_row_is_taken(rt: HostRuntime) -> Result<(), Fail> {
-        let mut table = Table::new(rt.alloc(), &[Kind::Frozen])?;
-        table.put(SECOND, &[added(Value::Frozen(Frozen))])?;
-        assert!(rt; table.has(SECOND));
-        let components = table.components(rt.alloc(), SECOND)?;
-        let taken = table.take(rt.alloc(), SECOND)?;
-        assert_eq!(rt; taken.as_slice(), components.as_slice());
-        assert_eq!(rt; taken.as_slice(), [added(Value::Frozen(Frozen))].as_slice());
-        assert_eq!(rt; table.len(), 0);
-        Ok(())
-    }
-
-    #[test]
-    fn columns_leave_and_come_home(rt: HostRuntime) -> Result<(), Fail> {
-        let mut table = Table::new(rt.alloc(), &[Kind::Health])?;
-        table.put(FIRST, &[added(Value::Health(Health { v: 5 }))])?;
-        let mut column = table.lend(rt.alloc(), Kind::Health)?;
-        assert!(rt; table.has(FIRST));
-        assert_eq!(rt; column.len(), 1);
-        column.set(0, Health { v: 5 }, 4);
-        assert_eq!(rt; column.len(), table.len());
-        table.home(column);
-        let stamp = Stamp {
-            added: 1,
-            changed: 4,
-        };
-        assert_eq!(rt; table.stamp(FIRST, Kind::Health), Some(stamp));
-        Ok(())
-    }
-
-    // The table of one entity with this health.
-    fn of_health(alloc: Global, health: i64) -> Result<Table, Fail>
-        ensures kinds { IfOk result (λ table. table.kinds ≡ kind_number the_kinds.Health ∷ []) }
-        ensures homes { IfOk result (λ table. map is_home table.standings ≡ true ∷ []) }
-        ensures rows { IfOk result (λ table. length table.rows ≡ 1) }
-    {
-        let mut table = Table::new(alloc, &[Kind::Health])?;
-        table.put(FIRST, &[added(Value::Health(Health { v: health }))])?;
-        Ok(table)
-    }
-
-    // The column of a table of one health, to be read elsewhere too.
-    fn read_elsewhere(
-        alloc: Global,
-        table: &mut Table,
-    ) -> Result<Arc<StampedColumn, Global>, AllocError>
-        requires kinds { table.old.kinds ≡ kind_number the_kinds.Health ∷ [] }
-        requires homes { map is_home table.old.standings ≡ true ∷ [] }
-        requires rows { length table.old.rows ≡ 1 }
-        ensures kinds { table.new.kinds ≡ kind_number the_kinds.Health ∷ [] }
-        ensures homes { map is_home table.new.standings ≡ true ∷ [] }
-        ensures rows { length table.new.rows ≡ 1 }
-        ensures kind { IfOk result (λ column. (arc_value column).kind ≡ kind_number the_kinds.Health) }
-        ensures cells { IfOk result (λ column. length (arc_value column).cells ≡ 1) }
-    {
-        table.share(alloc, Kind::Health)
-    }
-
-    // Sets the health of a table of one in its column, which leaves and comes home.
-    fn set_away(alloc: Global, table: &mut Table, health: i64) -> Result<(), AllocError>
-        requires kinds { table.old.kinds ≡ kind_number the_kinds.Health ∷ [] }
-        requires homes { map is_home table.old.standings ≡ true ∷ [] }
-        requires rows { length table.old.rows ≡ 1 }
-        ensures kinds { table.new.kinds ≡ kind_number the_kinds.Health ∷ [] }
-        ensures homes { map is_home table.new.standings ≡ true ∷ [] }
-        ensures rows { length table.new.rows ≡ 1 }
-    {
-        let mut column = table.lend(alloc, Kind::Health)?;
-        column.set(0, Health { v: health }, 4);
-        table.home(column);
-        Ok(())
-    }
-
-    // Takes the column of a table of one health for the table alone.
-    fn own_alone(alloc: Global, table: &mut Table) -> Result<(), AllocError>
-        requires kinds { table.old.kinds ≡ kind_number the_kinds.Health ∷ [] }
-        requires homes { map is_home table.old.standings ≡ true ∷ [] }
-        requires rows { length table.old.rows ≡ 1 }
-        ensures kinds { table.new.kinds ≡ kind_number the_kinds.Health ∷ [] }
-        ensures homes { map is_home table.new.standings ≡ true ∷ [] }
-        ensures rows { length table.new.rows ≡ 1 }
-    {
-        table.own(alloc)
-    }
-
-    // The health and its stamp in a table of one.
-    fn seen(table: &Table) -> StampedValue
-        requires kinds { table.now.kinds ≡ kind_number the_kinds.Health ∷ [] }
-        requires homes { map is_home table.now.standings ≡ true ∷ [] }
-        requires rows { length table.now.rows ≡ 1 }
-    {
-        table.column(Kind::Health).at(0)
-    }
-
-    // A health that was added at tick 1 and changed at this tick.
-    fn health(v: i64, changed: Tick) -> StampedValue {
-        let value = Value::Health(Health { v });
-        let stamp = Stamp { added: 1, changed };
-        StampedValue { value, stamp }
-    }
-
-    #[test]
-    fn a_column_that_is_read_elsewhere_is_copied(rt: HostRuntime) -> Result<(), Fail> {
-        let mut table = of_health(rt.alloc(), 5)?;
-        let early = read_elsewhere(rt.alloc(), &mut table)?;
-        set_away(rt.alloc(), &mut table, 6)?;
-        assert_eq!(rt; early.at(0), health(5, 1));
-        assert_eq!(rt; early.get::<Health>(0), Health { v: 5 });
-        assert_eq!(rt; seen(&table), health(6, 4));
-        let late = read_elsewhere(rt.alloc(), &mut table)?;
-        own_alone(rt.alloc(), &mut table)?;
-        assert_eq!(rt; late.at(0), health(6, 4));
-        assert_eq!(rt; seen(&table), health(6, 4));
-        Ok(())
     }
 }

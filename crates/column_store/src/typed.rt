@@ -4,7 +4,16 @@ ghost use Rattle.std.specs.Prelude.{◌≡◌, ◌<◌, ◌≤◌, [], ◌∷◌
 ghost use Rattle.kinds.specs.Kind.{kind_number};
 ghost use Rattle.kinds.specs.Value.{value_number, value_words};
 ghost use Rattle.kinds.specs.Column.{column_number, column_words};
+ghost use Rattle.std.specs.Prelude.{map};
+ghost use Rattle.std.specs.List.{AllByRecursion};
+ghost use Rattle.column_store.specs.Cells.{stamped_number};
+ghost use Rattle.column_store.specs.Keeping.{kept_from};
+ghost use Rattle.column_store.specs.Arriving.{laid, Fit};
 
+use crate::keeping::keep;
+use crate::merging::merged;
+use crate::stamped::StampedValue;
+use entity_table::Entity;
 use kinds::column::Column;
 use kinds::component::Component;
 use kinds::each_kind;
@@ -173,4 +182,88 @@ fn remove_value_of<C: Component>(column: &mut Column, place: usize)
         }
         None => unreachable!(),
     }
+}
+
+// Leaves the components of the entities that stay. Those before a place stay where they are.
+pub(crate) fn keep_values(column: &mut Column, first: usize, entities: &[Entity], gone: &[Entity])
+    requires alike { length (column_words column.old) ≡ length entities.now }
+    requires within { first ≤ length entities.now }
+    ensures number { column_number column.new ≡ column_number column.old }
+    ensures words { column_words column.new ≡ kept_from first gone.now entities.now (column_words column.old) }
+{
+    each_kind!(column.kind(), K => { keep_values_of::<K>(column, first, entities, gone) })
+}
+
+#[tactic(auto, using(crate::proofs::Passes::passes))]
+fn keep_values_of<C: Component>(
+    column: &mut Column,
+    first: usize,
+    entities: &[Entity],
+    gone: &[Entity],
+)
+    requires kind { column_number column.old ≡ C.NUMBER }
+    requires alike { length (column_words column.old) ≡ length entities.now }
+    requires within { first ≤ length entities.now }
+    ensures number { column_number column.new ≡ column_number column.old }
+    ensures words { column_words column.new ≡ kept_from first gone.now entities.now (column_words column.old) }
+{
+    match C::in_column_mut(column) {
+        Some(items) => keep(items, first, entities, gone),
+        None => unreachable!(),
+    }
+}
+
+// A column of the same components and further ones, each before the row of its gap.
+pub(crate) fn merged_values(
+    alloc: Global,
+    column: &Column,
+    gaps: &[usize],
+    components: &[StampedValue],
+) -> Result<Column, AllocError>
+    requires kind { AllByRecursion (λ s. stamped_number s ≡ column_number column.now) components.now }
+    requires as_many { length components.now ≡ length gaps.now }
+    requires fit { Fit 0 (length (column_words column.now)) gaps.now }
+    ensures number { IfOk result (λ c. column_number c ≡ column_number column.now) }
+    ensures words { IfOk result (λ c. column_words c ≡ laid 0 gaps.now (map (λ s. value_words s.value) components.now) (column_words column.now)) }
+{
+    each_kind!(column.kind(), K => { merged_values_of::<K>(alloc, column, gaps, components) })
+}
+
+#[tactic(auto, using(crate::proofs::Merged::merges))]
+fn merged_values_of<C: Component>(
+    alloc: Global,
+    column: &Column,
+    gaps: &[usize],
+    components: &[StampedValue],
+) -> Result<Column, AllocError>
+    requires number { column_number column.now ≡ C.NUMBER }
+    requires kind { AllByRecursion (λ s. stamped_number s ≡ C.NUMBER) components.now }
+    requires as_many { length components.now ≡ length gaps.now }
+    requires fit { Fit 0 (length (column_words column.now)) gaps.now }
+    ensures number { IfOk result (λ c. column_number c ≡ C.NUMBER) }
+    ensures words { IfOk result (λ c. column_words c ≡ laid 0 gaps.now (map (λ s. value_words s.value) components.now) (column_words column.now)) }
+{
+    let further = components_as::<C>(alloc, components)?;
+    match C::in_column(column) {
+        Some(items) => Ok(C::into_column(merged(alloc, items, gaps, &further)?)),
+        None => unreachable!(),
+    }
+}
+
+// Components of one kind, as their type.
+fn components_as<C: Component>(
+    alloc: Global,
+    components: &[StampedValue],
+) -> Result<Vec<C>, AllocError>
+    requires { AllByRecursion (λ s. stamped_number s ≡ C.NUMBER) components.now }
+    ensures { IfOk result (λ list. map C.words list.items ≡ map (λ s. value_words s.value) components.now) }
+{
+    let mut list = Vec::new(alloc);
+    for component in components {
+        let Some(typed) = C::from_value(component.value) else {
+            unreachable!();
+        };
+        list.push(typed)?;
+    }
+    Ok(list)
 }

@@ -20,5 +20,5 @@ IsWithin-moved_to params seen (suc n) l h r =
     (IsWithin-with_written view 0 n position (moved (read_at view 0 n position) (read_at view 0 n velocity)) refl (IsWithin-moved_to params seen n (omega arith) h r))
 
 pub drifted_keeps : (params : Params) → KeepsWithin params (λ seen. Ok (drifted params seen))
-drifted_keeps params = keeps_ok params (drifted params) (λ seen h r.
-    subst (IsWithin widths params seen) (ended params seen (untouched params seen) (length (rows_at seen 0)) (omega arith) refl) (IsWithin-moved_to params seen (length (rows_at seen 0)) (omega arith) h r))
+drifted_keeps params = keeps_ok params (drifted params) (λ seen can.
+    subst (IsWithin widths params seen) (ended params seen (untouched params seen) (length (rows_at seen 0)) (omega arith) refl) (IsWithin-moved_to params seen (length (rows_at seen 0)) (omega arith) can.rows can.registers))

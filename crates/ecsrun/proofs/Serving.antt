@@ -260,6 +260,7 @@ given-refused bytes trace w fault loads h = absurd h
 pub run-refused : (bytes trace : Option (List ℕ)) (times workers : ℕ) (recorded : Bool) (fault : Fault) → IsStoppedRun recorded fault → IsRefusedBy bytes trace (work.Run times workers recorded) fault
 run-refused bytes trace times workers recorded TraceTooLong h = h
 run-refused bytes trace times workers recorded ClockSpent h = tt
+run-refused bytes trace times workers recorded IdsSpent h = tt
 run-refused bytes trace times workers recorded BodyRefused h = tt
 run-refused bytes trace times workers recorded Memory h = tt
 run-refused bytes trace times workers recorded NoWorker h = tt
@@ -281,6 +282,7 @@ module _ (bytes trace : Option (List ℕ)) (tables : ProgramFile) (s : Schedule)
   replay-refused (UnfinishedRun run) h = (refl, refused-replay (UnfinishedRun run) h)
   replay-refused (WrongAnswer run step) h = (refl, refused-replay (WrongAnswer run step) h)
   replay-refused ClockSpent h = refused-replay ClockSpent h
+  replay-refused IdsSpent h = tt
   replay-refused BodyRefused h = refused-replay BodyRefused h
   replay-refused Memory h = tt
   replay-refused fault h = absurd h.refused.refused

@@ -68,6 +68,7 @@ IsTraceUnread trace _ = ⊥
 abbrev pub IsStoppedRun : Bool → Fault → Type 0
 IsStoppedRun recorded TraceTooLong = recorded ≡ true
 IsStoppedRun recorded ClockSpent = Unit {0}
+IsStoppedRun recorded IdsSpent = Unit {0}
 IsStoppedRun recorded BodyRefused = Unit {0}
 IsStoppedRun recorded Memory = Unit {0}
 IsStoppedRun recorded NoWorker = Unit {0}

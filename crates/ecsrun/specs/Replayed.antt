@@ -11,7 +11,7 @@ use Rattle.model.specs.runs.Replays.{IsReplayed}
 use Rattle.trace_checker.specs.ReplayFaults.{IsReplayFault}
 use Rattle.output_text.specs.WorldText.{world_text}
 use Rattle.ecsrun.specs.declared.fault.Fault.{Fault}
-use Rattle.ecsrun.specs.declared.fault.Fault.TheVariants.{BadStep, UnfinishedRun, WrongAnswer, ClockSpent, BodyRefused, Memory}
+use Rattle.ecsrun.specs.declared.fault.Fault.TheVariants.{BadStep, UnfinishedRun, WrongAnswer, ClockSpent, IdsSpent, BodyRefused, Memory}
 
 -- ---- runs that are taken again
 
@@ -37,6 +37,7 @@ IsRefusedRun s bodies w steps number (BadStep run step fault) = (run ≡ number)
 IsRefusedRun s bodies w steps number (UnfinishedRun run) = (run ≡ number) × IsReplayFault s bodies w steps replay.Unfinished
 IsRefusedRun s bodies w steps number (WrongAnswer run step) = (run ≡ number) × IsReplayFault s bodies w steps (replay.WrongAnswer step)
 IsRefusedRun s bodies w steps number ClockSpent = IsReplayFault s bodies w steps (replay.Run stop.ClockSpent)
+IsRefusedRun s bodies w steps number IdsSpent = IsReplayFault s bodies w steps (replay.Run stop.IdsSpent)
 IsRefusedRun s bodies w steps number BodyRefused = (refusal : ℕ) × IsReplayFault s bodies w steps (replay.Run (stop.BodyFault refusal))
 IsRefusedRun s bodies w steps number Memory = Unit {0}
 IsRefusedRun s bodies w steps number _ = ⊥

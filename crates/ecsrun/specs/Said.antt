@@ -1,5 +1,5 @@
 -- What the tables of a program file say: what is declared, and what the systems do.
-use Rattle.std.specs.Prelude.{ℕ, ◌≡◌, List, map, None, Some, Vec}
+use Rattle.std.specs.Prelude.{ℕ, ◌≡◌, List, map, Some, Vec}
 use Rattle.std.specs.Borrow.{Bor}
 use Rattle.std.specs.declared.alloc.Global.{Global}
 use Rattle.toml.specs.Data.{Members}
@@ -42,7 +42,7 @@ params_said t = record {
   res_mut = map res_number t.res_mut.items;
   reads = map event_number t.reads.items;
   writes = map event_number t.writes.items;
-  spawns = None;
+  spawns = t.spawns;
 }
 
 -- a system

@@ -56,7 +56,7 @@ pub enum Fault {
     },
     /// The clock has no next tick.
     ClockSpent,
-    /// No ids are left for the entities of the file.
+    /// No ids are left: for the entities of the file, or for a system at its start.
     IdsSpent,
     /// The body of a system refused. No script does.
     BodyRefused,

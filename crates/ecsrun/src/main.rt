@@ -6,6 +6,8 @@ mod checking;
 #[cfg(test)]
 mod code_tests;
 #[cfg(test)]
+mod command_tests;
+#[cfg(test)]
 mod condition_tests;
 mod created;
 #[cfg(test)]

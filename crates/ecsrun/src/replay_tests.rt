@@ -152,7 +152,7 @@ fn what_workers_did_is_replayed(rt: HostRuntime) -> Result<(), Fail> {
     let line = "ecsrun run a.toml --times 3 --trace b.txt";
     let words = words_of(rt.alloc(), line)?;
     let args = Args::read(rt.alloc(), words.as_slice())?;
-    for workers in [1, 2, 3] {
+    for workers in [1, 2, 3, 8] {
         let run = serve_workers(rt, rt.alloc(), workers, &args, UNSETTLED);
         assert_eq!(rt; run.status, 0, "with {workers}");
         let answer = replayed(rt.alloc(), UNSETTLED, run.record.as_slice())?;

@@ -101,6 +101,7 @@ fn replay_run(
         Err(ReplayFault::WrongAnswer(step)) => Err(Fault::WrongAnswer { run, step }),
         Err(ReplayFault::Run(RunFault::Memory)) => Err(Fault::Memory),
         Err(ReplayFault::Run(RunFault::ClockSpent)) => Err(Fault::ClockSpent),
+        Err(ReplayFault::Run(RunFault::IdsSpent)) => Err(Fault::IdsSpent),
         Err(ReplayFault::Run(RunFault::BodyFault(_))) => Err(Fault::BodyRefused),
         Err(ReplayFault::Run(RunFault::NoWorker)) => unreachable!(),
         Err(ReplayFault::Run(RunFault::Spoiled)) => unreachable!(),

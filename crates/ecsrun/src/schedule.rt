@@ -100,7 +100,7 @@ fn system_of<'a>(
 {
     let name = table.item.name;
     let item = item_of(alloc, table.item)?;
-    let mut params = params_of(alloc, table.queries)?;
+    let mut params = params_of(alloc, table.queries, table.spawns)?;
     add_resources(&mut params, table.res.as_slice(), table.res_mut.as_slice())?;
     add_events(&mut params, table.reads.as_slice(), table.writes.as_slice())?;
     let code = Code {
@@ -183,11 +183,22 @@ fn add_conditions(conditions: Vec<Cond>, item: &mut ItemDesc) -> Result<(), Allo
     Ok(())
 }
 
-// The parameters of a system with these queries, and nothing else.
-fn params_of(alloc: Global, queries: Vec<Query>) -> Result<Params, AllocError>
-    ensures { IfOk result (λ params. params ≡ record no_params { queries = queries.items }) }
+// The parameters of a system that touches nothing, with Commands where there is a count of ids that it is granted.
+fn granted(alloc: Global, spawns: Option<u32>) -> Params
+    ensures { result ≡ record no_params { spawns = spawns } }
 {
     let mut params = Params::new(alloc);
+    if let Some(count) = spawns {
+        params.set_spawns(count);
+    }
+    params
+}
+
+// The parameters of a system with these queries, with Commands where there is a count of ids that it is granted, and nothing else.
+fn params_of(alloc: Global, queries: Vec<Query>, spawns: Option<u32>) -> Result<Params, AllocError>
+    ensures { IfOk result (λ params. params ≡ record no_params { queries = queries.items; spawns = spawns }) }
+{
+    let mut params = granted(alloc, spawns);
     for query in queries {
         params.add_query(query)?;
     }

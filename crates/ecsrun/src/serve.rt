@@ -212,6 +212,7 @@ fn run_once<'s, M: Mode<'s>>(
         },
         Err(RunFault::Memory) => Err(Fault::Memory),
         Err(RunFault::ClockSpent) => Err(Fault::ClockSpent),
+        Err(RunFault::IdsSpent) => Err(Fault::IdsSpent),
         Err(RunFault::NoWorker) => Err(Fault::NoWorker),
         Err(RunFault::BodyFault(_)) => Err(Fault::BodyRefused),
         Err(RunFault::Spoiled) => unreachable!(),

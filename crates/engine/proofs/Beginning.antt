@@ -1,5 +1,5 @@
 -- The state with which a schedule begins has its memories, each with its registers and no last run above the clock.
-use Rattle.std.proofs.Common.{ℕ, zero, suc, ◌<◌, ◌≡◌, ◌⊎◌, inl, inr, List, [], ◌∷◌, length, get_or, map, pos, Option, sym, subst, arith}
+use Rattle.std.proofs.Common.{ℕ, zero, suc, ◌<◌, ◌≡◌, inl, inr, List, [], ◌∷◌, length, get_or, map, pos, Option, sym, subst, arith}
 use Rattle.std.proofs.lemmas.List.{length-map, length-replicate}
 use Rattle.model.specs.access.Condition.{access_of_condition}
 use Rattle.model.specs.state.Loaded.{first_memory}

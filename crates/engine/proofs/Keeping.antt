@@ -1,11 +1,11 @@
 -- Bodies that fit keep within the parameters of their systems, on whatever a state of the schedule can show them.
-use Rattle.std.proofs.Common.{ℕ, zero, suc, ◌<◌, ◌≡◌, true, List, [], ◌∷◌, length, map, get_or, Option, Some, sym, ap, ◌∙◌, subst, arith}
+use Rattle.std.proofs.Common.{ℕ, zero, suc, ◌<◌, ◌≡◌, true, List, [], ◌∷◌, length, map, get_or, Some, sym, ap, ◌∙◌, subst, arith}
 use Rattle.std.proofs.lemmas.List.{length-map}
 use Rattle.model.specs.access.Access.{Params}
 use Rattle.model.specs.state.Ids.{granted_ids}
 use Rattle.model.specs.state.State.{Memory, no_memory, register_count}
 use Rattle.model.specs.state.Shape.{BodiesKeepWithin, AreMemoriesOfSystems}
-use Rattle.model.specs.shown.Input.{rows_of, shown}
+use Rattle.model.specs.shown.Input.{shown}
 use Rattle.model.specs.shown.Outcome.{BodyMeaning}
 use Rattle.model.specs.steps.Schedule.{Schedule, ScheduledSystem, params_of}
 use Rattle.model.specs.runs.RunState.{body_of, memory_of_system, spawns_of}
@@ -14,6 +14,7 @@ use Rattle.body.specs.Keeps.{KeepsWithin}
 use Rattle.engine.specs.Meanings.{meaning_of, meanings, AllKeepWithin}
 use Rattle.engine.proofs.Bodies.{at_body}
 use Rattle.engine.proofs.Placing.{meaning-there}
+use Rattle.engine.proofs.Starting.{can_be_shown}
 
 -- what the body of a system means, where each is at home
 pub meaning-at : {B : Type 0} (meaning : B → Params → BodyMeaning) (s : Schedule) (bodies : List B) (n : ℕ) (d : B) → length bodies ≡ length s.systems → n < length s.systems →
@@ -38,8 +39,7 @@ registers-there clock (x ∷ xs) (m ∷ ms) (suc n) known h = registers-there cl
 
 -- bodies that keep within their parameters do so on what a state of the schedule can show them
 pub bodies_keep : (s : Schedule) (bodies : List BodyMeaning) → AllKeepWithin s bodies → BodiesKeepWithin widths s bodies
-unfolding KeepsWithin shown
+unfolding KeepsWithin
 bodies_keep s bodies keep n w o known shape ids e =
     keep n known (shown (params_of s n) (memory_of_system w n) w (granted_ids (spawns_of s n) w.world.slots)) o
-    (length-map (params_of s n).queries (λ query. rows_of query (memory_of_system w n).last_run w.world.slots))
-    (registers-there w.world.clock s.systems w.systems n known shape.systems) e
+    (can_be_shown (params_of s n) (memory_of_system w n) w (registers-there w.world.clock s.systems w.systems n known shape.systems)) e

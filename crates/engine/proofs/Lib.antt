@@ -1,4 +1,12 @@
 mod Bodies
+pub mod InHand
+pub mod GrantedIds
+pub mod Syncing
+mod Emptying
+mod Freeing
+mod Levelling
+pub mod Fresh
+mod Starting
 pub mod Remembering
 pub mod Weaving
 pub mod Placing

@@ -8,11 +8,12 @@ use Rattle.std.proofs.lemmas.List.{map-append, length-set, get_or-set_same, get_
 use Rattle.model.specs.declared.steps.Step.TheVariants.{Start, Finish}
 use Rattle.model.specs.Lists.{has, IsIn}
 use Rattle.model.specs.access.Access.{Params, no_params}
-use Rattle.model.specs.state.State.{State, most_indices}
+use Rattle.model.specs.state.State.{State}
+use Rattle.model.specs.state.Ids.{grant}
 use Rattle.model.specs.shown.Input.{shown}
 use Rattle.model.specs.shown.Outcome.{BodyMeaning}
 use Rattle.model.specs.steps.Schedule.{ScheduledSystem, Schedule, params_of}
-use Rattle.model.specs.runs.RunState.{RunningSystem, between, has_tick, next_tick, memory_of_system, with_registers, body_of}
+use Rattle.model.specs.runs.RunState.{RunningSystem, has_tick, next_tick, memory_of_system, spawns_of, body_of}
 use Rattle.model.specs.runs.Meaning.{running_system, without_system, interleaved_step}
 use Rattle.model.specs.runs.Causes.{cause_of_answer, cause_of_running, interleaved_cause_of}
 use Rattle.model.specs.runs.Causes.Cause.{Refused, NoEventNumber}
@@ -20,7 +21,7 @@ use Rattle.model.proofs.lists.Each.{each-weaker}
 use Rattle.model.specs.declared.steps.Step.{Step}
 use Rattle.model.specs.steps.Lawful.{MayStart, MeetsRunning}
 use Rattle.model.proofs.serial.Holding.{Holds, apart_start}
-use Rattle.model.proofs.lists.Lists.{length-update_at, IsIn-append, IsIn_left, IsIn_right, IsIn_from_has}
+use Rattle.model.proofs.lists.Lists.{IsIn-append, IsIn_left, IsIn_right, IsIn_from_has}
 use Rattle.model.proofs.lists.Members.{in-map}
 use Rattle.archetype_store.specs.declared.columns.TakenColumn.{TakenColumn}
 use Rattle.archetype_store.specs.Layout.{Archetype, AreAllHome}
@@ -33,9 +34,11 @@ use Rattle.body.proofs.Lendings.{lent_in-append}
 use Rattle.body.proofs.Outs.{written-away, written-back, lent-part, none-out}
 use Rattle.body.proofs.Gets.{same-by-get, each-in, each-from}
 use Rattle.worker_pool.specs.JobOut.{JobOut}
+use Rattle.engine.specs.Left.{LeftValue, run_with, with_commands, with_grants}
 use Rattle.engine.specs.Meanings.{meaning_of, meanings_of, meanings, body_at, body_fits, HasMemories, Suits}
 use Rattle.engine.specs.Jobs.{running_of, systems_of, held_by, woven, IsJob, IsPlaced, AreDistinct, Placed}
-use Rattle.engine.proofs.Remembering.{memories_at, memories_noted, memories_laid}
+use Rattle.engine.proofs.Remembering.{memories_at, memories_noted, memories_laid, memories_slots}
+use Rattle.engine.specs.Starts.{granted_at_start, has_ids_at_start, ids_at_start}
 use Rattle.engine.proofs.Weaving.{IsAnswered, numbers_of, start_woven, finish_woven, unsent_woven}
 
 -- ---- one of a list
@@ -142,20 +145,21 @@ module _ {B : Type 0} where
 pub record IsHanded {B : Type 0} (s : Schedule) (n : ℕ) (w : StateValue) (later : StateValue) (job : JobOut B) : Type 0 where
   pub system : job.system ≡ n
   pub params : job.view.params ≡ params_of s n
-  pub shown_there : job.view.shown ≡ shown (params_of s n) (memory_of_system w.state n) w.state []
+  pub shown_there : job.view.shown ≡ shown (params_of s n) (memory_of_system w.state n) w.state (ids_at_start s n w.state)
   pub tick : job.view.opening.tick ≡ next_tick w.state
   pub written : AllByRecursion (IsWrittenBy (params_of s n).queries w.layout) (lent_in job.view.opening.taken)
   pub held : (others : List (List Column)) → AreOut (store_of w) others → AreOut (store_of later) (others ++ job.view.opening.taken)
-  pub is_later : later ≡ record { state = noted n (params_of s n).reads (next_tick w.state) (ticked w.state); layout = with_away (lent_in job.view.opening.taken) w.layout }
+  pub is_later : later ≡ record { state = noted n (params_of s n).reads (next_tick w.state) (ticked (granted_at_start s n w.state)); layout = with_away (lent_in job.view.opening.taken) w.layout }
 
 module _ {B : Type 0} (meaning : B → Params → BodyMeaning) (fits : B → Params → Bool) (there : Bool) (s : Schedule) where
   -- the interleaved step
-  pub start_there : (bodies : List BodyMeaning) (n : ℕ) (w later : StateValue) (out : List (JobOut B)) (job : JobOut B) → (params_of s n).spawns ≡ None → length w.state.world.slots ≤ most_indices → has_tick w.state ≡ true →
-      IsHanded s n w later job → interleaved_step s bodies (Start n) (woven w.state out) ≡ Some (woven later.state (out ++ job ∷ []))
-  start_there bodies n w later out job alone few tick handed =
-      let run : RunningSystem = record { system = n; tick = next_tick w.state; shown = shown (params_of s n) (memory_of_system w.state n) w.state [] } in
-      start_woven s bodies n w.state (map running_of out) alone few tick
-      ∙ ap₂ (λ state running. Some (record { run = between state; running_systems = running }))
+  pub start_there : (bodies : List BodyMeaning) (n : ℕ) (w later : StateValue) (left : LeftValue) (out : List (JobOut B)) (job : JobOut B) → n < length left.grants → has_tick w.state ≡ true → has_ids_at_start s n w.state ≡ true →
+      IsHanded s n w later job → interleaved_step s bodies (Start n) (woven w.state left out) ≡ Some (woven later.state (with_grants n (ids_at_start s n w.state) left) (out ++ job ∷ []))
+  start_there bodies n w later left out job known tick ids handed =
+      let granted = ids_at_start s n w.state in
+      let left_later = with_grants n granted left in
+      start_woven s bodies n w.state left (map running_of out) known tick ids
+      ∙ ap₂ (λ state running. Some (record { run = run_with state left_later; running_systems = running }))
       (sym (ap (λ (x : StateValue). x.state) handed.is_later))
       (ap (λ (p : RunningSystem). map running_of out ++ p ∷ []) (λ i. record { system = sym handed.system i; tick = sym handed.tick i; shown = sym handed.shown_there i })
       ∙ sym (map-append running_of out (job ∷ [])))
@@ -231,7 +235,7 @@ module _ {B : Type 0} (meaning : B → Params → BodyMeaning) (fits : B → Par
       pub placed_start : Placed meaning fits there s bodies (set slots n None) (out ++ job ∷ []) later
       placed_start = record {
         body_count = length-set slots n None ∙ placed.body_count;
-        memories = subst (λ (x : StateValue). HasMemories s x.state) (sym handed.is_later) (memories_noted s (ticked w.state) (memories_at s w.state placed.memories (next_tick w.state)) n (next_tick w.state));
+        memories = subst (λ (x : StateValue). HasMemories s x.state) (sym handed.is_later) (memories_noted s (ticked (granted_at_start s n w.state)) (memories_at s (granted_at_start s n w.state) (memories_slots s w.state placed.memories (grant (spawns_of s n) w.state.world.slots)) (next_tick w.state)) n (next_tick w.state));
         home = home-more;
         jobs = λ j i. of-job j (IsIn-append j out (job ∷ []) i);
         distinct = subst AreDistinct (sym systems-more) (distinct-more (systems_of out) n placed.distinct home);
@@ -246,14 +250,14 @@ module _ {B : Type 0} (meaning : B → Params → BodyMeaning) (fits : B → Par
 -- ---- who may start, and what may be asked
 
 module _ {B : Type 0} (meaning : B → Params → BodyMeaning) (fits : B → Params → Bool) (there : Bool) (s : Schedule) (bodies : List BodyMeaning) (slots : List (Option B)) (out : List (JobOut B)) (w : StateValue) (placed : Placed meaning fits there s bodies slots out w)
-    (h : List Step) (holds : Holds s h (woven w.state out)) where
+    (left : LeftValue) (h : List Step) (holds : Holds s h (woven w.state left out)) where
   -- a system that may start isn't out
   pub start-free : (n : ℕ) → MayStart s h n → has n (systems_of out) ≡ false
   start-free n may = false_from_ne_true (has n (systems_of out)) (λ e. none out (λ j i. i) (IsIn_from_has n (systems_of out) e))
     where
       none : (jobs : List (JobOut B)) → ((j : JobOut B) → IsIn j jobs → IsIn j out) → IsIn n (systems_of jobs) → ⊥
       none [] within i = i
-      none (j ∷ jobs) within (inl same) = (apart_start s h n (woven w.state out) may holds (running_of j) (in-map running_of out j (within j (inl refl)))).0 (sym same)
+      none (j ∷ jobs) within (inl same) = (apart_start s h n (woven w.state left out) may holds (running_of j) (in-map running_of out j (within j (inl refl)))).0 (sym same)
       none (j ∷ jobs) within (inr i) = none jobs (λ k m. within k (inr m)) i
 
   -- where no running system meets an access, none that is out and holds columns conflicts with it
@@ -280,7 +284,6 @@ pub record IsOutcomeOf {B : Type 0} (meaning : B → Params → BodyMeaning) (jo
   pub shown_is : seen.shown ≡ job.view.shown
   pub opening : seen.opening ≡ job.view.opening
   pub answered : meaning job.body job.view.params job.view.shown ≡ Ok seen.outcome
-  pub commands : seen.outcome.commands ≡ []
 
 -- and the state over which this is laid
 pub record IsReturned {B : Type 0} (meaning : B → Params → BodyMeaning) (fits : B → Params → Bool) (w later : StateValue) (job : JobOut B) (body : B) (seen : Seen) : Type 0 where
@@ -310,10 +313,10 @@ module _ {B : Type 0} (meaning : B → Params → BodyMeaning) (fits : B → Par
   lent-there = lent-part (store_of w) (held_by front) job.view.opening.taken (held_by rest) (subst (AreOut (store_of w)) (held-around front rest job) placed.held)
 
   -- where it is refused, so is the finish
-  pub refused_there : (k : ℕ) → meaning job.body job.view.params job.view.shown ≡ Err k → interleaved_cause_of s bodies (Finish job.system) (woven w.state (front ++ (job ∷ rest))) ≡ Some (Refused k)
-  refused_there k e =
-      ap (λ o. cause_of_running s bodies o (between w.state)) (running-found job.system front rest job refl once.before)
-      ∙ ap (λ answer. cause_of_answer s (running_of job) answer (between w.state))
+  pub refused_there : (left : LeftValue) (k : ℕ) → meaning job.body job.view.params job.view.shown ≡ Err k → interleaved_cause_of s bodies (Finish job.system) (woven w.state left (front ++ (job ∷ rest))) ≡ Some (Refused k)
+  refused_there left k e =
+      ap (λ o. cause_of_running s bodies o (run_with w.state left)) (running-found job.system front rest job refl once.before)
+      ∙ ap (λ answer. cause_of_answer s (running_of job) answer (run_with w.state left))
       (ap (λ (m : BodyMeaning). m job.view.shown) (sym is-job.means) ∙ ap (λ p. meaning job.body p job.view.shown) (sym is-job.params) ∙ e)
 
   module _ (seen : Seen) (is : IsOutcomeOf meaning job seen) where
@@ -321,7 +324,6 @@ module _ {B : Type 0} (meaning : B → Params → BodyMeaning) (fits : B → Par
     answered-there = record {
       params = is.params ∙ is-job.params;
       answered = ap (body_of bodies job.system) is.shown_is ∙ ap (λ (m : BodyMeaning). m job.view.shown) (sym is-job.means) ∙ ap (λ p. meaning job.body p job.view.shown) (sym is-job.params) ∙ is.answered;
-      commands = is.commands;
     }
 
     -- it runs
@@ -331,15 +333,16 @@ module _ {B : Type 0} (meaning : B → Params → BodyMeaning) (fits : B → Par
         ∙ ap₂ (λ tick x. Some (record { system = job.system; tick = tick; shown = x })) (ap (λ (o : Opening). o.tick) (sym is.opening)) (sym is.shown_is)
 
     -- where an event of its gets no number, the finish stops
-    pub unsent_there : numbers_of seen w.state ≡ false → interleaved_cause_of s bodies (Finish job.system) (woven w.state (front ++ (job ∷ rest))) ≡ Some NoEventNumber
-    unsent_there none = unsent_woven s bodies job.system seen.opening.tick w.state (map running_of (front ++ (job ∷ rest))) seen answered-there none found-there
+    pub unsent_there : (left : LeftValue) → numbers_of seen w.state ≡ false → interleaved_cause_of s bodies (Finish job.system) (woven w.state left (front ++ (job ∷ rest))) ≡ Some NoEventNumber
+    unsent_there left none = unsent_woven s bodies job.system seen.opening.tick w.state left (map running_of (front ++ (job ∷ rest))) seen answered-there none found-there
 
   module _ (later : StateValue) (body : B) (seen : Seen) (is : IsReturned meaning fits w later job body seen) where
     -- the interleaved step
-    pub finish_there : interleaved_step s bodies (Finish job.system) (woven w.state (front ++ (job ∷ rest))) ≡ Some (woven later.state (front ++ rest))
-    finish_there =
-        finish_woven s bodies job.system seen.opening.tick w.state (map running_of (front ++ (job ∷ rest))) seen (answered-there seen is.outcome_is) is.numbers (found-there seen is.outcome_is)
-        ∙ ap₂ (λ (state : State) running. Some (record { run = between state; running_systems = running })) (sym (ap (λ (x : StateValue). x.state) is.is_later)) (running-left job.system front rest job refl once.before)
+    pub finish_there : (left : LeftValue) → job.system < length left.commands → interleaved_step s bodies (Finish job.system) (woven w.state left (front ++ (job ∷ rest)))
+        ≡ Some (woven later.state (with_commands job.system seen.outcome.commands left) (front ++ rest))
+    finish_there left known =
+        finish_woven s bodies job.system seen.opening.tick w.state left (map running_of (front ++ (job ∷ rest))) seen known (answered-there seen is.outcome_is) is.numbers (found-there seen is.outcome_is)
+        ∙ ap₂ (λ (state : State) running. Some (record { run = run_with state (with_commands job.system seen.outcome.commands left); running_systems = running })) (sym (ap (λ (x : StateValue). x.state) is.is_later)) (running-left job.system front rest job refl once.before)
 
     kept-job : (j : JobOut B) → IsJob meaning fits there s bodies w j → IsJob meaning fits there s bodies later j
     kept-job j h = record {

@@ -1,16 +1,17 @@
 -- A state keeps the memories of its schedule: as a system starts or ends, as a condition is asked, as the clock goes on.
-use Rattle.std.proofs.Common.{ℕ, ℤ, ◌<◌, Bool, true, false, ◌≡◌, ◌==◌, List, length, get_or, refl, sym, ◌∙◌, ap, subst, arith}
+use Rattle.std.proofs.Common.{ℕ, ◌<◌, Bool, true, false, ◌≡◌, ◌==◌, List, length, get_or, refl, sym, ◌∙◌, ap, subst, arith}
 use Rattle.std.proofs.lemmas.Bool.{eq-eqb, eqb-true, false≢true}
 use Rattle.std.proofs.lemmas.List.{length-map}
 use Rattle.entity_table.proofs.Edits.{get_or-update_at}
 use Rattle.model.specs.Lists.{update_at}
-use Rattle.model.specs.state.State.{EventQueue, Memory, State, no_memory}
+use Rattle.model.specs.state.State.{EventQueue, Memory, Slot, State, no_memory}
 use Rattle.model.specs.state.Events.{queue_of}
 use Rattle.model.specs.steps.Schedule.{Schedule, params_of, access_of}
-use Rattle.model.specs.runs.RunState.{memory_after_run, next_tick, opening, with_registers}
+use Rattle.model.specs.runs.RunState.{RunState, after_sync, memory_after_run, opening, with_registers}
 use Rattle.model.proofs.lists.Lists.{length-update_at, get_or-update_at_other, get_or-update_at-view}
 use Rattle.body.specs.Seen.{Seen}
-use Rattle.body.specs.Steps.{asked_at, at_clock, laid, noted}
+use Rattle.body.specs.Steps.{asked_at, at_clock, laid, noted, with_slots_in}
+use Rattle.engine.specs.Left.{LeftValue, run_with}
 use Rattle.engine.specs.Meanings.{HasMemories}
 
 -- there is a cursor for each reader after a run was noted, whose readers these are
@@ -33,6 +34,10 @@ module _ (s : Schedule) (state : State) (has : HasMemories s state) where
   -- at another tick
   pub memories_at : (clock : ℕ) → HasMemories s (at_clock clock state)
   memories_at clock = record { systems = has.systems; conditions = has.conditions; system_readers = has.system_readers; condition_readers = has.condition_readers }
+
+  -- with other slots
+  pub memories_slots : (slots : List Slot) → HasMemories s (with_slots_in slots state)
+  memories_slots slots = record { systems = has.systems; conditions = has.conditions; system_readers = has.system_readers; condition_readers = has.condition_readers }
 
   -- after the opening of a run
   pub memories_open : HasMemories s (opening state)
@@ -64,3 +69,13 @@ module _ (s : Schedule) (state : State) (has : HasMemories s state) where
     system_readers = λ k known. get_or-update_at-view (λ (m : Memory). length m.cursors) n k (with_registers seen.outcome.registers) state.systems no_memory (λ m. refl) ∙ has.system_readers k known;
     condition_readers = has.condition_readers;
   }
+
+  -- after a sync point
+  pub memories_synced : (k : ℕ) (left left_later : LeftValue) (later : State) → run_with later left_later ≡ after_sync s k (run_with state left) → HasMemories s later
+  unfolding after_sync
+  memories_synced k left left_later later synced = subst (HasMemories s) (sym (ap (λ (run : RunState). run.state) synced)) (record {
+    systems = has.systems;
+    conditions = has.conditions;
+    system_readers = has.system_readers;
+    condition_readers = has.condition_readers;
+  })

@@ -1,16 +1,20 @@
 -- A job that has come back.
-use Rattle.std.proofs.Common.{ℕ, ◌<◌, ◌≤◌, Bool, true, false, ◌≡◌, List, [], ◌∷◌, ◌++◌, length, set, remove, slice_get, Option, Some, None, Result, Ok, Err, inl, refl, sym, ◌∙◌, ap, subst, arith}
+use Rattle.std.proofs.Common.{ℕ, ◌<◌, ◌≤◌, Bool, true, false, ◌≡◌, ◌⊎◌, List, ◌∷◌, ◌++◌, length, set, remove, slice_get, Option, Some, None, Result, Ok, Err, inl, inr, refl, sym, ◌∙◌, ap, subst, arith}
+use Rattle.std.proofs.lemmas.List.{length-set}
 use Rattle.std.specs.Option.{IsSomeAnd}
 use Rattle.model.specs.declared.steps.Step.TheVariants.{Finish}
 use Rattle.model.specs.Lists.{IsIn}
 use Rattle.model.specs.access.Access.{Params}
-use Rattle.model.specs.shown.Outcome.{BodyMeaning}
+use Rattle.model.specs.shown.Input.{Shown}
+use Rattle.model.specs.shown.Outcome.{AreSpawns, BodyMeaning, spawned_by, words_written}
 use Rattle.model.specs.steps.Schedule.{Schedule, params_of}
+use Rattle.model.specs.runs.RunState.{body_of}
 use Rattle.model.specs.runs.Meaning.{interleaved_step}
 use Rattle.model.specs.runs.Causes.{interleaved_cause_of}
 use Rattle.model.specs.runs.Causes.Cause.{Refused, NoEventNumber}
-use Rattle.model.proofs.lists.Lists.{IsIn_right}
+use Rattle.model.proofs.lists.Lists.{IsIn-append, IsIn_left, IsIn_right}
 use Rattle.body.specs.Answers.{Answers}
+use Rattle.body.specs.Keeps.{CanBeShown, KeepsWithin}
 use Rattle.body.specs.declared.system_body.BodyFault.{BodyFault}
 use Rattle.body.specs.declared.system_body.BodyFault.TheVariants.{Refused as Refusing}
 use Rattle.body.specs.Columns.{Column}
@@ -21,7 +25,10 @@ use Rattle.body.proofs.Gets.{in-get}
 use Rattle.body.specs.Steps.{StateValue, laid, store_of}
 use Rattle.worker_pool.specs.JobOut.{JobOut}
 use Rattle.worker_pool.specs.Ran.{Ran}
-use Rattle.engine.specs.Jobs.{woven, IsJob, Placed}
+use Rattle.engine.specs.Jobs.{woven, InHand, IsJob, Placed}
+use Rattle.engine.specs.Left.{LeftValue, grants_at, with_commands}
+use Rattle.engine.specs.Meanings.{AllKeepWithin}
+use Rattle.engine.proofs.InHand.{AreAlike, alike_after, in_hand_alike, in_hand_put}
 use Rattle.engine.proofs.Placing.{around, IsOutcomeOf, IsReturned, lent-there, refused_there, unsent_there, finish_there, placed_finish}
 use Rattle.engine.proofs.Weaving.{numbers_of}
 
@@ -69,47 +76,84 @@ module _ {B : Type 0} (meaning : B → Params → BodyMeaning) (fits : B → Par
     back_past = subst (λ (o : Opening). o.tick ≤ w.state.world.clock) (sym back.ran.same_opening) back-job.past
 
     -- where the body refuses, the finish stops
-    pub back_refused : (k : ℕ) → answer ≡ Err (Refusing k) → interleaved_cause_of s bodies (Finish back.job.system) (woven w.state out) ≡ Some (Refused k)
-    back_refused k e =
-        ap (λ xs. interleaved_cause_of s bodies (Finish back.job.system) (woven w.state xs)) back.whole
-        ∙ refused_there meaning fits there s bodies slots back.front back.rest back.job w placed-around k
+    pub back_refused : (left : LeftValue) (k : ℕ) → answer ≡ Err (Refusing k) → interleaved_cause_of s bodies (Finish back.job.system) (woven w.state left out) ≡ Some (Refused k)
+    back_refused left k e =
+        ap (λ xs. interleaved_cause_of s bodies (Finish back.job.system) (woven w.state left xs)) back.whole
+        ∙ refused_there meaning fits there s bodies slots back.front back.rest back.job w placed-around left k
         (subst (λ (r : Result (Unit {0}) BodyFault). Answers (meaning back.job.body back.job.view.params back.job.view.shown) after r) e back.ran.answered)
 
-    module _ (ok : answer ≡ Ok tt) (commands : after.outcome.commands ≡ []) where
+    module _ (ok : answer ≡ Ok tt) where
       outcome-back : IsOutcomeOf meaning back.job after
       outcome-back = record {
         params = back.ran.same_params;
         shown_is = back.ran.same_shown;
         opening = back.ran.same_opening;
         answered = subst (λ (r : Result (Unit {0}) BodyFault). Answers (meaning back.job.body back.job.view.params back.job.view.shown) after r) ok back.ran.answered;
-        commands = commands;
       }
 
       -- where an event of the outcome gets no number, the finish stops
-      pub back_unsent : numbers_of after w.state ≡ false → interleaved_cause_of s bodies (Finish back.job.system) (woven w.state out) ≡ Some NoEventNumber
-      back_unsent none =
-          ap (λ xs. interleaved_cause_of s bodies (Finish back.job.system) (woven w.state xs)) back.whole
-          ∙ unsent_there meaning fits there s bodies slots back.front back.rest back.job w placed-around after outcome-back none
+      pub back_unsent : (left : LeftValue) → numbers_of after w.state ≡ false → interleaved_cause_of s bodies (Finish back.job.system) (woven w.state left out) ≡ Some NoEventNumber
+      back_unsent left none =
+          ap (λ xs. interleaved_cause_of s bodies (Finish back.job.system) (woven w.state left xs)) back.whole
+          ∙ unsent_there meaning fits there s bodies slots back.front back.rest back.job w placed-around after outcome-back left none
 
     module _ (later : StateValue) (ok : answer ≡ Ok tt) (numbers : numbers_of after w.state ≡ true)
         (is_later : later ≡ record { state = laid system after.opening.tick after w.state; layout = with_back (lent_in after.opening.taken) w.layout })
-        (held : (front rest : List (List Column)) → AreOut (store_of w) (front ++ (after.opening.taken ++ rest)) → AreOut (store_of later) (front ++ rest)) (commands : after.outcome.commands ≡ []) where
+        (held : (front rest : List (List Column)) → AreOut (store_of w) (front ++ (after.opening.taken ++ rest)) → AreOut (store_of later) (front ++ rest)) where
       returned : IsReturned meaning fits w later back.job body after
       returned = record {
         same_meaning = back.ran.same_meaning;
         same_fit = back.ran.same_fit;
-        outcome_is = outcome-back ok commands;
+        outcome_is = outcome-back ok;
         numbers = numbers;
         is_later = subst (λ n. later ≡ record { state = laid n after.opening.tick after w.state; layout = with_back (lent_in after.opening.taken) w.layout }) back.ran.same_system is_later;
         held = held;
       }
 
-      pub back_finished : interleaved_step s bodies (Finish system) (woven w.state out) ≡ Some (woven later.state later_out)
-      back_finished =
-          ap (λ n. interleaved_step s bodies (Finish n) (woven w.state out)) back.ran.same_system
-          ∙ ap (λ xs. interleaved_step s bodies (Finish back.job.system) (woven w.state xs)) back.whole
-          ∙ finish_there meaning fits there s bodies slots back.front back.rest back.job w placed-around later body after returned
-          ∙ ap (λ xs. Some (woven later.state xs)) (sym back.left)
+      pub back_finished : (left : LeftValue) → system < length left.commands →
+          interleaved_step s bodies (Finish system) (woven w.state left out) ≡ Some (woven later.state (with_commands system after.outcome.commands left) later_out)
+      back_finished left known =
+          ap (λ n. interleaved_step s bodies (Finish n) (woven w.state left out)) back.ran.same_system
+          ∙ ap (λ xs. interleaved_step s bodies (Finish back.job.system) (woven w.state left xs)) back.whole
+          ∙ finish_there meaning fits there s bodies slots back.front back.rest back.job w placed-around later body after returned left (let e = back.ran.same_system in omega (arith, e, known))
+          ∙ ap (λ n. Some (woven later.state (with_commands n after.outcome.commands left) (back.front ++ back.rest))) (sym back.ran.same_system)
+          ∙ ap (λ xs. Some (woven later.state (with_commands system after.outcome.commands left) xs)) (sym back.left)
+
+      -- what it spawns is of the ids that it was granted
+      spawns-back : (left : LeftValue) → AllKeepWithin s bodies → InHand s left out w → AreSpawns (grants_at left system) (spawned_by after.outcome.commands)
+      unfolding KeepsWithin
+      spawns-back left keep hand =
+          let job = back.job in
+          let is = back-job in
+          let within = keep job.system is.known after.shown after.outcome
+          (subst (CanBeShown (params_of s job.system)) (sym back.ran.same_shown) (hand.showing job back_in))
+          (ap (body_of bodies job.system) back.ran.same_shown ∙ ap (λ (m : BodyMeaning). m job.view.shown) (sym is.means) ∙ ap (λ p. meaning job.body p job.view.shown) (sym is.params) ∙ (outcome-back ok).answered) in
+          subst (λ ids. AreSpawns ids (spawned_by after.outcome.commands))
+          (ap (λ (x : Shown). x.granted) back.ran.same_shown ∙ hand.granted job back_in ∙ ap (grants_at left) (sym back.ran.same_system)) within.spawns
+
+      -- the ids stay in hand
+      pub back_in_hand : (left : LeftValue) → AllKeepWithin s bodies → InHand s left out w → InHand s (with_commands system after.outcome.commands left) later_out later
+      back_in_hand left keep hand =
+          let known : system < length left.commands = (let k = back_known in let e = hand.suits.command_count in omega arith) in
+          record {
+            suits = record {
+              command_count = length-set left.commands system after.outcome.commands ∙ hand.suits.command_count;
+              grant_count = hand.suits.grant_count;
+              level_count = hand.suits.level_count;
+              levels_are = hand.suits.levels_are;
+            };
+            ids = in_hand_put system after.outcome.commands later.state.world.slots left known (spawns-back left keep hand)
+                (in_hand_alike w.state.world.slots later.state.world.slots left (subst (λ (x : StateValue). AreAlike w.state.world.slots x.state.world.slots) (sym is_later) (alike_after after.opening.tick (words_written after.params.queries after.shown.rows after.outcome.cells) w.state.world.slots)) hand.ids);
+            granted = λ job i. hand.granted job (within job i);
+            showing = λ job i. hand.showing job (within job i);
+          }
+        where
+          within : (job : JobOut B) → IsIn job later_out → IsIn job out
+          within job i = subst (IsIn job) (sym back.whole) (go (IsIn-append job back.front back.rest (subst (IsIn job) back.left i)))
+            where
+              go : IsIn job back.front ⊎ IsIn job back.rest → IsIn job (back.front ++ (back.job ∷ back.rest))
+              go (inl a) = IsIn_left job back.front (back.job ∷ back.rest) a
+              go (inr a) = IsIn_right job back.front (back.job ∷ back.rest) (inr a)
 
       pub back_placed : Placed meaning fits there s bodies (set slots system (Some body)) later_out later
       back_placed =

@@ -1,7 +1,7 @@
 -- How a run goes on from turn to turn, ends and stops.
-use Rattle.std.proofs.Common.{ℕ, zero, suc, ◌+◌, ◌-◌, ◌<◌, ◌≤◌, Bool, true, false, ◌≡◌, ◌==◌, ◌||◌, ◌⊎◌, ◌↔◌, inl, inr, List, [], ◌∷◌, ◌++◌, length, map, reverse, Option, Some, None, IsSome, refl, sym, ◌∙◌, ap, subst, cond, arith}
-use Rattle.std.proofs.lemmas.Bool.{and_parts}
-use Rattle.std.proofs.lemmas.List.{length-reverse, reverse-append}
+use Rattle.std.proofs.Common.{ℕ, suc, ◌+◌, ◌-◌, ◌<◌, ◌≤◌, Bool, true, false, ◌≡◌, ◌==◌, ◌||◌, ◌⊎◌, ◌↔◌, inl, inr, List, [], ◌∷◌, ◌++◌, length, map, reverse, Option, Some, None, IsSome, refl, sym, ◌∙◌, ap, subst, cond, arith}
+use Rattle.std.proofs.lemmas.Bool.{eq-eqb, or_left, false≢true, false_from_ne_true}
+use Rattle.std.proofs.lemmas.List.{length-reverse}
 use Rattle.std.specs.Option.{option_and_then}
 use Rattle.model.specs.declared.steps.Step.{Step}
 use Rattle.model.specs.declared.steps.Step.TheVariants.{Cond, Start, Skip, Finish, Sync}
@@ -10,15 +10,16 @@ use Rattle.model.specs.Lists.{has, first_some, IsIn}
 use Rattle.model.specs.state.State.{State}
 use Rattle.model.specs.shown.Outcome.{BodyMeaning}
 use Rattle.model.specs.steps.Schedule.{Schedule}
-use Rattle.model.specs.steps.Lawful.{IsLawful, IsComplete, May, MayStart, NoneRuns, runs}
+use Rattle.model.specs.steps.Lawful.{IsLawful, IsComplete, May, MayStart, MaySync, NoneRuns, runs}
 use Rattle.model.specs.steps.Ready.{IsReady}
-use Rattle.model.specs.steps.Widths.{IsWide, IsNextWide, without, running_after}
-use Rattle.model.specs.runs.RunState.{between, begin_run, has_tick, has_ids_to_start, answer_of}
+use Rattle.model.specs.steps.Widths.{IsNextWide, without, running_after}
+use Rattle.model.specs.runs.RunState.{RunState, between, begin_run, has_tick, after_sync, answer_of}
 use Rattle.model.specs.runs.Meaning.{with_running_systems, interleaved, interleaved_step, IsTrueAnswer}
 use Rattle.model.specs.runs.Causes.{Cause, unless, interleaved_cause, interleaved_cause_of, interleaved_cause_at}
 use Rattle.model.specs.runs.Causes.Cause.{NoTick, NoIds}
 use Rattle.model.specs.runs.WideRuns.{IsWideRun, AreWideRuns, WideStops, IsWideStopped}
 use Rattle.model.proofs.lists.Members.{in-map}
+use Rattle.model.proofs.order.Histories.{idle}
 use Rattle.model.proofs.progress.Ends.{lists_end}
 use Rattle.model.proofs.progress.Single.{wide_lawful}
 use Rattle.model.proofs.progress.Width.{running_is}
@@ -26,14 +27,16 @@ use Rattle.model.proofs.faults.Causes.{lacks-interleaved}
 use Rattle.model.proofs.serial.Holding.{Holds, holds}
 use Rattle.executor_core.specs.Stands.{Stand, Stands, room}
 use Rattle.worker_pool.specs.JobOut.{JobOut}
-use Rattle.engine.specs.Jobs.{running_of, systems_of, woven}
-use Rattle.body.specs.Steps.{ticked}
+use Rattle.engine.specs.Jobs.{running_of, woven}
+use Rattle.engine.specs.Left.{LeftValue, IsNothingLeft, run_with}
 use Rattle.engine.specs.declared.turn.Quiet.{Quiet}
 use Rattle.engine.specs.declared.turn.Quiet.TheVariants as quiet
 use Rattle.engine.specs.declared.turn.Turn.TheVariants as turn
 use Rattle.engine.specs.Quiets.{IsStepOf, TakesTick, after_quiet}
 use Rattle.engine.specs.Stage.{Stage, IsTurn}
-use Rattle.engine.proofs.Weaving.{ask_woven, sync_woven}
+use Rattle.engine.proofs.InHand.{run_with_nothing}
+use Rattle.engine.specs.Starts.{has_ids_at_start}
+use Rattle.engine.proofs.Weaving.{answer_alike, ask_woven, sync_woven, unticked_woven, ungranted_woven}
 
 -- ---- numbers that run
 
@@ -49,17 +52,17 @@ length-without n (x ∷ xs) h = go (x == n) h (length-without n xs)
 
 module _ {B : Type 0} (width : ℕ) (s : Schedule) (bodies : List BodyMeaning) (start : State) where
   -- after the opening
-  pub stage_open : (state : State) (out : List (JobOut B)) → begin_run start ≡ Some (between state) → out ≡ [] → Stage width s bodies start [] state out
-  stage_open state out e none = subst (Stage width s bodies start [] state) (sym none)
-      (record { wide = tt; running = refl; room = omega arith; answers = tt; meaning = ap (with_running_systems []) e })
+  pub stage_open : (state : State) (left : LeftValue) (out : List (JobOut B)) → begin_run start ≡ Some (between state) → IsNothingLeft left → out ≡ [] → Stage width s bodies start [] state left out
+  stage_open state left out e nothing none = subst (Stage width s bodies start [] state left) (sym none)
+      (record { wide = tt; running = refl; room = omega arith; answers = tt; meaning = ap (with_running_systems []) (e ∙ ap (λ (run : RunState). Some run) (sym (run_with_nothing state left nothing))) })
 
-  module _ (h : List Step) (state : State) (out : List (JobOut B)) (stage : Stage width s bodies start h state out) where
+  module _ (h : List Step) (state : State) (left : LeftValue) (out : List (JobOut B)) (stage : Stage width s bodies start h state left out) where
     lawful-there : IsLawful s h
     lawful-there = wide_lawful width s h stage.wide
 
     -- what is known of the systems that run
-    pub holds_there : Holds s h (woven state out)
-    holds_there = holds s bodies start h (woven state out) lawful-there stage.meaning
+    pub holds_there : Holds s h (woven state left out)
+    holds_there = holds s bodies start h (woven state left out) lawful-there stage.meaning
 
     -- a job that is out may come back
     pub running_there : (job : JobOut B) → IsIn job out → runs h job.system ≡ true
@@ -90,9 +93,9 @@ module _ {B : Type 0} (width : ℕ) (s : Schedule) (bodies : List BodyMeaning) (
     next-finish n (inr is) = inr is
 
     -- after a start
-    pub stage_start : (n : ℕ) (state' : State) (out' : List (JobOut B)) → length out < width → IsReady s h (Some (ready.Start n)) → MayStart s h n →
-        interleaved_step s bodies (Start n) (woven state out) ≡ Some (woven state' out') → length out' ≡ length out + 1 → Stage width s bodies start (Start n ∷ h) state' out'
-    stage_start n state' out' free is may e more = record {
+    pub stage_start : (n : ℕ) (state' : State) (left' : LeftValue) (out' : List (JobOut B)) → length out < width → IsReady s h (Some (ready.Start n)) → MayStart s h n →
+        interleaved_step s bodies (Start n) (woven state left out) ≡ Some (woven state' left' out') → length out' ≡ length out + 1 → Stage width s bodies start (Start n ∷ h) state' left' out'
+    stage_start n state' left' out' free is may e more = record {
       wide = (may, next-start n free is, stage.wide);
       running = let r = stage.running in omega arith;
       room = omega arith;
@@ -102,42 +105,55 @@ module _ {B : Type 0} (width : ℕ) (s : Schedule) (bodies : List BodyMeaning) (
 
     -- after what needs no body
     pub stage_quiet : (q : Quiet) (running : ℕ) (taken : Step) → running ≡ length out → IsTurn s h running width (Some (turn.Quiet q)) → IsStepOf s q state taken →
-        (TakesTick q → has_tick state ≡ true) → Stage width s bodies start (taken ∷ h) (after_quiet s q state) out
+        (TakesTick q → has_tick state ≡ true) → Stage width s bodies start (taken ∷ h) (after_quiet s q state) left out
     stage_quiet (quiet.Ask c) running taken many next is ticks =
-        subst (λ x. Stage width s bodies start (x ∷ h) (after_quiet s (quiet.Ask c) state) out) (sym is.1) (record {
+        subst (λ x. Stage width s bodies start (x ∷ h) (after_quiet s (quiet.Ask c) state) left out) (sym is.1) (record {
           wide = (next.allowed, next-ask c is.0 (let r = next.room in omega arith) next.is, stage.wide);
           running = stage.running;
           room = stage.room;
-          answers = (subst (IsTrueAnswer s (Cond c is.0)) (sym stage.meaning) is.2, stage.answers);
-          meaning = ap (option_and_then (interleaved_step s bodies (Cond c is.0))) stage.meaning ∙ ask_woven s bodies c is.0 state (map running_of out) (ticks tt);
+          answers = (subst (IsTrueAnswer s (Cond c is.0)) (sym stage.meaning) (is.2 ∙ sym (answer_alike s c state left)), stage.answers);
+          meaning = ap (option_and_then (interleaved_step s bodies (Cond c is.0))) stage.meaning ∙ ask_woven s bodies c is.0 state left (map running_of out) (ticks tt);
         })
     stage_quiet (quiet.Skip n) running taken many next is ticks =
-        subst (λ x. Stage width s bodies start (x ∷ h) state out) (sym is) (record {
+        subst (λ x. Stage width s bodies start (x ∷ h) state left out) (sym is) (record {
           wide = (next.allowed, next-skip n (let r = next.room in omega arith) next.is, stage.wide);
           running = stage.running;
           room = stage.room;
           answers = (tt, stage.answers);
           meaning = ap (option_and_then (interleaved_step s bodies (Skip n))) stage.meaning;
         })
-    stage_quiet (quiet.Sync k) running taken many next is ticks =
-        subst (λ x. Stage width s bodies start (x ∷ h) (ticked state) out) (sym is) (record {
-          wide = (next.allowed, next-sync k (let r = next.room in omega arith) next.is, stage.wide);
-          running = stage.running;
-          room = stage.room;
-          answers = (tt, stage.answers);
-          meaning = ap (option_and_then (interleaved_step s bodies (Sync k))) stage.meaning ∙ sync_woven s bodies k state (map running_of out) (ticks tt);
-        })
+
+    -- after a sync point
+    pub stage_sync : (k : ℕ) (state' : State) (left' : LeftValue) → length out < width → IsReady s h (Some (ready.Sync k)) → MaySync s h k → has_tick state ≡ true →
+        run_with state' left' ≡ after_sync s k (run_with state left) → Stage width s bodies start (Sync k ∷ h) state' left' out
+    stage_sync k state' left' free is may tick synced = record {
+      wide = (may, next-sync k free is, stage.wide);
+      running = stage.running;
+      room = stage.room;
+      answers = (tt, stage.answers);
+      meaning = ap (option_and_then (interleaved_step s bodies (Sync k))) stage.meaning ∙ sync_woven s bodies k state state' left left' (map running_of out) tick synced;
+    }
+
+    -- where a sync point may come no job is out
+    pub none_out : (k : ℕ) → MaySync s h k → length out ≡ 0
+    none_out k may = sym stage.running ∙ ap length (go (running_after h) (λ n. (running_is s h lawful-there).same n ∙ none n))
+      where
+        none : (n : ℕ) → runs h n ≡ false
+        none n = false_from_ne_true (runs h n) (idle s h k n lawful-there may)
+
+        go : (xs : List ℕ) → ((n : ℕ) → has n xs ≡ false) → xs ≡ []
+        go [] e = refl
+        go (x ∷ xs) e = absurd (false≢true (sym (e x) ∙ or_left (x == x) (has x xs) (eq-eqb x x refl)))
 
     -- its step may come
     pub may_quiet : (q : Quiet) (running : ℕ) (taken : Step) → IsTurn s h running width (Some (turn.Quiet q)) → IsStepOf s q state taken → May s h taken
     may_quiet (quiet.Ask c) running taken next is = subst (May s h) (sym is.1) next.allowed
     may_quiet (quiet.Skip n) running taken next is = subst (May s h) (sym is) next.allowed
-    may_quiet (quiet.Sync k) running taken next is = subst (May s h) (sym is) next.allowed
 
     -- after a finish
-    pub stage_finish : (n : ℕ) (state' : State) (out' : List (JobOut B)) → (length out ≡ width) ⊎ IsReady s h None → runs h n ≡ true →
-        interleaved_step s bodies (Finish n) (woven state out) ≡ Some (woven state' out') → length out' + 1 ≡ length out → Stage width s bodies start (Finish n ∷ h) state' out'
-    stage_finish n state' out' waits runs-now e fewer = record {
+    pub stage_finish : (n : ℕ) (state' : State) (left' : LeftValue) (out' : List (JobOut B)) → (length out ≡ width) ⊎ IsReady s h None → runs h n ≡ true →
+        interleaved_step s bodies (Finish n) (woven state left out) ≡ Some (woven state' left' out') → length out' + 1 ≡ length out → Stage width s bodies start (Finish n ∷ h) state' left' out'
+    stage_finish n state' left' out' waits runs-now e fewer = record {
       wide = (record { running = runs-now }, next-finish n waits, stage.wide);
       running = let l = length-without n (running_after h) ((running_is s h lawful-there).same n ∙ runs-now) in let r = stage.running in omega arith;
       room = let r = stage.room in omega arith;
@@ -151,20 +167,20 @@ module _ {B : Type 0} (width : ℕ) (s : Schedule) (bodies : List BodyMeaning) (
       wide = stage.wide;
       complete = complete;
       answers = stage.answers;
-      end = woven state out;
+      end = woven state left out;
       meaning = stage.meaning;
       leaves = refl;
     }
 
     -- ---- where a run stops
 
-    stops-at : (step : Step) (cause : Cause) → May s h step → IsNextWide width s h step → IsTrueAnswer s step (interleaved s bodies start h) → interleaved_cause_of s bodies step (woven state out) ≡ Some cause → WideStops width s bodies start cause
+    stops-at : (step : Step) (cause : Cause) → May s h step → IsNextWide width s h step → IsTrueAnswer s step (interleaved s bodies start h) → interleaved_cause_of s bodies step (woven state left out) ≡ Some cause → WideStops width s bodies start cause
     stops-at step cause may next answer e = record {
       front = step ∷ h;
       wide = (may, next, stage.wide);
       answers = (answer, stage.answers);
       stops = ap (λ c. first_some c (interleaved_cause_at s bodies step (interleaved s bodies start h)))
-          (no-cause (interleaved s bodies start h) (woven state out) (interleaved_cause s bodies start h) (lacks-interleaved s bodies start h lawful-there) stage.meaning)
+          (no-cause (interleaved s bodies start h) (woven state left out) (interleaved_cause s bodies start h) (lacks-interleaved s bodies start h lawful-there) stage.meaning)
           ∙ ap (interleaved_cause_at s bodies step) stage.meaning ∙ e;
     }
       where
@@ -173,21 +189,26 @@ module _ {B : Type 0} (width : ℕ) (s : Schedule) (bodies : List BodyMeaning) (
         no-cause o x None lacks e = refl
         no-cause o x (Some c) lacks e = absurd (let none : o ≡ None = lacks.1 refl in cc)
 
-    -- at a start without a tick
+    -- at a start without a tick, and at one without its ids
     pub stops_start : (n : ℕ) → length out < width → IsReady s h (Some (ready.Start n)) → MayStart s h n → has_tick state ≡ false → WideStops width s bodies start NoTick
-    stops_start n free is may spent = stops-at (Start n) NoTick may (next-start n free is) tt
-        (ap (λ t. first_some (unless t NoTick) (unless (has_ids_to_start s n (between state)) NoIds)) spent)
+    stops_start n free is may spent = stops-at (Start n) NoTick may (next-start n free is) tt (unticked_woven s bodies n state left (map running_of out) spent)
+
+    pub stops_ids : (n : ℕ) → length out < width → IsReady s h (Some (ready.Start n)) → MayStart s h n → has_tick state ≡ true → has_ids_at_start s n state ≡ false → WideStops width s bodies start NoIds
+    stops_ids n free is may tick spent = stops-at (Start n) NoIds may (next-start n free is) tt (ungranted_woven s bodies n state left (map running_of out) tick spent)
+
+    -- at a sync point without a tick
+    pub stops_sync : (k : ℕ) → length out < width → IsReady s h (Some (ready.Sync k)) → MaySync s h k → has_tick state ≡ false → WideStops width s bodies start NoTick
+    stops_sync k free is may spent = stops-at (Sync k) NoTick may (next-sync k free is) tt (ap (λ t. unless t NoTick) spent)
 
     -- at what needs no body, without a tick
     pub stops_quiet : (q : Quiet) (running : ℕ) → running ≡ length out → IsTurn s h running width (Some (turn.Quiet q)) → TakesTick q → has_tick state ≡ false → WideStops width s bodies start NoTick
-    stops_quiet (quiet.Ask c) running many next ticks spent = stops-at (Cond c (answer_of s c (between state))) NoTick next.allowed
-        (next-ask c (answer_of s c (between state)) (let r = next.room in omega arith) next.is)
-        (subst (IsTrueAnswer s (Cond c (answer_of s c (between state)))) (sym stage.meaning) refl) (ap (λ t. unless t NoTick) spent)
+    stops_quiet (quiet.Ask c) running many next ticks spent = stops-at (Cond c (answer_of s c (run_with state left))) NoTick next.allowed
+        (next-ask c (answer_of s c (run_with state left)) (let r = next.room in omega arith) next.is)
+        (subst (IsTrueAnswer s (Cond c (answer_of s c (run_with state left)))) (sym stage.meaning) refl) (ap (λ t. unless t NoTick) spent)
     stops_quiet (quiet.Skip n) running many next ticks spent = absurd ticks
-    stops_quiet (quiet.Sync k) running many next ticks spent = stops-at (Sync k) NoTick next.allowed (next-sync k (let r = next.room in omega arith) next.is) tt (ap (λ t. unless t NoTick) spent)
 
     -- at the finish of a system that refuses
-    pub stops_finish : (n : ℕ) (cause : Cause) → (length out ≡ width) ⊎ IsReady s h None → runs h n ≡ true → interleaved_cause_of s bodies (Finish n) (woven state out) ≡ Some cause → WideStops width s bodies start cause
+    pub stops_finish : (n : ℕ) (cause : Cause) → (length out ≡ width) ⊎ IsReady s h None → runs h n ≡ true → interleaved_cause_of s bodies (Finish n) (woven state left out) ≡ Some cause → WideStops width s bodies start cause
     stops_finish n cause waits runs-now e = stops-at (Finish n) cause (record { running = runs-now }) (next-finish n waits) tt e
 
 -- at an opening without a tick

@@ -1,5 +1,5 @@
 -- A turn of the loop: what is next, and what is known once it is done.
-use Rattle.std.proofs.Common.{ℕ, ◌<◌, ◌≤◌, Bool, true, false, ◌≡◌, ◌⊎◌, inl, inr, List, [], ◌∷◌, length, map, Option, Some, None, refl, sym, ◌∙◌, ap, subst, arith}
+use Rattle.std.proofs.Common.{ℕ, ◌<◌, ◌≤◌, Bool, ◌≡◌, ◌⊎◌, inl, inr, List, [], ◌∷◌, length, Option, Some, None, refl, sym, ◌∙◌, ap, subst, arith}
 use Rattle.std.specs.List.{AllByRecursion}
 use Rattle.model.specs.declared.steps.Step.{Step}
 use Rattle.model.specs.declared.steps.Ready.TheVariants as ready
@@ -8,14 +8,14 @@ use Rattle.model.specs.access.Access.{Params}
 use Rattle.model.specs.state.State.{State}
 use Rattle.model.specs.shown.Outcome.{BodyMeaning}
 use Rattle.model.specs.steps.Schedule.{Schedule, params_of, access_of}
-use Rattle.model.specs.steps.Lawful.{MayStart}
+use Rattle.model.specs.steps.Lawful.{MayStart, MaySync}
 use Rattle.model.specs.steps.Ready.{IsReady}
-use Rattle.model.specs.runs.RunState.{next_tick, opening}
+use Rattle.model.specs.runs.RunState.{body_of, next_tick, opening}
 use Rattle.archetype_store.specs.Layout.{Archetype, AreAllHome, IsLayoutOf}
 use Rattle.body.specs.Lent.{lent_in}
-use Rattle.body.specs.Out.{IsApartFrom, IsWrittenBy}
+use Rattle.body.specs.Out.{IsWrittenBy}
 use Rattle.body.specs.Steps.{StateValue, store_of, ticked}
-use Rattle.body.proofs.Outs.{out-same, all-home, home-apart}
+use Rattle.body.proofs.Outs.{out-same, all-home, home-apart, none-out}
 use Rattle.executor_core.specs.Stands.{Stand, Stands}
 use Rattle.worker_pool.specs.JobOut.{JobOut}
 use Rattle.engine.specs.declared.turn.Turn.{Turn}
@@ -23,9 +23,12 @@ use Rattle.engine.specs.declared.turn.Turn.TheVariants as turn
 use Rattle.engine.specs.declared.turn.Quiet.{Quiet}
 use Rattle.engine.specs.declared.turn.Quiet.TheVariants as quiet
 use Rattle.engine.specs.Quiets.{IsAllowed as IsAllowedQuiet, after_quiet}
-use Rattle.engine.specs.Jobs.{running_of, systems_of, held_by, woven, Placed}
-use Rattle.engine.specs.Meanings.{meanings, HasMemories, Suits}
+use Rattle.engine.specs.Jobs.{systems_of, held_by, woven, CanBegin, InHand, IsPlaced, Placed}
+use Rattle.engine.specs.Left.{LeftValue, AreInHand, IsLeftFor}
+use Rattle.engine.specs.Meanings.{body_at, meanings, HasMemories, Suits}
 use Rattle.engine.specs.Stage.{Stage, IsTake, IsTurn}
+use Rattle.model.proofs.progress.Single.{wide_lawful}
+use Rattle.engine.proofs.Fresh.{interleaved_fresh}
 use Rattle.engine.proofs.Placing.{start-free, apart-held, placed_first, suits_last, means_last}
 use Rattle.engine.proofs.Staging.{holds_there}
 use Rattle.engine.proofs.Remembering.{memories_at, memories_open, memories_asked}
@@ -42,6 +45,9 @@ module _ (core : Stand) (s : Schedule) (h : List Step) (running width : ℕ) (ne
   pub turn_quiet : (q : Quiet) → next ≡ turn.Quiet q → IsTurn s h running width (Some (turn.Quiet q))
   turn_quiet q is = subst (λ t. IsTurn s h running width (Some t)) is there
 
+  pub turn_sync : (k : ℕ) → next ≡ turn.Sync k → IsTake s h running width (ready.Sync k) (MaySync s h k)
+  turn_sync k is = subst (λ t. IsTurn s h running width (Some t)) is there
+
   pub turn_collect : next ≡ turn.Collect → (0 < running) × ((running ≡ width) ⊎ IsReady s h None)
   turn_collect is = subst (λ t. IsTurn s h running width (Some t)) is there
 
@@ -56,31 +62,26 @@ no_elements (x ∷ xs) e = absurd (omega (arith, e))
 
 -- ---- what a start asks
 
-pub record IsAllowed {B : Type 0} (s : Schedule) (n : ℕ) (out : List (JobOut B)) (w : StateValue) : Type 0 where
-  pub known : n < length s.systems
-  pub home : has n (systems_of out) ≡ false
-  pub apart : AllByRecursion (IsApartFrom (params_of s n) w.layout) (lent_in (held_by out))
-
 module _ {B : Type 0} (meaning : B → Params → BodyMeaning) (fits : B → Params → Bool) (where_is : Bool) (s : Schedule) (bodies : List BodyMeaning) (slots : List (Option B)) (out : List (JobOut B)) (w : StateValue) (placed : Placed meaning fits where_is s bodies slots out w) where
-  pub start_allowed : (width : ℕ) (start : State) (h : List Step) (n : ℕ) → Stage width s bodies start h w.state out → MayStart s h n → IsAllowed s n out w
-  start_allowed width start h n stage may =
-      let holds = holds_there width s bodies start h w.state out stage in
+  pub start_allowed : (width : ℕ) (start : State) (h : List Step) (left : LeftValue) (n : ℕ) → Stage width s bodies start h w.state left out → MayStart s h n → CanBegin s n left out w
+  start_allowed width start h left n stage may =
+      let holds = holds_there width s bodies start h w.state left out stage in
       record {
         known = may.free.known;
-        home = start-free meaning fits where_is s bodies slots out w placed h holds n may;
-        apart = apart-held meaning fits where_is s bodies slots out w placed h holds (params_of s n) may.apart;
+        fresh = interleaved_fresh s bodies start h (woven w.state left out) (wide_lawful width s h stage.wide) stage.meaning n may.free.waits;
+        home = start-free meaning fits where_is s bodies slots out w placed left h holds n may;
+        apart = apart-held meaning fits where_is s bodies slots out w placed left h holds (params_of s n) may.apart;
       }
 
   -- what needs no body may be done
-  pub quiet_allowed : (q : Quiet) (width running : ℕ) (start : State) (h : List Step) → Stage width s bodies start h w.state out → IsLayoutOf w.state.world.slots w.layout →
+  pub quiet_allowed : (q : Quiet) (width running : ℕ) (start : State) (h : List Step) (left : LeftValue) → Stage width s bodies start h w.state left out → IsLayoutOf w.state.world.slots w.layout →
       IsTurn s h running width (Some (turn.Quiet q)) → IsAllowedQuiet s w q
-  quiet_allowed (quiet.Ask c) width running start h stage laid next = record {
+  quiet_allowed (quiet.Ask c) width running start h left stage laid next = record {
     known = next.allowed.known;
     home = home-apart (store_of w) (held_by out) (access_of s c) laid placed.held
-        (apart-held meaning fits where_is s bodies slots out w placed h (holds_there width s bodies start h w.state out stage) (access_of s c) next.allowed.apart);
+        (apart-held meaning fits where_is s bodies slots out w placed left h (holds_there width s bodies start h w.state left out stage) (access_of s c) next.allowed.apart);
   }
-  quiet_allowed (quiet.Skip n) width running start h stage laid next = tt
-  quiet_allowed (quiet.Sync k) width running start h stage laid next = tt
+  quiet_allowed (quiet.Skip n) width running start h left stage laid next = tt
 
   -- at a later tick, with other memories, which are those of the schedule too
   pub placed_moved : (later : StateValue) → HasMemories s later.state → w.state.world.clock ≤ later.state.world.clock → later.state.world.slots ≡ w.state.world.slots → later.layout ≡ w.layout →
@@ -102,12 +103,19 @@ module _ {B : Type 0} (meaning : B → Params → BodyMeaning) (fits : B → Par
     held = out-same (store_of w) (store_of later) (held_by out) same layout placed.held;
   }
 
-  -- at the next tick
-  pub placed_later : (later : StateValue) → later ≡ record { state = ticked w.state; layout = w.layout } → Placed meaning fits where_is s bodies slots out later
-  placed_later later is = placed_moved later
-      (subst (λ (x : StateValue). HasMemories s x.state) (sym is) (memories_at s w.state placed.memories (next_tick w.state)))
-      (let e = ap (λ (x : StateValue). x.state.world.clock) is in omega arith)
-      (ap (λ (x : StateValue). x.state.world.slots) is) (ap (λ (x : StateValue). x.layout) is)
+  -- the jobs stay what they are where the slots stay
+  pub in_hand_moved : (left : LeftValue) (later : StateValue) → later.state.world.slots ≡ w.state.world.slots → InHand s left out w → InHand s left out later
+  in_hand_moved left later same hand = record {
+    suits = hand.suits;
+    ids = subst (λ xs. AreInHand xs left) (sym same) hand.ids;
+    granted = hand.granted;
+    showing = hand.showing;
+  }
+
+  -- after what needs no body
+  pub in_hand_quiet : (left : LeftValue) (q : Quiet) (later : StateValue) → later ≡ record { state = after_quiet s q w.state; layout = w.layout } → InHand s left out w → InHand s left out later
+  in_hand_quiet left (quiet.Ask c) later is hand = in_hand_moved left later (ap (λ (x : StateValue). x.state.world.slots) is) hand
+  in_hand_quiet left (quiet.Skip n) later is hand = in_hand_moved left later (ap (λ (x : StateValue). x.state.world.slots) is) hand
 
   -- after what needs no body
   pub placed_quiet : (q : Quiet) (later : StateValue) → later ≡ record { state = after_quiet s q w.state; layout = w.layout } → Placed meaning fits where_is s bodies slots out later
@@ -119,7 +127,6 @@ module _ {B : Type 0} (meaning : B → Params → BodyMeaning) (fits : B → Par
       (subst (λ (x : StateValue). HasMemories s x.state) (sym is) placed.memories)
       (let e = ap (λ (x : StateValue). x.state.world.clock) is in omega arith)
       (ap (λ (x : StateValue). x.state.world.slots) is) (ap (λ (x : StateValue). x.layout) is)
-  placed_quiet (quiet.Sync k) later is = placed_later later is
 
   -- after the opening
   pub placed_opened : (later : StateValue) → later ≡ record { state = opening w.state; layout = w.layout } → Placed meaning fits where_is s bodies slots out later
@@ -127,6 +134,17 @@ module _ {B : Type 0} (meaning : B → Params → BodyMeaning) (fits : B → Par
       (subst (λ (x : StateValue). HasMemories s x.state) (sym is) (memories_open s w.state placed.memories))
       (let e = ap (λ (x : StateValue). x.state.world.clock) is in omega arith)
       (ap (λ (x : StateValue). x.state.world.slots) is) (ap (λ (x : StateValue). x.layout) is)
+
+  -- after a sync point, where none is out
+  pub placed_synced : (later : StateValue) → length out ≡ 0 → HasMemories s later.state → AreAllHome later.layout → Placed meaning fits where_is s bodies slots out later
+  placed_synced later none memories all = subst (λ xs. Placed meaning fits where_is s bodies slots xs later) (sym (no_elements out none)) (record {
+    body_count = placed.body_count;
+    memories = memories;
+    home = subst (λ xs. (n : ℕ) → n < length s.systems → IsPlaced meaning fits (params_of s n) (body_of bodies n) (has n (systems_of xs)) (body_at slots n)) (no_elements out none) placed.home;
+    jobs = λ job i. absurd i;
+    distinct = tt;
+    held = none-out (store_of later) all;
+  })
 
   -- where none is out
   placed-none : length out ≡ 0 → Placed meaning fits where_is s bodies slots [] w
@@ -147,3 +165,12 @@ pub placed_open : {B : Type 0} (meaning : B → Params → BodyMeaning) (fits : 
 placed_open meaning fits where_is s slots out w later none is suits home =
     subst (λ xs. Placed meaning fits where_is s (meanings meaning s slots) slots xs later) (sym none)
     (placed_opened meaning fits where_is s (meanings meaning s slots) slots [] w (placed_first meaning fits where_is s slots w suits home) later is)
+
+-- what is in hand where none is out
+pub in_hand_none : {B : Type 0} (s : Schedule) (left : LeftValue) (out : List (JobOut B)) (w : StateValue) → length out ≡ 0 → IsLeftFor s left → AreInHand w.state.world.slots left → InHand s left out w
+in_hand_none {B} s left out w none suits ids = subst (λ (xs : List (JobOut B)). InHand s left xs w) (sym (no_elements out none)) (record {
+  suits = suits;
+  ids = ids;
+  granted = λ job i. absurd i;
+  showing = λ job i. absurd i;
+})

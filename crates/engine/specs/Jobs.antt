@@ -6,13 +6,15 @@ use Rattle.model.specs.access.Access.{Params}
 use Rattle.model.specs.state.State.{State}
 use Rattle.model.specs.shown.Outcome.{BodyMeaning}
 use Rattle.model.specs.steps.Schedule.{Schedule, params_of}
-use Rattle.model.specs.runs.RunState.{RunningSystem, between, body_of}
+use Rattle.model.specs.runs.RunState.{RunningSystem, body_of}
 use Rattle.model.specs.runs.Meaning.{Interleaved}
 use Rattle.body.specs.Columns.{Column}
+use Rattle.body.specs.Keeps.{CanBeShown}
 use Rattle.body.specs.Lent.{lent_in}
-use Rattle.body.specs.Out.{AreOut, IsWrittenBy}
+use Rattle.body.specs.Out.{AreOut, IsApartFrom, IsWrittenBy}
 use Rattle.body.specs.Steps.{StateValue, store_of}
 use Rattle.worker_pool.specs.JobOut.{JobOut}
+use Rattle.engine.specs.Left.{LeftValue, AreInHand, IsLeftFor, commands_at, grants_at, run_with}
 use Rattle.engine.specs.Meanings.{body_at, HasMemories}
 
 -- the running system of a job, the systems of jobs, and the columns that they hold
@@ -25,9 +27,9 @@ systems_of out = map (λ job. job.system) out
 abbrev pub held_by : {B : Type 0} → List (JobOut B) → List (List Column)
 held_by out = flat_map (λ job. job.view.opening.taken) out
 
--- the interleaved run of a state with these jobs out, with nothing commanded or granted
-abbrev pub woven : {B : Type 0} → State → List (JobOut B) → Interleaved
-woven state out = record { run = between state; running_systems = map running_of out }
+-- the interleaved run of a state, with what systems have left, and with these jobs out
+abbrev pub woven : {B : Type 0} → State → LeftValue → List (JobOut B) → Interleaved
+woven state left out = record { run = run_with state left; running_systems = map running_of out }
 
 -- a job of a system of the schedule, with the parameters and the body of this, in a thread or not, started not after the clock: it holds
 -- columns that the system writes
@@ -59,3 +61,19 @@ pub record Placed {B : Type 0} (meaning : B → Params → BodyMeaning) (fits : 
   pub jobs : (job : JobOut B) → IsIn job out → IsJob meaning fits there s bodies w job
   pub distinct : AreDistinct (systems_of out)
   pub held : AreOut (store_of w) (held_by out)
+
+-- what systems have left is for the schedule, the ids are in hand, and each job was shown what its system can be shown, with the ids that this was
+-- granted
+pub record InHand {B : Type 0} (s : Schedule) (left : LeftValue) (out : List (JobOut B)) (w : StateValue) : Type 0 where
+  pub suits : IsLeftFor s left
+  pub ids : AreInHand w.state.world.slots left
+  pub granted : (job : JobOut B) → IsIn job out → job.view.shown.granted ≡ grants_at left job.system
+  pub showing : (job : JobOut B) → IsIn job out → CanBeShown (params_of s job.system) job.view.shown
+
+-- a system that may be started: it is one of the schedule, it isn't out and has left no commands, and none that is out holds a column that it
+-- writes, or writes one that it reads
+pub record CanBegin {B : Type 0} (s : Schedule) (n : ℕ) (left : LeftValue) (out : List (JobOut B)) (w : StateValue) : Type 0 where
+  pub known : n < length s.systems
+  pub home : has n (systems_of out) ≡ false
+  pub fresh : commands_at left n ≡ []
+  pub apart : AllByRecursion (IsApartFrom (params_of s n) w.layout) (lent_in (held_by out))

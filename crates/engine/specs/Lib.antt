@@ -2,6 +2,8 @@ pub mod History
 pub mod Faults
 pub mod Meanings
 pub mod EngineValue
+pub mod Left
+pub mod Starts
 pub mod Jobs
 pub mod Stage
 pub mod FirstState

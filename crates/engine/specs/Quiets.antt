@@ -20,19 +20,16 @@ pub record CanAsk (s : Schedule) (c : ℕ) (w : StateValue) : Type 0 where
 abbrev pub IsAllowed : Schedule → StateValue → Quiet → Type 0
 IsAllowed s w (quiet.Ask c) = CanAsk s c w
 IsAllowed s w (quiet.Skip n) = Unit {0}
-IsAllowed s w (quiet.Sync k) = Unit {0}
 
 -- the step, which for a condition has its meaning on the state
 abbrev pub IsStepOf : Schedule → Quiet → State → Step → Type 0
 IsStepOf s (quiet.Ask c) w taken = (answer : Bool) × (taken ≡ step.Cond c answer) × (answer ≡ answer_of s c (between w))
 IsStepOf s (quiet.Skip n) w taken = taken ≡ step.Skip n
-IsStepOf s (quiet.Sync k) w taken = taken ≡ step.Sync k
 
 -- the state after it
 abbrev pub after_quiet : Schedule → Quiet → State → State
 after_quiet s (quiet.Ask c) w = asked_at c (access_of s c).reads (next_tick w) (ticked w)
 after_quiet s (quiet.Skip n) w = w
-after_quiet s (quiet.Sync k) w = ticked w
 
 -- it takes the next tick
 abbrev pub TakesTick : Quiet → Type 0

@@ -12,17 +12,18 @@ use Rattle.model.specs.steps.Widths.{IsWide, running_after}
 use Rattle.model.specs.runs.Meaning.{interleaved, HasTrueAnswers}
 use Rattle.worker_pool.specs.JobOut.{JobOut}
 use Rattle.engine.specs.Jobs.{woven}
+use Rattle.engine.specs.Left.{LeftValue}
 use Rattle.engine.specs.declared.turn.Turn.{Turn}
 use Rattle.engine.specs.declared.turn.Turn.TheVariants as turn
 use Rattle.engine.specs.declared.turn.Quiet.TheVariants as quiet
 
--- after this history as many systems run as jobs are out, and the interleaved meaning is this state with these jobs out
-pub record Stage {B : Type 0} (width : ℕ) (s : Schedule) (bodies : List BodyMeaning) (start : State) (h : List Step) (state : State) (out : List (JobOut B)) : Type 0 where
+-- after this history as many systems run as jobs are out, and the interleaved meaning is this state with what is left and these jobs out
+pub record Stage {B : Type 0} (width : ℕ) (s : Schedule) (bodies : List BodyMeaning) (start : State) (h : List Step) (state : State) (left : LeftValue) (out : List (JobOut B)) : Type 0 where
   pub wide : IsWide width s h
   pub running : length (running_after h) ≡ length out
   pub room : length out ≤ width
   pub answers : HasTrueAnswers s bodies start h
-  pub meaning : interleaved s bodies start h ≡ Some (woven state out)
+  pub meaning : interleaved s bodies start h ≡ Some (woven state left out)
 
 -- there is room for one more running system, and this is what is ready
 pub record IsTake (s : Schedule) (h : List Step) (running width : ℕ) (offer : Ready) (may : Type 0) : Type 0 where
@@ -36,5 +37,5 @@ IsTurn s h running width None = (running ≡ 0) × (NoneRuns h → IsComplete s 
 IsTurn s h running width (Some (turn.Start n)) = IsTake s h running width (ready.Start n) (MayStart s h n)
 IsTurn s h running width (Some (turn.Quiet (quiet.Ask c))) = IsTake s h running width (ready.Ask c) (MayAsk s h c)
 IsTurn s h running width (Some (turn.Quiet (quiet.Skip n))) = IsTake s h running width (ready.Skip n) (MaySkip s h n)
-IsTurn s h running width (Some (turn.Quiet (quiet.Sync k))) = IsTake s h running width (ready.Sync k) (MaySync s h k)
+IsTurn s h running width (Some (turn.Sync k)) = IsTake s h running width (ready.Sync k) (MaySync s h k)
 IsTurn s h running width (Some turn.Collect) = (0 < running) × ((running ≡ width) ⊎ IsReady s h None)

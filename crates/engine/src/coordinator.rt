@@ -7,11 +7,13 @@ ghost use Rattle.model.specs.runs.Causes.{Cause};
 ghost use Rattle.model.specs.runs.WideRuns.{IsWideRun, AreWideRuns, WideStops, IsWideStopped};
 ghost use Rattle.archetype_store.specs.Layout.{AreAllHome};
 ghost use Rattle.executor_core.specs.Stands.{Stands};
-ghost use Rattle.engine.specs.Meanings.{meanings, Suits};
+ghost use Rattle.engine.specs.Left.{IsLeftFor, IsNothingLeft};
+ghost use Rattle.engine.specs.Meanings.{meanings, AllKeepWithin, Suits};
 ghost use Rattle.engine.specs.History.{history_of};
 
 use crate::effects::{do_quiet, finish, open, start};
 use crate::faults::RunFault;
+use crate::left::Left;
 use crate::turn::{Turn, next_turn};
 use body::open_state::OpenState;
 use body::system_body::Body;
@@ -26,24 +28,29 @@ pub(crate) fn run_times<'s, M: Mode<'s>, B: Body + 's>(
     built: &Built,
     slots: &mut [Option<B>],
     state: &mut OpenState,
+    left: &mut Left,
     times: u32,
     mode: &M,
 ) -> Result<Vec<Trace>, RunFault>
     requires suits { Suits B.fits built.now slots.old state.old.state }
+    requires keeps { AllKeepWithin built.now (meanings B.meaning built.now slots.old) }
     requires home { AreAllHome state.old.layout }
+    requires left { IsLeftFor built.now left.old }
     ensures count { IfOk result (λ traces. length traces.items ≡ times) }
     ensures ran { IfOk result (λ traces. AreWideRuns (M.width mode.now) built.now (meanings B.meaning built.now slots.old) state.old.state (map history_of traces.items) state.new.state) }
     ensures clock { result ≡ Err RunFault.ClockSpent → IsWideStopped (M.width mode.now) built.now (meanings B.meaning built.now slots.old) times state.old.state Cause.NoTick ⊎ IsWideStopped (M.width mode.now) built.now (meanings B.meaning built.now slots.old) times state.old.state Cause.NoEventNumber }
+    ensures ids { result ≡ Err RunFault.IdsSpent → IsWideStopped (M.width mode.now) built.now (meanings B.meaning built.now slots.old) times state.old.state Cause.NoIds }
     ensures refusal { (k : ℕ) → result ≡ Err (RunFault.BodyFault k) → IsWideStopped (M.width mode.now) built.now (meanings B.meaning built.now slots.old) times state.old.state (Cause.Refused k) }
     ensures worker { result ≡ Err RunFault.NoWorker → M.has_scope mode.now ≡ true }
     ensures unspoiled { result ≡ Err RunFault.Spoiled → ⊥ }
     ensures suits { OnOk result (Suits B.fits built.now slots.new state.new.state) }
     ensures meanings { OnOk result (meanings B.meaning built.now slots.new ≡ meanings B.meaning built.now slots.old) }
     ensures home { OnOk result (AreAllHome state.new.layout) }
+    ensures left { OnOk result (IsLeftFor built.now left.new) }
 {
     let mut traces = Vec::new(alloc);
     for _run in 0..times {
-        let trace = run_once(alloc, built, slots, state, mode)?;
+        let trace = run_once(alloc, built, slots, state, left, mode)?;
         traces.push(trace)?;
     }
     Ok(traces)
@@ -55,21 +62,27 @@ fn run_once<'s, M: Mode<'s>, B: Body + 's>(
     built: &Built,
     slots: &mut [Option<B>],
     state: &mut OpenState,
+    left: &mut Left,
     mode: &M,
 ) -> Result<Trace, RunFault>
     requires suits { Suits B.fits built.now slots.old state.old.state }
+    requires keeps { AllKeepWithin built.now (meanings B.meaning built.now slots.old) }
     requires home { AreAllHome state.old.layout }
+    requires left { IsLeftFor built.now left.old }
     ensures ran { IfOk result (λ trace. IsWideRun (M.width mode.now) built.now (meanings B.meaning built.now slots.old) state.old.state (history_of trace) state.new.state) }
     ensures clock { result ≡ Err RunFault.ClockSpent → WideStops (M.width mode.now) built.now (meanings B.meaning built.now slots.old) state.old.state Cause.NoTick ⊎ WideStops (M.width mode.now) built.now (meanings B.meaning built.now slots.old) state.old.state Cause.NoEventNumber }
+    ensures ids { result ≡ Err RunFault.IdsSpent → WideStops (M.width mode.now) built.now (meanings B.meaning built.now slots.old) state.old.state Cause.NoIds }
     ensures refusal { (k : ℕ) → result ≡ Err (RunFault.BodyFault k) → WideStops (M.width mode.now) built.now (meanings B.meaning built.now slots.old) state.old.state (Cause.Refused k) }
     ensures worker { result ≡ Err RunFault.NoWorker → M.has_scope mode.now ≡ true }
     ensures unspoiled { result ≡ Err RunFault.Spoiled → ⊥ }
     ensures suits { OnOk result (Suits B.fits built.now slots.new state.new.state) }
     ensures meanings { OnOk result (meanings B.meaning built.now slots.new ≡ meanings B.meaning built.now slots.old) }
     ensures home { OnOk result (AreAllHome state.new.layout) }
+    ensures left { OnOk result (IsLeftFor built.now left.new) }
 {
     let mut pool = Pool::new(alloc);
-    let trace = run_turns(alloc, built, slots, state, &mut pool, mode);
+    left.clear();
+    let trace = run_turns(alloc, built, slots, state, left, &mut pool, mode);
     drain(&mut pool, mode);
     trace
 }
@@ -80,20 +93,26 @@ fn run_turns<'s, M: Mode<'s>, B: Body + 's>(
     built: &Built,
     slots: &mut [Option<B>],
     state: &mut OpenState,
+    left: &mut Left,
     pool: &mut Pool<B>,
     mode: &M,
 ) -> Result<Trace, RunFault>
     requires suits { Suits B.fits built.now slots.old state.old.state }
+    requires keeps { AllKeepWithin built.now (meanings B.meaning built.now slots.old) }
     requires home { AreAllHome state.old.layout }
+    requires left { IsLeftFor built.now left.old }
     requires empty { pool.old ≡ [] }
+    requires nothing { IsNothingLeft left.old }
     ensures ran { IfOk result (λ trace. IsWideRun (M.width mode.now) built.now (meanings B.meaning built.now slots.old) state.old.state (history_of trace) state.new.state) }
     ensures clock { result ≡ Err RunFault.ClockSpent → WideStops (M.width mode.now) built.now (meanings B.meaning built.now slots.old) state.old.state Cause.NoTick ⊎ WideStops (M.width mode.now) built.now (meanings B.meaning built.now slots.old) state.old.state Cause.NoEventNumber }
+    ensures ids { result ≡ Err RunFault.IdsSpent → WideStops (M.width mode.now) built.now (meanings B.meaning built.now slots.old) state.old.state Cause.NoIds }
     ensures refusal { (k : ℕ) → result ≡ Err (RunFault.BodyFault k) → WideStops (M.width mode.now) built.now (meanings B.meaning built.now slots.old) state.old.state (Cause.Refused k) }
     ensures worker { result ≡ Err RunFault.NoWorker → M.has_scope mode.now ≡ true }
     ensures unspoiled { result ≡ Err RunFault.Spoiled → ⊥ }
     ensures suits { OnOk result (Suits B.fits built.now slots.new state.new.state) }
     ensures meanings { OnOk result (meanings B.meaning built.now slots.new ≡ meanings B.meaning built.now slots.old) }
     ensures home { OnOk result (AreAllHome state.new.layout) }
+    ensures left { OnOk result (IsLeftFor built.now left.new) }
 {
     let width = mode.width();
     let mut core = Core::new(alloc, built)?;
@@ -104,7 +123,7 @@ fn run_turns<'s, M: Mode<'s>, B: Body + 's>(
         match turn {
             Turn::Start(system) => {
                 number = number.saturating_add(1);
-                start(alloc, built, slots, state, pool, mode, system, number)?;
+                start(alloc, built, slots, state, left, pool, mode, system, number)?;
                 take(&mut core, &mut steps, Step::Start(system))?;
             }
             Turn::Quiet(quiet) => {
@@ -112,8 +131,13 @@ fn run_turns<'s, M: Mode<'s>, B: Body + 's>(
                 let step = do_quiet(alloc, built, state, quiet)?;
                 take(&mut core, &mut steps, step)?;
             }
+            Turn::Sync(point) => {
+                state.law();
+                left.sync(alloc, built, state, point)?;
+                take(&mut core, &mut steps, Step::Sync(point))?;
+            }
             Turn::Collect => {
-                let system = finish(built, slots, state, pool, mode)?;
+                let system = finish(built, slots, state, left, pool, mode)?;
                 take(&mut core, &mut steps, Step::Finish(system))?;
             }
         }

@@ -1,30 +1,35 @@
-// What the opening, a start, a finish and what needs no body do to the state, the bodies and the jobs that are out.
+// What the opening, a start, a finish and what needs no body do to the state, to the bodies, to what systems have left and to the jobs that
+// are out.
 
-ghost use Rattle.std.specs.Prelude.{◌≡◌, ◌<◌, ◌≤◌, ◌+◌, ◌↔◌, ◌⊎◌, ◌++◌, ℕ, List, [], true, false, length, set, Some, None, Ok, Err, is_some, IfOk, OnOk, OnErr, IsErr, IsErrOf};
+ghost use Rattle.std.specs.Prelude.{◌≡◌, ◌<◌, ◌≤◌, ◌+◌, ◌↔◌, ◌++◌, ℕ, List, true, false, length, set, Some, None, Ok, Err, is_some, IfOk, OnOk, IsErr};
 ghost use Rattle.std.specs.List.{AllByRecursion};
-ghost use Rattle.model.specs.declared.steps.Step.TheVariants.{Start as Begin, Finish, Sync};
-ghost use Rattle.model.specs.Lists.{has, IsIn};
+ghost use Rattle.model.specs.declared.steps.Step.TheVariants.{Start as Begin, Finish};
+ghost use Rattle.model.specs.Lists.{IsIn};
 ghost use Rattle.model.specs.shown.Input.{shown};
-ghost use Rattle.model.specs.shown.Outcome.{BodyMeaning, events_sent, untouched};
+ghost use Rattle.model.specs.shown.Outcome.{BodyMeaning, events_sent};
 ghost use Rattle.model.specs.shown.Overlay.{has_event_numbers};
 ghost use Rattle.model.specs.access.Condition.{holds};
-ghost use Rattle.model.specs.steps.Schedule.{params_of, access_of, condition_of};
-ghost use Rattle.model.specs.runs.RunState.{between, begin_run, opening, has_tick, next_tick, memory_of_condition, memory_of_system};
+ghost use Rattle.model.specs.steps.Schedule.{access_of, condition_of};
+ghost use Rattle.model.specs.runs.RunState.{between, begin_run, opening, has_tick, next_tick, memory_of_condition};
 ghost use Rattle.model.specs.runs.Meaning.{interleaved_step};
 ghost use Rattle.model.specs.runs.Causes.{interleaved_cause_of};
 ghost use Rattle.model.specs.runs.Causes.{Cause as cause};
 ghost use Rattle.query_plan.specs.Standing.{ArePickedHome};
 ghost use Rattle.body.specs.declared.system_body.BodyFault.TheVariants.{Refused};
 ghost use Rattle.body.specs.Columns.{Column};
-ghost use Rattle.body.specs.Lent.{AreLent, lent_in, with_away, with_back};
-ghost use Rattle.body.specs.Out.{IsWrittenBy, AreOut, IsApartFrom};
-ghost use Rattle.body.specs.Steps.{asked_at, laid, noted, store_of, ticked};
+ghost use Rattle.body.specs.Lent.{AreLent, lent_in, with_back};
+ghost use Rattle.body.specs.Out.{AreOut};
+ghost use Rattle.body.specs.Steps.{asked_at, laid, store_of, ticked};
 ghost use Rattle.worker_pool.specs.JobOut.{JobOut};
-ghost use Rattle.engine.specs.Meanings.{body_at, HasMemories};
+ghost use Rattle.engine.specs.Meanings.{body_at, AllKeepWithin, HasMemories};
 ghost use Rattle.engine.specs.Quiets.{IsAllowed, IsStepOf, TakesTick, after_quiet};
-ghost use Rattle.engine.specs.Jobs.{systems_of, held_by, woven, Placed};
+ghost use Rattle.engine.specs.Jobs.{woven, CanBegin, InHand, Placed};
+ghost use Rattle.engine.specs.Left.{IsLeftFor, with_commands};
+ghost use Rattle.engine.specs.Starts.{has_ids_at_start};
 
 use crate::faults::RunFault;
+use crate::left::Left;
+use crate::showing::show;
 use crate::turn::Quiet;
 use body::open_state::OpenState;
 use body::system_body::{Body, BodyFault};
@@ -44,7 +49,7 @@ pub(crate) fn open(state: &mut OpenState) -> Result<(), ClockSpent>
     state.begin()
 }
 
-/// Does what needs no body, and gives the step: a condition is asked, a system skipped, or a sync point done.
+/// Does what needs no body, and gives the step: a condition is asked, or a system skipped.
 pub(crate) fn do_quiet(
     alloc: Global,
     built: &Built,
@@ -59,6 +64,7 @@ pub(crate) fn do_quiet(
     ensures spent { result ≡ Err RunFault.ClockSpent → TakesTick quiet × (has_tick state.old.state ≡ false) }
     ensures unspoiled { result ≡ Err RunFault.Spoiled → ⊥ }
     ensures unworked { result ≡ Err RunFault.NoWorker → ⊥ }
+    ensures ungranted { result ≡ Err RunFault.IdsSpent → ⊥ }
     ensures unrefused { (k : ℕ) → result ≡ Err (RunFault.BodyFault k) → ⊥ }
 {
     match quiet {
@@ -67,10 +73,6 @@ pub(crate) fn do_quiet(
             Ok(Step::Cond(condition, answer))
         }
         Quiet::Skip(system) => Ok(Step::Skip(system)),
-        Quiet::Sync(point) => {
-            state.next()?;
-            Ok(Step::Sync(point))
-        }
     }
 }
 
@@ -90,6 +92,7 @@ fn ask(
     ensures spent { result ≡ Err RunFault.ClockSpent → has_tick state.old.state ≡ false }
     ensures unspoiled { result ≡ Err RunFault.Spoiled → ⊥ }
     ensures unworked { result ≡ Err RunFault.NoWorker → ⊥ }
+    ensures ungranted { result ≡ Err RunFault.IdsSpent → ⊥ }
     ensures unrefused { (k : ℕ) → result ≡ Err (RunFault.BodyFault k) → ⊥ }
 {
     let asked = built.condition(condition);
@@ -100,38 +103,6 @@ fn ask(
     };
     state.note_condition(condition as usize, asked.access(), tick);
     Ok(answer)
-}
-
-// What a system is shown as it starts: its run is noted at the tick to come, which becomes the clock.
-fn prepare(
-    alloc: Global,
-    built: &Built,
-    state: &mut OpenState,
-    system: u32,
-) -> Result<Box<View>, RunFault>
-    requires known { system < length built.now.systems }
-    requires memories { HasMemories built.now state.old.state }
-    requires home { AllByRecursion (λ query. ArePickedHome query state.old.layout) (params_of built.now system).queries }
-    ensures params { IfOk result (λ view. view.value.params ≡ params_of built.now system) }
-    ensures shown { IfOk result (λ view. view.value.shown ≡ shown (params_of built.now system) (memory_of_system state.old.state system) state.old.state []) }
-    ensures untouched { IfOk result (λ view. view.value.outcome ≡ untouched view.value.params view.value.shown) }
-    ensures tick { IfOk result (λ view. view.value.opening.tick ≡ next_tick state.old.state) }
-    ensures written { IfOk result (λ view. AllByRecursion (IsWrittenBy (params_of built.now system).queries state.old.layout) (lent_in view.value.opening.taken)) }
-    ensures held { IfOk result (λ view. (others : List (List Column)) → AreOut (store_of state.old) others → AreOut (store_of state.new) (others ++ view.value.opening.taken)) }
-    ensures noted { IfOk result (λ view. state.new ≡ record { state = noted system (params_of built.now system).reads (next_tick state.old.state) (ticked state.old.state); layout = with_away (lent_in view.value.opening.taken) state.old.layout }) }
-    ensures spent { IsErrOf result RunFault.ClockSpent ↔ (has_tick state.old.state ≡ false) }
-    ensures only { (f : RunFault) → result ≡ Err f → (f ≡ RunFault.ClockSpent) ⊎ (f ≡ RunFault.Memory) }
-{
-    let params = built.params(system);
-    built.apart();
-    let tick = state.coming()?;
-    let opened = state.open(alloc, params, system as usize, tick)?;
-    let view = Box::new(alloc, opened)?;
-    let Ok(_) = state.next() else {
-        unreachable!();
-    };
-    state.note(system as usize, params, tick);
-    Ok(view)
 }
 
 // Takes the body of a system from its place.
@@ -147,32 +118,34 @@ fn take_body<B: Body>(slots: &mut [Option<B>], system: usize) -> B
     body
 }
 
-/// A start: the system is shown the state, and its body is handed out. It runs from then on.
+/// A start: the system is granted its ids and shown the state, and its body is handed out. It runs from then on.
 pub(crate) fn start<'s, M: Mode<'s>, B: Body + 's>(
     alloc: Global,
     built: &Built,
     slots: &mut [Option<B>],
     state: &mut OpenState,
+    left: &mut Left,
     pool: &mut Pool<B>,
     mode: &M,
     system: u32,
     number: u64,
 ) -> Result<(), RunFault>
-    requires known { system < length built.now.systems }
+    requires allowed { CanBegin built.now system left.old pool.old state.old }
     requires placed { (bodies : List BodyMeaning) × Placed B.meaning B.fits (M.has_scope mode.now) built.now bodies slots.old pool.old state.old }
-    requires home { has system (systems_of pool.old) ≡ false }
-    requires apart { AllByRecursion (IsApartFrom (params_of built.now system) state.old.layout) (lent_in (held_by pool.old)) }
-    ensures started { OnOk result ((bodies : List BodyMeaning) → interleaved_step built.now bodies (Begin system) (woven state.old.state pool.old) ≡ Some (woven state.new.state pool.new)) }
+    requires hand { InHand built.now left.old pool.old state.old }
+    ensures started { OnOk result ((bodies : List BodyMeaning) → interleaved_step built.now bodies (Begin system) (woven state.old.state left.old pool.old) ≡ Some (woven state.new.state left.new pool.new)) }
     ensures placed { OnOk result ((bodies : List BodyMeaning) → Placed B.meaning B.fits (M.has_scope mode.now) built.now bodies slots.old pool.old state.old → Placed B.meaning B.fits (M.has_scope mode.now) built.now bodies slots.new pool.new state.new) }
+    ensures hand { OnOk result (InHand built.now left.new pool.new state.new) }
     ensures longer { OnOk result (length pool.new ≡ length pool.old + 1) }
     ensures worker { result ≡ Err RunFault.NoWorker → M.has_scope mode.now ≡ true }
     ensures spent { result ≡ Err RunFault.ClockSpent → has_tick state.old.state ≡ false }
+    ensures ids { result ≡ Err RunFault.IdsSpent → (has_tick state.old.state ≡ true) × (has_ids_at_start built.now system state.old.state ≡ false) }
     ensures unspoiled { result ≡ Err RunFault.Spoiled → ⊥ }
     ensures unrefused { (k : ℕ) → result ≡ Err (RunFault.BodyFault k) → ⊥ }
 {
-    built.params(system).law();
     state.law();
-    let view = prepare(alloc, built, state, system)?;
+    let shown = show(alloc, built, state, left, system)?;
+    let view = Box::new(alloc, shown)?;
     let body = take_body(slots, system as usize);
     match pool.hand_out(
         mode,
@@ -189,44 +162,50 @@ pub(crate) fn start<'s, M: Mode<'s>, B: Body + 's>(
     }
 }
 
-/// A finish: a job comes back, its body is put in its place, its outcome is laid over the state, and its events are sent. The system that has
-/// ended.
+/// A finish: a job comes back, its body is put in its place, its outcome is laid over the state, its events are sent, and its commands are
+/// kept. The system that has ended.
 pub(crate) fn finish<'s, M: Mode<'s>, B: Body + 's>(
     built: &Built,
     slots: &mut [Option<B>],
     state: &mut OpenState,
+    left: &mut Left,
     pool: &mut Pool<B>,
     mode: &M,
 ) -> Result<u32, RunFault>
     requires out { 0 < length pool.old }
     requires placed { (bodies : List BodyMeaning) × Placed B.meaning B.fits (M.has_scope mode.now) built.now bodies slots.old pool.old state.old }
+    requires suits { IsLeftFor built.now left.old }
     ensures running { IfOk result (λ n. (job : JobOut B) × IsIn job pool.old × (job.system ≡ n)) }
-    ensures finished { IfOk result (λ n. (bodies : List BodyMeaning) → Placed B.meaning B.fits (M.has_scope mode.now) built.now bodies slots.old pool.old state.old → interleaved_step built.now bodies (Finish n) (woven state.old.state pool.old) ≡ Some (woven state.new.state pool.new)) }
+    ensures finished { IfOk result (λ n. (bodies : List BodyMeaning) → Placed B.meaning B.fits (M.has_scope mode.now) built.now bodies slots.old pool.old state.old → interleaved_step built.now bodies (Finish n) (woven state.old.state left.old pool.old) ≡ Some (woven state.new.state left.new pool.new)) }
     ensures placed { OnOk result ((bodies : List BodyMeaning) → Placed B.meaning B.fits (M.has_scope mode.now) built.now bodies slots.old pool.old state.old → Placed B.meaning B.fits (M.has_scope mode.now) built.now bodies slots.new pool.new state.new) }
+    ensures hand { OnOk result ((bodies : List BodyMeaning) → Placed B.meaning B.fits (M.has_scope mode.now) built.now bodies slots.old pool.old state.old → AllKeepWithin built.now bodies → InHand built.now left.old pool.old state.old → InHand built.now left.new pool.new state.new) }
     ensures shorter { OnOk result (length pool.new + 1 ≡ length pool.old) }
     ensures worker { result ≡ Err RunFault.NoWorker → M.has_scope mode.now ≡ true }
-    ensures refused { (k : ℕ) → result ≡ Err (RunFault.BodyFault k) → (bodies : List BodyMeaning) → Placed B.meaning B.fits (M.has_scope mode.now) built.now bodies slots.old pool.old state.old → (job : JobOut B) × IsIn job pool.old × (interleaved_cause_of built.now bodies (Finish job.system) (woven state.old.state pool.old) ≡ Some (cause.Refused k)) }
-    ensures spent { result ≡ Err RunFault.ClockSpent → (bodies : List BodyMeaning) → Placed B.meaning B.fits (M.has_scope mode.now) built.now bodies slots.old pool.old state.old → (job : JobOut B) × IsIn job pool.old × (interleaved_cause_of built.now bodies (Finish job.system) (woven state.old.state pool.old) ≡ Some cause.NoEventNumber) }
+    ensures refused { (k : ℕ) → result ≡ Err (RunFault.BodyFault k) → (bodies : List BodyMeaning) → Placed B.meaning B.fits (M.has_scope mode.now) built.now bodies slots.old pool.old state.old → (job : JobOut B) × IsIn job pool.old × (interleaved_cause_of built.now bodies (Finish job.system) (woven state.old.state left.old pool.old) ≡ Some (cause.Refused k)) }
+    ensures spent { result ≡ Err RunFault.ClockSpent → (bodies : List BodyMeaning) → Placed B.meaning B.fits (M.has_scope mode.now) built.now bodies slots.old pool.old state.old → (job : JobOut B) × IsIn job pool.old × (interleaved_cause_of built.now bodies (Finish job.system) (woven state.old.state left.old pool.old) ≡ Some cause.NoEventNumber) }
+    ensures granted { result ≡ Err RunFault.IdsSpent → ⊥ }
     ensures unspoiled { result ≡ Err RunFault.Spoiled → ⊥ }
 {
     let Some(done) = pool.bring_back(mode) else {
         return Err(RunFault::NoWorker);
     };
     let system = done.system;
-    settle(built, slots, state, done)?;
+    settle(built, slots, state, left, done)?;
     Ok(system)
 }
 
-// A job that came back: its body is put in its place, its outcome laid over the state, and its events are sent.
+// A job that came back: its body is put in its place, its outcome laid over the state, its events are sent, and its commands kept.
 fn settle<B: Body>(
     built: &Built,
     slots: &mut [Option<B>],
     state: &mut OpenState,
+    left: &mut Left,
     done: Done<B>,
 ) -> Result<(), RunFault>
     requires known { done.system < length built.now.systems }
     requires slot { done.system < length slots.old }
     requires memory { done.system < length state.old.state.systems }
+    requires place { done.system < length left.old.commands }
     requires lent { AreLent (store_of state.old) done.view.value.opening.taken }
     requires past { done.view.value.opening.tick ≤ state.old.state.world.clock }
     ensures numbers { OnOk result (has_event_numbers (events_sent done.view.value.params.writes done.view.value.outcome.events) state.old.state.events ≡ true) }
@@ -234,9 +213,10 @@ fn settle<B: Body>(
     ensures slots { OnOk result (slots.new ≡ set slots.old done.system (Some done.body)) }
     ensures laid { OnOk result (state.new ≡ record { state = laid done.system done.view.value.opening.tick done.view.value state.old.state; layout = with_back (lent_in done.view.value.opening.taken) state.old.layout }) }
     ensures held { OnOk result ((front rest : List (List Column)) → AreOut (store_of state.old) (front ++ (done.view.value.opening.taken ++ rest)) → AreOut (store_of state.new) (front ++ rest)) }
-    ensures commands { done.view.value.outcome.commands ≡ [] }
+    ensures left { OnOk result (left.new ≡ with_commands done.system done.view.value.outcome.commands left.old) }
     ensures refused { (k : ℕ) → result ≡ Err (RunFault.BodyFault k) → done.answer ≡ Err (Refused k) }
     ensures spent { result ≡ Err RunFault.ClockSpent → (done.answer ≡ Ok tt) × (has_event_numbers (events_sent done.view.value.params.writes done.view.value.outcome.events) state.old.state.events ≡ false) }
+    ensures granted { result ≡ Err RunFault.IdsSpent → ⊥ }
     ensures unspoiled { result ≡ Err RunFault.Spoiled → ⊥ }
     ensures unworked { result ≡ Err RunFault.NoWorker → ⊥ }
 {
@@ -246,11 +226,11 @@ fn settle<B: Body>(
         view,
         answer,
     } = done;
-    view.law();
     slots[system as usize] = Some(body);
     match answer {
         Ok(()) => {
-            state.close(Box::into_inner(view), system as usize)?;
+            let commands = state.close(Box::into_inner(view), system as usize)?;
+            left.keep(system as usize, commands);
             Ok(())
         }
         Err(BodyFault::Memory) => Err(RunFault::Memory),

@@ -13,6 +13,7 @@ use crate::coordinator::run_times;
 use crate::faults::{NewFault, RunFault};
 use crate::first_state::lacks_memories;
 use crate::fitting::{first_misfit, placed};
+use crate::left::Left;
 use body::state::State;
 use body::system_body::Body;
 use executor_core::Trace;
@@ -30,12 +31,14 @@ pub struct Engine<B: Body> {
     built: Built,
     bodies: Vec<Option<B>>,
     state: State,
+    left: Left,
     spoiled: bool,
 }
 
 impl<B: Body> Model for Engine<B> {
     ghost use Rattle.std.specs.Prelude.{◌≡◌, false};
     ghost use Rattle.engine.specs.EngineValue.{EngineValue, engine_code};
+    ghost use Rattle.engine.specs.Left.{IsLeftFor};
     ghost use Rattle.engine.specs.Meanings.{meanings, AllKeepWithin, Suits};
 
     ghost Value = { EngineValue B };
@@ -44,7 +47,7 @@ impl<B: Body> Model for Engine<B> {
 
     ghost view = { λ e. record { schedule = e.built; bodies = e.bodies.items; state = e.state; spoiled = e.spoiled } };
 
-    ghost invariant = { λ e. e.spoiled ≡ false → Suits B.fits e.built e.bodies.items e.state × AllKeepWithin e.built (meanings B.meaning e.built e.bodies.items) };
+    ghost invariant = { λ e. e.spoiled ≡ false → Suits B.fits e.built e.bodies.items e.state × AllKeepWithin e.built (meanings B.meaning e.built e.bodies.items) × IsLeftFor e.built e.left };
 }
 
 impl<B: Body> Engine<B> {
@@ -67,17 +70,21 @@ impl<B: Body> Engine<B> {
         let Ok(bodies) = placed(alloc, bodies) else {
             return Err(NewFault::Memory);
         };
+        let Ok(left) = Left::new(alloc, &built) else {
+            return Err(NewFault::Memory);
+        };
         Ok(Engine {
             built,
             bodies,
             state,
+            left,
             spoiled: false,
         })
     }
 
     /// Runs the schedule so many times, in the mode: each run opens, does what is ready while fewer systems run than the mode has room for,
     /// waits for one that ends else, and answers its trace once all have ended. `Memory` where memory is wanting, `ClockSpent` where a step
-    /// has no next tick or an event no number, `BodyFault` where a body refuses, `NoWorker` where a thread couldn't be started; each spoils the engine, and from
+    /// has no next tick or an event no number, `IdsSpent` where a start lacks its ids, `BodyFault` where a body refuses, `NoWorker` where a thread couldn't be started; each spoils the engine, and from
     /// then on every run answers `Spoiled` and changes nothing. What the state is after a fault isn't said: that of the run is gone. Where the
     /// schedule is settled, the state agrees with what any as many runs with true answers leave of any state that agrees with the one before.
     pub fn run<'s, M: Mode<'s>>(
@@ -93,8 +100,10 @@ impl<B: Body> Engine<B> {
         ensures single { IfOk result (λ traces. M.width mode.now ≡ 1 → AreSingleRuns self.old.schedule (meanings B.meaning self.old.schedule self.old.bodies) self.old.state (map history_of traces.items) self.new.state) }
         ensures agreement { IfOk result (λ traces. AgreesWithAll widths self.old.schedule (meanings B.meaning self.old.schedule self.old.bodies) self.old.state times self.new.state) }
         ensures clock { result ≡ Err RunFault.ClockSpent → IsWideStopped (M.width mode.now) self.old.schedule (meanings B.meaning self.old.schedule self.old.bodies) times self.old.state Cause.NoTick ⊎ IsWideStopped (M.width mode.now) self.old.schedule (meanings B.meaning self.old.schedule self.old.bodies) times self.old.state Cause.NoEventNumber }
+        ensures ids { result ≡ Err RunFault.IdsSpent → IsWideStopped (M.width mode.now) self.old.schedule (meanings B.meaning self.old.schedule self.old.bodies) times self.old.state Cause.NoIds }
         ensures refusal { (k : ℕ) → result ≡ Err (RunFault.BodyFault k) → IsWideStopped (M.width mode.now) self.old.schedule (meanings B.meaning self.old.schedule self.old.bodies) times self.old.state (Cause.Refused k) }
         ensures single_clock { result ≡ Err RunFault.ClockSpent → M.width mode.now ≡ 1 → IsStopped self.old.schedule (meanings B.meaning self.old.schedule self.old.bodies) times self.old.state Cause.NoTick ⊎ IsStopped self.old.schedule (meanings B.meaning self.old.schedule self.old.bodies) times self.old.state Cause.NoEventNumber }
+        ensures single_ids { result ≡ Err RunFault.IdsSpent → M.width mode.now ≡ 1 → IsStopped self.old.schedule (meanings B.meaning self.old.schedule self.old.bodies) times self.old.state Cause.NoIds }
         ensures single_refusal { (k : ℕ) → result ≡ Err (RunFault.BodyFault k) → M.width mode.now ≡ 1 → IsStopped self.old.schedule (meanings B.meaning self.old.schedule self.old.bodies) times self.old.state (Cause.Refused k) }
         ensures defined { M.width mode.now ≡ 1 → HasRuns self.old.schedule (meanings B.meaning self.old.schedule self.old.bodies) times self.old.state → IsOk result ⊎ IsErrOf result RunFault.Memory ⊎ IsErrOf result RunFault.NoWorker ⊎ IsErrOf result RunFault.Spoiled }
         ensures worker { result ≡ Err RunFault.NoWorker → M.has_scope mode.now ≡ true }
@@ -127,8 +136,10 @@ fn run_engine<'s, M: Mode<'s>, B: Body + 's>(
     ensures single { IfOk result (λ traces. M.width mode.now ≡ 1 → AreSingleRuns engine.old.schedule (meanings B.meaning engine.old.schedule engine.old.bodies) engine.old.state (map history_of traces.items) engine.new.state) }
     ensures agreement { IfOk result (λ traces. AgreesWithAll widths engine.old.schedule (meanings B.meaning engine.old.schedule engine.old.bodies) engine.old.state times engine.new.state) }
     ensures clock { result ≡ Err RunFault.ClockSpent → IsWideStopped (M.width mode.now) engine.old.schedule (meanings B.meaning engine.old.schedule engine.old.bodies) times engine.old.state Cause.NoTick ⊎ IsWideStopped (M.width mode.now) engine.old.schedule (meanings B.meaning engine.old.schedule engine.old.bodies) times engine.old.state Cause.NoEventNumber }
+    ensures ids { result ≡ Err RunFault.IdsSpent → IsWideStopped (M.width mode.now) engine.old.schedule (meanings B.meaning engine.old.schedule engine.old.bodies) times engine.old.state Cause.NoIds }
     ensures refusal { (k : ℕ) → result ≡ Err (RunFault.BodyFault k) → IsWideStopped (M.width mode.now) engine.old.schedule (meanings B.meaning engine.old.schedule engine.old.bodies) times engine.old.state (Cause.Refused k) }
     ensures single_clock { result ≡ Err RunFault.ClockSpent → M.width mode.now ≡ 1 → IsStopped engine.old.schedule (meanings B.meaning engine.old.schedule engine.old.bodies) times engine.old.state Cause.NoTick ⊎ IsStopped engine.old.schedule (meanings B.meaning engine.old.schedule engine.old.bodies) times engine.old.state Cause.NoEventNumber }
+    ensures single_ids { result ≡ Err RunFault.IdsSpent → M.width mode.now ≡ 1 → IsStopped engine.old.schedule (meanings B.meaning engine.old.schedule engine.old.bodies) times engine.old.state Cause.NoIds }
     ensures single_refusal { (k : ℕ) → result ≡ Err (RunFault.BodyFault k) → M.width mode.now ≡ 1 → IsStopped engine.old.schedule (meanings B.meaning engine.old.schedule engine.old.bodies) times engine.old.state (Cause.Refused k) }
     ensures defined { M.width mode.now ≡ 1 → HasRuns engine.old.schedule (meanings B.meaning engine.old.schedule engine.old.bodies) times engine.old.state → IsOk result ⊎ IsErrOf result RunFault.Memory ⊎ IsErrOf result RunFault.NoWorker ⊎ IsErrOf result RunFault.Spoiled }
     ensures worker { result ≡ Err RunFault.NoWorker → M.has_scope mode.now ≡ true }
@@ -150,6 +161,7 @@ fn run_engine<'s, M: Mode<'s>, B: Body + 's>(
         &engine.built,
         &mut engine.bodies,
         &mut state,
+        &mut engine.left,
         times,
         mode,
     );

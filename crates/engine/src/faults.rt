@@ -2,8 +2,9 @@
 
 ghost use Rattle.std.specs.Prelude.{◌≡◌};
 ghost use Rattle.engine.specs.declared.faults.RunFault.TheVariants.{Memory, ClockSpent as Spent};
-ghost use Rattle.engine.specs.Faults.{fault_of_send};
+ghost use Rattle.engine.specs.Faults.{fault_of_grant, fault_of_send};
 
+use archetype_store::fault::GrantFault;
 use change_ticks::clock::ClockSpent;
 use event_buffers::queue::SendFault;
 use std::alloc::{AllocError, AllocFailed};
@@ -32,6 +33,9 @@ pub enum RunFault {
     /// The clock gives no further tick, or the events of a kind no further number.
     #[error("the clock is spent")]
     ClockSpent,
+    /// There are fewer vacant indices than a system is granted ids at its start.
+    #[error("the ids are spent")]
+    IdsSpent,
     /// An earlier run stopped.
     #[error("the engine is spoiled")]
     Spoiled,
@@ -74,6 +78,17 @@ impl From<SendFault> for RunFault {
         match error {
             SendFault::NumbersSpent => RunFault::ClockSpent,
             SendFault::Memory => RunFault::Memory,
+        }
+    }
+}
+
+impl From<GrantFault> for RunFault {
+    ghost from_gives = { λ error fault. fault ≡ fault_of_grant error };
+
+    fn from(error: GrantFault) -> Self {
+        match error {
+            GrantFault::IdsSpent => RunFault::IdsSpent,
+            GrantFault::Memory => RunFault::Memory,
         }
     }
 }

@@ -7,6 +7,9 @@ pub mod engine;
 pub mod faults;
 pub mod first_state;
 pub mod fitting;
+pub mod granting;
+pub mod left;
+pub mod showing;
 pub mod turn;
 
 pub use engine::Engine;

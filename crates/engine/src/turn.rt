@@ -14,6 +14,8 @@ pub enum Turn {
     Start(u32),
     /// Does what no body is needed for.
     Quiet(Quiet),
+    /// Does this sync point.
+    Sync(u32),
     /// Takes a job that comes back.
     Collect,
 }
@@ -25,8 +27,6 @@ pub enum Quiet {
     Ask(u32),
     /// Skips this system.
     Skip(u32),
-    /// Does this sync point.
-    Sync(u32),
 }
 
 /// What is next with so many systems running and room for so many: what is ready where there is room, else a job that comes back. None
@@ -50,6 +50,6 @@ pub(crate) fn next_turn(core: &Core<'_>, running: usize, width: usize) -> Option
         Ready::Start(system) => Some(Turn::Start(system)),
         Ready::Ask(condition) => Some(Turn::Quiet(Quiet::Ask(condition))),
         Ready::Skip(system) => Some(Turn::Quiet(Quiet::Skip(system))),
-        Ready::Sync(point) => Some(Turn::Quiet(Quiet::Sync(point))),
+        Ready::Sync(point) => Some(Turn::Sync(point)),
     }
 }

@@ -13,9 +13,9 @@ abbrev view_of : Params → Shown → Outcome → Seen
 view_of params shown o = record { params = params; shown = shown; outcome = o; opening = record { taken = []; tick = 0 } }
 
 pub tallied_keeps : (params : Params) → KeepsWithin params (λ seen. Ok (tallied params seen))
-tallied_keeps params = keeps_ok params (tallied params) (λ seen h r.
+tallied_keeps params = keeps_ok params (tallied params) (λ seen can.
     let first = view_of params seen (untouched params seen) in
-    IsWithin-with_register (view_of params seen (with_resource first total _).outcome) 0 _ (IsWithin-with_resource first total _ (IsWithin-untouched params seen h r)))
+    IsWithin-with_register (view_of params seen (with_resource first total _).outcome) 0 _ (IsWithin-with_resource first total _ (IsWithin-untouched params seen can.rows can.registers)))
 
 pub answered_keeps : (params : Params) (refusal : Option ℕ) → KeepsWithin params (λ seen. elim refusal [ None ↦ Ok (untouched params seen) | Some number ↦ Err number ])
 answered_keeps params None = keeps_untouched params

@@ -15,7 +15,7 @@ use schedule_builder::builder::build;
 use schedule_builder::desc::{ScheduleDesc, SystemDesc};
 use script::fault::{Cause, CheckFault, ScriptFault};
 use script::instruction::{Instruction, Operation, Relation};
-use script::operands::{Axis, Field, Source, Target};
+use script::operands::{Axis, Field, Source, Subject, Target, Values};
 use script::script_body::{Block, Rounds, ScriptBody};
 use std::alloc::{AllocError, Global};
 use std::test::Fail;
@@ -100,6 +100,56 @@ fn an_emission(rt: HostRuntime) -> Result<(), Fail> {
 }
 
 #[test]
+fn inserts(rt: HostRuntime) -> Result<(), Fail> {
+    let row = Subject::Row;
+    let first = Subject::Granted(1);
+    let two = Values::Two(Source::Integer(-1), Source::Register(2));
+    for (text, subject, kind, values) in [
+        ("insert row Position -1 r2", row, Kind::Position, two),
+        ("insert g1 Frozen", first, Kind::Frozen, Values::Empty),
+        (
+            "insert g1 Health 1 event Total",
+            first,
+            Kind::Health,
+            Values::Many,
+        ),
+    ] {
+        let insert = Instruction::read(rt.alloc(), text)?;
+        let wanted = Instruction::Insert {
+            subject,
+            kind,
+            values,
+        };
+        assert_eq!(rt; insert, wanted, "at {text}");
+    }
+    Ok(())
+}
+
+#[test]
+fn other_commands(rt: HostRuntime) -> Result<(), Fail> {
+    let row = Subject::Row;
+    let first = Subject::Granted(0);
+    for (text, wanted) in [
+        (
+            " spawn  g04294967295",
+            Instruction::Spawn { slot: u32::MAX },
+        ),
+        (
+            "remove row Team",
+            Instruction::Remove {
+                subject: row,
+                kind: Kind::Team,
+            },
+        ),
+        ("despawn g0 ", Instruction::Despawn { subject: first }),
+    ] {
+        let command = Instruction::read(rt.alloc(), text)?;
+        assert_eq!(rt; command, wanted, "at {text}");
+    }
+    Ok(())
+}
+
+#[test]
 fn other_texts_are_no_instruction(rt: HostRuntime) {
     for text in [
         "set Position.x +1",
@@ -119,6 +169,17 @@ fn other_texts_are_no_instruction(rt: HostRuntime) {
         "has Frozen r0",
         "emit Total 1",
         "set event 1",
+        "spawn row",
+        "spawn g",
+        "spawn g4294967296",
+        "spawn g0 g1",
+        "insert row",
+        "insert Position row 1 2",
+        "insert row Position 1 x",
+        "insert row Position 1 2 3 x",
+        "remove row Total",
+        "remove row Team 1",
+        "despawn r0",
         "",
     ] {
         assert_eq!(rt;
@@ -297,6 +358,99 @@ fn tells_events_that_are_not_declared(rt: HostRuntime) -> Result<(), Fail> {
             refused(rt.alloc(), rounds, text)?,
             CheckFault::Script(ScriptFault {
                 cause: Cause::NotDeclared,
+                block: 0,
+                instruction: 0
+            }),
+            "at {text}"
+        );
+    }
+    Ok(())
+}
+
+// What is refused of blocks, each of one instruction, for a system with Commands, three ids, and two queries of which the first shows
+// entities.
+fn refused_command(alloc: Global, blocks: &[(Rounds, &str)]) -> Result<Option<CheckFault>, Fail> {
+    let mut params = Params::new(alloc);
+    params.add_query(Query::of_terms(alloc, &[Term::Entity, Term::Read(Kind::Health)])?)?;
+    params.add_query(Query::of_terms(alloc, &[Term::Read(Kind::Team)])?)?;
+    params.set_spawns(3);
+    let mut list = Vec::new(alloc);
+    for (rounds, text) in blocks {
+        let mut code = Vec::new(alloc);
+        code.push(Instruction::read(alloc, text)?)?;
+        list.push(Block {
+            rounds: *rounds,
+            code,
+        })?;
+    }
+    Ok(ScriptBody::check(alloc, &params, list).err())
+}
+
+#[test]
+fn tells_commands_that_are_refused(rt: HostRuntime) -> Result<(), Fail> {
+    for (rounds, text, cause) in [
+        (Rounds::Once, "despawn row", Cause::NotFetched),
+        (Rounds::EachRow(1), "remove row Team", Cause::NotFetched),
+        (
+            Rounds::EachRow(0),
+            "insert row Score Team.v",
+            Cause::NotFetched,
+        ),
+        (Rounds::EachRow(0), "insert g9 Health", Cause::NoField),
+        (Rounds::Once, "insert g0 Health 1 2 3", Cause::NoField),
+        (Rounds::Once, "insert g0 Frozen 1", Cause::NoField),
+        (Rounds::Once, "spawn g3", Cause::NotGranted),
+        (Rounds::EachRow(0), "spawn g0", Cause::NotGranted),
+        (Rounds::Once, "remove g3 Health", Cause::NotGranted),
+    ] {
+        assert_eq!(rt;
+            refused_command(rt.alloc(), &[(rounds, text)])?,
+            Some(CheckFault::Script(ScriptFault {
+                cause,
+                block: 0,
+                instruction: 0
+            })),
+            "at {text}"
+        );
+    }
+    Ok(())
+}
+
+#[test]
+fn tells_a_slot_that_is_spawned_twice(rt: HostRuntime) -> Result<(), Fail> {
+    let once = Rounds::Once;
+    let each = Rounds::EachRow(0);
+    let fine = [
+        (once, "spawn g2"),
+        (each, "insert row Score Health.v"),
+        (once, "spawn g1"),
+        (each, "despawn g1"),
+    ];
+    assert_eq!(rt; refused_command(rt.alloc(), fine.as_slice())?, None);
+    let twice = [(once, "spawn g2"), (once, "spawn g1"), (once, "spawn g2")];
+    assert_eq!(rt;
+        refused_command(rt.alloc(), twice.as_slice())?,
+        Some(CheckFault::Script(ScriptFault {
+            cause: Cause::NotGranted,
+            block: 2,
+            instruction: 0
+        }))
+    );
+    Ok(())
+}
+
+#[test]
+fn tells_commands_without_commands(rt: HostRuntime) -> Result<(), Fail> {
+    for text in [
+        "spawn g0",
+        "insert g0 Health 1",
+        "remove g0 Health",
+        "despawn g0",
+    ] {
+        assert_eq!(rt;
+            refused(rt.alloc(), Rounds::Once, text)?,
+            CheckFault::Script(ScriptFault {
+                cause: Cause::NotGranted,
                 block: 0,
                 instruction: 0
             }),

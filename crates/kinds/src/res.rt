@@ -151,17 +151,3 @@ impl fmt::Display for Event {
         f.write_str(self.name())
     }
 }
-
-#[cfg(test)]
-mod tests {
-    use super::*;
-
-    #[test]
-    fn names(rt: HostRuntime) {
-        assert_eq!(rt; Res::named("Gravity"), Some(Res::Gravity));
-        assert_eq!(rt; Res::named("gravity"), None);
-        assert_eq!(rt; Res::Step.name(), "Step");
-        assert_eq!(rt; Event::named("Spark"), Some(Event::Spark));
-        assert_eq!(rt; Event::named("Gravity"), None);
-    }
-}

@@ -26,27 +26,3 @@ fn push_verdict(text: &mut String, number: usize, verdict: Verdict) -> Result<()
 {
     writeln!(text, "run {number} {verdict}")
 }
-
-#[cfg(test)]
-mod tests {
-    use super::*;
-    use model::steps::StepFault;
-    use std::test::Fail;
-
-    #[test]
-    fn verdicts_are_printed(rt: HostRuntime) -> Result<(), Fail> {
-        let verdicts = [
-            Verdict::Complete,
-            Verdict::Unfinished,
-            Verdict::Bad(3, StepFault::NotRunning),
-            Verdict::Bad(10, StepFault::Unknown),
-        ];
-        let text = text_of_check(rt.alloc(), &verdicts)?;
-        assert_eq!(rt;
-            text.as_str(),
-            "run 1 complete\nrun 2 unfinished\nrun 3 bad 3 S8\nrun 4 bad 10 S1\n"
-        );
-        assert_eq!(rt; text_of_check(rt.alloc(), &[])?.as_str(), "");
-        Ok(())
-    }
-}

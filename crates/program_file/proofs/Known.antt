@@ -1,5 +1,5 @@
 -- The keys of a table, and those that are known.
-use Rattle.std.proofs.Common.{◌≡◌, ◌∙◌, ◌↔◌, ℕ, zero, suc, ◌<◌, Bool, true, false, List, [], ◌∷◌, length, map, get_or, Bor, MatchBool, IsTrue, String, Global, string_bytes, ap, refl, arith}
+use Rattle.std.proofs.Common.{◌∙◌, ◌↔◌, ℕ, zero, suc, ◌<◌, Bool, true, false, List, [], ◌∷◌, length, map, get_or, Bor, MatchBool, IsTrue, String, Global, string_bytes, ap, refl, arith}
 use Rattle.std.proofs.lemmas.Bool.{false≢true}
 use Rattle.std.proofs.lemmas.List.{length-map, get_or-map}
 use Rattle.std.specs.List.{AllWithin, HoldsAt, Contains}

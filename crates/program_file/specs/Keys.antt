@@ -1,5 +1,5 @@
 -- What is at the keys of a table.
-use Rattle.std.specs.Prelude.{◌≡◌, ℕ, ℤ, pos, Bool, false, List, map, String, Option, Some, None}
+use Rattle.std.specs.Prelude.{◌≡◌, ◌<◌, ◌^◌, ℕ, ℤ, pos, Bool, false, List, map, String, Option, Some, None}
 use Rattle.std.specs.Borrow.{Bor}
 use Rattle.std.specs.BTreeMap.{BTreeMap}
 use Rattle.std.specs.List.{Contains}
@@ -79,6 +79,11 @@ HasText key text owner = get_member key owner ≡ Some (string text)
 -- this integer is at the key, or no value and it is 0
 abbrev pub HasInteger : List ℕ → ℤ → Members → Type 0
 HasInteger key n owner = integer_in (get_member key owner) ≡ Some n
+
+-- this number of 32 bits is at the key, or no value and none
+abbrev pub HasNumber : List ℕ → Option ℕ → Members → Type 0
+HasNumber key None owner = get_member key owner ≡ None
+HasNumber key (Some n) owner = (n < 2 ^ 32) × (get_member key owner ≡ Some (integer (pos n)))
 
 -- the value is an array of these integers
 abbrev pub AreIntegers : List ℤ → Data → Type 0

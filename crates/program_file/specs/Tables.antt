@@ -14,7 +14,7 @@ use Rattle.run_condition.specs.Grammar.{IsCondition}
 use Rattle.run_condition.specs.declared.cond.Cond.{Cond}
 use Rattle.script.specs.Instruction.{IsInstruction}
 use Rattle.script.specs.declared.script_body.Block.{Block}
-use Rattle.program_file.specs.Keys.{HasOnly, HasTable, HasTables, HasTexts, HasNames, HasResources, HasEvents, HasText, HasInteger, HasFlag, AreIntegers}
+use Rattle.program_file.specs.Keys.{HasOnly, HasTable, HasTables, HasTexts, HasNames, HasResources, HasEvents, HasText, HasInteger, HasNumber, HasFlag, AreIntegers}
 use Rattle.program_file.specs.Readings.{AreSpelled}
 use Rattle.program_file.specs.Rounds.{SaysRounds, block_keys}
 use Rattle.program_file.specs.declared.program_file.BlockTexts.{BlockTexts}
@@ -32,7 +32,7 @@ abbrev pub keys_of_set : List (List ℕ)
 keys_of_set = codes "name" ∷ codes "in" ∷ codes "before" ∷ codes "after" ∷ codes "before_ignore_deferred" ∷ codes "after_ignore_deferred" ∷ codes "ambiguous_with" ∷ codes "if" ∷ []
 
 abbrev pub keys_of_system : List (List ℕ)
-keys_of_system = keys_of_set ++ codes "query" ∷ codes "res" ∷ codes "res_mut" ∷ codes "reads" ∷ codes "writes" ∷ codes "do" ∷ []
+keys_of_system = keys_of_set ++ codes "query" ∷ codes "res" ∷ codes "res_mut" ∷ codes "reads" ∷ codes "writes" ∷ codes "spawns" ∷ codes "do" ∷ []
 
 abbrev pub keys_of_chain : List (List ℕ)
 keys_of_chain = codes "items" ∷ codes "ignore_deferred" ∷ []
@@ -102,12 +102,13 @@ pub record IsChainIn (table : Members) (chain : ChainTable) : Type 0 where
   pub items : HasNames (codes "items") chain.items.items table
   pub ignores_deferred : HasFlag (codes "ignore_deferred") chain.ignores_deferred table
 
--- the resources and the event kinds of a system
+-- the resources and the event kinds of a system, and how many ids it is granted at a start, where it has Commands
 pub record IsTouchedIn (table : Members) (system : SystemTable) : Type 0 where
   pub res : HasResources (codes "res") system.res.items table
   pub res_mut : HasResources (codes "res_mut") system.res_mut.items table
   pub reads : HasEvents (codes "reads") system.reads.items table
   pub writes : HasEvents (codes "writes") system.writes.items table
+  pub spawns : HasNumber (codes "spawns") system.spawns table
 
 -- queries, each the only one that its text spells
 pub record AreQueriesIn (table : Members) (queries : List Query) : Type 0 where

@@ -52,25 +52,3 @@ impl<T: Drop> From<AllocFailed<T>> for FileFault {
         FileFault::Memory
     }
 }
-
-#[cfg(test)]
-mod tests {
-    use super::*;
-    use std::test::Fail;
-
-    #[test]
-    fn faults_are_told_in_one_line(rt: HostRuntime) -> Result<(), Fail> {
-        for (fault, line) in [
-            (FileFault::Document, "refused P1"),
-            (FileFault::Value(Place::Top), "refused P2 top"),
-            (FileFault::Value(Place::Resources), "refused P2 resources"),
-            (FileFault::Value(Place::Entity(0)), "refused P2 entity 0"),
-            (FileFault::Text(Place::System(12)), "refused P3 system 12"),
-            (FileFault::Memory, "error memory"),
-        ] {
-            let told = fault.to_string(rt.alloc())?;
-            assert_eq!(rt; told.as_str(), line);
-        }
-        Ok(())
-    }
-}

@@ -1,9 +1,11 @@
 // The keys of a table of a program file, each read by its type.
 
-ghost use Rattle.std.specs.Prelude.{◌≡◌, IfOk, IfErr, IsTrue, ◌↔◌, All, map, option_map};
+ghost use Rattle.std.specs.Prelude.{◌≡◌, ℕ, Option, IfOk, IfErr, IsTrue, ◌↔◌, All, map, option_map};
 ghost use Rattle.toml.specs.Data.{get_member, string, integer, array};
 ghost use Rattle.toml.specs.View.{view, table_view, items_of};
-ghost use Rattle.program_file.specs.Keys.{HasOnly, HasItems, HasTable, HasTables, HasNames, IsTable, HasResources, HasEvents, HasText, HasInteger, HasFlag, AreIntegers, lent_members};
+ghost use Rattle.program_file.specs.Keys.{HasOnly, HasItems, HasTable, HasTables, HasNames, IsTable, HasResources, HasEvents, HasText, HasInteger, HasNumber, HasFlag, AreIntegers, lent_members};
+ghost use Rattle.program_file.specs.Rounds.{IsNumber};
+ghost use Rattle.texts.specs.Reads.{Reads};
 ghost use Rattle.program_file.specs.PlaceFault.{IsNoText};
 ghost use Rattle.program_file.specs.Name.{IsName, IsAmong};
 
@@ -226,5 +228,26 @@ pub fn flag_at(table: &Table, key: &str) -> Result<bool, PlaceFault>
     match value_at(table, key) {
         None => Ok(false),
         Some(value) => value.as_bool().ok_or(PlaceFault::Value),
+    }
+}
+
+/// The number of 32 bits that a value is.
+pub fn number_of(value: &Value) -> Option<u32>
+    ensures { Reads IsNumber (view value.now) result }
+{
+    u32::try_from(value.as_integer()?).ok()
+}
+
+/// The number of 32 bits at a key, if there is a value. Another value there is `Value`.
+pub fn number_at(table: &Table, key: &str) -> Result<Option<u32>, PlaceFault>
+    ensures ok { IfOk result (λ number. HasNumber key.now number (table_view table.now)) }
+    ensures refused { IfErr result (λ fault. (fault ≡ PlaceFault.Value) × ((number : Option ℕ) → HasNumber key.now number (table_view table.now) → ⊥)) }
+{
+    match value_at(table, key) {
+        None => Ok(None),
+        Some(value) => match number_of(value) {
+            Some(number) => Ok(Some(number)),
+            None => Err(PlaceFault::Value),
+        },
     }
 }

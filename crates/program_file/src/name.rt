@@ -29,26 +29,3 @@ fn is_name_byte(byte: u8) -> bool
 {
     byte.is_ascii_lowercase() || byte.is_ascii_digit() || byte == b'_'
 }
-
-#[cfg(test)]
-mod tests {
-    use super::*;
-
-    #[test]
-    fn names(rt: HostRuntime) {
-        for (text, want) in [
-            ("a", true),
-            ("move_2", true),
-            ("abcdefghijklmnopqrstuvwxyz_01234", true),
-            ("abcdefghijklmnopqrstuvwxyz_012345", false),
-            ("", false),
-            ("A", false),
-            ("_a", false),
-            ("2a", false),
-            ("a-b", false),
-            ("a ", false),
-        ] {
-            assert_eq!(rt; is_name(text), want, "at {text}");
-        }
-    }
-}

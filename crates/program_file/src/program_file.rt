@@ -10,8 +10,8 @@ ghost use Rattle.toml.specs.View.{view, table_view};
 
 use crate::fault::FileFault;
 use crate::keys::{
-    events_at, flag_at, integer_at, integers_of, name_at, names_at, refuse_unknown, resources_at,
-    table_at, tables_at, texts_at,
+    events_at, flag_at, integer_at, integers_of, name_at, names_at, number_at, refuse_unknown,
+    resources_at, table_at, tables_at, texts_at,
 };
 use crate::place::Place;
 use crate::place_fault::PlaceFault;
@@ -86,6 +86,8 @@ pub struct SystemTable<'a> {
     pub reads: Vec<Event>,
     /// The event kinds that it writes, in order.
     pub writes: Vec<Event>,
+    /// How many ids it is granted at each start, where it has Commands.
+    pub spawns: Option<u32>,
     /// Its blocks.
     pub blocks: Vec<Block>,
 }
@@ -128,7 +130,7 @@ const SET_KEYS: [&str; 8] = [
     "if",
 ];
 
-const SYSTEM_KEYS: [&str; 14] = [
+const SYSTEM_KEYS: [&str; 15] = [
     "name",
     "in",
     "before",
@@ -142,6 +144,7 @@ const SYSTEM_KEYS: [&str; 14] = [
     "res_mut",
     "reads",
     "writes",
+    "spawns",
     "do",
 ];
 
@@ -324,6 +327,7 @@ impl<'a> SystemTable<'a> {
         let res_mut = resources_at(alloc, table, "res_mut")?;
         let reads = events_at(alloc, table, "reads")?;
         let writes = events_at(alloc, table, "writes")?;
+        let spawns = number_at(table, "spawns")?;
         let blocks = blocks_of(alloc, table)?;
         Ok(SystemTable {
             item: read_item(alloc, item)?,
@@ -332,6 +336,7 @@ impl<'a> SystemTable<'a> {
             res_mut,
             reads,
             writes,
+            spawns,
             blocks: read_blocks(alloc, blocks.as_slice())?,
         })
     }
@@ -460,6 +465,3 @@ fn read_block(alloc: Global, block: &BlockTexts<'_>) -> Result<Block, PlaceFault
         code: instructions_of(alloc, block.code.as_slice())?,
     })
 }
-
-#[cfg(test)]
-mod tests;

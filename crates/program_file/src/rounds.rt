@@ -3,9 +3,9 @@
 ghost use Rattle.std.specs.Prelude.{◌≡◌, option_map, IfOk, IfErr};
 ghost use Rattle.texts.specs.Reads.{Reads, SpellsOnly, SpellsNone};
 ghost use Rattle.toml.specs.View.{view, table_view};
-ghost use Rattle.program_file.specs.Rounds.{SaysRounds, IsNumber, IsEventName, block_keys};
+ghost use Rattle.program_file.specs.Rounds.{SaysRounds, IsEventName, block_keys};
 
-use crate::keys::value_at;
+use crate::keys::{number_of, value_at};
 use crate::place_fault::PlaceFault;
 use kinds::res::Event;
 use script::script_body::Rounds;
@@ -33,13 +33,6 @@ fn rounds_by(each: Option<&Value>, events: Option<&Value>) -> Option<Rounds>
         (None, Some(events)) => Some(Rounds::EachEvent(event_of(events)?)),
         (Some(_), Some(_)) => None,
     }
-}
-
-// The number of 32 bits that a value is.
-fn number_of(value: &Value) -> Option<u32>
-    ensures { Reads IsNumber (view value.now) result }
-{
-    u32::try_from(value.as_integer()?).ok()
 }
 
 // The event kind that a value names.

@@ -1,3 +1,7 @@
+pub mod Distinct
+pub mod Spawned
+pub mod Free
+pub mod Parts
 mod Faulty
 mod Running
 mod Terms
@@ -9,4 +13,5 @@ pub mod Frames
 pub mod Plans
 pub mod Steps
 pub mod Stores
+pub mod OtherRow
 pub mod Follows

@@ -1,5 +1,6 @@
--- The words of what an instruction takes values from and writes.
-use Rattle.std.specs.Prelude.{◌≡◌, ℕ, List, ◌∷◌, ◌++◌, codes}
+-- The words of what an instruction takes values from and writes, and of whom a command is about.
+use Rattle.std.specs.Prelude.{◌≡◌, ℕ, List, [], ◌∷◌, ◌++◌, codes}
+use Rattle.std.specs.List.{AllByRecursion}
 use Rattle.kinds.specs.Kind.{kind_name}
 use Rattle.kinds.specs.Res.{IsRes}
 use Rattle.texts.specs.Integer.{IsInteger, IsNumber}
@@ -10,6 +11,10 @@ use Rattle.script.specs.declared.operands.Target.{Target}
 use Rattle.script.specs.declared.operands.Target.TheVariants as target
 use Rattle.script.specs.declared.operands.Source.{Source}
 use Rattle.script.specs.declared.operands.Source.TheVariants as source
+use Rattle.script.specs.declared.operands.Subject.{Subject}
+use Rattle.script.specs.declared.operands.Subject.TheVariants.{Row, Granted}
+use Rattle.script.specs.declared.operands.Values.{Values}
+use Rattle.script.specs.declared.operands.Values.TheVariants.{Empty, One, Two, Many}
 
 -- the letter of a field within its kind
 abbrev pub axis_name : Axis → List ℕ
@@ -41,3 +46,24 @@ IsSource (source.Register n) word = IsRegister n word
 IsSource (source.Field field) word = IsField field word
 IsSource (source.Resource resource) word = IsRes resource word
 IsSource source.Event word = word ≡ codes "event"
+
+-- a slot: a g and its number
+abbrev pub IsSlot : ℕ → List ℕ → Type 0
+IsSlot n word = (digits : List ℕ) × IsNumber n digits × (word ≡ 103 ∷ digits)
+
+-- whom a command is about: `row`, or a slot
+abbrev pub IsSubject : Subject → List ℕ → Type 0
+IsSubject Row word = word ≡ codes "row"
+IsSubject (Granted n) word = IsSlot n word
+
+-- a word that is some source
+abbrev pub IsSomeSource : List ℕ → Type 0
+IsSomeSource word = (s : Source) × IsSource s word
+
+-- the values of a component: any number of sources, of which no more than two are kept
+abbrev pub AreValues : Values → List (List ℕ) → Type 0
+AreValues Empty [] = Unit {0}
+AreValues (One value) (word ∷ []) = IsSource value word
+AreValues (Two first second) (word ∷ other ∷ []) = IsSource first word × IsSource second other
+AreValues Many (word ∷ other ∷ third ∷ words) = AllByRecursion IsSomeSource (word ∷ other ∷ third ∷ words)
+AreValues values _ = ⊥

@@ -11,17 +11,20 @@ use thiserror::Error;
 /// What is wrong with a block or an instruction. Printed as the program tells it.
 #[derive(Clone, Copy, PartialEq, Eq, Debug)]
 pub enum Cause {
-    /// X1: the block names no query of the system, a kind is not fetched by the query, or the target has no `mut` term.
+    /// X1: the block names no query of the system, a kind is not fetched by the query, the target has no `mut` term, or the query shows no entity.
     NotFetched,
     /// X2: the system does not name a resource that is read, or does not write one that is a target; it doesn't read the events of the block, or
     /// write those that are emitted; or there is no event at hand.
     NotDeclared,
-    /// X3: the kind has no such field.
+    /// X3: the kind has no such field, or another number of them.
     NoField,
     /// X4: more instructions are passed over than come after in the block.
     PastEnd,
     /// X5: there is no such register.
     NoRegister,
+    /// X6: a command is issued and the system has no Commands, or is granted no id for the slot; or a slot is spawned by code that may run more than
+    /// once, or was spawned by an earlier instruction of the system.
+    NotGranted,
 }
 
 impl Cause {
@@ -35,6 +38,7 @@ impl Cause {
             Cause::NoField => 3,
             Cause::PastEnd => 4,
             Cause::NoRegister => 5,
+            Cause::NotGranted => 6,
         }
     }
 

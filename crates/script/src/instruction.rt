@@ -1,10 +1,10 @@
 // The instructions of a script, and how they are read.
 
-ghost use Rattle.std.specs.Prelude.{◌≢◌, [], ◌∷◌, map, codes};
+ghost use Rattle.std.specs.Prelude.{◌≡◌, ◌≢◌, ◌↔◌, IsTrue, [], ◌∷◌, map, codes};
 ghost use Rattle.texts.specs.Reads.{Reads, ReadsUnlessMemory};
-ghost use Rattle.script.specs.Instruction.{IsOperation, IsRelation, IsCount, AreInstruction, IsInstruction};
+ghost use Rattle.script.specs.Instruction.{IsOperation, IsRelation, IsCount, AreInstruction, IsNoInsert, IsInstruction};
 
-use crate::operands::{Source, Target};
+use crate::operands::{Source, Subject, Target, Values, read_slot};
 use kinds::kind::Kind;
 use kinds::res::Event;
 use std::alloc::Global;
@@ -97,6 +97,25 @@ pub enum Instruction {
         event: Event,
         source: Source,
     },
+    /// The entity of the slot is to live, with no component.
+    Spawn {
+        slot: u32,
+    },
+    /// The subject is to have a component of the kind, with these values.
+    Insert {
+        subject: Subject,
+        kind: Kind,
+        values: Values,
+    },
+    /// The subject is to have no component of the kind.
+    Remove {
+        subject: Subject,
+        kind: Kind,
+    },
+    /// The subject is to live no more.
+    Despawn {
+        subject: Subject,
+    },
 }
 
 // Reads how many instructions are passed over: one at the least.
@@ -106,6 +125,16 @@ fn read_count(word: &str) -> Option<u32>
     match read_number(word)? {
         0 => None,
         count => Some(count),
+    }
+}
+
+// Whether a word is that of insertions.
+fn is_insert(word: &str) -> bool
+    ensures { IsTrue result ↔ (word.now ≡ codes "insert") }
+{
+    match word {
+        "insert" => true,
+        _ => false,
     }
 }
 
@@ -125,13 +154,47 @@ impl Instruction {
     fn of_words(words: &[&str]) -> Option<Instruction>
         ensures { Reads AreInstruction (map (λ word. word.now) words.now) result }
     {
+        if let [first, subject, kind, values @ ..] = words {
+            if is_insert(first) {
+                return Instruction::insert(subject, kind, values);
+            }
+        }
+        Instruction::of_other_words(words)
+    }
+
+    // The instruction that the words are, where it is no insertion.
+    fn of_other_words(words: &[&str]) -> Option<Instruction>
+        requires { IsNoInsert (map (λ word. word.now) words.now) }
+        ensures { Reads AreInstruction (map (λ word. word.now) words.now) result }
+    {
         match words {
             [relation, left, right, passed] => Instruction::compare(relation, left, right, passed),
-            [first, second, third] => match *first {
-                "has" => Instruction::has(second, third),
-                "emit" => Instruction::emit(second, third),
-                _ => Instruction::change(first, second, third),
-            },
+            [first, second, third] => Instruction::of_three(first, second, third),
+            [first, second] => Instruction::of_two(first, second),
+            _ => None,
+        }
+    }
+
+    // The instruction that these three words are, where it is no insertion.
+    fn of_three(first: &str, second: &str, third: &str) -> Option<Instruction>
+        requires { first.now ≢ codes "insert" }
+        ensures { Reads AreInstruction (first.now ∷ second.now ∷ third.now ∷ []) result }
+    {
+        match first {
+            "has" => Instruction::has(second, third),
+            "emit" => Instruction::emit(second, third),
+            "remove" => Instruction::remove(second, third),
+            _ => Instruction::change(first, second, third),
+        }
+    }
+
+    // The instruction that these two words are.
+    fn of_two(first: &str, second: &str) -> Option<Instruction>
+        ensures { Reads AreInstruction (first.now ∷ second.now ∷ []) result }
+    {
+        match first {
+            "spawn" => Instruction::spawn(second),
+            "despawn" => Instruction::despawn(second),
             _ => None,
         }
     }
@@ -140,6 +203,8 @@ impl Instruction {
     fn change(operation: &str, target: &str, source: &str) -> Option<Instruction>
         requires has { operation.now ≢ codes "has" }
         requires emit { operation.now ≢ codes "emit" }
+        requires insert { operation.now ≢ codes "insert" }
+        requires remove { operation.now ≢ codes "remove" }
         ensures { Reads AreInstruction (operation.now ∷ target.now ∷ source.now ∷ []) result }
     {
         Some(Instruction::Change {
@@ -151,6 +216,7 @@ impl Instruction {
 
     // The comparison that these words are.
     fn compare(relation: &str, left: &str, right: &str, passed: &str) -> Option<Instruction>
+        requires { relation.now ≢ codes "insert" }
         ensures { Reads AreInstruction (relation.now ∷ left.now ∷ right.now ∷ passed.now ∷ []) result }
     {
         Some(Instruction::Compare {
@@ -178,6 +244,45 @@ impl Instruction {
         Some(Instruction::Emit {
             event: Event::named(event)?,
             source: Source::read(source)?,
+        })
+    }
+
+    // The spawn that this word is, after the first.
+    fn spawn(slot: &str) -> Option<Instruction>
+        ensures { Reads AreInstruction (codes "spawn" ∷ slot.now ∷ []) result }
+    {
+        Some(Instruction::Spawn {
+            slot: read_slot(slot)?,
+        })
+    }
+
+    // The insertion that these words are, after the first.
+    fn insert(subject: &str, kind: &str, values: &[&str]) -> Option<Instruction>
+        ensures { Reads AreInstruction (codes "insert" ∷ subject.now ∷ kind.now ∷ map (λ word. word.now) values.now) result }
+    {
+        Some(Instruction::Insert {
+            subject: Subject::read(subject)?,
+            kind: Kind::named(kind)?,
+            values: Values::read(values)?,
+        })
+    }
+
+    // The removal that these words are, after the first.
+    fn remove(subject: &str, kind: &str) -> Option<Instruction>
+        ensures { Reads AreInstruction (codes "remove" ∷ subject.now ∷ kind.now ∷ []) result }
+    {
+        Some(Instruction::Remove {
+            subject: Subject::read(subject)?,
+            kind: Kind::named(kind)?,
+        })
+    }
+
+    // The end that this word is, after the first.
+    fn despawn(subject: &str) -> Option<Instruction>
+        ensures { Reads AreInstruction (codes "despawn" ∷ subject.now ∷ []) result }
+    {
+        Some(Instruction::Despawn {
+            subject: Subject::read(subject)?,
         })
     }
 }

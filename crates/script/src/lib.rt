@@ -13,8 +13,9 @@ pub mod row_plan;
 mod run;
 pub mod script_body;
 
-/// What a script answers keeps within the parameters of its system: it writes components at `mut` terms alone, of their kinds'
-/// widths, resources that the system writes, and the system's registers, and issues no command, whatever it is shown.
+/// What a script without fault answers keeps within the parameters of its system: it writes components at `mut` terms alone, of their kinds'
+/// widths, resources that the system writes, and the system's registers; it issues commands only with Commands, inserts components of their
+/// kinds' widths, and spawns granted ids alone, none twice, on all that a system with these parameters can be shown.
 pub fn scripts_keep_within()
     ensures within { ScriptsKeepWithin }
     ensures shown { ScriptsKeepWithinShown }

@@ -1,7 +1,9 @@
-// What an instruction takes values from and writes, and how these are read.
+// What an instruction takes values from and writes, whom a command is about, and how these are read.
 
+ghost use Rattle.std.specs.Prelude.{◌≤◌, ◌↔◌, IsTrue, [], ◌∷◌, length, map};
+ghost use Rattle.std.specs.List.{AllByRecursion};
 ghost use Rattle.texts.specs.Reads.{Reads};
-ghost use Rattle.script.specs.Operands.{IsAxis, IsField, IsRegister, IsTarget, IsSource};
+ghost use Rattle.script.specs.Operands.{IsAxis, IsField, IsRegister, IsTarget, IsSource, IsSlot, IsSubject, IsSomeSource, AreValues};
 
 use kinds::kind::Kind;
 use kinds::res::Res;
@@ -116,5 +118,95 @@ impl Source {
             Target::Field(field) => Some(Source::Field(field)),
             Target::Resource(resource) => Some(Source::Resource(resource)),
         }
+    }
+}
+
+// Reads the number of a slot, as `g3`. Any number of 32 bits is read: how many ids a system is granted is looked at when the script is checked.
+pub(crate) fn read_slot(word: &str) -> Option<u32>
+    ensures { Reads IsSlot word.now result }
+{
+    read_number(word.strip_prefix('g')?)
+}
+
+/// Whom a command is about.
+#[derive(Clone, Copy, PartialEq, Eq, Debug)]
+pub enum Subject {
+    /// The entity of the row at hand.
+    Row,
+    /// The id of the slot with this number, of those that the system is granted at its start.
+    Granted(u32),
+}
+
+impl Subject {
+    /// Reads a subject: `row`, or a slot.
+    pub fn read(word: &str) -> Option<Subject>
+        ensures { Reads IsSubject word.now result }
+    {
+        if word == "row" {
+            return Some(Subject::Row);
+        }
+        Some(Subject::Granted(read_slot(word)?))
+    }
+}
+
+/// The values of the fields of a component, in order. Whether they are as many as the kind has fields is looked at when the script is checked.
+#[derive(Clone, Copy, PartialEq, Eq, Debug)]
+pub enum Values {
+    /// No value.
+    Empty,
+    /// One value.
+    One(Source),
+    /// Two values.
+    Two(Source, Source),
+    /// More than two, which no kind has fields for: they are read, and not kept.
+    Many,
+}
+
+// Whether each of these words is a source.
+fn are_sources(words: &[&str]) -> bool
+    ensures { IsTrue result ↔ AllByRecursion IsSomeSource (map (λ word. word.now) words.now) }
+{
+    for word in words {
+        match Source::read(word) {
+            Some(_) => {}
+            None => return false,
+        }
+    }
+    true
+}
+
+impl Values {
+    /// Reads values: any number of sources.
+    pub fn read(words: &[&str]) -> Option<Values>
+        ensures { Reads AreValues (map (λ word. word.now) words.now) result }
+    {
+        match words {
+            [] => Some(Values::Empty),
+            [value] => Values::one(value),
+            [first, second] => Values::two(first, second),
+            _ => Values::many(words),
+        }
+    }
+
+    // One value.
+    fn one(value: &str) -> Option<Values>
+        ensures { Reads AreValues (value.now ∷ []) result }
+    {
+        Some(Values::One(Source::read(value)?))
+    }
+
+    // Two values.
+    fn two(first: &str, second: &str) -> Option<Values>
+        ensures { Reads AreValues (first.now ∷ second.now ∷ []) result }
+    {
+        Some(Values::Two(Source::read(first)?, Source::read(second)?))
+    }
+
+    // More than two values.
+    fn many(words: &[&str]) -> Option<Values>
+        requires { 3 ≤ length words.now }
+        ensures { Reads AreValues (map (λ word. word.now) words.now) result }
+    {
+        are_sources(words).then_some(Values::Many)
     }
 }

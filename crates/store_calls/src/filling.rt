@@ -1,6 +1,7 @@
 // Worlds of tests: an entity that lives, and components that entities are given.
 
-ghost use Rattle.std.specs.Prelude.{◌≡◌, ◌≤◌, IfOk};
+ghost use Rattle.std.specs.Prelude.{◌≡◌, ◌≤◌, All, IfOk};
+ghost use Rattle.entity_table.specs.Ids.{IsGranted, AreApart};
 ghost use Rattle.archetype_store.specs.Layout.{AreAllHome};
 
 use archetype_store::fault::StoreFault;
@@ -33,4 +34,23 @@ pub fn put<C: Component>(world: &mut World, entity: Entity, component: C) -> Res
     ensures home { AreAllHome world.new.layout }
 {
     world.insert(entity, component, 1)
+}
+
+/// Settles all of these granted ids as used.
+pub fn settle_used(world: &mut World, ids: &[Entity])
+    requires granted { All (IsGranted world.old.state.slots) ids.now }
+    requires apart { AreApart ids.now }
+    ensures { world.new.layout ≡ world.old.layout }
+{
+    world.settle(ids, &[]);
+}
+
+/// A world at a clock in which so many entities live, without components.
+pub fn world_of_many(alloc: Global, clock: Clock, count: u32) -> Result<World, Fail>
+    ensures home { IfOk result (λ world. AreAllHome world.layout) }
+{
+    let mut world = World::new(alloc, clock)?;
+    let ids = world.grant(alloc, count)?;
+    settle_used(&mut world, ids.as_slice());
+    Ok(world)
 }

@@ -10,7 +10,7 @@ ghost use Rattle.archetype_store.specs.Layout.{archetype_at, column_home, AreAll
 ghost use Rattle.archetype_store.specs.Lending.{CanTake};
 ghost use Rattle.archetype_store.specs.Store.{IsPast};
 
-use crate::filling::put;
+use crate::filling::{put, settle_used};
 use archetype_store::fault::{GrantFault, StoreFault};
 use archetype_store::laws::kinds_are_home;
 use archetype_store::store::{ColumnAt, World};
@@ -47,15 +47,6 @@ fn spawn(alloc: Global, world: &mut World, count: u32) -> Result<(), Fail>
     let ids = world.grant(alloc, count)?;
     settle_used(world, ids.as_slice());
     Ok(())
-}
-
-// Settles all of these granted ids as used.
-fn settle_used(world: &mut World, ids: &[Entity])
-    requires granted { All (IsGranted world.old.state.slots) ids.now }
-    requires apart { AreApart ids.now }
-    ensures { world.new.layout ≡ world.old.layout }
-{
-    world.settle(ids, &[]);
 }
 
 // Three entities: the first is frozen, the second has health, the third both. All were added at tick 1.

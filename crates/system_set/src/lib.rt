@@ -9,8 +9,6 @@ mod fault;
 mod hierarchy;
 mod members;
 mod sharing;
-#[cfg(test)]
-mod tests;
 
 pub use coverage::Members;
 pub use fault::HierarchyFault;

@@ -1,5 +1,5 @@
 -- What a recorded run leaves that is taken again agrees with what any run leaves.
-use Rattle.std.proofs.Common.{ℕ, List, map, Some}
+use Rattle.std.proofs.Common.{List, map, Some}
 use Rattle.model.specs.declared.steps.Step.{Step}
 use Rattle.model.specs.access.Access.{Params}
 use Rattle.model.specs.state.State.{State}

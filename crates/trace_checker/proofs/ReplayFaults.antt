@@ -8,7 +8,7 @@ use Rattle.model.specs.steps.Schedule.{Schedule}
 use Rattle.model.specs.runs.Causes.{Cause}
 use Rattle.model.specs.runs.Causes.Cause.{NoTick, NoIds, Refused, NoEventNumber}
 use Rattle.engine.specs.declared.faults.RunFault.{RunFault}
-use Rattle.engine.specs.declared.faults.RunFault.TheVariants.{Memory, ClockSpent, Spoiled, NoWorker, BodyFault as Refusal}
+use Rattle.engine.specs.declared.faults.RunFault.TheVariants.{Memory, ClockSpent, IdsSpent, Spoiled, NoWorker, BodyFault as Refusal}
 use Rattle.trace_checker.specs.declared.check.Verdict.{Verdict}
 use Rattle.trace_checker.specs.declared.check.Verdict.TheVariants.{Complete, Unfinished, Bad}
 use Rattle.trace_checker.specs.declared.replay.ReplayFault.{ReplayFault}
@@ -22,31 +22,47 @@ use Rattle.model.proofs.serial.Replaying.{replayed_stopped, replayed_wrong, repl
 -- one fault tells of a cause
 same_fault : (cause : Cause) (f g : RunFault) → IsToldAs cause f → IsToldAs cause g → f ≡ g
 same_fault NoTick ClockSpent ClockSpent a b = refl
+same_fault NoIds IdsSpent IdsSpent a b = refl
 same_fault NoEventNumber ClockSpent ClockSpent a b = refl
 same_fault (Refused n) (Refusal m) (Refusal k) a b = ap Refusal (sym a ∙ b)
 same_fault NoTick Memory g a b = absurd a
+same_fault NoTick IdsSpent g a b = absurd a
 same_fault NoTick Spoiled g a b = absurd a
 same_fault NoTick NoWorker g a b = absurd a
 same_fault NoTick (Refusal m) g a b = absurd a
 same_fault NoTick ClockSpent Memory a b = absurd b
+same_fault NoTick ClockSpent IdsSpent a b = absurd b
 same_fault NoTick ClockSpent Spoiled a b = absurd b
 same_fault NoTick ClockSpent NoWorker a b = absurd b
 same_fault NoTick ClockSpent (Refusal m) a b = absurd b
-same_fault NoIds f g a b = absurd a
+same_fault NoIds Memory g a b = absurd a
+same_fault NoIds ClockSpent g a b = absurd a
+same_fault NoIds Spoiled g a b = absurd a
+same_fault NoIds NoWorker g a b = absurd a
+same_fault NoIds (Refusal m) g a b = absurd a
+same_fault NoIds IdsSpent Memory a b = absurd b
+same_fault NoIds IdsSpent ClockSpent a b = absurd b
+same_fault NoIds IdsSpent Spoiled a b = absurd b
+same_fault NoIds IdsSpent NoWorker a b = absurd b
+same_fault NoIds IdsSpent (Refusal m) a b = absurd b
 same_fault NoEventNumber Memory g a b = absurd a
+same_fault NoEventNumber IdsSpent g a b = absurd a
 same_fault NoEventNumber Spoiled g a b = absurd a
 same_fault NoEventNumber NoWorker g a b = absurd a
 same_fault NoEventNumber (Refusal m) g a b = absurd a
 same_fault NoEventNumber ClockSpent Memory a b = absurd b
+same_fault NoEventNumber ClockSpent IdsSpent a b = absurd b
 same_fault NoEventNumber ClockSpent Spoiled a b = absurd b
 same_fault NoEventNumber ClockSpent NoWorker a b = absurd b
 same_fault NoEventNumber ClockSpent (Refusal m) a b = absurd b
 same_fault (Refused n) Memory g a b = absurd a
 same_fault (Refused n) ClockSpent g a b = absurd a
+same_fault (Refused n) IdsSpent g a b = absurd a
 same_fault (Refused n) Spoiled g a b = absurd a
 same_fault (Refused n) NoWorker g a b = absurd a
 same_fault (Refused n) (Refusal m) Memory a b = absurd b
 same_fault (Refused n) (Refusal m) ClockSpent a b = absurd b
+same_fault (Refused n) (Refusal m) IdsSpent a b = absurd b
 same_fault (Refused n) (Refusal m) Spoiled a b = absurd b
 same_fault (Refused n) (Refusal m) NoWorker a b = absurd b
 
@@ -93,6 +109,7 @@ module _ (s : Schedule) (bodies : List BodyMeaning) (w : State) (steps : List St
   came (Err (replay.WrongAnswer n)) h = inr (inr (inr (inl (record { step = n; is = refl; complete = h.0; wrong = h.1 }))))
   came (Err (replay.Run Memory)) h = inl refl
   came (Err (replay.Run ClockSpent)) h = inr (inr (inr (inr (record { fault = ClockSpent; cause = h.1.0; is = refl; complete = h.0; told = h.1.1; stopped = h.1.2 }))))
+  came (Err (replay.Run IdsSpent)) h = inr (inr (inr (inr (record { fault = IdsSpent; cause = h.1.0; is = refl; complete = h.0; told = h.1.1; stopped = h.1.2 }))))
   came (Err (replay.Run Spoiled)) h = inr (inr (inr (inr (record { fault = Spoiled; cause = h.1.0; is = refl; complete = h.0; told = h.1.1; stopped = h.1.2 }))))
   came (Err (replay.Run NoWorker)) h = inr (inr (inr (inr (record { fault = NoWorker; cause = h.1.0; is = refl; complete = h.0; told = h.1.1; stopped = h.1.2 }))))
   came (Err (replay.Run (Refusal n))) h = inr (inr (inr (inr (record { fault = Refusal n; cause = h.1.0; is = refl; complete = h.0; told = h.1.1; stopped = h.1.2 }))))

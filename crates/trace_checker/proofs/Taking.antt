@@ -1,25 +1,31 @@
 -- The steps of a replay, one after the other.
-use Rattle.std.proofs.Common.{◌≡◌, ◌<◌, ◌≤◌, ◌+◌, ℕ, suc, false, List, ◌∷◌, ◌++◌, length, drop, take, get_or, reverse, Result, Ok, Err, IfErr, IsErrAnd, sym, ap, subst, ◌∙◌, append-nil, arith}
+use Rattle.std.proofs.Common.{◌≡◌, ◌<◌, ◌≤◌, ◌+◌, ℕ, suc, true, false, List, [], ◌∷◌, ◌++◌, length, Some, drop, take, get_or, reverse, Result, Ok, Err, IfErr, IsErrAnd, sym, ap, subst, ◌∙◌, append-nil, arith}
 use Rattle.std.proofs.lemmas.List.{length-reverse, length-take-le, take_all}
 use Rattle.model.specs.declared.steps.Step.{Step}
 use Rattle.model.specs.declared.steps.Step.TheVariants.{Cond, Start, Skip, Finish, Sync}
+use Rattle.model.specs.Lists.{provided}
 use Rattle.model.specs.state.State.{State}
 use Rattle.model.specs.shown.Outcome.{BodyMeaning}
 use Rattle.model.specs.steps.Schedule.{Schedule}
 use Rattle.model.specs.steps.Lawful.{IsLawful, IsComplete, May}
-use Rattle.model.specs.runs.RunState.{can_open}
+use Rattle.model.specs.runs.RunState.{RunState, between, can_open, opening}
+use Rattle.model.specs.runs.Causes.{Cause, serial_cause_of}
 use Rattle.model.specs.runs.Causes.Cause.{NoTick}
 use Rattle.engine.specs.declared.faults.RunFault.{RunFault}
-use Rattle.engine.specs.declared.faults.RunFault.TheVariants.{Memory, ClockSpent, Spoiled, NoWorker, BodyFault as Refusal}
+use Rattle.engine.specs.declared.faults.RunFault.TheVariants.{Memory, ClockSpent, IdsSpent, Spoiled, NoWorker, BodyFault as Refusal}
+use Rattle.engine.specs.Left.{LeftValue, IsNothingLeft, run_with}
+use Rattle.engine.proofs.Fresh.{serial_fresh}
+use Rattle.engine.proofs.InHand.{run_with_nothing}
 use Rattle.trace_checker.specs.declared.replay.ReplayFault.{ReplayFault}
 use Rattle.trace_checker.specs.declared.replay.ReplayFault.TheVariants as replay
-use Rattle.model.specs.runs.Replays.{IsReplayed, IsWrongAnswer, IsReplayStopped, IsReached, IsStepTaken}
+use Rattle.model.specs.runs.Replays.{IsReplayed, IsWrongAnswer, IsReplayStopped}
+use Rattle.model.specs.runs.Replays.{IsReached, IsStepTaken}
 use Rattle.trace_checker.specs.ReplayFaults.{IsKnown, IsReplayFault, IsStepFault}
 use Rattle.trace_checker.proofs.Verdicts.{history_at, history_more, cut_at, may_at}
-use Rattle.model.proofs.serial.Replaying.{reached_more, reached_end, wrong_at, stopped_at, stopped_open}
+use Rattle.model.proofs.serial.Replaying.{reached_open, reached_more, reached_end, wrong_at, stopped_at, stopped_open}
 
 -- an error that is handed on
-pub handed_on : {T : Type 0} (P : ReplayFault → Type 0) (r : Result T ReplayFault) (fault : ReplayFault) → IsErrAnd r (λ told. told ≡ fault) → P fault → IfErr r P
+pub handed_on : {T F : Type 0} (P : F → Type 0) (r : Result T F) (fault : F) → IsErrAnd r (λ told. told ≡ fault) → P fault → IfErr r P
 handed_on P (Ok x) fault told is = tt
 handed_on P (Err other) fault told is = subst P (sym told) is
 
@@ -28,7 +34,7 @@ known-of s h (Cond c answer) may = may.known
 known-of s h (Start n) may = may.free.known
 known-of s h (Skip n) may = tt
 known-of s h (Finish n) may = tt
-known-of s h (Sync k) may = tt
+known-of s h (Sync k) may = may.known
 
 module _ (s : Schedule) (bodies : List BodyMeaning) (start : State) (steps : List Step) where
   module _ (i : ℕ) (d : Step) (below : i < length steps) where
@@ -40,39 +46,51 @@ module _ (s : Schedule) (bodies : List BodyMeaning) (start : State) (steps : Lis
     known_at lawful = known-of s (reverse (take i steps)) (get_or steps i d) (may_at s steps (take i steps) (get_or steps i d) (drop (suc i) steps) (cut_at steps i d below) lawful)
 
     -- one step more
-    pub reached_next : (w w' : State) → IsReached s bodies start (reverse (take i steps)) w → IsStepTaken s bodies w (get_or steps i d) w' → IsReached s bodies start (reverse (take (i + 1) steps)) w'
-    reached_next w w' is taken =
+    pub reached_next : (run later : RunState) → IsReached s bodies start (reverse (take i steps)) run → IsStepTaken s bodies run (get_or steps i d) later → IsReached s bodies start (reverse (take (i + 1) steps)) later
+    reached_next run later is taken =
         let next : i + 1 ≡ suc i = omega arith in
-        subst (λ h. IsReached s bodies start h w') (sym (ap (λ m. reverse (take m steps)) next ∙ history_more steps i d below))
-        (reached_more s bodies start (reverse (take i steps)) (get_or steps i d) w w' is taken)
+        subst (λ h. IsReached s bodies start h later) (sym (ap (λ m. reverse (take m steps)) next ∙ history_more steps i d below))
+        (reached_more s bodies start (reverse (take i steps)) (get_or steps i d) run later is taken)
 
-    stopped-here : (w : State) (fault : RunFault) → IsLawful s (reverse steps) → IsComplete s (reverse steps) → IsReached s bodies start (reverse (take i steps)) w
-        → IsStepFault s bodies w (get_or steps i d) (i + 1) (replay.Run fault) → IsReplayFault s bodies start steps (replay.Run fault)
-    stopped-here w Memory lawful complete is h = tt
-    stopped-here w ClockSpent lawful complete is h =
-        ((lawful, complete), (h.0, h.1, subst (λ x. IsReplayStopped s bodies start x h.0) (sym around) (stopped_at s bodies start (reverse (take i steps)) (reverse (drop (suc i) steps)) (get_or steps i d) w h.0 is h.2)))
-    stopped-here w Spoiled lawful complete is h =
-        ((lawful, complete), (h.0, h.1, subst (λ x. IsReplayStopped s bodies start x h.0) (sym around) (stopped_at s bodies start (reverse (take i steps)) (reverse (drop (suc i) steps)) (get_or steps i d) w h.0 is h.2)))
-    stopped-here w NoWorker lawful complete is h =
-        ((lawful, complete), (h.0, h.1, subst (λ x. IsReplayStopped s bodies start x h.0) (sym around) (stopped_at s bodies start (reverse (take i steps)) (reverse (drop (suc i) steps)) (get_or steps i d) w h.0 is h.2)))
-    stopped-here w (Refusal n) lawful complete is h =
-        ((lawful, complete), (h.0, h.1, subst (λ x. IsReplayStopped s bodies start x h.0) (sym around) (stopped_at s bodies start (reverse (take i steps)) (reverse (drop (suc i) steps)) (get_or steps i d) w h.0 is h.2)))
+    -- the buffer of a system at whose start it stands has no commands
+    pub fresh_at : (n : ℕ) (run : RunState) → IsLawful s (reverse steps) → IsReached s bodies start (reverse (take i steps)) run → get_or steps i d ≡ Start n → run.buffers n ≡ []
+    fresh_at n run lawful is e =
+        let may = subst (May s (reverse (take i steps))) e (may_at s steps (take i steps) (get_or steps i d) (drop (suc i) steps) (cut_at steps i d below) lawful) in
+        serial_fresh s bodies start (reverse (take i steps)) run is.meaning n may.free.waits
+
+    stopped-by : (run : RunState) (cause : Cause) → IsReached s bodies start (reverse (take i steps)) run → serial_cause_of s bodies (get_or steps i d) run ≡ Some cause → IsReplayStopped s bodies start (reverse steps) cause
+    stopped-by run cause is e =
+        subst (λ x. IsReplayStopped s bodies start x cause) (sym around) (stopped_at s bodies start (reverse (take i steps)) (reverse (drop (suc i) steps)) (get_or steps i d) run cause is e)
+
+    stopped-here : (run : RunState) (fault : RunFault) → IsLawful s (reverse steps) → IsComplete s (reverse steps) → IsReached s bodies start (reverse (take i steps)) run
+        → IsStepFault s bodies run (get_or steps i d) (i + 1) (replay.Run fault) → IsReplayFault s bodies start steps (replay.Run fault)
+    stopped-here run Memory lawful complete is h = tt
+    stopped-here run ClockSpent lawful complete is h = ((lawful, complete), (h.0, h.1, stopped-by run h.0 is h.2))
+    stopped-here run IdsSpent lawful complete is h = ((lawful, complete), (h.0, h.1, stopped-by run h.0 is h.2))
+    stopped-here run Spoiled lawful complete is h = ((lawful, complete), (h.0, h.1, stopped-by run h.0 is h.2))
+    stopped-here run NoWorker lawful complete is h = ((lawful, complete), (h.0, h.1, stopped-by run h.0 is h.2))
+    stopped-here run (Refusal n) lawful complete is h = ((lawful, complete), (h.0, h.1, stopped-by run h.0 is h.2))
 
     -- a fault of a step is one of the replay
-    pub fault_at : (w : State) (number : ℕ) (fault : ReplayFault) → number ≡ i + 1 → IsLawful s (reverse steps) → IsComplete s (reverse steps) → IsReached s bodies start (reverse (take i steps)) w
-        → IsStepFault s bodies w (get_or steps i d) number fault → IsReplayFault s bodies start steps fault
-    fault_at w number (replay.WrongAnswer n) count lawful complete is h =
+    pub fault_at : (run : RunState) (number : ℕ) (fault : ReplayFault) → number ≡ i + 1 → IsLawful s (reverse steps) → IsComplete s (reverse steps) → IsReached s bodies start (reverse (take i steps)) run
+        → IsStepFault s bodies run (get_or steps i d) number fault → IsReplayFault s bodies start steps fault
+    fault_at run number (replay.WrongAnswer n) count lawful complete is h =
         let place : n ≡ length (reverse (take i steps)) + 1 = let a = h.0 in let b = length-reverse (take i steps) in let c = length-take-le i steps (omega arith) in omega arith in
-        ((lawful, complete), subst (λ x. IsWrongAnswer s bodies start x n) (sym around) (wrong_at s bodies start (reverse (take i steps)) (reverse (drop (suc i) steps)) (get_or steps i d) w n is h.1 place))
-    fault_at w number (replay.Run fault) count lawful complete is h =
-        stopped-here w fault lawful complete is (subst (λ m. IsStepFault s bodies w (get_or steps i d) m (replay.Run fault)) count h)
-    fault_at w number (replay.Bad n fault) count lawful complete is h = absurd h
-    fault_at w number replay.Unfinished count lawful complete is h = absurd h
+        ((lawful, complete), subst (λ x. IsWrongAnswer s bodies start x n) (sym around) (wrong_at s bodies start (reverse (take i steps)) (reverse (drop (suc i) steps)) (get_or steps i d) run n is h.1 place))
+    fault_at run number (replay.Run fault) count lawful complete is h =
+        stopped-here run fault lawful complete is (subst (λ m. IsStepFault s bodies run (get_or steps i d) m (replay.Run fault)) count h)
+    fault_at run number (replay.Bad n fault) count lawful complete is h = absurd h
+    fault_at run number replay.Unfinished count lawful complete is h = absurd h
+
+  -- after the opening, where nothing is left
+  pub reached_begun : (left : LeftValue) → IsNothingLeft left → can_open start ≡ true → IsReached s bodies start [] (run_with (opening start) left)
+  reached_begun left none tick =
+      reached_open s bodies start (run_with (opening start) left) (ap (λ b. provided b (between (opening start))) tick ∙ ap Some (sym (run_with_nothing (opening start) left none)))
 
   -- all steps
-  pub reached_all : (i : ℕ) (w : State) → length steps ≤ i → IsLawful s (reverse steps) → IsComplete s (reverse steps) → IsReached s bodies start (reverse (take i steps)) w → IsReplayed s bodies start (reverse steps) w
-  reached_all i w over lawful complete is =
-      reached_end s bodies start (reverse steps) w lawful complete (subst (λ x. IsReached s bodies start (reverse x) w) (take_all i steps over) is)
+  pub reached_all : (i : ℕ) (run : RunState) → length steps ≤ i → IsLawful s (reverse steps) → IsComplete s (reverse steps) → IsReached s bodies start (reverse (take i steps)) run → IsReplayed s bodies start (reverse steps) run.state
+  reached_all i run over lawful complete is =
+      reached_end s bodies start (reverse steps) run lawful complete (subst (λ x. IsReached s bodies start (reverse x) run) (take_all i steps over) is)
 
   -- what stops the opening
   pub fault_open : IsLawful s (reverse steps) → IsComplete s (reverse steps) → can_open start ≡ false → IsReplayFault s bodies start steps (replay.Run ClockSpent)

@@ -1,34 +1,43 @@
--- A start that is taken whole: what it makes of the state, what stops it, and the bodies after it.
-use Rattle.std.proofs.Common.{ℕ, zero, suc, ◌<◌, ◌≤◌, Bool, true, false, not, ◌≡◌, ◌&&◌, List, [], ◌∷◌, length, map, set, slice_get, get_or, cond, Option, Some, None, option_and_then, Result, Ok, Err, IfErr, IsErrAnd, refl, sym, ◌∙◌, ap, ap₂, subst, arith}
+-- A start that is taken whole: what it makes of the run state, what stops it, and the bodies after it. And the other steps of a replay.
+use Rattle.std.proofs.Common.{ℕ, zero, suc, ◌<◌, Bool, true, false, not, ◌≡◌, ◌&&◌, ◌⊎◌, inl, inr, List, [], ◌∷◌, length, map, set, slice_get, get_or, cond, Option, Some, None, option_and_then, Result, Ok, Err, IfErr, IsErrAnd, refl, sym, ◌∙◌, ap, ap₂, subst, arith}
 use Rattle.std.proofs.Math.Bool.{beq}
 use Rattle.std.proofs.lemmas.Bool.{eq-eqb, false≢true}
-use Rattle.std.proofs.lemmas.List.{length-map, length-set}
-use Rattle.model.specs.declared.steps.Step.TheVariants.{Cond, Start, Sync}
+use Rattle.std.proofs.lemmas.List.{get_or-set_same, length-map, length-set}
+use Rattle.model.specs.declared.entities.Entity.{Entity}
+use Rattle.model.specs.declared.steps.Step.TheVariants.{Cond, Start}
 use Rattle.model.specs.Lists.{provided, first_some}
 use Rattle.model.specs.access.Access.{Params}
-use Rattle.model.specs.state.State.{State, most_indices}
+use Rattle.model.specs.state.Ids.{grant}
+use Rattle.model.specs.state.State.{State}
 use Rattle.model.specs.shown.Input.{shown}
-use Rattle.model.specs.shown.Outcome.{BodyMeaning}
+use Rattle.model.specs.shown.Outcome.{AreSpawns, BodyMeaning, Command, spawned_by, words_written}
 use Rattle.model.specs.steps.Schedule.{ScheduledSystem, Schedule, params_of, access_of}
-use Rattle.model.specs.runs.RunState.{RunState, RunningSystem, after_condition, after_start, after_sync, answer_of, between, body_of, can_start, finish, has_ids_to_start, has_tick, memory_of_system, next_tick, started_system}
+use Rattle.model.specs.runs.RunState.{RunState, RunningSystem, after_condition, after_start, after_sync, answer_of, body_of, can_start, finish, has_ids_to_start, has_tick, memory_of_system, next_tick, spawns_of, started_system}
 use Rattle.model.specs.runs.Meaning.{Interleaved, running_system, without_system, with_running_systems}
 use Rattle.model.specs.runs.Causes.{Cause, unless, cause_of_answer, cause_of_finish, cause_of_running, cause_of_start, serial_cause_of}
 use Rattle.model.specs.runs.Causes.Cause.{NoTick, NoIds, Refused, NoEventNumber}
 use Rattle.model.proofs.faults.Causes.{with_running_systems-parts}
+use Rattle.model.proofs.lists.Lists.{provided-Some}
 use Rattle.body.specs.Answers.{Answers}
 use Rattle.body.specs.Seen.{Seen}
-use Rattle.body.specs.Steps.{asked_at, at_clock, laid, noted, ticked}
+use Rattle.body.specs.Steps.{HasShape, asked_at, laid, noted, ticked}
 use Rattle.body.specs.declared.system_body.BodyFault.{BodyFault}
 use Rattle.body.specs.declared.system_body.BodyFault.TheVariants.{Refused as Refusing}
 use Rattle.event_buffers.specs.declared.queue.SendFault.{SendFault}
 use Rattle.event_buffers.specs.declared.queue.SendFault.TheVariants as send
 use Rattle.engine.specs.declared.faults.RunFault.{RunFault}
+use Rattle.engine.specs.declared.faults.RunFault.TheVariants.{Memory, ClockSpent, IdsSpent, Spoiled, NoWorker, BodyFault as Refusal}
 use Rattle.engine.specs.Faults.{fault_of_send}
 use Rattle.engine.specs.Jobs.{IsPlaced}
-use Rattle.engine.specs.Meanings.{meanings_of, meanings, body_at, body_fits, fits_at, HasMemories, Suits}
+use Rattle.engine.specs.Left.{LeftValue, AreInHand, IsLeftFor, commands_at, grants_at, run_with, with_commands, with_grants}
+use Rattle.engine.specs.Meanings.{meanings_of, meanings, body_at, body_fits, fits_at, AllKeepWithin, HasMemories, Suits}
+use Rattle.engine.specs.Starts.{granted_at_start, has_ids_at_start, ids_at_start}
+use Rattle.engine.proofs.Agreeing.{state_of_schedule}
+use Rattle.engine.proofs.InHand.{AreAlike, alike_after, in_hand_alike, in_hand_grant, in_hand_put}
+use Rattle.engine.proofs.Keeping.{bodies_keep}
 use Rattle.engine.proofs.Placing.{placed_first}
-use Rattle.engine.proofs.Remembering.{memories_asked, memories_at, memories_laid, memories_noted}
-use Rattle.engine.proofs.Weaving.{over, IsAnswered, numbers_of, ask_woven, finish_woven, start_woven, sync_woven, unsent_woven}
+use Rattle.engine.proofs.Remembering.{memories_asked, memories_at, memories_laid, memories_noted, memories_slots, memories_synced}
+use Rattle.engine.proofs.Weaving.{over, IsAnswered, numbers_of, ask_woven, finish_woven, start_woven, ungranted_woven, unsent_woven, unticked_woven}
 use Rattle.model.specs.runs.Replays.{IsStepTaken}
 use Rattle.trace_checker.specs.ReplayFaults.{HasRun, IsStoppedHere}
 
@@ -101,34 +110,34 @@ module _ {B : Type 0} (meaning : B → Params → BodyMeaning) (fits : B → Par
         ∙ ap (λ (m : BodyMeaning). m before.shown) (sym (body_means n ran.body ran.there state suits known))
         ∙ ap (λ p. meaning ran.body p before.shown) (sym params)
 
-    pub is_answered : answer ≡ Ok tt → after.outcome.commands ≡ [] → IsAnswered s (meanings meaning s (map Some bodies)) n after
-    is_answered ok commands = record {
+    pub is_answered : answer ≡ Ok tt → IsAnswered s (meanings meaning s (map Some bodies)) n after
+    is_answered ok = record {
       params = ran.params ∙ params;
       answered = meant ∙ subst (Answers (meaning ran.body before.params before.shown) after) ok ran.answered;
-      commands = commands;
     }
 
     pub is_refused : (k : ℕ) → answer ≡ Err (Refusing k) → body_of (meanings meaning s (map Some bodies)) n after.shown ≡ Err k
     is_refused k refused = meant ∙ subst (Answers (meaning ran.body before.params before.shown) after) refused ran.answered
 
--- the memories after a start that was taken whole
-pub memories_after : (s : Schedule) (state : State) (n tick clock : ℕ) (seen : Seen) → HasMemories s state → HasMemories s (laid n tick seen (noted n (params_of s n).reads clock (ticked state)))
+-- the memories after a start that was noted, and after one that was taken whole
+memories_started : (s : Schedule) (state : State) (n clock : ℕ) → HasMemories s state → HasMemories s (noted n (params_of s n).reads clock (ticked (granted_at_start s n state)))
+memories_started s state n clock memories =
+    let granted = granted_at_start s n state in
+    let held = memories_slots s state memories (grant (spawns_of s n) state.world.slots) in
+    let moved = memories_at s granted held (next_tick granted) in
+    memories_noted s (ticked granted) moved n clock
+
+pub memories_after : (s : Schedule) (state : State) (n tick clock : ℕ) (seen : Seen) → HasMemories s state → HasMemories s (laid n tick seen (noted n (params_of s n).reads clock (ticked (granted_at_start s n state))))
 memories_after s state n tick clock seen memories =
-    let moved = memories_at s state memories (next_tick state) in
-    let ran = memories_noted s (ticked state) moved n clock in
-    memories_laid s (noted n (params_of s n).reads clock (ticked state)) ran n tick seen
+    memories_laid s (noted n (params_of s n).reads clock (ticked (granted_at_start s n state))) (memories_started s state n clock memories) n tick seen
 
 -- there is a memory of the system once the start is noted
-pub noted_known : (s : Schedule) (state later : State) (n clock : ℕ) → HasMemories s state → n < length s.systems → later ≡ noted n (params_of s n).reads clock (ticked state) → n < length later.systems
+pub noted_known : (s : Schedule) (state later : State) (n clock : ℕ) → HasMemories s state → n < length s.systems → later ≡ noted n (params_of s n).reads clock (ticked (granted_at_start s n state)) → n < length later.systems
 noted_known s state later n clock memories known is =
-    let count : length later.systems ≡ length s.systems = ap (λ (x : State). length x.systems) is ∙ (memories_noted s (ticked state) (memories_at s state memories (next_tick state)) n clock).systems in
+    let count : length later.systems ≡ length s.systems = ap (λ (x : State). length x.systems) is ∙ (memories_started s state n clock memories).systems in
     omega (arith, known, count)
 
--- ---- what it makes of the state
-
-provided-parts : {A : Type 0} (b : Bool) (x y : A) → provided b x ≡ Some y → (b ≡ true) × (x ≡ y)
-provided-parts true x y e = (refl, cc)
-provided-parts false x y e = absurd (let clash = e in cc)
+-- ---- what it makes of the run state
 
 -- where it has its tick and its ids nothing stops a start before its body
 no-cause_of_start : (s : Schedule) (n : ℕ) (run : RunState) → can_start s n run ≡ true → cause_of_start s n run ≡ None
@@ -140,38 +149,53 @@ no-cause_of_start s n run e = go (has_tick run.state) (has_ids_to_start s n run)
     go true false h = absurd (false≢true h)
     go false c h = absurd (false≢true h)
 
-module _ (s : Schedule) (bodies : List BodyMeaning) (n : ℕ) (w : State) where
-  -- the state in which the start is noted, and the system as it runs
+module _ (s : Schedule) (bodies : List BodyMeaning) (n : ℕ) (w : State) (left : LeftValue) where
+  -- the state in which the start is noted, what is left with the ids of the start, and the system as it runs
   abbrev mid : State
-  mid = noted n (params_of s n).reads (next_tick w) (ticked w)
+  mid = noted n (params_of s n).reads (next_tick w) (ticked (granted_at_start s n w))
+
+  abbrev held : LeftValue
+  held = with_grants n (ids_at_start s n w) left
 
   abbrev runner : RunningSystem
-  runner = record { system = n; tick = next_tick w; shown = shown (params_of s n) (memory_of_system w n) w [] }
+  runner = record { system = n; tick = next_tick w; shown = shown (params_of s n) (memory_of_system w n) w (ids_at_start s n w) }
 
-  -- a start without a tick
-  pub no_tick_stops : has_tick w ≡ false → serial_cause_of s bodies (Start n) (between w) ≡ Some NoTick
-  no_tick_stops e = ap (λ b. first_some (first_some (unless b NoTick) (unless (has_ids_to_start s n (between w)) NoIds)) (cause_of_finish s bodies (started_system s n (between w)) (after_start s n (between w)))) e
+  -- what its finish meets comes after what stops it before its body
+  start-cause : (cause : Cause) → cause_of_start s n (run_with w left) ≡ Some cause → serial_cause_of s bodies (Start n) (run_with w left) ≡ Some cause
+  start-cause cause e = ap (λ o. first_some o (cause_of_finish s bodies (started_system s n (run_with w left)) (after_start s n (run_with w left)))) e
 
-  module _ (alone : (params_of s n).spawns ≡ None) (few : length w.world.slots ≤ most_indices) (tick : has_tick w ≡ true) where
-    woven-parts : (can_start s n (between w) ≡ true) × ((after_start s n (between w) ≡ between mid) × (started_system s n (between w) ≡ runner))
+  -- a start without a tick, or without its ids
+  pub start_stops : (fault : RunFault) → (fault ≡ ClockSpent) ⊎ ((fault ≡ IdsSpent) ⊎ (fault ≡ Memory)) → (fault ≡ ClockSpent → has_tick w ≡ false) →
+      (fault ≡ IdsSpent → (has_tick w ≡ true) × (has_ids_at_start s n w ≡ false)) → IsStoppedHere s bodies (run_with w left) (Start n) fault
+  start_stops fault (inl e) spent ids = subst (IsStoppedHere s bodies (run_with w left) (Start n)) (sym e) (NoTick, tt, start-cause NoTick (unticked_woven s bodies n w left [] (spent e)))
+  start_stops fault (inr (inl e)) spent ids =
+      subst (IsStoppedHere s bodies (run_with w left) (Start n)) (sym e) (NoIds, tt, start-cause NoIds (ungranted_woven s bodies n w left [] (ids e).0 (ids e).1))
+  start_stops fault (inr (inr e)) spent ids = subst (IsStoppedHere s bodies (run_with w left) (Start n)) (sym e) tt
+
+  module _ (place : n < length left.grants) (tick : has_tick w ≡ true) (ids : has_ids_at_start s n w ≡ true) where
+    woven-parts : (can_start s n (run_with w left) ≡ true) × ((after_start s n (run_with w left) ≡ run_with mid held) × (started_system s n (run_with w left) ≡ runner))
     woven-parts =
-        let made : Interleaved = record { run = after_start s n (between w); running_systems = started_system s n (between w) ∷ [] } in
-        let p = provided-parts (can_start s n (between w)) made (over mid (runner ∷ [])) (start_woven s bodies n w [] alone few tick) in
+        let made : Interleaved = record { run = after_start s n (run_with w left); running_systems = started_system s n (run_with w left) ∷ [] } in
+        let p = provided-Some (can_start s n (run_with w left)) made (over held mid (runner ∷ [])) (start_woven s bodies n w left [] place tick ids) in
         (p.0, (ap (λ (x : Interleaved). x.run) p.1, ap (λ (x : Interleaved). get_or x.running_systems 0 runner) p.1))
 
     -- the cause of its finish is its own
-    whole-cause : (cause : Cause) → cause_of_finish s bodies runner (between mid) ≡ Some cause → serial_cause_of s bodies (Start n) (between w) ≡ Some cause
+    whole-cause : (cause : Cause) → cause_of_finish s bodies runner (run_with mid held) ≡ Some cause → serial_cause_of s bodies (Start n) (run_with w left) ≡ Some cause
     whole-cause cause e =
-        ap (λ o. first_some o (cause_of_finish s bodies (started_system s n (between w)) (after_start s n (between w)))) (no-cause_of_start s n (between w) woven-parts.0)
+        ap (λ o. first_some o (cause_of_finish s bodies (started_system s n (run_with w left)) (after_start s n (run_with w left)))) (no-cause_of_start s n (run_with w left) woven-parts.0)
         ∙ ap₂ (cause_of_finish s bodies) woven-parts.1.1 woven-parts.1.0
         ∙ e
 
     -- a body that refuses
-    pub refusal_stops : (seen : Seen) (k : ℕ) → seen.shown ≡ runner.shown → body_of bodies n seen.shown ≡ Err k → serial_cause_of s bodies (Start n) (between w) ≡ Some (Refused k)
+    pub refusal_stops : (seen : Seen) (k : ℕ) → seen.shown ≡ runner.shown → body_of bodies n seen.shown ≡ Err k → serial_cause_of s bodies (Start n) (run_with w left) ≡ Some (Refused k)
     refusal_stops seen k same e =
-        whole-cause (Refused k) (ap (λ answer. cause_of_answer s runner answer (between mid)) (ap (body_of bodies n) (sym same) ∙ e))
+        whole-cause (Refused k) (ap (λ answer. cause_of_answer s runner answer (run_with mid held)) (ap (body_of bodies n) (sym same) ∙ e))
 
     module _ (seen : Seen) (same : seen.shown ≡ runner.shown) (is : IsAnswered s bodies n seen) where
+      -- what is left with its commands
+      abbrev kept : LeftValue
+      kept = with_commands n seen.outcome.commands held
+
       alone-found : running_system n (runner ∷ []) ≡ Some (record { system = n; tick = next_tick w; shown = seen.shown })
       alone-found = ap (λ b. cond b (Some runner) None) (eq-eqb n n refl) ∙ ap (λ x. Some (record { system = n; tick = next_tick w; shown = x })) (sym same)
 
@@ -179,27 +203,52 @@ module _ (s : Schedule) (bodies : List BodyMeaning) (n : ℕ) (w : State) where
       found = ap (λ b. cond b (Some runner) None) (eq-eqb n n refl)
 
       -- an event without a number
-      pub unsent_stops : numbers_of seen mid ≡ false → serial_cause_of s bodies (Start n) (between w) ≡ Some NoEventNumber
+      pub unsent_stops : numbers_of seen mid ≡ false → serial_cause_of s bodies (Start n) (run_with w left) ≡ Some NoEventNumber
       unsent_stops none =
-          whole-cause NoEventNumber (sym (ap (λ o. cause_of_running s bodies o (between mid)) found) ∙ unsent_woven s bodies n (next_tick w) mid (runner ∷ []) seen is none alone-found)
+          whole-cause NoEventNumber (sym (ap (λ o. cause_of_running s bodies o (run_with mid held)) found) ∙ unsent_woven s bodies n (next_tick w) mid held (runner ∷ []) seen is none alone-found)
 
       -- the whole start
-      pub start_taken : (later : State) → numbers_of seen mid ≡ true → later ≡ laid n (next_tick w) seen mid → IsStepTaken s bodies w (Start n) later
-      start_taken later numbers e = record {
+      pub start_taken : (later : State) → n < length left.commands → numbers_of seen mid ≡ true → later ≡ laid n (next_tick w) seen mid →
+          IsStepTaken s bodies (run_with w left) (Start n) (run_with later kept)
+      start_taken later known numbers e = record {
         meaning =
-            ap (λ b. option_and_then (finish s bodies (started_system s n (between w))) (provided b (after_start s n (between w)))) woven-parts.0
+            ap (λ b. option_and_then (finish s bodies (started_system s n (run_with w left))) (provided b (after_start s n (run_with w left)))) woven-parts.0
             ∙ ap₂ (finish s bodies) woven-parts.1.1 woven-parts.1.0
-            ∙ finished ∙ ap (λ x. Some (between x)) (sym e);
+            ∙ finished ∙ ap (λ x. Some (run_with x kept)) (sym e);
         answer = tt;
       }
         where
-          finished : finish s bodies runner (between mid) ≡ Some (between (laid n (next_tick w) seen mid))
+          finished : finish s bodies runner (run_with mid held) ≡ Some (run_with (laid n (next_tick w) seen mid) kept)
           finished =
-              let left = without_system n (runner ∷ []) in
-              let done : with_running_systems left (finish s bodies runner (between mid)) ≡ Some (over (laid n (next_tick w) seen mid) left) =
-              sym (ap (option_and_then (λ p. with_running_systems left (finish s bodies p (between mid)))) found) ∙ finish_woven s bodies n (next_tick w) mid (runner ∷ []) seen is numbers alone-found in
-              let p = with_running_systems-parts left (finish s bodies runner (between mid)) (over (laid n (next_tick w) seen mid) left) done in
+              let others = without_system n (runner ∷ []) in
+              let done : with_running_systems others (finish s bodies runner (run_with mid held)) ≡ Some (over kept (laid n (next_tick w) seen mid) others) =
+              sym (ap (option_and_then (λ p. with_running_systems others (finish s bodies p (run_with mid held)))) found) ∙ finish_woven s bodies n (next_tick w) mid held (runner ∷ []) seen known is numbers alone-found in
+              let p = with_running_systems-parts others (finish s bodies runner (run_with mid held)) (over kept (laid n (next_tick w) seen mid) others) done in
               p.1 ∙ ap (λ (x : Interleaved). Some x.run) (sym p.2)
+
+      -- the commands that it keeps spawn ids of its own, and the ids stay in hand
+      spawns-own : n < length s.systems → AllKeepWithin s bodies → HasMemories s w → HasShape w → AreSpawns (grants_at held n) (spawned_by seen.outcome.commands)
+      unfolding shown
+      spawns-own known keep has shape =
+          let within = bodies_keep s bodies keep n w seen.outcome known (state_of_schedule s w has shape) ids (ap (body_of bodies n) (sym same) ∙ is.answered) in
+          subst (λ granted. AreSpawns granted (spawned_by seen.outcome.commands)) (sym (get_or-set_same left.grants n (ids_at_start s n w) [] place)) within.spawns
+
+      pub in_hand_kept : (later : State) (tick : ℕ) → n < length s.systems → n < length left.commands → AllKeepWithin s bodies → HasMemories s w → HasShape w → commands_at left n ≡ [] →
+          AreInHand w.world.slots left → later ≡ laid n tick seen mid → AreInHand later.world.slots kept
+      in_hand_kept later tick known room keep has shape fresh hand e =
+          let words = words_written seen.params.queries seen.shown.rows seen.outcome.cells in
+          let granted = in_hand_grant (spawns_of s n) n w.world.slots left hand fresh place in
+          let alike = subst (λ (x : State). AreAlike mid.world.slots x.world.slots) (sym e) (alike_after tick words mid.world.slots) in
+          in_hand_put n seen.outcome.commands later.world.slots held room (spawns-own known keep has shape) (in_hand_alike mid.world.slots later.world.slots held alike granted)
+
+-- what is left after a start is for the schedule still
+pub left_for_start : (s : Schedule) (n : ℕ) (ids : List Entity) (commands : List Command) (left : LeftValue) → IsLeftFor s left → IsLeftFor s (with_commands n commands (with_grants n ids left))
+left_for_start s n ids commands left suits = record {
+  command_count = length-set left.commands n commands ∙ suits.command_count;
+  grant_count = length-set left.grants n ids ∙ suits.grant_count;
+  level_count = suits.level_count;
+  levels_are = suits.levels_are;
+}
 
 -- ---- the other steps
 
@@ -211,27 +260,26 @@ same_bool true false e = e
 same_bool false true e = sym e
 
 -- a condition that is asked, whose recorded answer is its meaning
-pub ask_taken : (s : Schedule) (bodies : List BodyMeaning) (c : ℕ) (answer : Bool) (w later : State) → has_tick w ≡ true → later ≡ asked_at c (access_of s c).reads (next_tick w) (ticked w) → answer ≡ answer_of s c (between w)
-    → IsStepTaken s bodies w (Cond c answer) later
-ask_taken s bodies c answer w later tick e told =
-    let asked : Interleaved = record { run = after_condition s c (between w); running_systems = [] } in
-    let p = provided-parts (has_tick w) asked (over (asked_at c (access_of s c).reads (next_tick w) (ticked w)) []) (ask_woven s bodies c answer w [] tick) in
+pub ask_taken : (s : Schedule) (bodies : List BodyMeaning) (c : ℕ) (answer : Bool) (w later : State) (left : LeftValue) → has_tick w ≡ true → later ≡ asked_at c (access_of s c).reads (next_tick w) (ticked w) →
+    answer ≡ answer_of s c (run_with w left) → IsStepTaken s bodies (run_with w left) (Cond c answer) (run_with later left)
+ask_taken s bodies c answer w later left tick e told =
+    let asked : Interleaved = record { run = after_condition s c (run_with w left); running_systems = [] } in
+    let p = provided-Some (has_tick w) asked (over left (asked_at c (access_of s c).reads (next_tick w) (ticked w)) []) (ask_woven s bodies c answer w left [] tick) in
     record {
-      meaning = ap (λ b. provided b (after_condition s c (between w))) tick ∙ ap (λ (x : Interleaved). Some x.run) p.1 ∙ ap (λ x. Some (between x)) (sym e);
+      meaning = ap (λ b. provided b (after_condition s c (run_with w left))) tick ∙ ap (λ (x : Interleaved). Some x.run) p.1 ∙ ap (λ x. Some (run_with x left)) (sym e);
       answer = λ can. told;
     }
 
--- a sync point with nothing to apply
-pub sync_taken : (s : Schedule) (bodies : List BodyMeaning) (k : ℕ) (w later : State) → has_tick w ≡ true → later ≡ at_clock (next_tick w) w → IsStepTaken s bodies w (Sync k) later
-sync_taken s bodies k w later tick e =
-    let done : Interleaved = record { run = after_sync s k (between w); running_systems = [] } in
-    let p = provided-parts (has_tick w) done (over (at_clock (next_tick w) w) []) (sync_woven s bodies k w [] tick) in
-    record {
-      meaning = ap (λ b. provided b (after_sync s k (between w))) tick ∙ ap (λ (x : Interleaved). Some x.run) p.1 ∙ ap (λ x. Some (between x)) (sym e);
-      answer = tt;
-    }
+-- what stops one, whatever bodies mean and whatever was recorded
+pub ask_stops : (s : Schedule) (bodies : List BodyMeaning) (c : ℕ) (answer : Bool) (run : RunState) (fault : RunFault) → IsStoppedHere s [] run (Cond c true) fault → IsStoppedHere s bodies run (Cond c answer) fault
+ask_stops s bodies c answer run Memory h = tt
+ask_stops s bodies c answer run ClockSpent h = h
+ask_stops s bodies c answer run IdsSpent h = h
+ask_stops s bodies c answer run Spoiled h = h
+ask_stops s bodies c answer run NoWorker h = h
+ask_stops s bodies c answer run (Refusal n) h = h
 
--- the memories after a condition was asked
+-- the memories after a condition was asked, and after a sync point
 pub suits_asked : {B : Type 0} (fits : B → Params → Bool) (s : Schedule) (slots : List (Option B)) (c : ℕ) (w later : State) → Suits fits s slots w → later ≡ asked_at c (access_of s c).reads (next_tick w) (ticked w) → Suits fits s slots later
 suits_asked fits s slots c w later suits e = record {
   body_count = suits.body_count;
@@ -239,11 +287,19 @@ suits_asked fits s slots c w later suits e = record {
   fit = suits.fit;
 }
 
+pub suits_synced : {B : Type 0} (fits : B → Params → Bool) (s : Schedule) (slots : List (Option B)) (k : ℕ) (w later : State) (left left_later : LeftValue) → Suits fits s slots w →
+    run_with later left_later ≡ after_sync s k (run_with w left) → Suits fits s slots later
+suits_synced fits s slots k w later left left_later suits e = record {
+  body_count = suits.body_count;
+  memories = memories_synced s w suits.memories k left left_later later e;
+  fit = suits.fit;
+}
+
 -- ---- what stops it, as it is told
 
 -- where its events are not sent
-pub unsent_told : {T : Type 0} (s : Schedule) (bodies : List BodyMeaning) (n : ℕ) (w : State) (error : SendFault) (r : Result T RunFault) → IsErrAnd r (λ fault. fault ≡ fault_of_send error)
-    → (error ≡ send.NumbersSpent → serial_cause_of s bodies (Start n) (between w) ≡ Some NoEventNumber) → IfErr r (IsStoppedHere s bodies w (Start n))
-unsent_told s bodies n w error (Ok x) told stops = tt
-unsent_told s bodies n w send.NumbersSpent (Err fault) told stops = subst (IsStoppedHere s bodies w (Start n)) (sym told) (NoEventNumber, tt, stops refl)
-unsent_told s bodies n w send.Memory (Err fault) told stops = subst (IsStoppedHere s bodies w (Start n)) (sym told) tt
+pub unsent_told : {T : Type 0} (s : Schedule) (bodies : List BodyMeaning) (n : ℕ) (run : RunState) (error : SendFault) (r : Result T RunFault) → IsErrAnd r (λ fault. fault ≡ fault_of_send error)
+    → (error ≡ send.NumbersSpent → serial_cause_of s bodies (Start n) run ≡ Some NoEventNumber) → IfErr r (IsStoppedHere s bodies run (Start n))
+unsent_told s bodies n run error (Ok x) told stops = tt
+unsent_told s bodies n run send.NumbersSpent (Err fault) told stops = subst (IsStoppedHere s bodies run (Start n)) (sym told) (NoEventNumber, tt, stops refl)
+unsent_told s bodies n run send.Memory (Err fault) told stops = subst (IsStoppedHere s bodies run (Start n)) (sym told) tt

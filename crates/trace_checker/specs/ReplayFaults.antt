@@ -1,28 +1,30 @@
 -- The faults of a replay: what each says of the steps, and of one step; and what is told of a body that has run.
 use Rattle.std.specs.Prelude.{ℕ, ◌<◌, ◌≡◌, Bool, List, length, reverse, set, slice_get, Some, Result, Ok, Err}
 use Rattle.model.specs.declared.steps.Step.{Step}
-use Rattle.model.specs.declared.steps.Step.TheVariants.{Cond, Start}
+use Rattle.model.specs.declared.steps.Step.TheVariants.{Cond, Start, Sync}
 use Rattle.model.specs.access.Access.{Params}
 use Rattle.model.specs.state.State.{State}
 use Rattle.model.specs.shown.Outcome.{BodyMeaning}
 use Rattle.model.specs.steps.Schedule.{Schedule}
-use Rattle.model.specs.runs.RunState.{between}
+use Rattle.model.specs.runs.RunState.{RunState}
 use Rattle.model.specs.runs.Causes.{Cause, serial_cause_of}
-use Rattle.model.specs.runs.Causes.Cause.{NoTick, Refused, NoEventNumber}
+use Rattle.model.specs.runs.Causes.Cause.{NoTick, NoIds, Refused, NoEventNumber}
 use Rattle.body.specs.Answers.{Answers}
 use Rattle.body.specs.Seen.{Seen}
 use Rattle.body.specs.declared.system_body.BodyFault.{BodyFault}
 use Rattle.engine.specs.declared.faults.RunFault.{RunFault}
-use Rattle.engine.specs.declared.faults.RunFault.TheVariants.{Memory, ClockSpent, BodyFault as Refusal}
+use Rattle.engine.specs.declared.faults.RunFault.TheVariants.{Memory, ClockSpent, IdsSpent, BodyFault as Refusal}
 use Rattle.trace_checker.specs.declared.check.Verdict.TheVariants as verdict
 use Rattle.trace_checker.specs.declared.replay.ReplayFault.{ReplayFault}
 use Rattle.trace_checker.specs.declared.replay.ReplayFault.TheVariants as replay
 use Rattle.trace_checker.specs.Verdicts.{IsVerdict}
-use Rattle.model.specs.runs.Replays.{IsReplayed, IsWrongAnswer, IsReplayStopped, IsWrongHere}
+use Rattle.model.specs.runs.Replays.{IsReplayed, IsWrongAnswer, IsReplayStopped}
+use Rattle.model.specs.runs.Replays.{IsWrongHere}
 
 -- which fault tells of a cause
 abbrev pub IsToldAs : Cause → RunFault → Type 0
 IsToldAs NoTick ClockSpent = Unit {0}
+IsToldAs NoIds IdsSpent = Unit {0}
 IsToldAs NoEventNumber ClockSpent = Unit {0}
 IsToldAs (Refused n) (Refusal m) = n ≡ m
 IsToldAs cause fault = ⊥
@@ -51,18 +53,19 @@ IsReplay s bodies w steps (Err fault) = IsReplayFault s bodies w steps fault
 abbrev pub IsKnown : Schedule → Step → Type 0
 IsKnown s (Cond c answer) = c < length s.conditions
 IsKnown s (Start n) = n < length s.systems
+IsKnown s (Sync k) = k < s.syncs
 IsKnown s step = Unit {0}
 
 -- what stops a step
-abbrev pub IsStoppedHere : Schedule → List BodyMeaning → State → Step → RunFault → Type 0
-IsStoppedHere s bodies w step Memory = Unit {0}
-IsStoppedHere s bodies w step fault = (cause : Cause) × IsToldAs cause fault × (serial_cause_of s bodies step (between w) ≡ Some cause)
+abbrev pub IsStoppedHere : Schedule → List BodyMeaning → RunState → Step → RunFault → Type 0
+IsStoppedHere s bodies run step Memory = Unit {0}
+IsStoppedHere s bodies run step fault = (cause : Cause) × IsToldAs cause fault × (serial_cause_of s bodies step run ≡ Some cause)
 
 -- a fault of a step of this number
-abbrev pub IsStepFault : Schedule → List BodyMeaning → State → Step → ℕ → ReplayFault → Type 0
-IsStepFault s bodies w step number (replay.WrongAnswer n) = (n ≡ number) × IsWrongHere s w step
-IsStepFault s bodies w step number (replay.Run fault) = IsStoppedHere s bodies w step fault
-IsStepFault s bodies w step number fault = ⊥
+abbrev pub IsStepFault : Schedule → List BodyMeaning → RunState → Step → ℕ → ReplayFault → Type 0
+IsStepFault s bodies run step number (replay.WrongAnswer n) = (n ≡ number) × IsWrongHere s run step
+IsStepFault s bodies run step number (replay.Run fault) = IsStoppedHere s bodies run step fault
+IsStepFault s bodies run step number fault = ⊥
 
 -- ---- a body that has run
 

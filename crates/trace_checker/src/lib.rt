@@ -6,6 +6,4 @@ pub mod line;
 mod numeral;
 pub mod read;
 pub mod replay;
-#[cfg(test)]
-mod tests;
 pub mod write;

@@ -1,20 +1,21 @@
 // A recorded run taken again on one thread, each system whole at its start.
 
-ghost use Rattle.std.specs.Prelude.{◌≡◌, ◌⊎◌, ◌<◌, [], Result, length, map, reverse, slice_get, true, false, Some, Err, IfOk, IfErr, OnOk, IsTrue};
+ghost use Rattle.std.specs.Prelude.{◌≡◌, ◌⊎◌, ◌<◌, ℕ, [], Result, length, map, reverse, slice_get, true, Some, Err, IfOk, IfErr, OnOk, IsTrue};
 ghost use Rattle.model.specs.state.Agreement.{AgreesWithAll};
 ghost use Rattle.model.specs.state.State.{State as Now};
 ghost use Rattle.model.specs.shown.Input.{shown};
 ghost use Rattle.model.specs.shown.Outcome.{untouched};
 ghost use Rattle.model.specs.steps.Lawful.{IsLawful, IsComplete};
-ghost use Rattle.model.specs.steps.Schedule.{params_of, access_of};
-ghost use Rattle.model.specs.runs.RunState.{answer_of, between, has_tick, memory_of_system, next_tick};
+ghost use Rattle.model.specs.steps.Schedule.{access_of};
+ghost use Rattle.model.specs.runs.RunState.{answer_of, has_tick, next_tick};
 ghost use Rattle.model.specs.declared.steps.Step.TheVariants.{Cond, Start as Begin};
 ghost use Rattle.kinds.specs.Components.{widths};
-ghost use Rattle.body.specs.Lent.{lent_in, with_away};
+ghost use Rattle.body.specs.Keeps.{CanBeShown};
 ghost use Rattle.body.specs.Out.{AreOut};
-ghost use Rattle.body.specs.Steps.{noted, asked_at, store_of, ticked};
+ghost use Rattle.body.specs.Steps.{asked_at, store_of, ticked};
 ghost use Rattle.engine.specs.declared.faults.RunFault.TheVariants.{Memory};
-ghost use Rattle.engine.specs.Meanings.{meanings, Suits, HasMemories};
+ghost use Rattle.engine.specs.Left.{LeftValue, AreInHand, IsLeftFor, IsNothingLeft, commands_at, run_with};
+ghost use Rattle.engine.specs.Meanings.{meanings, AllKeepWithin, HasMemories, Suits};
 ghost use Rattle.trace_checker.specs.declared.replay.ReplayFault.TheVariants.{Run};
 ghost use Rattle.model.specs.runs.Replays.{IsStepTaken};
 ghost use Rattle.trace_checker.specs.ReplayFaults.{HasRun, IsKnown, IsReplay, IsReplayFault, IsStepFault, IsStoppedHere};
@@ -26,6 +27,8 @@ use body::system_body::{Body, BodyFault};
 use body::view::View;
 use engine::RunFault;
 use engine::fitting::fitting_keep;
+use engine::left::Left;
+use engine::showing::show;
 use executor_core::{Step, StepFault, Trace};
 use schedule_builder::built::Built;
 use std::alloc::{AllocError, Global};
@@ -43,7 +46,7 @@ pub enum ReplayFault {
     /// This step, counted from 1, is the first whose recorded answer isn't what its condition means there.
     #[error("the recorded answer of step {0} is not what its condition means there")]
     WrongAnswer(usize),
-    /// What stops a run: want of memory, of a tick or of an event number, or a body that refuses.
+    /// What stops a run: want of memory, of a tick, of ids or of an event number, or a body that refuses.
     #[error("{0}")]
     Run(RunFault),
 }
@@ -64,11 +67,11 @@ impl From<RunFault> for ReplayFault {
     }
 }
 
-/// Takes a recorded run again, on one thread: each step in the order in which it stands, and each system whole at its start. The steps are
-/// checked first, as `check` does; a condition is asked where it was asked, and what was recorded is compared with what it answers. The state
-/// that is left is that of the recorded run, stamp for stamp, however many systems ran at once; where the schedule is settled it agrees with what any
-/// one run with true answers leaves of any state that agrees with the one before. Each fault drops the state. The bodies that have run mean
-/// what they meant.
+/// Takes a recorded run again, on one thread: each step in the order in which it stands, and each system whole at its start; what its body
+/// commands is done at the sync point of its level. The steps are checked first, as `check` does; a condition is asked where it was asked, and
+/// what was recorded is compared with what it answers. The state that is left is that of the recorded run, stamp for stamp, however many systems
+/// ran at once; where the schedule is settled it agrees with what any one run with true answers leaves of any state that agrees with the one
+/// before. Each fault drops the state. The bodies that have run mean what they meant.
 pub fn replay<B: Body>(
     alloc: Global,
     built: &Built,
@@ -91,22 +94,27 @@ pub fn replay<B: Body>(
         Verdict::Unfinished => return Err(ReplayFault::Unfinished),
         Verdict::Bad(step, fault) => return Err(ReplayFault::Bad(step, fault)),
     }
+    let mut left = Left::new(alloc, built)?;
     let mut state = state.into_open();
-    take_steps(alloc, built, bodies, &mut state, &trace.steps)?;
+    take_steps(alloc, built, bodies, &mut state, &mut left, &trace.steps)?;
     state.law();
     Ok(state.into_state())
 }
 
-// Takes all steps of a run, from its opening on.
+// Takes all steps of a run, from its opening on, where no system has left anything.
 fn take_steps<B: Body>(
     alloc: Global,
     built: &Built,
     bodies: &mut [B],
     state: &mut OpenState,
+    left: &mut Left,
     steps: &[Step],
 ) -> Result<(), ReplayFault>
     requires suits { Suits B.fits built.now (map Some bodies.old) state.old.state }
+    requires keep { AllKeepWithin built.now (meanings B.meaning built.now (map Some bodies.old)) }
     requires out { AreOut (store_of state.old) [] }
+    requires left { IsLeftFor built.now left.old }
+    requires nothing { IsNothingLeft left.old }
     requires lawful { IsLawful built.now (reverse steps.now) }
     requires complete { IsComplete built.now (reverse steps.now) }
     ensures replayed { OnOk result (IsReplay built.now (meanings B.meaning built.now (map Some bodies.old)) state.old.state steps.now (Ok state.new.state)) }
@@ -121,27 +129,34 @@ fn take_steps<B: Body>(
     let mut number = 0;
     for step in steps {
         number += 1;
-        take(alloc, built, bodies, state, *step, number)?;
+        take(alloc, built, bodies, state, left, *step, number)?;
     }
     Ok(())
 }
 
-// Takes the step of this number.
+// Takes the step of this number. A system that starts has left nothing.
 fn take<B: Body>(
     alloc: Global,
     built: &Built,
     bodies: &mut [B],
     state: &mut OpenState,
+    left: &mut Left,
     step: Step,
     number: usize,
 ) -> Result<(), ReplayFault>
     requires suits { Suits B.fits built.now (map Some bodies.old) state.old.state }
+    requires keep { AllKeepWithin built.now (meanings B.meaning built.now (map Some bodies.old)) }
     requires out { AreOut (store_of state.old) [] }
+    requires left { IsLeftFor built.now left.old }
+    requires hand { AreInHand state.old.state.world.slots left.old }
     requires known { IsKnown built.now step }
-    ensures taken { OnOk result (IsStepTaken built.now (meanings B.meaning built.now (map Some bodies.old)) state.old.state step state.new.state) }
-    ensures stopped { IfErr result (IsStepFault built.now (meanings B.meaning built.now (map Some bodies.old)) state.old.state step number) }
+    requires fresh { (n : ℕ) → step ≡ Begin n → commands_at left.old n ≡ [] }
+    ensures taken { OnOk result (IsStepTaken built.now (meanings B.meaning built.now (map Some bodies.old)) (run_with state.old.state left.old) step (run_with state.new.state left.new)) }
+    ensures stopped { IfErr result (IsStepFault built.now (meanings B.meaning built.now (map Some bodies.old)) (run_with state.old.state left.old) step number) }
     ensures suits { OnOk result (Suits B.fits built.now (map Some bodies.new) state.new.state) }
     ensures out { OnOk result (AreOut (store_of state.new) []) }
+    ensures left { OnOk result (IsLeftFor built.now left.new) }
+    ensures hand { OnOk result (AreInHand state.new.state.world.slots left.new) }
     ensures meanings { meanings B.meaning built.now (map Some bodies.new) ≡ meanings B.meaning built.now (map Some bodies.old) }
 {
     state.law();
@@ -154,20 +169,18 @@ fn take<B: Body>(
             Ok(())
         }
         Step::Start(system) => {
-            start(alloc, built, bodies, state, system)?;
+            start(alloc, built, bodies, state, left, system)?;
             Ok(())
         }
         Step::Skip(_) | Step::Finish(_) => Ok(()),
-        Step::Sync(_) => {
-            let Ok(_) = state.next() else {
-                return Err(ReplayFault::Run(RunFault::ClockSpent));
-            };
+        Step::Sync(point) => {
+            left.sync(alloc, built, state, point)?;
             Ok(())
         }
     }
 }
 
-// Asks a condition: what it means on the state, at the tick to come, which becomes the clock.
+// Asks a condition: what it means on the state, whatever systems have left, at the tick to come, which becomes the clock.
 fn ask(
     alloc: Global,
     built: &Built,
@@ -177,10 +190,10 @@ fn ask(
     requires known { condition < length built.now.conditions }
     requires memories { HasMemories built.now state.old.state }
     requires out { AreOut (store_of state.old) [] }
-    ensures answer { IfOk result (λ answer. answer ≡ answer_of built.now condition (between state.old.state)) }
+    ensures answer { IfOk result (λ answer. (left : LeftValue) → answer ≡ answer_of built.now condition (run_with state.old.state left)) }
     ensures asked { OnOk result (state.new ≡ record { state = asked_at condition (access_of built.now condition).reads (next_tick state.old.state) (ticked state.old.state); layout = state.old.layout }) }
     ensures ticked { OnOk result (has_tick state.old.state ≡ true) }
-    ensures stopped { IfErr result (IsStoppedHere built.now [] state.old.state (Cond condition true)) }
+    ensures stopped { IfErr result (λ fault. (left : LeftValue) → IsStoppedHere built.now [] (run_with state.old.state left) (Cond condition true) fault) }
 {
     let asked = built.condition(condition);
     state.law();
@@ -193,67 +206,49 @@ fn ask(
     Ok(answer)
 }
 
-// A whole start: the system is shown the state, its body runs, and its outcome is laid over the state.
+// A whole start: the system is granted its ids and shown the state, its body runs, its outcome is laid over the state, and its commands are
+// kept.
 fn start<B: Body>(
     alloc: Global,
     built: &Built,
     bodies: &mut [B],
     state: &mut OpenState,
+    left: &mut Left,
     system: u32,
 ) -> Result<(), RunFault>
     requires known { system < length built.now.systems }
     requires suits { Suits B.fits built.now (map Some bodies.old) state.old.state }
+    requires keep { AllKeepWithin built.now (meanings B.meaning built.now (map Some bodies.old)) }
     requires out { AreOut (store_of state.old) [] }
-    ensures taken { OnOk result (IsStepTaken built.now (meanings B.meaning built.now (map Some bodies.old)) state.old.state (Begin system) state.new.state) }
-    ensures stopped { IfErr result (IsStoppedHere built.now (meanings B.meaning built.now (map Some bodies.old)) state.old.state (Begin system)) }
+    requires left { IsLeftFor built.now left.old }
+    requires hand { AreInHand state.old.state.world.slots left.old }
+    requires fresh { commands_at left.old system ≡ [] }
+    ensures taken { OnOk result (IsStepTaken built.now (meanings B.meaning built.now (map Some bodies.old)) (run_with state.old.state left.old) (Begin system) (run_with state.new.state left.new)) }
+    ensures stopped { IfErr result (IsStoppedHere built.now (meanings B.meaning built.now (map Some bodies.old)) (run_with state.old.state left.old) (Begin system)) }
     ensures suits { OnOk result (Suits B.fits built.now (map Some bodies.new) state.new.state) }
     ensures out { OnOk result (AreOut (store_of state.new) []) }
+    ensures left { OnOk result (IsLeftFor built.now left.new) }
+    ensures hand { OnOk result (AreInHand state.new.state.world.slots left.new) }
     ensures meanings { meanings B.meaning built.now (map Some bodies.new) ≡ meanings B.meaning built.now (map Some bodies.old) }
 {
-    built.params(system).law();
     state.law();
-    let mut view = show(alloc, built, state, system)?;
+    state.shape();
+    let mut view = show(alloc, built, state, left, system)?;
     match run_body(bodies, system as usize, &mut view) {
         Ok(()) => {}
         Err(BodyFault::Memory) => return Err(RunFault::Memory),
         Err(BodyFault::Refused(number)) => return Err(RunFault::BodyFault(number)),
     }
-    view.law();
-    state.close(view, system as usize)?;
+    let commands = state.close(view, system as usize)?;
+    left.keep(system as usize, commands);
     Ok(())
-}
-
-// What a system is shown as it starts: its run is noted at the tick to come, which becomes the clock.
-fn show(alloc: Global, built: &Built, state: &mut OpenState, system: u32) -> Result<View, RunFault>
-    requires known { system < length built.now.systems }
-    requires memories { HasMemories built.now state.old.state }
-    requires out { AreOut (store_of state.old) [] }
-    ensures params { IfOk result (λ view. view.params ≡ params_of built.now system) }
-    ensures shown { IfOk result (λ view. view.shown ≡ shown (params_of built.now system) (memory_of_system state.old.state system) state.old.state []) }
-    ensures untouched { IfOk result (λ view. view.outcome ≡ untouched view.params view.shown) }
-    ensures tick { IfOk result (λ view. view.opening.tick ≡ next_tick state.old.state) }
-    ensures out { IfOk result (λ view. AreOut (store_of state.new) view.opening.taken) }
-    ensures noted { IfOk result (λ view. state.new ≡ record { state = noted system (params_of built.now system).reads (next_tick state.old.state) (ticked state.old.state); layout = with_away (lent_in view.opening.taken) state.old.layout }) }
-    ensures ticked { OnOk result (has_tick state.old.state ≡ true) }
-    ensures spent { result ≡ Err RunFault.ClockSpent → has_tick state.old.state ≡ false }
-    ensures only { (f : RunFault) → result ≡ Err f → (f ≡ RunFault.ClockSpent) ⊎ (f ≡ RunFault.Memory) }
-{
-    let params = built.params(system);
-    built.apart();
-    state.law();
-    let tick = state.coming()?;
-    let view = state.open(alloc, params, system as usize, tick)?;
-    let Ok(_) = state.next() else {
-        unreachable!();
-    };
-    state.note(system as usize, params, tick);
-    Ok(view)
 }
 
 // Runs the body of a system on a view in which nothing is written yet.
 fn run_body<B: Body>(bodies: &mut [B], system: usize, view: &mut View) -> Result<(), BodyFault>
     requires known { system < length bodies.old }
     requires fits { (body : B) → slice_get bodies.old system ≡ Some body → IsTrue (B.fits body view.old.params) }
+    requires showing { CanBeShown view.old.params view.old.shown }
     requires untouched { view.old.outcome ≡ untouched view.old.params view.old.shown }
     ensures { HasRun B.meaning B.fits bodies.old system view.old bodies.new view.new result }
 {

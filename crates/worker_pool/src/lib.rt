@@ -14,6 +14,3 @@ pub use pool::{Pool, drain};
 pub use single::Single;
 pub use start::{Done, Start};
 pub use workers::Workers;
-
-#[cfg(test)]
-mod trials;

@@ -2,6 +2,7 @@
 
 ghost use Rattle.std.specs.Prelude.{◌≡◌, IsTrue};
 ghost use Rattle.model.specs.shown.Outcome.{untouched};
+ghost use Rattle.body.specs.Keeps.{CanBeShown};
 ghost use Rattle.worker_pool.specs.Ran.{Ran};
 
 use body::system_body::{Body, BodyFault};
@@ -9,7 +10,8 @@ use body::view::View;
 use std::snapshot::Snapshot;
 use std::thread::Promise;
 
-/// A body that a system starts with: it fits the parameters of the view, in which nothing is written yet.
+/// A body that a system starts with: it fits the parameters of the view, which shows what a system with these can be shown, and in which nothing
+/// is written yet.
 #[derive(Drop)]
 pub struct Start<B: Body> {
     /// The number of the start in its run, which a gate is told.
@@ -21,6 +23,7 @@ pub struct Start<B: Body> {
     /// What it is shown, in a box: a job is moved often, and a view is large.
     pub view: Box<View>,
     ghost fits: { IsTrue (B.fits body view.value.params) },
+    ghost showing: { CanBeShown view.value.params view.value.shown },
     ghost untouched: { view.value.outcome ≡ untouched view.value.params view.value.shown },
 }
 

@@ -8,7 +8,7 @@ use Rattle.model.specs.shown.Outcome.{BodyMeaning}
 use Rattle.model.specs.steps.Schedule.{Schedule, condition_of}
 use Rattle.model.specs.steps.Lawful.{IsLawful, IsComplete}
 use Rattle.model.specs.access.Condition.{means}
-use Rattle.model.specs.runs.RunState.{RunState, answer_of, asked_of, between, begin_run, can_ask, can_open, after_condition}
+use Rattle.model.specs.runs.RunState.{RunState, answer_of, asked_of, begin_run, can_ask, can_open, after_condition}
 use Rattle.model.specs.runs.Meaning.{Interleaved, interleaved, interleaved_step, serial, serial_step, HasTrueAnswers, IsTrueAnswer}
 use Rattle.model.specs.runs.Causes.{Cause, unless, serial_cause, serial_cause_at, serial_cause_of}
 use Rattle.model.specs.runs.Causes.Cause.{NoTick}
@@ -172,32 +172,32 @@ module _ (s : Schedule) (bodies : List BodyMeaning) (start : State) where
 
   -- ---- how it goes on
 
-  pub reached_open : (w : State) → begin_run start ≡ Some (between w) → IsReached s bodies start [] w
-  reached_open w e = record { answers = tt; meaning = e }
+  pub reached_open : (run : RunState) → begin_run start ≡ Some run → IsReached s bodies start [] run
+  reached_open run e = record { answers = tt; meaning = e }
 
-  pub reached_more : (h : List Step) (step : Step) (w w' : State) → IsReached s bodies start h w → IsStepTaken s bodies w step w' → IsReached s bodies start (step ∷ h) w'
-  reached_more h step w w' is taken = record {
+  pub reached_more : (h : List Step) (step : Step) (run later : RunState) → IsReached s bodies start h run → IsStepTaken s bodies run step later → IsReached s bodies start (step ∷ h) later
+  reached_more h step run later is taken = record {
     answers = (subst (IsAnswerOf s step) (sym is.meaning) taken.answer, is.answers);
     meaning = ap (λ o. option_and_then (serial_step s bodies step) o) is.meaning ∙ taken.meaning;
   }
 
   -- a complete lawful list that was gone through
-  pub reached_end : (h : List Step) (w : State) → IsLawful s h → IsComplete s h → IsReached s bodies start h w → IsReplayed s bodies start h w
-  reached_end h w lawful complete is = go (interleaved s bodies start h) refl
+  pub reached_end : (h : List Step) (run : RunState) → IsLawful s h → IsComplete s h → IsReached s bodies start h run → IsReplayed s bodies start h run.state
+  reached_end h run lawful complete is = go (interleaved s bodies start h) refl
     where
-      go : (o : Option Interleaved) → interleaved s bodies start h ≡ o → IsReplayed s bodies start h w
-      go None e = absurd (let clash : option_map (λ (x : Interleaved). x.run) None ≡ Some (between w) = sym (ap (option_map (λ (x : Interleaved). x.run)) e) ∙ interleaved_serial s bodies start h lawful complete ∙ is.meaning in cc)
+      go : (o : Option Interleaved) → interleaved s bodies start h ≡ o → IsReplayed s bodies start h run.state
+      go None e = absurd (let clash : option_map (λ (x : Interleaved). x.run) None ≡ Some run = sym (ap (option_map (λ (x : Interleaved). x.run)) e) ∙ interleaved_serial s bodies start h lawful complete ∙ is.meaning in cc)
       go (Some end) e =
-          let same : Some end.run ≡ Some (between w) = sym (ap (option_map (λ (x : Interleaved). x.run)) e) ∙ interleaved_serial s bodies start h lawful complete ∙ is.meaning in
-          let run : end.run ≡ between w = cc in
+          let both : Some end.run ≡ Some run = sym (ap (option_map (λ (x : Interleaved). x.run)) e) ∙ interleaved_serial s bodies start h lawful complete ∙ is.meaning in
+          let same : end.run ≡ run = cc in
           record {
-            run = record { lawful = lawful; complete = complete; answers = all-true h end (between w) lawful e is.meaning is.answers };
-            sound = subst (IsSoundRun s bodies start h) (ap (λ (r : RunState). r.state) run) (runs_are_sound s bodies start h end lawful complete e);
+            run = record { lawful = lawful; complete = complete; answers = all-true h end run lawful e is.meaning is.answers };
+            sound = subst (IsSoundRun s bodies start h) (ap (λ (r : RunState). r.state) same) (runs_are_sound s bodies start h end lawful complete e);
           }
 
   -- a wrong answer at a step
-  pub wrong_at : (h later : List Step) (step : Step) (w : State) (n : ℕ) → IsReached s bodies start h w → IsWrongHere s w step → n ≡ length h + 1 → IsWrongAnswer s bodies start (later ++ step ∷ h) n
-  wrong_at h later (Cond c answer) w n is wrong place = record {
+  pub wrong_at : (h later : List Step) (step : Step) (run : RunState) (n : ℕ) → IsReached s bodies start h run → IsWrongHere s run step → n ≡ length h + 1 → IsWrongAnswer s bodies start (later ++ step ∷ h) n
+  wrong_at h later (Cond c answer) run n is wrong place = record {
     later = later;
     condition = c;
     answer = answer;
@@ -205,31 +205,31 @@ module _ (s : Schedule) (bodies : List BodyMeaning) (start : State) where
     whole = refl;
     place = place;
     answers = is.answers;
-    run = between w;
+    run = run;
     meaning = is.meaning;
     asked = wrong.0;
     wrong = wrong.1;
   }
-  wrong_at h later (Start m) w n is wrong place = absurd wrong
-  wrong_at h later (Skip m) w n is wrong place = absurd wrong
-  wrong_at h later (Finish m) w n is wrong place = absurd wrong
-  wrong_at h later (Sync k) w n is wrong place = absurd wrong
+  wrong_at h later (Start m) run n is wrong place = absurd wrong
+  wrong_at h later (Skip m) run n is wrong place = absurd wrong
+  wrong_at h later (Finish m) run n is wrong place = absurd wrong
+  wrong_at h later (Sync k) run n is wrong place = absurd wrong
 
   -- what stops a step that isn't taken: its answer isn't asked
-  unasked : (step : Step) (w : State) (cause : Cause) → serial_cause_of s bodies step (between w) ≡ Some cause → IsAnswerOf s step (Some (between w))
-  unasked (Cond c answer) w cause e = λ asked. absurd (let clash : unless true NoTick ≡ Some cause = ap (λ b. unless b NoTick) (sym asked) ∙ e in cc)
-  unasked (Start n) w cause e = tt
-  unasked (Skip n) w cause e = tt
-  unasked (Finish n) w cause e = tt
-  unasked (Sync k) w cause e = tt
+  unasked : (step : Step) (run : RunState) (cause : Cause) → serial_cause_of s bodies step run ≡ Some cause → IsAnswerOf s step (Some run)
+  unasked (Cond c answer) run cause e = λ asked. absurd (let clash : unless true NoTick ≡ Some cause = ap (λ b. unless b NoTick) (sym asked) ∙ e in cc)
+  unasked (Start n) run cause e = tt
+  unasked (Skip n) run cause e = tt
+  unasked (Finish n) run cause e = tt
+  unasked (Sync k) run cause e = tt
 
-  pub stopped_at : (h later : List Step) (step : Step) (w : State) (cause : Cause) → IsReached s bodies start h w → serial_cause_of s bodies step (between w) ≡ Some cause → IsReplayStopped s bodies start (later ++ step ∷ h) cause
-  stopped_at h later step w cause is e = record {
+  pub stopped_at : (h later : List Step) (step : Step) (run : RunState) (cause : Cause) → IsReached s bodies start h run → serial_cause_of s bodies step run ≡ Some cause → IsReplayStopped s bodies start (later ++ step ∷ h) cause
+  stopped_at h later step run cause is e = record {
     later = later;
     front = step ∷ h;
     whole = refl;
-    answers = (subst (IsAnswerOf s step) (sym is.meaning) (unasked step w cause e), is.answers);
-    stops = ap (λ o. first_some o (serial_cause_at s bodies step (serial s bodies start h))) (no-cause h (between w) is.meaning)
+    answers = (subst (IsAnswerOf s step) (sym is.meaning) (unasked step run cause e), is.answers);
+    stops = ap (λ o. first_some o (serial_cause_at s bodies step (serial s bodies start h))) (no-cause h run is.meaning)
         ∙ ap (serial_cause_at s bodies step) is.meaning ∙ e;
   }
 

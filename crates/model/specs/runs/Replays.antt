@@ -6,7 +6,7 @@ use Rattle.model.specs.state.State.{State}
 use Rattle.model.specs.state.Agreement.{IsRun}
 use Rattle.model.specs.shown.Outcome.{BodyMeaning}
 use Rattle.model.specs.steps.Schedule.{Schedule}
-use Rattle.model.specs.runs.RunState.{RunState, answer_of, between, can_ask}
+use Rattle.model.specs.runs.RunState.{RunState, answer_of, can_ask}
 use Rattle.model.specs.runs.Meaning.{serial, serial_step}
 use Rattle.model.specs.runs.Causes.{Cause, serial_cause}
 use Rattle.model.specs.runs.Runs.{IsSoundRun}
@@ -66,17 +66,17 @@ ComesTo s bodies w h (Stops cause) = IsReplayStopped s bodies w h cause
 
 -- ---- one step of it
 
--- after this history the answers that were recorded are true, and the serial meaning is this state, with nothing commanded or granted
-pub record IsReached (s : Schedule) (bodies : List BodyMeaning) (start : State) (h : List Step) (w : State) : Type 0 where
+-- after this history the answers that were recorded are true, and the serial meaning is this run state
+pub record IsReached (s : Schedule) (bodies : List BodyMeaning) (start : State) (h : List Step) (run : RunState) : Type 0 where
   pub answers : HasSerialAnswers s bodies start h
-  pub meaning : serial s bodies start h ≡ Some (between w)
+  pub meaning : serial s bodies start h ≡ Some run
 
--- the serial meaning of a step leads from a state to another, and its recorded answer is true
-pub record IsStepTaken (s : Schedule) (bodies : List BodyMeaning) (w : State) (step : Step) (w' : State) : Type 0 where
-  pub meaning : serial_step s bodies step (between w) ≡ Some (between w')
-  pub answer : IsAnswerOf s step (Some (between w))
+-- the serial meaning of a step leads from a run state to another, and its recorded answer is true
+pub record IsStepTaken (s : Schedule) (bodies : List BodyMeaning) (run : RunState) (step : Step) (later : RunState) : Type 0 where
+  pub meaning : serial_step s bodies step run ≡ Some later
+  pub answer : IsAnswerOf s step (Some run)
 
 -- a step whose recorded answer isn't the condition's meaning, where it can be asked
-abbrev pub IsWrongHere : Schedule → State → Step → Type 0
-IsWrongHere s w (Cond c answer) = (can_ask (between w) ≡ true) × (answer ≢ answer_of s c (between w))
-IsWrongHere s w step = ⊥
+abbrev pub IsWrongHere : Schedule → RunState → Step → Type 0
+IsWrongHere s run (Cond c answer) = (can_ask run ≡ true) × (answer ≢ answer_of s c run)
+IsWrongHere s run step = ⊥

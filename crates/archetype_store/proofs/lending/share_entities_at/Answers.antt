@@ -1,4 +1,4 @@
-use Rattle.std.proofs.Common.{◌≡◌, [], map, set, IfOk, ◌∙◌, sym, ap, subst}
+use Rattle.std.proofs.Common.{◌≡◌, [], map, set, IfOk, ◌∙◌, ap, subst}
 use Rattle.std.proofs.lemmas.List.{get_or_default, set-get_or}
 use Rattle.std.specs.Arc.{arc_value}
 use Rattle.column_store.specs.Table.{TableRow, TableValue, empty_table}

@@ -1,7 +1,7 @@
-use Rattle.std.proofs.Common.{map, take}
-use Rattle.archetype_store.specs.RowMoves.{placing_of, arrived, AreSteps}
+use Rattle.std.proofs.Common.{take}
+use Rattle.archetype_store.specs.Arrivals.{AreLaid}
 use Rattle.archetype_store.proofs.row_moves.arrive_all.Given as goal
 
--- the rows so far have come
-abbrev pub invariant-loop-at : goal.invariant-loop-at
-invariant-loop-at l = AreSteps arrived l.fn.tables.items l.tables.items (take l.at (map placing_of l.rows))
+-- what comes into the tables so far has come
+abbrev pub invariant-loop-table : goal.invariant-loop-table
+invariant-loop-table l = AreLaid (take l.table l.arriving) l.fn.tables.items l.tables.items

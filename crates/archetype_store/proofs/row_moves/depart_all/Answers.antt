@@ -1,30 +1,20 @@
-use Rattle.std.proofs.Common.{◌≡◌, Some}
-use Rattle.archetype_store.specs.declared.locations.EntityLocation.{EntityLocation}
-use Rattle.archetype_store.specs.declared.row_moves.RowMove.{RowMove}
-use Rattle.archetype_store.specs.RowMoves.{placing_of, departed, CanDepart}
-use Rattle.archetype_store.proofs.Laid.{shaped_kept}
+use Rattle.std.proofs.Common.{map, ◌∙◌}
+use Rattle.archetype_store.specs.RowMoves.{placing_of}
 use Rattle.archetype_store.proofs.Standings.{owned_kept}
-use Rattle.archetype_store.proofs.RowMoves.{next_step, not_yet, of_item, depart_kept}
+use Rattle.archetype_store.proofs.Leaving.{parts_departed, same_many}
+use Rattle.archetype_store.proofs.Leavers.{leavers_there}
 use Rattle.archetype_store.proofs.row_moves.depart_all.Goals as goal
 
-pub depart-requires-clause-shaped : goal.depart-requires-clause-shaped
-depart-requires-clause-shaped c = shaped_kept c.args.tables.now.items c.loop-row.tables.items c.loop-row.invariant.shapes c.requires.shaped
+pub leave_all-requires-clause-owned : goal.leave_all-requires-clause-owned
+leave_all-requires-clause-owned c = owned_kept c.args.tables.now.items c.renew_all.new.tables.items c.renew_all.ensures.shapes c.requires.owned
 
-pub depart-requires-clause-owned : goal.depart-requires-clause-owned
-depart-requires-clause-owned c = owned_kept c.args.tables.now.items c.loop-row.tables.items c.loop-row.invariant.shapes c.requires.owned
+pub leave_all-requires-clause-there : goal.leave_all-requires-clause-there
+leave_all-requires-clause-there c =
+    leavers_there c.args.rows.now c.args.leaving.now _ c.args.tables.now.items c.renew_all.new.tables.items c.renew_all.ensures c.requires.leaving c.requires.can
 
-pub depart-requires-clause-can : goal.depart-requires-clause-can
-depart-requires-clause-can c =
-    let old = c.args.tables.now.items in
-    let now = c.loop-row.tables.items in
-    let rows = c.args.rows.now in
-    let m = c.row-item.result in
-    λ from is. depart_kept old now (placing_of m) from c.loop-row.invariant.shapes
-    (not_yet departed old now now rows c.loop-row.row-index m c.loop-row-test.true c.row-item.is c.requires.apart c.loop-row.invariant from.table)
-    (of_item departed old now now rows c.loop-row.row-index m c.loop-row-test.true c.row-item.is c.requires.apart c.loop-row.invariant
-    (λ (r : RowMove). (from : EntityLocation) → r.from ≡ Some from → CanDepart old (placing_of r) from) c.requires.can from is)
+pub leave_all-requires-clause-many : goal.leave_all-requires-clause-many
+leave_all-requires-clause-many c = c.requires.leaving.many ∙ same_many c.args.tables.now.items c.renew_all.new.tables.items c.renew_all.ensures.shapes
 
-pub loop-row-preserved : goal.loop-row-preserved
-loop-row-preserved c =
-    next_step departed c.args.tables.now.items c.loop-row.tables.items c.depart.new.tables.items c.args.rows.now c.loop-row.row-index c.row-item.result c.loop-row-test.true c.row-item.is
-    c.requires.apart c.loop-row.invariant c.depart.ensures
+pub returns : goal.returns
+returns c =
+    parts_departed (map placing_of c.args.rows.now) c.args.leaving.now _ c.args.tables.now.items c.renew_all.new.tables.items c.leave_all.new.tables.items c.renew_all.ensures c.requires.leaving c.leave_all.ensures

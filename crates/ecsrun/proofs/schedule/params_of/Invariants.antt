@@ -2,6 +2,6 @@ use Rattle.std.proofs.Common.{◌≡◌}
 use Rattle.model.specs.access.Access.{no_params}
 use Rattle.ecsrun.proofs.schedule.params_of.Given as goal
 
--- the queries so far, and nothing else
+-- the queries so far, the count of ids, and nothing else
 abbrev pub invariant-loop-query : goal.invariant-loop-query
-invariant-loop-query l = l.params ≡ record no_params { queries = l.yielded }
+invariant-loop-query l = l.params ≡ record no_params { queries = l.yielded; spawns = l.fn.spawns }

@@ -1,8 +1,11 @@
-use Rattle.std.proofs.Common.{Some, Err, inl, inr, refl, ◌∙◌, ap, rules}
+use Rattle.std.proofs.Common.{◌≡◌, Some, Err, inl, inr, refl, sym, subst, ◌∙◌, ap, rules}
 use Rattle.std.proofs.lemmas.List.{length-map}
 use denote.Param.Send.{sendable}
 use Rattle.engine.proofs.Beginning.{no_first_lacks}
-use Rattle.ecsrun.proofs.Serving.{no-misfit}
+use Rattle.ecsrun.specs.Refused.{IsStoppedRun}
+use Rattle.ecsrun.specs.declared.fault.Fault.{Fault}
+use Rattle.ecsrun.specs.declared.fault.Fault.TheVariants.{Memory}
+use Rattle.ecsrun.proofs.Serving.{no-misfit, of-given}
 use Rattle.ecsrun.proofs.serve.run.Goals as goal
 
 -- there is a script and a memory for each system, and a memory for each condition
@@ -23,3 +26,15 @@ unreachable-requires-in-Err-Misfit g c =
 pub run_times-requires : goal.run_times-requires
 run_times-requires g c = λ lifetimes.
     (search sendable depth 40, (search sendable depth 40, (search sendable depth 40, ((refl, tt), search rules))))
+
+-- what stops the runs
+pub returns-in_err-traces-clause-stopped : goal.returns-in_err-traces-clause-stopped
+returns-in_err-traces-clause-stopped g c =
+    of-given (λ (told : Fault). told ≡ c.in_err-traces.field-0.0) (IsStoppedRun c.args.recorded) c.from_residual-in_err-traces.result c.from_residual-in_err-traces.ensures.1
+    (λ e same. subst (IsStoppedRun c.args.recorded) (sym same) c.in_err-traces.ensures.stopped)
+
+-- want of memory for the text
+pub returns-in_err-text_of_world-clause-stopped : goal.returns-in_err-text_of_world-clause-stopped
+returns-in_err-text_of_world-clause-stopped g c =
+    of-given (λ (told : Fault). told ≡ Memory) (IsStoppedRun c.args.recorded) c.from_residual-in_err-text_of_world.result c.from_residual-in_err-text_of_world.ensures.1
+    (λ e same. subst (IsStoppedRun c.args.recorded) (sym same) tt)

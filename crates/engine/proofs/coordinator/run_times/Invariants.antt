@@ -1,6 +1,7 @@
 use Rattle.std.proofs.Common.{◌≡◌, length, map}
 use Rattle.model.specs.runs.WideRuns.{AreWideRuns}
 use Rattle.archetype_store.specs.Layout.{AreAllHome}
+use Rattle.engine.specs.Left.{IsLeftFor}
 use Rattle.engine.specs.Meanings.{meanings, Suits}
 use Rattle.engine.specs.History.{history_of}
 use Rattle.engine.proofs.coordinator.run_times.Given as goal
@@ -12,4 +13,5 @@ invariant-loop-run g l = record {
   suits : Suits g.B.Body.fits l.built l.slots l.state.state;
   meant : meanings g.B.Body.meaning l.built l.slots ≡ meanings g.B.Body.meaning l.built l.fn.slots;
   home : AreAllHome l.state.layout;
+  left : IsLeftFor l.built l.left;
 }

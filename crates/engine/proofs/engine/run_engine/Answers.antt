@@ -1,10 +1,9 @@
-use Rattle.std.proofs.Common.{◌≡◌, ℕ, List, map, Option, Err, refl, sym, ap, ◌∙◌, subst}
+use Rattle.std.proofs.Common.{ℕ, List, map, Option, refl, sym, ap, ◌∙◌, subst}
 use Rattle.std.proofs.Math.Logic.{⊎_map}
 use Rattle.model.specs.state.Agreement.{AgreesWithAll}
 use Rattle.model.specs.state.State.{State}
 use Rattle.model.specs.runs.Causes.{Cause}
-use Rattle.model.specs.runs.Causes.Cause.{NoTick, NoEventNumber, Refused}
-use Rattle.model.specs.runs.Runs.{IsStopped}
+use Rattle.model.specs.runs.Causes.Cause.{NoTick, NoIds, NoEventNumber, Refused}
 use Rattle.model.specs.runs.WideRuns.{AreWideRuns, IsWideStopped}
 use Rattle.engine.specs.History.{history_of}
 use Rattle.engine.specs.EngineValue.{EngineValue}
@@ -32,7 +31,10 @@ run_times-traces-requires g c = λ lifetimes.
               (
                 subst (λ (slots : List (Option g.row.B.Denot)). Suits g.B.Body.fits inside.built slots c.into_open-state.result.state) (sym c.deref_mut.ensures.value)
                     (subst (λ (state : State). Suits g.B.Body.fits inside.built inside.bodies.items state) (sym same) suits),
-                c.into_open-state.ensures.home,
+                (
+                  subst (λ (slots : List (Option g.row.B.Denot)). AllKeepWithin inside.built (meanings g.B.Body.meaning inside.built slots)) (sym c.deref_mut.ensures.value) (c.engine.invariant c.if-engine.false).1,
+                  (c.into_open-state.ensures.home, (c.engine.invariant c.if-engine.false).2),
+                ),
               ),
             ),
           ),
@@ -51,6 +53,19 @@ returns-in_err-traces-clause-clock g c = λ e.
     (subst (λ (state : State). IsWideStopped width inside.built (meanings meaning inside.built c.deref_mut.result.now) c.args.times state cause) (c.into_open-state.ensures.state ∙ c.replace.ensures.value) h)) in
     ⊎_map (stops NoTick) (stops NoEventNumber) (c.in_err-traces.ensures.clock (let q = c.from_residual.ensures in let p = rw e at q.1 in cc))
 
+pub returns-in_err-traces-clause-ids : goal.returns-in_err-traces-clause-ids
+returns-in_err-traces-clause-ids g c = λ e.
+    let meaning = g.B.Body.meaning in
+    let width = g.M.Mode.width c.args.mode.now in
+    let inside = c.engine.inside in
+    let value = c.args.engine.now in
+    let bodies = meanings meaning value.schedule value.bodies in
+    let stops = λ (cause : Cause) (h : IsWideStopped width inside.built (meanings meaning inside.built c.deref_mut.result.now) c.args.times c.into_open-state.result.state cause).
+    subst (λ (v : EngineValue g.row.B.Denot). IsWideStopped width v.schedule (meanings meaning v.schedule v.bodies) c.args.times v.state cause) c.engine.view_is
+    (subst (λ (slots : List (Option g.row.B.Denot)). IsWideStopped width inside.built (meanings meaning inside.built slots) c.args.times inside.state cause) c.deref_mut.ensures.value
+    (subst (λ (state : State). IsWideStopped width inside.built (meanings meaning inside.built c.deref_mut.result.now) c.args.times state cause) (c.into_open-state.ensures.state ∙ c.replace.ensures.value) h)) in
+    stops NoIds (c.in_err-traces.ensures.ids (let q = c.from_residual.ensures in let p = rw e at q.1 in cc))
+
 pub returns-in_err-traces-clause-refusal : goal.returns-in_err-traces-clause-refusal
 returns-in_err-traces-clause-refusal g c = λ k e.
     let meaning = g.B.Body.meaning in
@@ -63,6 +78,21 @@ returns-in_err-traces-clause-refusal g c = λ k e.
     (subst (λ (slots : List (Option g.row.B.Denot)). IsWideStopped width inside.built (meanings meaning inside.built slots) c.args.times inside.state cause) c.deref_mut.ensures.value
     (subst (λ (state : State). IsWideStopped width inside.built (meanings meaning inside.built c.deref_mut.result.now) c.args.times state cause) (c.into_open-state.ensures.state ∙ c.replace.ensures.value) h)) in
     stops (Refused k) (c.in_err-traces.ensures.refusal k (let q = c.from_residual.ensures in let p = rw e at q.1 in cc))
+
+pub returns-in_err-traces-clause-single_ids : goal.returns-in_err-traces-clause-single_ids
+returns-in_err-traces-clause-single_ids g c = λ e one.
+    let meaning = g.B.Body.meaning in
+    let width = g.M.Mode.width c.args.mode.now in
+    let inside = c.engine.inside in
+    let value = c.args.engine.now in
+    let bodies = meanings meaning value.schedule value.bodies in
+    let stops = λ (cause : Cause) (h : IsWideStopped width inside.built (meanings meaning inside.built c.deref_mut.result.now) c.args.times c.into_open-state.result.state cause).
+    subst (λ (v : EngineValue g.row.B.Denot). IsWideStopped width v.schedule (meanings meaning v.schedule v.bodies) c.args.times v.state cause) c.engine.view_is
+    (subst (λ (slots : List (Option g.row.B.Denot)). IsWideStopped width inside.built (meanings meaning inside.built slots) c.args.times inside.state cause) c.deref_mut.ensures.value
+    (subst (λ (state : State). IsWideStopped width inside.built (meanings meaning inside.built c.deref_mut.result.now) c.args.times state cause) (c.into_open-state.ensures.state ∙ c.replace.ensures.value) h)) in
+    let single = λ (cause : Cause) (h : IsWideStopped width value.schedule bodies c.args.times value.state cause).
+    c.wide_of_one_is_single.ensures.stops value.schedule bodies c.args.times value.state cause (subst (λ (n : ℕ). IsWideStopped n value.schedule bodies c.args.times value.state cause) one h) in
+    single NoIds (stops NoIds (c.in_err-traces.ensures.ids (let q = c.from_residual.ensures in let p = rw e at q.1 in cc)))
 
 pub returns-in_err-traces-clause-single_refusal : goal.returns-in_err-traces-clause-single_refusal
 returns-in_err-traces-clause-single_refusal g c = λ k e one.
@@ -111,6 +141,7 @@ returns-in_err-traces-clause-defined g c = λ one has.
     (λ e. neither (λ h. c.single_runs_are_one.ensures.defined value.schedule bodies c.args.times value.state NoTick has (single NoTick (stops NoTick h)))
     (λ h. c.single_runs_are_one.ensures.defined value.schedule bodies c.args.times value.state NoEventNumber has (single NoEventNumber (stops NoEventNumber h)))
     (c.in_err-traces.ensures.clock (let q = c.from_residual.ensures in let p = rw e at q.1 in cc)))
+    (λ e. c.single_runs_are_one.ensures.defined value.schedule bodies c.args.times value.state NoIds has (single NoIds (stops NoIds (c.in_err-traces.ensures.ids (let q = c.from_residual.ensures in let p = rw e at q.1 in cc)))))
     (λ k e. c.single_runs_are_one.ensures.defined value.schedule bodies c.args.times value.state (Refused k) has (single (Refused k) (stops (Refused k) (c.in_err-traces.ensures.refusal k (let q = c.from_residual.ensures in let p = rw e at q.1 in cc)))))
 
 pub returns-clause-sound : goal.returns-clause-sound
@@ -159,4 +190,5 @@ invariant_of-engine-2 g c = λ e.
       subst (λ (xs : List (Option g.row.B.Denot)). Suits fits inside.built xs c.into_state.result) (sym whole) (subst (λ (state : State). Suits fits inside.built slots state) (sym c.into_state.ensures) suits),
       subst (λ (xs : List (Option g.row.B.Denot)). AllKeepWithin inside.built (meanings meaning inside.built xs)) (sym whole)
           (subst (AllKeepWithin inside.built) (sym (c.in_ok-traces.ensures.meanings ∙ ap (meanings meaning inside.built) c.deref_mut.ensures.value)) before.1),
+      c.in_ok-traces.ensures.left,
     )

@@ -1,5 +1,4 @@
 use Rattle.std.proofs.Common.{◌≡◌, map, take}
-use Rattle.model.specs.access.Condition.{access_of_condition}
 use Rattle.model.specs.state.Loaded.{first_memory}
 use Rattle.model.specs.steps.Schedule.{ScheduledSystem}
 use Rattle.engine.proofs.first_state.systems_of.Given as goal

@@ -5,7 +5,7 @@ use Rattle.model.specs.steps.Schedule.{ScheduledCondition, access_of}
 use Rattle.query_plan.specs.Standing.{ArePickedHome}
 use Rattle.body.specs.Steps.{store_of}
 use Rattle.body.proofs.Outs.{home-apart}
-use Rattle.engine.proofs.Weaving.{answer_woven}
+use Rattle.engine.proofs.Weaving.{answer_alike, answer_woven}
 use Rattle.trace_checker.proofs.replay.ask.Goals as goal
 
 pub ask-requires-clause-home : goal.ask-requires-clause-home
@@ -15,7 +15,7 @@ ask-requires-clause-home c =
     (home-apart (store_of c.args.state.now) [] (access_of c.args.built.now c.args.condition) c.law.ensures.laid c.requires.out tt)
 
 pub returns-clause-answer : goal.returns-clause-answer
-returns-clause-answer c =
+returns-clause-answer c = λ left.
     let told = c.in_ok-answer.ensures in
-    let means = answer_woven c.args.built.now c.args.condition c.args.state.now.state in
+    let means = answer_alike c.args.built.now c.args.condition c.args.state.now.state left ∙ answer_woven c.args.built.now c.args.condition c.args.state.now.state in
     search (told, means, c.cond.ensures, c.condition-asked.ensures)

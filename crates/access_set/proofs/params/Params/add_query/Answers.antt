@@ -7,11 +7,8 @@ use Rattle.access_set.proofs.params.Params.add_query.Goals as goal
 
 pub invariant_of-self-in_default : goal.invariant_of-self-in_default
 invariant_of-self-in_default c =
-    let was = c.self.invariant in
     let queries : List (List Term) = c.self.inside.queries.items in
-    let query : List Term = c.args.query in (
-      was.0,
-      subst (λ (qs : List (List Term)). AreFootprints qs c.push.new.self.items) (sym c.in_default.ensures.items)
-          (subst (λ (fs : List Footprint). AreFootprints (queries ++ query ∷ []) fs) (sym c.in_ok-push.ensures.items)
-          (footprints_more queries c.self.inside.footprints.items query c.of_query.result was.1 c.of_query.ensures)),
-    )
+    let query : List Term = c.args.query in
+    subst (λ (qs : List (List Term)). AreFootprints qs c.push.new.self.items) (sym c.in_default.ensures.items)
+    (subst (λ (fs : List Footprint). AreFootprints (queries ++ query ∷ []) fs) (sym c.in_ok-push.ensures.items)
+    (footprints_more queries c.self.inside.footprints.items query c.of_query.result c.self.invariant c.of_query.ensures))

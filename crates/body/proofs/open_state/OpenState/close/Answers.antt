@@ -27,10 +27,13 @@ invariant_of-self-2 c =
     let now = c.close-sent.new.world.state.clock in
     let clock_is = ap (λ (x : StoreValue). x.state.clock) c.close-sent.ensures.home in
     record {
-      systems_in = subst (λ (ms : List Memory). IsInTime now ms) (sym whole)
-          (subst (λ clock. IsInTime clock (update_at n (with_registers registers) before.items)) (sym clock_is)
-          (kept_in_time c.self.inside.world.state.clock n registers before.items c.keep_registers.ensures.count c.self.invariant.systems_in));
-      conditions_in = subst (λ clock. IsInTime clock c.self.inside.conditions.items) (sym clock_is) c.self.invariant.conditions_in;
+      in_time = record {
+        systems_in = subst (λ (ms : List Memory). IsInTime now ms) (sym whole)
+            (subst (λ clock. IsInTime clock (update_at n (with_registers registers) before.items)) (sym clock_is)
+            (kept_in_time c.self.inside.world.state.clock n registers before.items c.keep_registers.ensures.count c.self.invariant.in_time.systems_in));
+        conditions_in = subst (λ clock. IsInTime clock c.self.inside.conditions.items) (sym clock_is) c.self.invariant.in_time.conditions_in;
+      };
+      counted = c.self.invariant.counted;
     }
 
 pub returns-clause-out : goal.returns-clause-out
@@ -47,6 +50,9 @@ pub invariant_of-self : goal.invariant_of-self
 invariant_of-self c =
     let clock_is = ap (λ (x : StoreValue). x.state.clock) c.close-sent.ensures.home in
     record {
-      systems_in = subst (λ clock. IsInTime clock c.self.inside.systems.items) (sym clock_is) c.self.invariant.systems_in;
-      conditions_in = subst (λ clock. IsInTime clock c.self.inside.conditions.items) (sym clock_is) c.self.invariant.conditions_in;
+      in_time = record {
+        systems_in = subst (λ clock. IsInTime clock c.self.inside.systems.items) (sym clock_is) c.self.invariant.in_time.systems_in;
+        conditions_in = subst (λ clock. IsInTime clock c.self.inside.conditions.items) (sym clock_is) c.self.invariant.in_time.conditions_in;
+      };
+      counted = c.self.invariant.counted;
     }

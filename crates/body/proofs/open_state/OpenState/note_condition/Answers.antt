@@ -24,6 +24,9 @@ invariant_of-self c =
     = c.ran_at.ensures ∙ ap (λ (ms : List Memory). update_at n (memory_after_run tick reads queues) ms) c.deref_mut.ensures.value in
     let whole = with_items_is before c.ran_at.new.memories (ap length after ∙ length-update_at n (memory_after_run tick reads queues) before.items ∙ sym before.ok.0) ∙ after in
     record {
-      conditions_in = subst (λ (ms : List Memory). IsInTime clock ms) (sym whole) (ran_in_time clock tick n reads queues before.items c.self.invariant.conditions_in past);
-      systems_in = c.self.invariant.systems_in;
+      in_time = record {
+        conditions_in = subst (λ (ms : List Memory). IsInTime clock ms) (sym whole) (ran_in_time clock tick n reads queues before.items c.self.invariant.in_time.conditions_in past);
+        systems_in = c.self.invariant.in_time.systems_in;
+      };
+      counted = c.self.invariant.counted;
     }

@@ -7,6 +7,6 @@ returns c = subst (λ (s : StateValue). HasShape s.state) c.self.view_is (record
   world = c.now.ensures.world;
   queue_number = c.law.ensures;
   queues = c.shape.ensures;
-  memories = c.self.invariant;
-  passed_over = omega arith;
+  memories = c.self.invariant.in_time;
+  passed_over = c.self.invariant.counted;
 })

@@ -4,7 +4,8 @@ use Rattle.event_buffers.specs.Lists.{ListsValue}
 use Rattle.model.specs.access.Conflict.Datum.{OfKind}
 use Rattle.model.specs.access.Query.{Term}
 use Rattle.model.specs.access.SelfConflict.{TwoConflictAt}
-use Rattle.model.specs.shown.Input.{rows_of, unread_of}
+use Rattle.model.specs.shown.Input.{rows_of, shown, unread_of}
+use Rattle.body.specs.Issued.{IssuedSeen}
 use Rattle.body.specs.Sheet.{Sheet}
 use Rattle.body.specs.Values.{ValuesSeen}
 use Rattle.body.proofs.Views.{seen_over-shown}
@@ -19,9 +20,10 @@ returns-clause-shown c = λ state w es.
     let memory = c.args.memory.now in
     let world = c.args.world.now.state in
     let unread = ap (λ (x : ListsValue). x.values) c.in_ok-unread.ensures ∙ ap₂ (λ ks cs. unread_of c.args.events.now ks cs) c.reads.ensures c.cursors.ensures in
-    seen_over-shown params memory c.args.events.now world c.args.tick c.in_ok-queries.queries.items c.open-values.result c.in_ok-unread.unread c.in_ok-sent.sent
+    seen_over-shown params memory c.args.events.now world c.args.tick c.in_ok-queries.queries.items c.open-values.result c.in_ok-unread.unread c.in_ok-sent.sent c.open-issued.result
     (subst (λ (qs : List (List Term)). map (λ (s : Sheet). s.rows) c.in_ok-queries.queries.items ≡ map (λ query. rows_of query memory.last_run world.slots) qs) c.queries.ensures.queries (rw c.last_run.ensures at c.in_ok-queries.ensures.rows))
     c.open-values.ensures unread state w es
+    ∙ ap (λ (x : IssuedSeen). shown params memory state x.granted) c.open-issued.ensures
 
 pub returns-clause-params : goal.returns-clause-params
 returns-clause-params c = λ i. record {
@@ -30,5 +32,5 @@ returns-clause-params c = λ i. record {
   res_mut = ap (λ (x : ValuesSeen). x.res_mut) c.open-values.ensures i;
   reads = (ap (λ (x : ListsValue). x.kinds) c.in_ok-unread.ensures ∙ c.reads.ensures) i;
   writes = (ap (λ (x : ListsValue). x.kinds) c.in_ok-sent.ensures ∙ c.writes.ensures) i;
-  spawns = sym c.law.ensures i;
+  spawns = ap (λ (x : IssuedSeen). x.spawns) c.open-issued.ensures i;
 }

@@ -11,7 +11,7 @@ invariant_of-self g c =
     let query = c.index_mut-query.result.now in
     let words = g.C.Component.words c.args.component in
     let after = c.set.ensures ∙ ap (λ (s : Sheet). let x : Sheet = record { terms = s.terms; rows = s.rows; cells = update_at c.args.row (with_words s.terms g.C.Component.NUMBER words) s.cells; taken = s.taken; tick = s.tick } in x) c.index_mut-query.ensures.value in
-    together-still inside.tick inside.queries.items c.args.query query c.set.new.self (query-within inside.tick inside.queries.items inside.values inside.unread inside.sent c.args.self.now c.args.query c.self.view_is c.requires.query)
+    together-still inside.tick inside.queries.items c.args.query query c.set.new.self (query-within inside.tick inside.queries.items inside.values inside.unread inside.sent inside.issued c.args.self.now c.args.query c.self.view_is c.requires.query)
     (record { terms = ap (λ (s : Sheet). s.terms) after; rows = ap (λ (s : Sheet). s.rows) after; taken = ap (λ (s : Sheet). s.taken) after; tick = ap (λ (s : Sheet). s.tick) after }) c.self.invariant
 
 pub returns : goal.returns
@@ -21,6 +21,6 @@ returns g c =
     let query = c.index_mut-query.result.now in
     let words = g.C.Component.words c.args.component in
     rw (← c.self.view_is)
-    (seen_over-written inside.tick queries _ inside.values inside.unread inside.sent c.args.query c.args.row g.C.Component.NUMBER words query c.set.new.self
-    (query-within inside.tick queries inside.values inside.unread inside.sent c.args.self.now c.args.query c.self.view_is c.requires.query) refl
+    (seen_over-written inside.tick queries _ inside.values inside.unread inside.sent inside.issued c.args.query c.args.row g.C.Component.NUMBER words query c.set.new.self
+    (query-within inside.tick queries inside.values inside.unread inside.sent inside.issued c.args.self.now c.args.query c.self.view_is c.requires.query) refl
     (c.set.ensures ∙ ap (λ (s : Sheet). let x : Sheet = record { terms = s.terms; rows = s.rows; cells = update_at c.args.row (with_words s.terms g.C.Component.NUMBER words) s.cells; taken = s.taken; tick = s.tick } in x) c.index_mut-query.ensures.value))

@@ -1,4 +1,4 @@
-use Rattle.std.proofs.Common.{◌≡◌, map, IfOk, sym, ap, ◌∙◌}
+use Rattle.std.proofs.Common.{map, sym, ap, ◌∙◌}
 use Rattle.std.proofs.lemmas.Result.{IfOk-weaker}
 use Rattle.column_store.specs.Table.{TableRow, TableValue}
 use Rattle.column_store.proofs.Columns.{entities-rows_of}

@@ -1,4 +1,4 @@
-use Rattle.std.proofs.Common.{◌≡◌, ◌<◌, ℕ, List, true, false, length, map, Some, Err, inr, refl, sym, ap, ◌∙◌, subst, arith}
+use Rattle.std.proofs.Common.{◌≡◌, true, false, length, map, Some, Err, inr, refl, sym, ap, ◌∙◌, subst, arith}
 use Rattle.std.proofs.lemmas.List.{length-map}
 use Rattle.engine.specs.declared.faults.NewFault.TheVariants.{Misfit}
 use Rattle.engine.specs.Meanings.{meanings, fits_at, AllKeepWithin, HasMemories, IsFirstMisfit}
@@ -20,6 +20,19 @@ returns-in_default-placed-clause-count g c =
     let slots = map (λ x. Some x) c.args.bodies.items in
     let count : length slots ≡ length c.args.built.systems = length-map c.args.bodies.items (λ x. Some x) ∙ (let a = c.if-len-count.false in let b = c.len.ensures in let d = c.count.ensures in omega arith) in
     (λ e. absurd (cc), λ h. absurd (counts_right c.args.built slots c.args.state count c.if-lacks_memories.ensures h))
+
+pub returns-in_default-new-clause-count : goal.returns-in_default-new-clause-count
+returns-in_default-new-clause-count g c =
+    let slots = map (λ x. Some x) c.args.bodies.items in
+    let count : length slots ≡ length c.args.built.systems = length-map c.args.bodies.items (λ x. Some x) ∙ (let a = c.if-len-count.false in let b = c.len.ensures in let d = c.count.ensures in omega arith) in
+    (λ e. absurd (cc), λ h. absurd (counts_right c.args.built slots c.args.state count c.if-lacks_memories.ensures h))
+
+pub returns-in_default-new-clause-misfit : goal.returns-in_default-new-clause-misfit
+returns-in_default-new-clause-misfit g c = λ n. (
+  (λ e. absurd (cc)),
+  (λ h. absurd (unlike (fits_at g.B.Body.fits c.args.built (map (λ x. Some x) c.args.bodies.items) n)
+      (subst (λ xs. fits_at g.B.Body.fits c.args.built (map (λ x. Some x) xs) n ≡ true) c.deref.ensures.value (c.in_default.ensures.none n h.known)) h.misfit)),
+)
 
 pub returns-clause-count : goal.returns-clause-count
 returns-clause-count g c =
@@ -55,6 +68,7 @@ invariant_of-result g c = λ e.
         fit = λ n l. subst (λ xs. fits_at g.B.Body.fits c.args.built xs n ≡ true) placed (c.in_default.ensures.none n l);
       },
       subst (λ xs. AllKeepWithin c.args.built (meanings g.B.Body.meaning c.args.built xs)) placed c.in_default.ensures.keep,
+      c.in-Ok-new.ensures.suits,
     )
 
 pub returns-clause-misfit : goal.returns-clause-misfit

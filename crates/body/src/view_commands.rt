@@ -1,0 +1,114 @@
+// The ids that a system is granted at its start, and the commands that it issues.
+
+ghost use Rattle.std.specs.Prelude.{◌≡◌, ◌<◌, true, false, [], length, is_some, OnOk, OnErr};
+ghost use Rattle.kinds.specs.Kind.{kind_number};
+ghost use Rattle.model.specs.shown.Outcome.Command.{Spawn, Insert, Remove, Despawn};
+ghost use Rattle.body.specs.Issued.{IssuedSeen, granted_in, with_issued};
+
+use access_set::params::Params;
+use command_queue::buffer::CommandBuffer;
+use entity_table::Entity;
+use kinds::component::Component;
+use kinds::kind::Kind;
+use std::alloc::AllocError;
+use std::marker::Model;
+
+/// How many ids a system is granted at each start where it has Commands, those of this start, and the commands so far.
+#[derive(Drop)]
+pub(crate) struct ViewCommands {
+    spawns: Option<u32>,
+    granted: Vec<Entity>,
+    commands: CommandBuffer,
+}
+
+impl Model for ViewCommands {
+    ghost use Rattle.std.specs.Prelude.{◌≡◌, false, [], is_some};
+    ghost use Rattle.body.specs.Issued.{IssuedSeen};
+
+    ghost Value = { IssuedSeen };
+
+    ghost view = { λ v. record { spawns = v.spawns; granted = v.granted.items; commands = v.commands } };
+
+    ghost invariant = { λ v. is_some v.spawns ≡ false → v.commands ≡ [] };
+}
+
+impl ViewCommands {
+    // The ids of a start, and no command.
+    pub(crate) fn open(params: &Params, granted: Vec<Entity>, commands: CommandBuffer) -> Self
+        requires { commands ≡ [] }
+        ensures { result ≡ record { spawns = params.now.spawns; granted = granted.items; commands = [] } }
+    {
+        ViewCommands {
+            spawns: params.spawns(),
+            granted,
+            commands,
+        }
+    }
+
+    // What holds of all.
+    pub(crate) fn law(&self)
+        ensures { is_some self.now.spawns ≡ false → self.now.commands ≡ [] }
+    {
+        let _spawns = self.spawns;
+    }
+
+    // How many ids were granted.
+    pub(crate) fn len(&self) -> usize
+        ensures { result ≡ length self.now.granted }
+    {
+        self.granted.len()
+    }
+
+    // The id of a slot.
+    pub(crate) fn granted(&self, slot: usize) -> Entity
+        requires { slot < length self.now.granted }
+        ensures { result ≡ granted_in self.now.granted slot }
+    {
+        self.granted[slot]
+    }
+
+    // The entity of a slot is to live.
+    pub(crate) fn spawn(&mut self, slot: usize) -> Result<(), AllocError>
+        requires slot { slot < length self.old.granted }
+        requires declared { is_some self.old.spawns ≡ true }
+        ensures ok { OnOk result (self.new ≡ with_issued (Spawn (granted_in self.old.granted slot)) self.old) }
+        ensures err { OnErr result (self.new ≡ self.old) }
+    {
+        let entity = self.granted[slot];
+        self.commands.spawn(entity)
+    }
+
+    // An entity is to have a component.
+    pub(crate) fn insert<C: Component>(&mut self, e: Entity, component: C) -> Result<(), AllocError>
+        requires { is_some self.old.spawns ≡ true }
+        ensures ok { OnOk result (self.new ≡ with_issued (Insert e C.NUMBER (C.words component)) self.old) }
+        ensures err { OnErr result (self.new ≡ self.old) }
+    {
+        self.commands.insert(e, component)
+    }
+
+    // An entity is to have no component of a kind.
+    pub(crate) fn remove(&mut self, e: Entity, kind: Kind) -> Result<(), AllocError>
+        requires { is_some self.old.spawns ≡ true }
+        ensures ok { OnOk result (self.new ≡ with_issued (Remove e (kind_number kind)) self.old) }
+        ensures err { OnErr result (self.new ≡ self.old) }
+    {
+        self.commands.remove(e, kind)
+    }
+
+    // An entity is to live no more.
+    pub(crate) fn despawn(&mut self, e: Entity) -> Result<(), AllocError>
+        requires { is_some self.old.spawns ≡ true }
+        ensures ok { OnOk result (self.new ≡ with_issued (Despawn e) self.old) }
+        ensures err { OnErr result (self.new ≡ self.old) }
+    {
+        self.commands.despawn(e)
+    }
+
+    // The commands, in order of issue.
+    pub(crate) fn into_commands(self) -> CommandBuffer
+        ensures { result ≡ self.commands }
+    {
+        self.commands
+    }
+}

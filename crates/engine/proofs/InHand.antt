@@ -1,0 +1,146 @@
+-- What is in hand: ids that are granted and commands that are kept, as ids are granted, entities written and systems end.
+use Rattle.std.proofs.Common.{◌≡◌, ◌≢◌, ℕ, ◌<◌, true, cond, ◌==◌, ◌⊎◌, inl, inr, List, [], ◌∷◌, length, get_or, set, Option, refl, ap, subst, sym, ◌∙◌}
+use Rattle.std.specs.List.{AllByRecursion}
+use Rattle.std.proofs.lemmas.Bool.{cases_eq, eq-eqb, ne_eqb, false≢true}
+use Rattle.std.proofs.lemmas.List.{get_or-set_same, get_or-set_other}
+use Rattle.std.proofs.lemmas.List.Elements.{recursion_from_All}
+use Rattle.model.specs.Lists.{IsIn, with_at}
+use Rattle.model.specs.declared.entities.Entity.{Entity}
+use Rattle.model.specs.state.State.{Slot, State, fresh_slot, is_vacant}
+use Rattle.model.specs.state.Ids.{granted_ids, grant}
+use Rattle.model.specs.shown.Outcome.{Command, AreSpawns, spawned_by}
+use Rattle.model.specs.shown.Overlay.{slot_after, slots_after}
+use Rattle.model.specs.runs.RunState.{between}
+use Rattle.model.proofs.lists.Lists.{get_or-map_index-view}
+use Rattle.entity_table.specs.Ids.{slot_at, IsGranted}
+use Rattle.entity_table.proofs.Grants.{granted-each}
+use Rattle.engine.specs.Left.{LeftValue, commands_at, grants_at, run_with, with_commands, with_grants, IsNothingLeft, AreInHand}
+use Rattle.engine.proofs.GrantedIds.{granted-grant, ids-vacant}
+
+-- ---- lists with a place for each system
+
+-- what is true of each element is true of this one
+pub each-in : {A : Type 0} (P : A → Type 0) (xs : List A) → AllByRecursion P xs → (x : A) → IsIn x xs → P x
+each-in P [] h x i = absurd i
+each-in P (y ∷ ys) h x (inl same) = subst P (sym same) h.0
+each-in P (y ∷ ys) h x (inr more) = each-in P ys h.1 x more
+
+-- a list with one place replaced, as a map by number
+pub set-at : {A : Type 0} (xs : List (List A)) (n : ℕ) (ys : List A) → n < length xs → (m : ℕ) → get_or (set xs n ys) m [] ≡ with_at n ys (λ j. get_or xs j []) m
+set-at xs n ys within m = go (cases_eq m n)
+  where
+    go : (m ≡ n) ⊎ (m ≡ n → ⊥) → get_or (set xs n ys) m [] ≡ cond (m == n) ys (get_or xs m [])
+    go (inl same) = ap (λ j. get_or (set xs n ys) j []) same ∙ get_or-set_same xs n ys [] within ∙ sym (ap (λ b. cond b ys (get_or xs m [])) (eq-eqb m n same))
+    go (inr other) = get_or-set_other xs n m ys [] other ∙ sym (ap (λ b. cond b ys (get_or xs m [])) (ne_eqb m n other))
+
+-- at the place that is replaced, and at another
+with_at-cases : {A : Type 0} (n m : ℕ) (ys : List A) (f : ℕ → List A) → ((m ≡ n) × (with_at n ys f m ≡ ys)) ⊎ ((m ≢ n) × (with_at n ys f m ≡ f m))
+with_at-cases n m ys f = go (cases_eq m n)
+  where
+    go : (m ≡ n) ⊎ (m ≡ n → ⊥) → ((m ≡ n) × (with_at n ys f m ≡ ys)) ⊎ ((m ≢ n) × (with_at n ys f m ≡ f m))
+    go (inl same) = inl (same, ap (λ b. cond b ys (f m)) (eq-eqb m n same))
+    go (inr other) = inr (other, ap (λ b. cond b ys (f m)) (ne_eqb m n other))
+
+-- what is there after a replacement: the new elements at that place, or those of before at another
+pub in-set : {A : Type 0} (xs : List (List A)) (n : ℕ) (ys : List A) → n < length xs → (m : ℕ) (x : A) → IsIn x (get_or (set xs n ys) m []) →
+    ((m ≡ n) × IsIn x ys) ⊎ ((m ≢ n) × IsIn x (get_or xs m []))
+in-set xs n ys within m x h = go (with_at-cases n m ys (λ j. get_or xs j []))
+  where
+    go : ((m ≡ n) × (with_at n ys (λ j. get_or xs j []) m ≡ ys)) ⊎ ((m ≢ n) × (with_at n ys (λ j. get_or xs j []) m ≡ get_or xs m [])) →
+        ((m ≡ n) × IsIn x ys) ⊎ ((m ≢ n) × IsIn x (get_or xs m []))
+    go (inl (same, e)) = inl (same, subst (IsIn x) (set-at xs n ys within m ∙ e) h)
+    go (inr (other, e)) = inr (other, subst (IsIn x) (set-at xs n ys within m ∙ e) h)
+
+-- ---- a grant
+
+-- the ids in hand stay so, and those of the grant are in hand beside them
+pub in_hand_grant : (k n : ℕ) (slots : List Slot) (left : LeftValue) → AreInHand slots left → commands_at left n ≡ [] → n < length left.grants →
+    AreInHand (grant k slots) (with_grants n (granted_ids k slots) left)
+in_hand_grant k n slots left h none within = record {
+  granted = λ m e i. granted-case e (in-set left.grants n (granted_ids k slots) within m e i);
+  apart = λ m j e i l. apart-case e (in-set left.grants n (granted_ids k slots) within m e i) (in-set left.grants n (granted_ids k slots) within j e l);
+  spawns = λ m. spawns-case m (cases_eq m n);
+}
+  where
+    new : (e : Entity) → IsIn e (granted_ids k slots) → IsGranted (grant k slots) e
+    new e i = each-in (IsGranted (grant k slots)) (granted_ids k slots) (recursion_from_All (IsGranted (grant k slots)) (granted_ids k slots) (granted-each k slots)) e i
+
+    was-vacant : (e : Entity) → IsIn e (granted_ids k slots) → is_vacant (slot_at slots e.index).status ≡ true
+    was-vacant e i = each-in (λ (d : Entity). is_vacant (slot_at slots d.index).status ≡ true) (granted_ids k slots) (ids-vacant k slots) e i
+
+    clash : {X : Type 0} (e : Entity) → IsIn e (granted_ids k slots) → IsGranted slots e → X
+    clash e i g = absurd (false≢true (sym (ap is_vacant g.status) ∙ was-vacant e i))
+
+    granted-case : {m : ℕ} (e : Entity) → ((m ≡ n) × IsIn e (granted_ids k slots)) ⊎ ((m ≢ n) × IsIn e (grants_at left m)) → IsGranted (grant k slots) e
+    granted-case e (inl (same, i)) = new e i
+    granted-case {m} e (inr (other, i)) = granted-grant k slots e (h.granted m e i)
+
+    apart-case : {m j : ℕ} (e : Entity) → ((m ≡ n) × IsIn e (granted_ids k slots)) ⊎ ((m ≢ n) × IsIn e (grants_at left m)) →
+        ((j ≡ n) × IsIn e (granted_ids k slots)) ⊎ ((j ≢ n) × IsIn e (grants_at left j)) → m ≡ j
+    apart-case e (inl (same, i)) (inl (also, l)) = same ∙ sym also
+    apart-case {m} {j} e (inl (same, i)) (inr (other, l)) = clash e i (h.granted j e l)
+    apart-case {m} {j} e (inr (other, i)) (inl (same, l)) = clash e l (h.granted m e i)
+    apart-case {m} {j} e (inr (other, i)) (inr (also, l)) = h.apart m j e i l
+
+    spawns-case : (m : ℕ) → (m ≡ n) ⊎ (m ≡ n → ⊥) → AreSpawns (get_or (set left.grants n (granted_ids k slots)) m []) (spawned_by (commands_at left m))
+    spawns-case m (inl same) = subst (λ cs. AreSpawns (get_or (set left.grants n (granted_ids k slots)) m []) (spawned_by cs)) (sym (ap (commands_at left) same ∙ none)) tt
+    spawns-case m (inr other) = subst (λ ids. AreSpawns ids (spawned_by (commands_at left m))) (sym (get_or-set_other left.grants n m (granted_ids k slots) [] other)) (h.spawns m)
+
+-- ---- slots that are alike
+
+-- indices of the same status and generation
+pub record AreAlike (slots others : List Slot) : Type 0 where
+  pub status : (i : ℕ) → (slot_at others i).status ≡ (slot_at slots i).status
+  pub generation : (i : ℕ) → (slot_at others i).generation ≡ (slot_at slots i).generation
+
+pub in_hand_alike : (slots others : List Slot) (left : LeftValue) → AreAlike slots others → AreInHand slots left → AreInHand others left
+in_hand_alike slots others left same h = record {
+  granted = λ n e i. let g = h.granted n e i in record { status = same.status e.index ∙ g.status; generation = same.generation e.index ∙ g.generation };
+  apart = h.apart;
+  spawns = h.spawns;
+}
+
+-- slots are so after writes
+pub alike_after : (tick : ℕ) (words : ℕ → ℕ → Option (List _)) (slots : List Slot) → AreAlike slots (slots_after tick words slots)
+unfolding slots_after
+alike_after tick words slots = record {
+  status = λ i. get_or-map_index-view (λ (slot : Slot). slot.status) (λ j. slot_after tick (words j)) slots i fresh_slot (λ j slot. refl);
+  generation = λ i. get_or-map_index-view (λ (slot : Slot). slot.generation) (λ j. slot_after tick (words j)) slots i fresh_slot (λ j slot. refl);
+}
+
+-- ---- a finish
+
+pub in_hand_put : (n : ℕ) (cs : List Command) (slots : List Slot) (left : LeftValue) → n < length left.commands → AreSpawns (grants_at left n) (spawned_by cs) →
+    AreInHand slots left → AreInHand slots (with_commands n cs left)
+in_hand_put n cs slots left within new h = record {
+  granted = h.granted;
+  apart = h.apart;
+  spawns = λ m. spawns-case m (cases_eq m n);
+}
+  where
+    spawns-case : (m : ℕ) → (m ≡ n) ⊎ (m ≡ n → ⊥) → AreSpawns (grants_at left m) (spawned_by (get_or (set left.commands n cs) m []))
+    spawns-case m (inl same) = subst (λ j. AreSpawns (grants_at left j) (spawned_by (get_or (set left.commands n cs) j []))) (sym same)
+        (subst (λ x. AreSpawns (grants_at left n) (spawned_by x)) (sym (get_or-set_same left.commands n cs [] within)) new)
+    spawns-case m (inr other) = subst (λ x. AreSpawns (grants_at left m) (spawned_by x)) (sym (get_or-set_other left.commands n m cs [] other)) (h.spawns m)
+
+-- ---- nothing
+
+pub in_hand_nothing : (slots : List Slot) (left : LeftValue) → IsNothingLeft left → AreInHand slots left
+in_hand_nothing slots left h = record {
+  granted = λ n e i. absurd (subst (IsIn e) (h.no_grants n) i);
+  apart = λ n m e i j. absurd (subst (IsIn e) (h.no_grants n) i);
+  spawns = λ n. subst (λ cs. AreSpawns (grants_at left n) (spawned_by cs)) (sym (h.no_commands n)) tt;
+}
+
+-- ---- run states
+
+pub run_with_grants : (n : ℕ) (ids : List Entity) (state : State) (left : LeftValue) → n < length left.grants →
+    run_with state (with_grants n ids left) ≡ record { state = state; buffers = commands_at left; grants = with_at n ids (grants_at left) }
+run_with_grants n ids state left within = λ i. record { state = state; buffers = commands_at left; grants = λ m. set-at left.grants n ids within m i }
+
+pub run_with_commands : (n : ℕ) (cs : List Command) (state : State) (left : LeftValue) → n < length left.commands →
+    run_with state (with_commands n cs left) ≡ record { state = state; buffers = with_at n cs (commands_at left); grants = grants_at left }
+run_with_commands n cs state left within = λ i. record { state = state; buffers = λ m. set-at left.commands n cs within m i; grants = grants_at left }
+
+pub run_with_nothing : (state : State) (left : LeftValue) → IsNothingLeft left → run_with state left ≡ between state
+run_with_nothing state left h = λ i. record { state = state; buffers = λ m. h.no_commands m i; grants = λ m. h.no_grants m i }

@@ -1,0 +1,115 @@
+// Command lines that are read, and what is told of others.
+
+use command_line::args::{Args, Work};
+use std::alloc::{AllocError, Global};
+use std::test::Fail;
+
+fn words_of(alloc: Global, line: &str) -> Result<Vec<String>, AllocError> {
+    line.split(' ')
+        .map(|word| String::from_str(alloc, word))
+        .try_collect(alloc)
+}
+
+// So many runs on so many workers.
+fn runs(times: u32, workers: u8, recorded: bool) -> Work {
+    Work::Run {
+        times,
+        workers,
+        recorded,
+    }
+}
+
+#[test]
+fn lines_are_read(rt: HostRuntime) -> Result<(), Fail> {
+    for (line, files, work) in [
+        (
+            "ecsrun run world.toml",
+            ("world.toml", "", ""),
+            runs(1, 0, false),
+        ),
+        (
+            "ecsrun run world.toml --times 3",
+            ("world.toml", "", ""),
+            runs(3, 0, false),
+        ),
+        (
+            "ecsrun run --times=0 a.toml",
+            ("a.toml", "", ""),
+            runs(0, 0, false),
+        ),
+        (
+            "ecsrun run a.toml --times 1000000 --workers 64",
+            ("a.toml", "", ""),
+            runs(1_000_000, 64, false),
+        ),
+        (
+            "ecsrun run a.toml --trace b.txt --workers 2",
+            ("a.toml", "", "b.txt"),
+            runs(1, 2, true),
+        ),
+        (
+            "ecsrun check a.toml b.txt",
+            ("a.toml", "b.txt", ""),
+            Work::Check,
+        ),
+        (
+            "ecsrun replay a.toml b.txt",
+            ("a.toml", "b.txt", ""),
+            Work::Replay,
+        ),
+        (
+            "ecsrun ambiguities a.toml",
+            ("a.toml", "", ""),
+            Work::Ambiguities,
+        ),
+    ] {
+        let words = words_of(rt.alloc(), line)?;
+        let args = Args::read(rt.alloc(), words.as_slice())?;
+        let found = (args.file, args.trace, args.record);
+        assert_eq!(rt; found, files, "at {line}");
+        assert_eq!(rt; args.work, work, "at {line}");
+    }
+    Ok(())
+}
+
+#[test]
+fn lines_are_refused(rt: HostRuntime) -> Result<(), Fail> {
+    for (line, status) in [
+        ("ecsrun", 2),
+        ("ecsrun run", 2),
+        ("ecsrun check a.toml", 2),
+        ("ecsrun check a.toml b.txt c.txt", 2),
+        ("ecsrun check a.toml b.txt --times 1", 2),
+        ("ecsrun replay", 2),
+        ("ecsrun replay a.toml", 2),
+        ("ecsrun replay a.toml b.txt c.txt", 2),
+        ("ecsrun replay a.toml b.txt --times 1", 2),
+        ("ecsrun replay a.toml b.txt --workers 2", 2),
+        ("ecsrun replay a.toml --trace b.txt", 2),
+        ("ecsrun run a.toml b.toml", 2),
+        ("ecsrun run a.toml --workers 65", 2),
+        ("ecsrun run a.toml --workers -1", 2),
+        ("ecsrun run a.toml --trace", 2),
+        ("ecsrun run a.toml --trace b.txt --trace c.txt", 2),
+        ("ecsrun run a.toml --times 1000001", 2),
+        ("ecsrun run a.toml --times -1", 2),
+        ("ecsrun run a.toml --times 1 --times 2", 2),
+        ("ecsrun ambiguities", 2),
+        ("ecsrun ambiguities a.toml b.toml", 2),
+        ("ecsrun ambiguities a.toml --times 1", 2),
+        ("ecsrun --version", 2),
+        ("ecsrun --help", 0),
+        ("ecsrun run --help", 0),
+        ("ecsrun check --help", 0),
+        ("ecsrun replay --help", 0),
+        ("ecsrun ambiguities --help", 0),
+    ] {
+        let words = words_of(rt.alloc(), line)?;
+        let answer = Args::read(rt.alloc(), words.as_slice());
+        let found = answer
+            .err()
+            .map(|fault| (fault.status(), fault.text().is_empty()));
+        assert_eq!(rt; found, Some((status, false)), "at {line}");
+    }
+    Ok(())
+}
