@@ -1,52 +1,18 @@
-// The program: its command line, its streams, and the texts that it prints.
+// The program: its command line and its streams.
 #![tactic(auto)]
 
-mod answer;
-mod checking;
-#[cfg(test)]
-mod code_tests;
-#[cfg(test)]
-mod command_tests;
-#[cfg(test)]
-mod condition_tests;
-mod created;
-#[cfg(test)]
-mod event_tests;
-#[cfg(test)]
-mod fakes;
-mod fault;
-mod file;
-mod opened;
-#[cfg(test)]
-mod programs;
-mod recording;
-#[cfg(test)]
-mod replay_tests;
-mod replaying;
-mod schedule;
-mod serve;
-#[cfg(test)]
-mod served;
-#[cfg(test)]
-mod tests;
-#[cfg(test)]
-mod traces;
-mod words;
-mod workers;
-mod world;
-
 use command_line::args::{Args, LineFault, Work};
-use created::Created;
-use fault::Fault;
-use opened::open;
-use serve::{serve, tell};
+use serving::created::Created;
+use serving::fault::Fault;
+use serving::opened::open;
+use serving::serve::{serve, tell};
+use serving::words::words_of;
+use serving::workers::serve_on_threads;
 use std::alloc::Global;
 use std::io::Write;
 use std::process::ExitCode;
 use streams::writing::write_whole;
-use words::words_of;
 use worker_pool::Single;
-use workers::serve_on_threads;
 
 // Tells of a line that asks for no work.
 fn tell_line_fault<O: Write, E: Write>(

@@ -4,6 +4,8 @@
 #[cfg(test)]
 mod answers;
 #[cfg(test)]
+mod boxes;
+#[cfg(test)]
 mod commands;
 #[cfg(test)]
 mod gathering;
@@ -19,5 +21,3 @@ mod scripts;
 mod threads;
 #[cfg(test)]
 mod traces;
-#[cfg(test)]
-mod wide;

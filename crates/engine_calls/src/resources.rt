@@ -1,11 +1,9 @@
-// A body that writes a resource and a register, over several runs, and what two systems may name.
+// A body that writes a resource and a register, over several runs.
 
 ghost use Rattle.std.specs.Prelude.{Ok};
 ghost use Rattle.engine_calls.specs.Tallied.{tallied, may_tally};
 
-use access_set::conflict::conflicts;
 use access_set::params::Params;
-use access_set::self_conflict::conflicts_within;
 use archetype_store::store::World;
 use body::system_body::{Body, BodyFault};
 use body::view::View;
@@ -16,7 +14,7 @@ use kinds::res::Res;
 use schedule_builder::builder::build;
 use schedule_builder::built::Built;
 use schedule_builder::desc::{ScheduleDesc, SystemDesc};
-use std::alloc::Global;
+use std::alloc::{AllocError, Global};
 use std::test::Fail;
 use worker_pool::Single;
 
@@ -43,11 +41,11 @@ impl Body for Tally {
     }
 }
 
-// Parameters that read a resource and write another.
-fn params(alloc: Global, read: Res, written: Res) -> Result<Params, Fail> {
+// The parameters of the system that tallies.
+fn params(alloc: Global) -> Result<Params, AllocError> {
     let mut params = Params::new(alloc);
-    params.add_res(read)?;
-    params.add_res_mut(written)?;
+    params.add_res(Res::Step)?;
+    params.add_res_mut(Res::Total)?;
     Ok(params)
 }
 
@@ -55,45 +53,34 @@ fn params(alloc: Global, read: Res, written: Res) -> Result<Params, Fail> {
 fn schedule(alloc: Global) -> Result<Built, Fail> {
     let mut desc = ScheduleDesc::new(alloc);
     let name = String::from_str(alloc, "tally")?;
-    let params = params(alloc, Res::Step, Res::Total)?;
-    desc.add_system(SystemDesc::new(alloc, name, params))?;
+    desc.add_system(SystemDesc::new(alloc, name, params(alloc)?))?;
     Ok(build(alloc, desc)?)
 }
 
-#[test]
-fn tallies(rt: HostRuntime) -> Result<(), Fail> {
-    let alloc = rt.alloc();
+// An engine of the one system, over a world in which the step is 5.
+fn engine(alloc: Global) -> Result<Engine<Tally>, Fail> {
     let mut world = World::new(alloc, Clock::at(1))?;
     world.set_res(Res::Step, 5, 1);
     let mut bodies = Vec::new(alloc);
     bodies.push(Tally)?;
     let built = schedule(alloc)?;
     let state = first_state(alloc, &built, world)?;
-    let mut engine = Engine::new(alloc, built, bodies, state)?;
-    let _traces = engine.run(alloc, 3, &Single)?;
+    Ok(Engine::new(alloc, built, bodies, state)?)
+}
+
+// The value of a resource, and when it was changed last.
+fn resource_of(engine: &Engine<Tally>, res: Res) -> (i64, u64) {
     let world = engine.state().world();
-    assert_eq!(rt; world.res(Res::Total), 15);
-    assert_eq!(rt; world.res_changed(Res::Total), 9);
-    assert_eq!(rt; world.res(Res::Step), 5);
-    assert_eq!(rt; world.res_changed(Res::Step), 1);
-    assert_eq!(rt; engine.state().systems(), 1);
-    if engine.state().systems() > 0 {
-        let registers = engine.state().memory(0).registers();
-        assert_eq!(rt; registers, [3, 0, 0, 0, 0, 0, 0, 0]);
-    }
-    Ok(())
+    (world.res(res), world.res_changed(res))
 }
 
 #[test]
-fn names(rt: HostRuntime) -> Result<(), Fail> {
-    let alloc = rt.alloc();
-    let one = params(alloc, Res::Step, Res::Total)?;
-    let other = params(alloc, Res::Total, Res::Mode)?;
-    assert_eq!(rt; conflicts(&one, &other), true);
-    let apart = params(alloc, Res::Step, Res::Mode)?;
-    assert_eq!(rt; conflicts(&one, &apart), false);
-    assert_eq!(rt; conflicts_within(&one), false);
-    let both = params(alloc, Res::Total, Res::Total)?;
-    assert_eq!(rt; conflicts_within(&both), true);
+fn tallies(rt: HostRuntime) -> Result<(), Fail> {
+    let mut engine = engine(rt.alloc())?;
+    let _traces = engine.run(rt.alloc(), 3, &Single)?;
+    assert!(rt; resource_of(&engine, Res::Total) == (15, 9));
+    assert!(rt; resource_of(&engine, Res::Step) == (5, 1));
+    assert!(rt; engine.state().systems() == 1);
+    assert!(rt; engine.state().memory(0).registers() == [3, 0, 0, 0, 0, 0, 0, 0]);
     Ok(())
 }

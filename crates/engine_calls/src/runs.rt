@@ -115,11 +115,11 @@ fn position_of(engine: &Engine<ScriptBody>) -> Option<Position> {
 fn steps_are_traced(rt: HostRuntime) -> Result<(), Fail> {
     let alloc = rt.alloc();
     let mut engine = engine(alloc, Clock::at(1))?;
-    assert_eq!(rt;
-        steps_of(alloc, &mut engine, 2)?.as_str(),
-        "[Start(0), Finish(0), Sync(0)][Start(0), Finish(0), Sync(0)]"
+    assert!(rt;
+        steps_of(alloc, &mut engine, 2)?.as_str()
+            == "[Start(0), Finish(0), Sync(0)][Start(0), Finish(0), Sync(0)]"
     );
-    assert_eq!(rt; steps_of(alloc, &mut engine, 0)?.as_str(), "");
+    assert!(rt; steps_of(alloc, &mut engine, 0)?.as_str() == "");
     Ok(())
 }
 
@@ -128,9 +128,9 @@ fn moves(rt: HostRuntime) -> Result<(), Fail> {
     let alloc = rt.alloc();
     let mut engine = engine(alloc, Clock::at(1))?;
     steps_of(alloc, &mut engine, 3)?;
-    assert_eq!(rt; position_of(&engine), Some(Position { x: 3, y: -6 }));
-    assert_eq!(rt; stamp_of(&engine, Kind::Position), Some((1, 9, 10)));
-    assert_eq!(rt; stamp_of(&engine, Kind::Velocity), Some((1, 1, 10)));
+    assert!(rt; position_of(&engine) == Some(Position { x: 3, y: -6 }));
+    assert!(rt; stamp_of(&engine, Kind::Position) == Some((1, 9, 10)));
+    assert!(rt; stamp_of(&engine, Kind::Velocity) == Some((1, 1, 10)));
     Ok(())
 }
 
@@ -139,9 +139,9 @@ fn spoils(rt: HostRuntime) -> Result<(), Fail> {
     let alloc = rt.alloc();
     for now in [LAST_TICK - 2, LAST_TICK - 1, LAST_TICK] {
         let mut engine = engine(alloc, Clock::at(now))?;
-        assert_eq!(rt; fault_of(alloc, &mut engine, 1)?, RunFault::ClockSpent);
-        assert_eq!(rt; fault_of(alloc, &mut engine, 1)?, RunFault::Spoiled);
-        assert_eq!(rt; fault_of(alloc, &mut engine, 0)?, RunFault::Spoiled);
+        assert!(rt; fault_of(alloc, &mut engine, 1)? == RunFault::ClockSpent);
+        assert!(rt; fault_of(alloc, &mut engine, 1)? == RunFault::Spoiled);
+        assert!(rt; fault_of(alloc, &mut engine, 0)? == RunFault::Spoiled);
     }
     Ok(())
 }
@@ -155,7 +155,7 @@ fn counts(rt: HostRuntime) -> Result<(), Fail> {
     let fault = Engine::new(alloc, built, none, state)
         .err()
         .ok_or("no fault")?;
-    assert_eq!(rt; fault, NewFault::Count);
+    assert!(rt; fault == NewFault::Count);
     Ok(())
 }
 
@@ -169,6 +169,6 @@ fn misfits(rt: HostRuntime) -> Result<(), Fail> {
     let fault = Engine::new(alloc, built, bodies, state)
         .err()
         .ok_or("no fault")?;
-    assert_eq!(rt; fault, NewFault::Misfit(0));
+    assert!(rt; fault == NewFault::Misfit(0));
     Ok(())
 }

@@ -135,8 +135,8 @@ fn gathered<R: Threads + Wait + Watch + Copy + Send + Sync + Drop + 'static>(
 #[test]
 fn starts_meet(rt: HostRuntime) -> Result<(), Fail> {
     for _trial in 0..3 {
-        assert_eq!(rt; gathered(rt, rt.alloc(), &[None; 2], 2)?, 2);
-        assert_eq!(rt; gathered(rt, rt.alloc(), &[None; 3], 3)?, 3);
+        assert!(rt; gathered(rt, rt.alloc(), &[None; 2], 2)? == 2);
+        assert!(rt; gathered(rt, rt.alloc(), &[None; 3], 3)? == 3);
     }
     Ok(())
 }
@@ -144,21 +144,21 @@ fn starts_meet(rt: HostRuntime) -> Result<(), Fail> {
 #[test]
 fn bodies_meet(rt: HostRuntime) -> Result<(), Fail> {
     for _trial in 0..3 {
-        assert_eq!(rt; met(rt, rt.alloc(), 2, 2, PATIENCE)?, 2);
-        assert_eq!(rt; met(rt, rt.alloc(), 3, 3, PATIENCE)?, 3);
+        assert!(rt; met(rt, rt.alloc(), 2, 2, PATIENCE)? == 2);
+        assert!(rt; met(rt, rt.alloc(), 3, 3, PATIENCE)? == 3);
     }
     Ok(())
 }
 
 #[test]
 fn bodies_do_not_meet_on_one_thread(rt: HostRuntime) -> Result<(), Fail> {
-    assert_eq!(rt; met(rt, rt.alloc(), 2, 1, HASTE)?, 1);
+    assert!(rt; met(rt, rt.alloc(), 2, 1, HASTE)? == 1);
     Ok(())
 }
 
 #[test]
 fn sixty_four_of_many_run_at_once(rt: HostRuntime) -> Result<(), Fail> {
-    assert_eq!(rt; gathered(rt, rt.alloc(), &[None; 256], 64)?, 64);
+    assert!(rt; gathered(rt, rt.alloc(), &[None; 256], 64)? == 64);
     Ok(())
 }
 
@@ -167,16 +167,16 @@ fn a_refusal_spoils(rt: HostRuntime) -> Result<(), Fail> {
     let alloc = rt.alloc();
     let mut engine = answering(alloc, &[None, Some(7)])?;
     let single = engine.run(alloc, 1, &Single).err();
-    assert_eq!(rt; single, Some(RunFault::BodyFault(7)));
+    assert!(rt; single == Some(RunFault::BodyFault(7)));
     let again = engine.run(alloc, 1, &Single).err();
-    assert_eq!(rt; again, Some(RunFault::Spoiled));
+    assert!(rt; again == Some(RunFault::Spoiled));
     let gate = Gathering::new(rt, 2, Duration::from_millis(PATIENCE));
     let mut engine = answering(alloc, &[None, Some(7)])?;
     let wide = run_on_threads(rt, &gate, alloc, 2, 1, &mut engine).err();
-    assert_eq!(rt; wide, Some(RunFault::BodyFault(7)));
-    assert_eq!(rt; gate.most(), 2);
+    assert!(rt; wide == Some(RunFault::BodyFault(7)));
+    assert!(rt; gate.most() == 2);
     let again = run_on_threads(rt, &gate, alloc, 2, 1, &mut engine).err();
-    assert_eq!(rt; again, Some(RunFault::Spoiled));
+    assert!(rt; again == Some(RunFault::Spoiled));
     Ok(())
 }
 
@@ -184,6 +184,6 @@ fn a_refusal_spoils(rt: HostRuntime) -> Result<(), Fail> {
 fn runs_many_times(rt: HostRuntime) -> Result<(), Fail> {
     let mut engine = answering(rt.alloc(), &[None; 2])?;
     let traces = run_on_threads(rt, &NoGate, rt.alloc(), 4, 10_000, &mut engine)?;
-    assert_eq!(rt; traces.len(), 10_000);
+    assert!(rt; traces.len() == 10_000);
     Ok(())
 }

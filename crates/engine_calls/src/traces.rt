@@ -33,48 +33,54 @@ fn told(alloc: Global, text: &[u8], limit: usize) -> Result<String, AllocError> 
     }
 }
 
+// Texts of traces.
+const TEXTS: [&str; 4] = [
+    "",
+    "R 1\nY 0\n",
+    "R 1\nR 2\n",
+    "R 1\nS 0\nF 0\nY 0\nR 2\nC 0 1\nC 10 0\nK 3\nY 4294967295\n",
+];
+
 #[test]
 fn texts_are_read_and_written(rt: HostRuntime) -> Result<(), Fail> {
-    for text in [
-        "",
-        "R 1\nY 0\n",
-        "R 1\nR 2\n",
-        "R 1\nS 0\nF 0\nY 0\nR 2\nC 0 1\nC 10 0\nK 3\nY 4294967295\n",
-    ] {
+    for text in TEXTS {
         let written = told(rt.alloc(), text.as_bytes(), LIMIT)?;
-        assert_eq!(rt; written.as_str(), text);
+        assert!(rt; written.as_str() == text);
     }
     Ok(())
 }
 
+// Texts at fault, and what is told of each.
+const FAULTS: [(&str, &str); 18] = [
+    ("R 2\n", "line 1 is out of order"),
+    ("R 0\n", "line 1 is out of order"),
+    ("S 0\n", "line 1 is out of order"),
+    ("R 1\nY 0\nR 1\n", "line 3 is out of order"),
+    ("R 1", "line 1 is no line of a trace"),
+    ("R 01\n", "line 1 is no line of a trace"),
+    ("R 4294967296\n", "line 1 is no line of a trace"),
+    ("R 1\r\n", "line 1 is no line of a trace"),
+    ("R 1\nY 0", "line 2 is no line of a trace"),
+    ("R 1\n\n", "line 2 is no line of a trace"),
+    ("R 1\nS 00\n", "line 2 is no line of a trace"),
+    ("R 1\nS 4294967296\n", "line 2 is no line of a trace"),
+    ("R 1\nS -1\n", "line 2 is no line of a trace"),
+    ("R 1\nS 0 \n", "line 2 is no line of a trace"),
+    ("R 1\nC 0\n", "line 2 is no line of a trace"),
+    ("R 1\nC 0 2\n", "line 2 is no line of a trace"),
+    ("R 1\nX 0\nR 1\n", "line 2 is no line of a trace"),
+    ("R 1\nR 1\nX 0\n", "line 2 is out of order"),
+];
+
 #[test]
 fn texts_at_fault_are_told(rt: HostRuntime) -> Result<(), Fail> {
-    for (text, want) in [
-        ("R 2\n", "line 1 is out of order"),
-        ("R 0\n", "line 1 is out of order"),
-        ("S 0\n", "line 1 is out of order"),
-        ("R 1\nY 0\nR 1\n", "line 3 is out of order"),
-        ("R 1", "line 1 is no line of a trace"),
-        ("R 01\n", "line 1 is no line of a trace"),
-        ("R 4294967296\n", "line 1 is no line of a trace"),
-        ("R 1\r\n", "line 1 is no line of a trace"),
-        ("R 1\nY 0", "line 2 is no line of a trace"),
-        ("R 1\n\n", "line 2 is no line of a trace"),
-        ("R 1\nS 00\n", "line 2 is no line of a trace"),
-        ("R 1\nS 4294967296\n", "line 2 is no line of a trace"),
-        ("R 1\nS -1\n", "line 2 is no line of a trace"),
-        ("R 1\nS 0 \n", "line 2 is no line of a trace"),
-        ("R 1\nC 0\n", "line 2 is no line of a trace"),
-        ("R 1\nC 0 2\n", "line 2 is no line of a trace"),
-        ("R 1\nX 0\nR 1\n", "line 2 is no line of a trace"),
-        ("R 1\nR 1\nX 0\n", "line 2 is out of order"),
-    ] {
+    for (text, want) in FAULTS {
         let answer = told(rt.alloc(), text.as_bytes(), LIMIT)?;
-        assert_eq!(rt; answer.as_str(), want, "at {text}");
+        assert!(rt; answer.as_str() == want, "at {text}");
     }
     let bytes = [82, 32, 255, 10];
     let answer = told(rt.alloc(), bytes.as_slice(), LIMIT)?;
-    assert_eq!(rt; answer.as_str(), "line 1 is no line of a trace");
+    assert!(rt; answer.as_str() == "line 1 is no line of a trace");
     Ok(())
 }
 
@@ -82,9 +88,9 @@ fn texts_at_fault_are_told(rt: HostRuntime) -> Result<(), Fail> {
 fn long_texts_are_told(rt: HostRuntime) -> Result<(), Fail> {
     let text = "R 1\nY 0\n";
     let within = told(rt.alloc(), text.as_bytes(), 8)?;
-    assert_eq!(rt; within.as_str(), text);
+    assert!(rt; within.as_str() == text);
     let past = told(rt.alloc(), text.as_bytes(), 7)?;
-    assert_eq!(rt; past.as_str(), "the text would be too long");
+    assert!(rt; past.as_str() == "the text would be too long");
     Ok(())
 }
 
@@ -95,10 +101,10 @@ fn many_runs_are_read(rt: HostRuntime) -> Result<(), Fail> {
         writeln!(text, "R {run}\nS 0\nF 0\nY 0")?;
     }
     let written = told(rt.alloc(), text.as_bytes(), LIMIT)?;
-    assert_eq!(rt; written.as_str(), text.as_str());
+    assert!(rt; written.as_str() == text.as_str());
     text.push_str("R 20000\n")?;
     let answer = told(rt.alloc(), text.as_bytes(), LIMIT)?;
-    assert_eq!(rt; answer.as_str(), "line 80001 is out of order");
+    assert!(rt; answer.as_str() == "line 80001 is out of order");
     Ok(())
 }
 
@@ -133,27 +139,68 @@ fn judged_by(alloc: Global, built: &Built, steps: &[Step]) -> Result<Option<Verd
     Ok(Some(check(alloc, built, &trace)?))
 }
 
+// The steps of a complete run of two systems in order.
+const ALL: [Step; 5] = [
+    Step::Start(0),
+    Step::Finish(0),
+    Step::Start(1),
+    Step::Finish(1),
+    Step::Sync(0),
+];
+
+#[test]
+fn fronts_are_judged(rt: HostRuntime) -> Result<(), Fail> {
+    for count in 0..6 {
+        let front = &ALL.as_slice()[..count];
+        let wanted = if count == 5 {
+            Verdict::Complete
+        } else {
+            Verdict::Unfinished
+        };
+        assert!(rt; judged(rt.alloc(), true, front)? == Some(wanted));
+    }
+    Ok(())
+}
+
+// Three steps of which one may not come, which one, and its fault.
+const BAD: [([Step; 3], usize, StepFault); 6] = [
+    (
+        [Step::Start(0), Step::Finish(0), Step::Start(2)],
+        3,
+        StepFault::Unknown,
+    ),
+    (
+        [Step::Start(0), Step::Finish(0), Step::Start(0)],
+        3,
+        StepFault::Repeated,
+    ),
+    (
+        [Step::Start(1), Step::Start(0), Step::Finish(0)],
+        1,
+        StepFault::NotReady,
+    ),
+    (
+        [Step::Start(0), Step::Finish(0), Step::Skip(1)],
+        3,
+        StepFault::ConditionTrue,
+    ),
+    (
+        [Step::Start(0), Step::Finish(0), Step::Finish(0)],
+        3,
+        StepFault::NotRunning,
+    ),
+    (
+        [Step::Start(0), Step::Finish(0), Step::Sync(0)],
+        3,
+        StepFault::LevelOpen,
+    ),
+];
+
 #[test]
 fn steps_are_judged(rt: HostRuntime) -> Result<(), Fail> {
-    let (first, second) = (Step::Start(0), Step::Start(1));
-    let (ended, over) = (Step::Finish(0), Step::Finish(1));
-    let sync = Step::Sync(0);
-    let all = [first, ended, second, over, sync];
-    assert_eq!(rt; judged(rt.alloc(), true, &all)?, Some(Verdict::Complete));
-    for count in 0..5 {
-        let front = &all.as_slice()[..count];
-        assert_eq!(rt; judged(rt.alloc(), true, front)?, Some(Verdict::Unfinished));
-    }
-    for (steps, number, fault) in [
-        ([first, ended, Step::Start(2)], 3, StepFault::Unknown),
-        ([first, ended, first], 3, StepFault::Repeated),
-        ([second, first, ended], 1, StepFault::NotReady),
-        ([first, ended, Step::Skip(1)], 3, StepFault::ConditionTrue),
-        ([first, ended, ended], 3, StepFault::NotRunning),
-        ([first, ended, sync], 3, StepFault::LevelOpen),
-    ] {
+    for (steps, number, fault) in BAD {
         let verdict = judged(rt.alloc(), true, steps.as_slice())?;
-        assert_eq!(rt; verdict, Some(Verdict::Bad(number, fault)));
+        assert!(rt; verdict == Some(Verdict::Bad(number, fault)));
     }
     Ok(())
 }
@@ -162,8 +209,8 @@ fn steps_are_judged(rt: HostRuntime) -> Result<(), Fail> {
 fn conflicts_are_judged(rt: HostRuntime) -> Result<(), Fail> {
     let (first, second) = (Step::Start(0), Step::Start(1));
     let together = judged(rt.alloc(), false, &[first, second])?;
-    assert_eq!(rt; together, Some(Verdict::Bad(2, StepFault::Conflict)));
+    assert!(rt; together == Some(Verdict::Bad(2, StepFault::Conflict)));
     let apart = judged(rt.alloc(), false, &[second, Step::Finish(1), first])?;
-    assert_eq!(rt; apart, Some(Verdict::Unfinished));
+    assert!(rt; apart == Some(Verdict::Unfinished));
     Ok(())
 }

@@ -82,49 +82,75 @@ fn told_asking(alloc: Global, healing: &str, looking: &str) -> Result<String, Al
     told(alloc, desc)
 }
 
+const HEAL: Term = Term::Mut(Kind::Health);
+
+// Systems, each by its name, its term and the name that it runs before, and what is told of them.
+const SYSTEMS: [(&[(&str, Term, &str)], &str); 5] = [
+    (
+        &[
+            ("a", HEAL, ""),
+            ("b", HEAL, ""),
+            ("c", Term::Read(Kind::Position), ""),
+        ],
+        "0 1 Health, open",
+    ),
+    (
+        &[
+            ("a", HEAL, "b"),
+            ("b", HEAL, ""),
+            ("c", Term::Read(Kind::Position), ""),
+        ],
+        "settled",
+    ),
+    (
+        &[("a", HEAL, ""), ("b", HEAL, ""), ("c", HEAL, "")],
+        "0 1 Health, 0 2 Health, 1 2 Health, open",
+    ),
+    (
+        &[("a", HEAL, "b"), ("b", HEAL, "c"), ("c", HEAL, "")],
+        "settled",
+    ),
+    (
+        &[("a", HEAL, ""), ("b", HEAL, "a"), ("c", HEAL, "b")],
+        "settled",
+    ),
+];
+
 #[test]
 fn systems_race(rt: HostRuntime) -> Result<(), Fail> {
-    let alloc = rt.alloc();
-    let heal = Term::Mut(Kind::Health);
-    let look = Term::Read(Kind::Position);
-    let two = [("a", heal, ""), ("b", heal, ""), ("c", look, "")];
-    assert_eq!(rt; told_systems(alloc, &two)?.as_str(), "0 1 Health, open");
-    let ordered = [("a", heal, "b"), ("b", heal, ""), ("c", look, "")];
-    assert_eq!(rt; told_systems(alloc, &ordered)?.as_str(), "settled");
-    let three = [("a", heal, ""), ("b", heal, ""), ("c", heal, "")];
-    assert_eq!(rt;
-        told_systems(alloc, &three)?.as_str(),
-        "0 1 Health, 0 2 Health, 1 2 Health, open"
-    );
-    let path = [("a", heal, "b"), ("b", heal, "c"), ("c", heal, "")];
-    assert_eq!(rt; told_systems(alloc, &path)?.as_str(), "settled");
-    let backward = [("a", heal, ""), ("b", heal, "a"), ("c", heal, "b")];
-    assert_eq!(rt; told_systems(alloc, &backward)?.as_str(), "settled");
+    for (systems, wanted) in SYSTEMS {
+        assert!(rt;
+            told_systems(rt.alloc(), systems)?.as_str() == wanted,
+            "where {wanted}"
+        );
+    }
     Ok(())
 }
 
+// What the system that heals and the one that looks are before, and what is told of them.
+const ASKING: [(&str, &str, &str); 3] = [
+    ("", "", "if 0 0 Health, open"),
+    ("look", "", "settled"),
+    ("", "heal", "settled"),
+];
+
 #[test]
 fn conditions_race(rt: HostRuntime) -> Result<(), Fail> {
-    let alloc = rt.alloc();
-    assert_eq!(rt; told_asking(alloc, "", "")?.as_str(), "if 0 0 Health, open");
-    assert_eq!(rt; told_asking(alloc, "look", "")?.as_str(), "settled");
-    assert_eq!(rt; told_asking(alloc, "", "heal")?.as_str(), "settled");
+    for (healing, looking, wanted) in ASKING {
+        assert!(rt; told_asking(rt.alloc(), healing, looking)?.as_str() == wanted);
+    }
     Ok(())
 }
 
 #[test]
 fn silenced_systems_are_told(rt: HostRuntime) -> Result<(), Fail> {
     let alloc = rt.alloc();
-    let heal = Term::Mut(Kind::Health);
     let mut quiet = named(alloc, "a", "")?;
     quiet.add_ambiguous_with(String::from_str(alloc, "b")?)?;
     let mut desc = ScheduleDesc::new(alloc);
-    desc.add_system(system(alloc, quiet, heal)?)?;
-    desc.add_system(system(alloc, named(alloc, "b", "")?, heal)?)?;
-    desc.add_system(system(alloc, named(alloc, "c", "")?, heal)?)?;
-    assert_eq!(rt;
-        told(alloc, desc)?.as_str(),
-        "0 1 Health silenced, 0 2 Health, 1 2 Health, open"
-    );
+    desc.add_system(system(alloc, quiet, HEAL)?)?;
+    desc.add_system(system(alloc, named(alloc, "b", "")?, HEAL)?)?;
+    desc.add_system(system(alloc, named(alloc, "c", "")?, HEAL)?)?;
+    assert!(rt; told(alloc, desc)?.as_str() == "0 1 Health silenced, 0 2 Health, 1 2 Health, open");
     Ok(())
 }

@@ -32,33 +32,36 @@ fn rivals(alloc: Global) -> Result<Built, BuildFault> {
     build(alloc, desc)
 }
 
+// Steps of two systems that conflict, and the fault of each.
+const IN_TURN: [(Step, Option<StepFault>); 13] = [
+    (Step::Cond(0, true), Some(StepFault::Unknown)),
+    (Step::Start(2), Some(StepFault::Unknown)),
+    (Step::Skip(0), Some(StepFault::ConditionTrue)),
+    (Step::Start(0), None),
+    (Step::Start(0), Some(StepFault::Repeated)),
+    (Step::Start(1), Some(StepFault::Conflict)),
+    (Step::Finish(1), Some(StepFault::NotRunning)),
+    (Step::Finish(0), None),
+    (Step::Finish(0), Some(StepFault::NotRunning)),
+    (Step::Sync(0), Some(StepFault::LevelOpen)),
+    (Step::Start(1), None),
+    (Step::Finish(1), None),
+    (Step::Sync(1), Some(StepFault::Unknown)),
+];
+
 #[test]
 fn rivals_run_in_turn(rt: HostRuntime) -> Result<(), Fail> {
     let built = rivals(rt.alloc())?;
     let mut core = Core::new(rt.alloc(), &built)?;
-    assert_eq!(rt; core.ready(), Some(Ready::Start(0)));
-    for (step, answer) in [
-        (Step::Cond(0, true), Err(StepFault::Unknown)),
-        (Step::Start(2), Err(StepFault::Unknown)),
-        (Step::Skip(0), Err(StepFault::ConditionTrue)),
-        (Step::Start(0), Ok(())),
-        (Step::Start(0), Err(StepFault::Repeated)),
-        (Step::Start(1), Err(StepFault::Conflict)),
-        (Step::Finish(1), Err(StepFault::NotRunning)),
-        (Step::Finish(0), Ok(())),
-        (Step::Finish(0), Err(StepFault::NotRunning)),
-        (Step::Sync(0), Err(StepFault::LevelOpen)),
-        (Step::Start(1), Ok(())),
-        (Step::Finish(1), Ok(())),
-        (Step::Sync(1), Err(StepFault::Unknown)),
-    ] {
-        assert_eq!(rt; core.may(step), answer, "may {step:?}");
-        assert_eq!(rt; core.step(step), answer, "{step:?}");
+    assert!(rt; core.ready() == Some(Ready::Start(0)));
+    for (step, fault) in IN_TURN {
+        assert!(rt; core.may(step).err() == fault, "may {step:?}");
+        assert!(rt; core.step(step).err() == fault, "{step:?}");
     }
-    assert_eq!(rt; core.ready(), Some(Ready::Sync(0)));
+    assert!(rt; core.ready() == Some(Ready::Sync(0)));
     assert!(rt; !core.complete());
-    assert_eq!(rt; core.step(Step::Sync(0)), Ok(()));
-    assert_eq!(rt; core.ready(), None);
+    assert!(rt; core.step(Step::Sync(0)) == Ok(()));
+    assert!(rt; core.ready() == None);
     assert!(rt; core.complete());
     Ok(())
 }
@@ -72,26 +75,29 @@ fn conditional(alloc: Global) -> Result<Built, BuildFault> {
     build(alloc, desc)
 }
 
+// Steps of a system with a condition, and the fault of each.
+const ANSWERED: [(Step, Option<StepFault>); 11] = [
+    (Step::Start(1), Some(StepFault::Unknown)),
+    (Step::Start(0), Some(StepFault::ConditionOpen)),
+    (Step::Skip(0), Some(StepFault::ConditionOpen)),
+    (Step::Cond(0, false), None),
+    (Step::Cond(0, true), Some(StepFault::Repeated)),
+    (Step::Start(0), Some(StepFault::ConditionFalse)),
+    (Step::Sync(0), Some(StepFault::LevelOpen)),
+    (Step::Skip(0), None),
+    (Step::Finish(0), Some(StepFault::NotRunning)),
+    (Step::Skip(0), Some(StepFault::Repeated)),
+    (Step::Sync(0), None),
+];
+
 #[test]
 fn a_condition_is_answered_first(rt: HostRuntime) -> Result<(), Fail> {
     let built = conditional(rt.alloc())?;
     let mut core = Core::new(rt.alloc(), &built)?;
-    assert_eq!(rt; core.ready(), Some(Ready::Ask(0)));
-    for (step, answer) in [
-        (Step::Start(1), Err(StepFault::Unknown)),
-        (Step::Start(0), Err(StepFault::ConditionOpen)),
-        (Step::Skip(0), Err(StepFault::ConditionOpen)),
-        (Step::Cond(0, false), Ok(())),
-        (Step::Cond(0, true), Err(StepFault::Repeated)),
-        (Step::Start(0), Err(StepFault::ConditionFalse)),
-        (Step::Sync(0), Err(StepFault::LevelOpen)),
-        (Step::Skip(0), Ok(())),
-        (Step::Finish(0), Err(StepFault::NotRunning)),
-        (Step::Skip(0), Err(StepFault::Repeated)),
-        (Step::Sync(0), Ok(())),
-    ] {
-        assert_eq!(rt; core.may(step), answer, "may {step:?}");
-        assert_eq!(rt; core.step(step), answer, "{step:?}");
+    assert!(rt; core.ready() == Some(Ready::Ask(0)));
+    for (step, fault) in ANSWERED {
+        assert!(rt; core.may(step).err() == fault, "may {step:?}");
+        assert!(rt; core.step(step).err() == fault, "{step:?}");
     }
     assert!(rt; core.complete());
     Ok(())
@@ -109,14 +115,21 @@ fn watched(alloc: Global) -> Result<Built, BuildFault> {
     build(alloc, desc)
 }
 
+// Steps of a system that writes and of one whose condition reads the same, and the fault of each.
+const WATCHED: [(Step, Option<StepFault>); 5] = [
+    (Step::Start(0), None),
+    (Step::Cond(0, true), Some(StepFault::Conflict)),
+    (Step::Finish(0), None),
+    (Step::Cond(0, true), None),
+    (Step::Start(1), None),
+];
+
 #[test]
 fn a_condition_waits_for_who_writes(rt: HostRuntime) -> Result<(), Fail> {
     let built = watched(rt.alloc())?;
     let mut core = Core::new(rt.alloc(), &built)?;
-    assert_eq!(rt; core.step(Step::Start(0)), Ok(()));
-    assert_eq!(rt; core.step(Step::Cond(0, true)), Err(StepFault::Conflict));
-    assert_eq!(rt; core.step(Step::Finish(0)), Ok(()));
-    assert_eq!(rt; core.step(Step::Cond(0, true)), Ok(()));
-    assert_eq!(rt; core.step(Step::Start(1)), Ok(()));
+    for (step, fault) in WATCHED {
+        assert!(rt; core.step(step).err() == fault, "{step:?}");
+    }
     Ok(())
 }

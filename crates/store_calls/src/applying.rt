@@ -1,13 +1,12 @@
 // What commands make of a world at a sync point.
 
-ghost use Rattle.std.specs.Prelude.{◌≡◌, ◌≤◌, All, IfOk, OnOk};
+ghost use Rattle.std.specs.Prelude.{◌≡◌, ◌≤◌, [], All, IfOk, OnOk};
 ghost use Rattle.model.specs.shown.Outcome.{spawned_by};
 ghost use Rattle.entity_table.specs.Ids.{IsGranted, AreApart};
 ghost use Rattle.archetype_store.specs.Layout.{AreAllHome};
 
 use archetype_store::store::World;
 use change_ticks::clock::{Clock, Tick};
-use change_ticks::stamp::Stamp;
 use command_queue::apply::apply;
 use command_queue::buffer::CommandBuffer;
 use entity_table::Entity;
@@ -87,68 +86,95 @@ fn world_of(alloc: Global, count: u32) -> Result<World, Fail>
     Ok(world)
 }
 
-#[test]
-fn a_command_after_the_other(rt: HostRuntime) -> Result<(), Fail> {
-    let mut world = world_of(rt.alloc(), 2)?;
-    let mut commands = CommandBuffer::new(rt.alloc());
+// What commands leave of a world in which so many entities live with health, since tick 1, and how many were passed over at tick 4.
+fn left_by(alloc: Global, count: u32, commands: CommandBuffer) -> Result<(World, u64), Fail>
+    requires { spawned_by commands ≡ [] }
+    ensures { IfOk result (λ left. AreAllHome left.0.layout) }
+{
+    let mut world = world_of(alloc, count)?;
+    let passed = apply_alone(alloc, &mut world, commands, 4)?;
+    Ok((world, passed))
+}
+
+// Commands on the first entity, and then on the second.
+fn mixed(alloc: Global) -> Result<CommandBuffer, AllocError>
+    ensures { IfOk result (λ commands. spawned_by commands ≡ []) }
+{
+    let mut commands = CommandBuffer::new(alloc);
     commands.insert(FIRST, Score { v: 7 })?;
     commands.insert(FIRST, Health { v: 2 })?;
     commands.remove(FIRST, Kind::Score)?;
     commands.remove(SECOND, Kind::Frozen)?;
     commands.insert(SECOND, Frozen)?;
-    assert_eq!(rt; apply_alone(rt.alloc(), &mut world, commands, 4)?, 0);
-    assert_eq!(rt; world.get::<Health>(FIRST), Some(Health { v: 2 }));
-    assert!(rt; !world.has(FIRST, Kind::Score));
-    assert!(rt; world.has(SECOND, Kind::Frozen));
-    assert_eq!(rt;
-        world.stamp(FIRST, Kind::Health),
-        Some(Stamp {
-            added: 1,
-            changed: 4
-        })
-    );
-    assert_eq!(rt;
-        world.stamp(SECOND, Kind::Frozen),
-        Some(Stamp {
-            added: 4,
-            changed: 4
-        })
-    );
-    assert_eq!(rt;
-        world.stamp(SECOND, Kind::Health),
-        Some(Stamp {
-            added: 1,
-            changed: 1
-        })
-    );
-    Ok(())
+    Ok(commands)
+}
+
+// When the component of a kind of an entity was added and changed.
+fn stamp_of(world: &World, e: Entity, kind: Kind) -> Option<(Tick, Tick)>
+    requires { AreAllHome world.now.layout }
+{
+    let stamp = world.stamp(e, kind)?;
+    Some((stamp.added, stamp.changed))
 }
 
 #[test]
-fn who_does_not_live_is_passed_over(rt: HostRuntime) -> Result<(), Fail> {
-    let mut world = world_of(rt.alloc(), 2)?;
-    let mut commands = CommandBuffer::new(rt.alloc());
+fn a_command_after_the_other(rt: HostRuntime) -> Result<(), Fail> {
+    let (world, passed) = left_by(rt.alloc(), 2, mixed(rt.alloc())?)?;
+    assert!(rt; passed == 0);
+    assert!(rt; world.get::<Health>(FIRST) == Some(Health { v: 2 }));
+    assert!(rt; !world.has(FIRST, Kind::Score));
+    assert!(rt; stamp_of(&world, FIRST, Kind::Health) == Some((1, 4)));
+    assert!(rt; stamp_of(&world, SECOND, Kind::Frozen) == Some((4, 4)));
+    assert!(rt; stamp_of(&world, SECOND, Kind::Health) == Some((1, 1)));
+    Ok(())
+}
+
+// Commands on the first entity, which lives no more after the first of them.
+fn late(alloc: Global) -> Result<CommandBuffer, AllocError>
+    ensures { IfOk result (λ commands. spawned_by commands ≡ []) }
+{
+    let mut commands = CommandBuffer::new(alloc);
     commands.despawn(FIRST)?;
     commands.insert(FIRST, Score { v: 7 })?;
     commands.remove(FIRST, Kind::Health)?;
     commands.despawn(FIRST)?;
-    assert_eq!(rt; apply_alone(rt.alloc(), &mut world, commands, 4)?, 3);
+    Ok(commands)
+}
+
+#[test]
+fn who_does_not_live_is_passed_over(rt: HostRuntime) -> Result<(), Fail> {
+    let (world, passed) = left_by(rt.alloc(), 2, late(rt.alloc())?)?;
+    assert!(rt; passed == 3);
     assert!(rt; !world.lives(FIRST));
     assert!(rt; world.lives(SECOND));
     Ok(())
+}
+
+// The command that the first entity lives no more.
+fn despawning(alloc: Global) -> Result<CommandBuffer, AllocError>
+    ensures { IfOk result (λ commands. spawned_by commands ≡ []) }
+{
+    let mut commands = CommandBuffer::new(alloc);
+    commands.despawn(FIRST)?;
+    Ok(commands)
+}
+
+// The command that gives the first entity a score.
+fn scoring(alloc: Global) -> Result<CommandBuffer, AllocError>
+    ensures { IfOk result (λ commands. spawned_by commands ≡ []) }
+{
+    let mut commands = CommandBuffer::new(alloc);
+    commands.insert(FIRST, Score { v: 7 })?;
+    Ok(commands)
 }
 
 #[test]
 fn buffers_are_done_in_the_order_that_is_told(rt: HostRuntime) -> Result<(), Fail> {
     for first in 0..2u32 {
         let mut world = world_of(rt.alloc(), 1)?;
-        let mut despawning = CommandBuffer::new(rt.alloc());
-        despawning.despawn(FIRST)?;
-        let mut inserting = CommandBuffer::new(rt.alloc());
-        inserting.insert(FIRST, Score { v: 7 })?;
-        let buffers = [despawning, inserting];
+        let buffers = [despawning(rt.alloc())?, scoring(rt.alloc())?];
         let passed = apply(rt.alloc(), &mut world, &buffers, &[first, 1 - first], 4)?;
-        assert_eq!(rt; passed, u64::from(1 - first));
+        assert!(rt; passed == u64::from(1 - first));
         assert!(rt; !world.lives(FIRST));
     }
     Ok(())
@@ -159,34 +185,52 @@ fn many_live_and_half_of_them_no_more(rt: HostRuntime) -> Result<(), Fail> {
     let mut world = World::new(rt.alloc(), Clock::at(4))?;
     let ids = world.grant(rt.alloc(), 100_000)?;
     let commands = spawning_half(rt.alloc(), &ids)?;
-    assert_eq!(rt; apply_alone(rt.alloc(), &mut world, commands, 1)?, 0);
-    assert_eq!(rt; world.slot_count(), 100_000);
-    assert_eq!(rt; world.next_living(0), Some(SECOND));
+    assert!(rt; apply_alone(rt.alloc(), &mut world, commands, 1)? == 0);
+    assert!(rt; world.slot_count() == 100_000);
+    assert!(rt; world.next_living(0) == Some(SECOND));
     let views = world.archetypes(rt.alloc())?;
     let with_health = views.iter().find(|view| view.entities.len() > 0);
     let view = with_health.ok_or("nobody lives")?;
-    assert_eq!(rt; view.entities.len(), 50_000);
+    assert!(rt; view.entities.len() == 50_000);
     Ok(())
 }
 
-// Under `rt try --test --fail-alloc N`, for N in turn, each allocation of this call is refused: the first entity goes to a table that is new,
-// the second to none, and the third one stays where it is, with a new value.
-#[test]
-fn refused_commands_leave_all(rt: HostRuntime) -> Result<(), Fail> {
-    let mut world = world_of(rt.alloc(), 3)?;
-    let mut commands = CommandBuffer::new(rt.alloc());
+// A component for the first entity, which goes to a table that is new with it, the end of the second, and a new value for the third.
+fn moving(alloc: Global) -> Result<CommandBuffer, AllocError>
+    ensures { IfOk result (λ commands. spawned_by commands ≡ []) }
+{
+    let mut commands = CommandBuffer::new(alloc);
     commands.insert(FIRST, Position { x: 1, y: 2 })?;
     commands.despawn(SECOND)?;
     commands.insert(THIRD, Health { v: 5 })?;
-    let done = apply_alone(rt.alloc(), &mut world, commands, 4);
+    Ok(commands)
+}
+
+// The position and the health of the first of three entities, whether the second lives, and the health of the third.
+fn seen(world: &World) -> (Option<Position>, Option<Health>, bool, Option<Health>)
+    requires { AreAllHome world.now.layout }
+{
+    let third = world.get::<Health>(THIRD);
+    let first = world.get::<Health>(FIRST);
+    (
+        world.get::<Position>(FIRST),
+        first,
+        world.lives(SECOND),
+        third,
+    )
+}
+
+// Under `rt try --test --fail-alloc N`, for N in turn, each allocation of this call is refused.
+#[test]
+fn refused_commands_leave_all(rt: HostRuntime) -> Result<(), Fail> {
+    let mut world = world_of(rt.alloc(), 3)?;
+    let done = apply_alone(rt.alloc(), &mut world, moving(rt.alloc())?, 4);
     let (position, health) = match done {
         Ok(_) => (Some(Position { x: 1, y: 2 }), Health { v: 5 }),
         Err(_) => (None, Health { v: 1 }),
     };
-    assert_eq!(rt; world.get::<Position>(FIRST), position);
-    assert_eq!(rt; world.get::<Health>(FIRST), Some(Health { v: 1 }));
-    assert_eq!(rt; world.lives(SECOND), done.is_err());
-    assert_eq!(rt; world.get::<Health>(THIRD), Some(health));
+    let wanted = (position, Some(Health { v: 1 }), done.is_err(), Some(health));
+    assert!(rt; seen(&world) == wanted);
     done?;
     Ok(())
 }

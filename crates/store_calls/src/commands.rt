@@ -6,6 +6,7 @@ use entity_table::Entity;
 use kinds::component::{Health, Position};
 use kinds::kind::Kind;
 use kinds::value::Value;
+use std::alloc::{AllocError, Global};
 use std::test::Fail;
 
 const FIRST: Entity = Entity {
@@ -13,30 +14,27 @@ const FIRST: Entity = Entity {
     generation: 1,
 };
 
-#[test]
-fn commands_stand_in_order_of_issue(rt: HostRuntime) -> Result<(), Fail> {
-    let mut buffer = CommandBuffer::new(rt.alloc());
-    assert!(rt; buffer.is_empty());
+// One command of each sort, as it is debugged.
+const SORTS: &str =
+    "[Spawn(Entity { index: 0, generation: 1 }), Insert(Entity { index: 0, generation: 1 }, Position(Position { x: 3, y: -4 })), Remove(Entity { index: 0, generation: 1 }, Health), Despawn(Entity { index: 0, generation: 1 })]";
+
+// One command of each sort on the first entity.
+fn of_each_sort(alloc: Global) -> Result<CommandBuffer, AllocError> {
+    let mut buffer = CommandBuffer::new(alloc);
     buffer.spawn(FIRST)?;
     buffer.insert(FIRST, Position { x: 3, y: -4 })?;
     buffer.remove(FIRST, Kind::Health)?;
     buffer.despawn(FIRST)?;
-    assert!(rt; !buffer.is_empty());
-    assert!(rt;
-        matches!(
-            buffer.commands(),
-            [
-                Command::Spawn(FIRST),
-                Command::Insert(FIRST, Value::Position(Position { x: 3, y: -4 })),
-                Command::Remove(FIRST, Kind::Health),
-                Command::Despawn(FIRST),
-            ]
-        )
-    );
+    Ok(buffer)
+}
+
+#[test]
+fn commands_stand_in_order_of_issue(rt: HostRuntime) -> Result<(), Fail> {
+    let mut buffer = of_each_sort(rt.alloc())?;
+    let told = format!(in rt.alloc(); "{:?}", buffer.commands())?;
+    assert!(rt; told.as_str() == SORTS);
     buffer.clear();
     assert!(rt; buffer.is_empty());
-    buffer.despawn(FIRST)?;
-    assert!(rt; matches!(buffer.commands(), [Command::Despawn(FIRST)]));
     Ok(())
 }
 

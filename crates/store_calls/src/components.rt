@@ -43,17 +43,14 @@ fn count_in<C: Component>(column: &Column) -> usize
 #[test]
 fn columns_come_back(rt: HostRuntime) -> Result<(), Fail> {
     let list = twice(rt.alloc(), Timer { v: 7 })?;
-    assert_eq!(rt;
-        list.as_slice(),
-        [Timer { v: 7 }, Timer { v: 7 }].as_slice()
-    );
+    assert!(rt; list.as_slice() == [Timer { v: 7 }, Timer { v: 7 }].as_slice());
     let column = Component::into_column(list);
-    assert_eq!(rt; column.kind(), Kind::Timer);
+    assert!(rt; column.kind() == Kind::Timer);
     let count = each_kind!(column.kind(), K => { count_in::<K>(&column) });
-    assert_eq!(rt; count, 2);
+    assert!(rt; count == 2);
     assert!(rt; Score::in_column(&column).is_none());
     let marks = twice(rt.alloc(), Frozen)?;
-    assert_eq!(rt; Frozen::into_column(marks).kind(), Kind::Frozen);
+    assert!(rt; Frozen::into_column(marks).kind() == Kind::Frozen);
     Ok(())
 }
 
@@ -97,10 +94,10 @@ fn comes_back<C: Component>() -> bool
 #[test]
 fn components_come_back(rt: HostRuntime) {
     let position = Position { x: 1, y: i64::MIN };
-    assert_eq!(rt; there_and_back(position), Some(position));
+    assert!(rt; there_and_back(position) == Some(position));
     let health = Health { v: i64::MAX };
-    assert_eq!(rt; there_and_back(health), Some(health));
-    assert_eq!(rt; there_and_back(Hidden), Some(Hidden));
+    assert!(rt; there_and_back(health) == Some(health));
+    assert!(rt; there_and_back(Hidden) == Some(Hidden));
     each_kind!(K => { assert!(rt; comes_back::<K>()); });
 }
 
@@ -108,11 +105,11 @@ fn components_come_back(rt: HostRuntime) {
 fn blocks_of_each_kind(rt: HostRuntime) {
     let mut sum = 0;
     each_kind!(K => { sum = width_added::<K>(sum); });
-    assert_eq!(rt; sum, 12);
+    assert!(rt; sum == 12);
     let value = Value::of(Kind::Velocity, &[3, -4]);
-    assert_eq!(rt; value, Value::Velocity(Velocity { x: 3, y: -4 }));
-    assert_eq!(rt; value.kind(), Kind::Velocity);
-    assert_eq!(rt; value.words().as_slice(), [3, -4].as_slice());
-    assert_eq!(rt; Position::from_value(value), None);
-    assert_eq!(rt; Value::of(Kind::Frozen, &[]).number(), 10);
+    assert!(rt; value == Value::Velocity(Velocity { x: 3, y: -4 }));
+    assert!(rt; value.kind() == Kind::Velocity);
+    assert!(rt; value.words().as_slice() == [3, -4].as_slice());
+    assert!(rt; Position::from_value(value) == None);
+    assert!(rt; Value::of(Kind::Frozen, &[]).number() == 10);
 }

@@ -23,24 +23,18 @@ fn unread(
 #[test]
 fn two_buffers(rt: HostRuntime) -> Result<(), Fail> {
     let mut events = Events::new(rt.alloc());
-    assert_eq!(rt; events.send(Event::Hit, 4), Ok(()));
-    assert_eq!(rt; events.send(Event::Hit, 5), Ok(()));
+    assert!(rt; events.send(Event::Hit, 4) == Ok(()));
+    assert!(rt; events.send(Event::Hit, 5) == Ok(()));
     events.update();
-    assert_eq!(rt; events.send(Event::Hit, 6), Ok(()));
-    assert_eq!(rt;
-        unread(rt.alloc(), &events, Event::Hit, 1)?.as_slice(),
-        [5, 6].as_slice()
-    );
-    assert_eq!(rt; unread(rt.alloc(), &events, Event::Heal, 0)?.len(), 0);
+    assert!(rt; events.send(Event::Hit, 6) == Ok(()));
+    assert!(rt; unread(rt.alloc(), &events, Event::Hit, 1)?.as_slice() == [5, 6].as_slice());
+    assert!(rt; unread(rt.alloc(), &events, Event::Heal, 0)?.len() == 0);
     events.update();
-    assert_eq!(rt;
-        unread(rt.alloc(), &events, Event::Hit, 0)?.as_slice(),
-        [6].as_slice()
-    );
+    assert!(rt; unread(rt.alloc(), &events, Event::Hit, 0)?.as_slice() == [6].as_slice());
     events.update();
-    assert_eq!(rt; unread(rt.alloc(), &events, Event::Hit, 0)?.len(), 0);
-    assert_eq!(rt; events.next(Event::Hit), 3);
-    assert_eq!(rt; events.next(Event::Done), 0);
+    assert!(rt; unread(rt.alloc(), &events, Event::Hit, 0)?.len() == 0);
+    assert!(rt; events.next(Event::Hit) == 3);
+    assert!(rt; events.next(Event::Done) == 0);
     Ok(())
 }
 
@@ -50,26 +44,26 @@ fn many_events(rt: HostRuntime) -> Result<(), Fail> {
     for _run in 0..3 {
         events.update();
         for value in 0..100_000 {
-            assert_eq!(rt; events.send(Event::Spark, value), Ok(()));
+            assert!(rt; events.send(Event::Spark, value) == Ok(()));
         }
     }
     let unread = events.unread(Event::Spark, 150_000);
-    assert_eq!(rt; unread.older.len(), 50_000);
-    assert_eq!(rt; unread.newer.len(), 100_000);
-    assert_eq!(rt; unread.older[0], 50_000);
-    assert_eq!(rt; events.next(Event::Spark), 300_000);
+    assert!(rt; unread.older.len() == 50_000);
+    assert!(rt; unread.newer.len() == 100_000);
+    assert!(rt; unread.older[0] == 50_000);
+    assert!(rt; events.next(Event::Spark) == 300_000);
     Ok(())
 }
 
 #[test]
 fn each_reader_from_its_own_cursor(rt: HostRuntime) -> Result<(), Fail> {
     let mut events = Events::new(rt.alloc());
-    assert_eq!(rt; events.send(Event::Hit, 4), Ok(()));
+    assert!(rt; events.send(Event::Hit, 4) == Ok(()));
     events.update();
-    assert_eq!(rt; events.send(Event::Hit, 5), Ok(()));
+    assert!(rt; events.send(Event::Hit, 5) == Ok(()));
     let shown = EventLists::unread(rt.alloc(), &[Event::Hit, Event::Hit], &[1, 0], &events)?;
-    assert_eq!(rt; shown.of_kind(Event::Hit), [5].as_slice());
-    assert_eq!(rt; shown.of_kind(Event::Heal).len(), 0);
+    assert!(rt; shown.of_kind(Event::Hit) == [5].as_slice());
+    assert!(rt; shown.of_kind(Event::Heal).len() == 0);
     Ok(())
 }
 
@@ -79,10 +73,7 @@ fn lists_are_sent(rt: HostRuntime) -> Result<(), Fail> {
     let mut sent = EventLists::empty(rt.alloc(), &[Event::Heal])?;
     sent.push(Event::Heal, 7)?;
     sent.push(Event::Heal, 8)?;
-    assert_eq!(rt; sent.send(&mut events), Ok(()));
-    assert_eq!(rt;
-        unread(rt.alloc(), &events, Event::Heal, 0)?.as_slice(),
-        [7, 8].as_slice()
-    );
+    assert!(rt; sent.send(&mut events) == Ok(()));
+    assert!(rt; unread(rt.alloc(), &events, Event::Heal, 0)?.as_slice() == [7, 8].as_slice());
     Ok(())
 }

@@ -41,31 +41,50 @@ fn added(value: Value) -> StampedValue
     StampedValue { value, stamp }
 }
 
+// The row of a place and a health that were added at tick 1.
+fn placed(v: i64) -> [StampedValue; 2]
+    ensures { map stamped_number result ≡ kind_number the_kinds.Position ∷ kind_number the_kinds.Health ∷ [] }
+{
+    let position = added(Value::Position(Position { x: 1, y: 2 }));
+    [position, added(Value::Health(Health { v }))]
+}
+
+// The table of the second entity and then the first, each with a place and a health, in the rising order of their ids.
+fn of_two(alloc: Global) -> Result<Table, Fail> {
+    let mut table = Table::new(alloc, &[Kind::Health, Kind::Position])?;
+    table.put(SECOND, &placed(5))?;
+    if table.has(FIRST) {
+        return Ok(table);
+    }
+    table.put(FIRST, &placed(7))?;
+    Ok(table)
+}
+
 #[test]
 fn rows_in_rising_ids(rt: HostRuntime) -> Result<(), Fail> {
-    let mut table = Table::new(rt.alloc(), &[Kind::Health, Kind::Position])?;
-    assert_eq!(rt; table.kinds(), [Kind::Position, Kind::Health].as_slice());
-    let position = added(Value::Position(Position { x: 1, y: 2 }));
-    table.put(SECOND, &[position, added(Value::Health(Health { v: 5 }))])?;
-    assert!(rt; !table.has(FIRST));
-    table.put(FIRST, &[position, added(Value::Health(Health { v: 7 }))])?;
-    assert_eq!(rt; table.entities(), [FIRST, SECOND].as_slice());
-    let health = Value::Health(Health { v: 5 });
-    assert_eq!(rt; table.value(SECOND, Kind::Health), Some(health));
-    assert_eq!(rt; table.value(SECOND, Kind::Frozen), None);
+    let table = of_two(rt.alloc())?;
+    assert!(rt; table.kinds() == [Kind::Position, Kind::Health].as_slice());
+    assert!(rt; table.entities() == [FIRST, SECOND].as_slice());
     Ok(())
+}
+
+// The table of one entity that is frozen.
+fn of_frozen(alloc: Global) -> Result<Table, Fail>
+    ensures kinds { IfOk result (λ table. table.kinds ≡ kind_number the_kinds.Frozen ∷ []) }
+    ensures homes { IfOk result (λ table. map is_home table.standings ≡ true ∷ []) }
+{
+    let mut table = Table::new(alloc, &[Kind::Frozen])?;
+    table.put(SECOND, &[added(Value::Frozen(Frozen))])?;
+    Ok(table)
 }
 
 #[test]
 fn a_row_is_taken(rt: HostRuntime) -> Result<(), Fail> {
-    let mut table = Table::new(rt.alloc(), &[Kind::Frozen])?;
-    table.put(SECOND, &[added(Value::Frozen(Frozen))])?;
+    let mut table = of_frozen(rt.alloc())?;
     assert!(rt; table.has(SECOND));
-    let components = table.components(rt.alloc(), SECOND)?;
     let taken = table.take(rt.alloc(), SECOND)?;
-    assert_eq!(rt; taken.as_slice(), components.as_slice());
-    assert_eq!(rt; taken.as_slice(), [added(Value::Frozen(Frozen))].as_slice());
-    assert_eq!(rt; table.len(), 0);
+    assert!(rt; taken.as_slice() == [added(Value::Frozen(Frozen))].as_slice());
+    assert!(rt; table.len() == 0);
     Ok(())
 }
 
@@ -75,15 +94,15 @@ fn columns_leave_and_come_home(rt: HostRuntime) -> Result<(), Fail> {
     table.put(FIRST, &[added(Value::Health(Health { v: 5 }))])?;
     let mut column = table.lend(rt.alloc(), Kind::Health)?;
     assert!(rt; table.has(FIRST));
-    assert_eq!(rt; column.len(), 1);
+    assert!(rt; column.len() == 1);
     column.set(0, Health { v: 5 }, 4);
-    assert_eq!(rt; column.len(), table.len());
+    assert!(rt; column.len() == table.len());
     table.home(column);
     let stamp = Stamp {
         added: 1,
         changed: 4,
     };
-    assert_eq!(rt; table.stamp(FIRST, Kind::Health), Some(stamp));
+    assert!(rt; table.stamp(FIRST, Kind::Health) == Some(stamp));
     Ok(())
 }
 
@@ -163,12 +182,12 @@ fn a_column_that_is_read_elsewhere_is_copied(rt: HostRuntime) -> Result<(), Fail
     let mut table = of_health(rt.alloc(), 5)?;
     let early = read_elsewhere(rt.alloc(), &mut table)?;
     set_away(rt.alloc(), &mut table, 6)?;
-    assert_eq!(rt; early.at(0), health(5, 1));
-    assert_eq!(rt; early.get::<Health>(0), Health { v: 5 });
-    assert_eq!(rt; seen(&table), health(6, 4));
+    assert!(rt; early.at(0) == health(5, 1));
+    assert!(rt; early.get::<Health>(0) == Health { v: 5 });
+    assert!(rt; seen(&table) == health(6, 4));
     let late = read_elsewhere(rt.alloc(), &mut table)?;
     own_alone(rt.alloc(), &mut table)?;
-    assert_eq!(rt; late.at(0), health(6, 4));
-    assert_eq!(rt; seen(&table), health(6, 4));
+    assert!(rt; late.at(0) == health(6, 4));
+    assert!(rt; seen(&table) == health(6, 4));
     Ok(())
 }

@@ -65,17 +65,11 @@ fn three(alloc: Global) -> Result<World, Fail>
 #[test]
 fn starts_empty(rt: HostRuntime) -> Result<(), Fail> {
     let mut world = World::new(rt.alloc(), Clock::at(1))?;
-    assert_eq!(rt; world.slot_count(), 0);
-    assert_eq!(rt;
-        (world.res(Res::Step), world.res_changed(Res::Step)),
-        (0, 1)
-    );
-    assert_eq!(rt; world.next()?, 2);
+    assert!(rt; world.slot_count() == 0);
+    assert!(rt; (world.res(Res::Step), world.res_changed(Res::Step)) == (0, 1));
+    assert!(rt; world.next()? == 2);
     world.set_res(Res::Step, 7, 2);
-    assert_eq!(rt;
-        (world.res(Res::Step), world.res_changed(Res::Step)),
-        (7, 2)
-    );
+    assert!(rt; (world.res(Res::Step), world.res_changed(Res::Step)) == (7, 2));
     Ok(())
 }
 
@@ -83,18 +77,12 @@ fn starts_empty(rt: HostRuntime) -> Result<(), Fail> {
 fn grants_the_least_vacant(rt: HostRuntime) -> Result<(), Fail> {
     let mut world = World::new(rt.alloc(), Clock::at(1))?;
     let ids = world.grant(rt.alloc(), 2)?;
-    assert_eq!(rt; ids.len(), 2);
-    assert_eq!(rt;
-        format!(in rt.alloc(); "{} {}", ids[0], ids[1])?.as_str(),
-        "0v1 1v1"
-    );
-    assert_eq!(rt; world.grant(rt.alloc(), 1)?.len(), 1);
-    assert_eq!(rt; world.slot_count(), 3);
+    assert!(rt; ids.len() == 2);
+    assert!(rt; format!(in rt.alloc(); "{} {}", ids[0], ids[1])?.as_str() == "0v1 1v1");
+    assert!(rt; world.grant(rt.alloc(), 1)?.len() == 1);
+    assert!(rt; world.slot_count() == 3);
     assert!(rt; !world.lives(FIRST), "a granted id does not live yet");
-    assert_eq!(rt;
-        world.grant(rt.alloc(), 1_048_574).err(),
-        Some(GrantFault::IdsSpent)
-    );
+    assert!(rt; world.grant(rt.alloc(), 1_048_574).err() == Some(GrantFault::IdsSpent));
     Ok(())
 }
 
@@ -122,22 +110,19 @@ fn stamps_an_insert(rt: HostRuntime) -> Result<(), Fail> {
     let mut world = one(rt.alloc())?;
     let now = world.now();
     world.insert(FIRST, Velocity { x: 1, y: 1 }, now)?;
-    assert_eq!(rt; world.get::<Velocity>(FIRST), Some(Velocity { x: 1, y: 1 }));
-    assert_eq!(rt; stamp_of(&world, Kind::Velocity), Some((1, 4)));
-    assert_eq!(rt; stamp_of(&world, Kind::Position), Some((1, 1)));
+    assert!(rt; world.get::<Velocity>(FIRST) == Some(Velocity { x: 1, y: 1 }));
+    assert!(rt; stamp_of(&world, Kind::Velocity) == Some((1, 4)));
+    assert!(rt; stamp_of(&world, Kind::Position) == Some((1, 1)));
     Ok(())
 }
 
 #[test]
 fn shows_components_by_rising_kinds(rt: HostRuntime) -> Result<(), Fail> {
     let world = one(rt.alloc())?;
-    assert_eq!(rt; world.next_living(0), Some(FIRST));
+    assert!(rt; world.next_living(0) == Some(FIRST));
     let components = world.components(rt.alloc(), 0)?;
-    assert_eq!(rt; components.len(), 2, "kinds rise");
-    assert_eq!(rt;
-        components[0].value,
-        Value::Position(Position { x: 3, y: 5 })
-    );
+    assert!(rt; components.len() == 2, "kinds rise");
+    assert!(rt; components[0].value == Value::Position(Position { x: 3, y: 5 }));
     Ok(())
 }
 
@@ -148,10 +133,7 @@ fn a_stale_id_is_not_alive(rt: HostRuntime) -> Result<(), Fail> {
         index: 0,
         generation: 2,
     };
-    assert_eq!(rt;
-        world.insert(stale, Position { x: 0, y: 0 }, 1),
-        Err(StoreFault::NotAlive)
-    );
+    assert!(rt; world.insert(stale, Position { x: 0, y: 0 }, 1) == Err(StoreFault::NotAlive));
     assert!(rt; !world.has(stale, Kind::Position));
     Ok(())
 }
@@ -160,29 +142,26 @@ fn a_stale_id_is_not_alive(rt: HostRuntime) -> Result<(), Fail> {
 fn releases_ids(rt: HostRuntime) -> Result<(), Fail> {
     let mut world = World::new(rt.alloc(), Clock::at(4))?;
     let ids = world.grant(rt.alloc(), 3)?;
-    assert_eq!(rt; ids.len(), 3);
+    assert!(rt; ids.len() == 3);
     world.spawn_at(ids[0]);
     world.release(ids.as_slice());
     assert!(rt; world.lives(FIRST), "one that was spawned is kept");
     let again = world.grant(rt.alloc(), 1)?;
-    assert_eq!(rt; again.len(), 1);
-    assert_eq!(rt; format!(in rt.alloc(); "{}", again[0])?.as_str(), "1v2");
+    assert!(rt; again.len() == 1);
+    assert!(rt; format!(in rt.alloc(); "{}", again[0])?.as_str() == "1v2");
     Ok(())
 }
 
 #[test]
 fn frees_what_is_despawned(rt: HostRuntime) -> Result<(), Fail> {
     let mut world = one(rt.alloc())?;
-    assert_eq!(rt; world.remove(FIRST, Kind::Velocity), Ok(()));
-    assert_eq!(rt; world.remove(FIRST, Kind::Position), Ok(()));
+    assert!(rt; world.remove(FIRST, Kind::Velocity) == Ok(()));
+    assert!(rt; world.remove(FIRST, Kind::Position) == Ok(()));
     assert!(rt; world.lives(FIRST), "without components it still lives");
     assert!(rt; !world.has(FIRST, Kind::Position));
-    assert_eq!(rt; world.despawn(FIRST), Ok(()));
-    assert_eq!(rt; world.despawn(FIRST), Err(StoreFault::NotAlive));
-    assert_eq!(rt;
-        world.remove(FIRST, Kind::Position),
-        Err(StoreFault::NotAlive)
-    );
+    assert!(rt; world.despawn(FIRST) == Ok(()));
+    assert!(rt; world.despawn(FIRST) == Err(StoreFault::NotAlive));
+    assert!(rt; world.remove(FIRST, Kind::Position) == Err(StoreFault::NotAlive));
     Ok(())
 }
 
@@ -191,32 +170,31 @@ fn moves_between_archetypes(rt: HostRuntime) -> Result<(), Fail> {
     let mut world = three(rt.alloc())?;
     let now = world.now();
     world.insert(FIRST, Health { v: 9 }, now)?;
-    assert_eq!(rt; world.get::<Health>(FIRST), Some(Health { v: 9 }));
-    assert_eq!(rt; world.get::<Frozen>(FIRST), Some(Frozen));
-    assert_eq!(rt;
-        world.stamp(FIRST, Kind::Frozen),
-        Some(Stamp {
-            added: 1,
-            changed: 1
-        })
+    assert!(rt; world.get::<Health>(FIRST) == Some(Health { v: 9 }));
+    assert!(rt; world.get::<Frozen>(FIRST) == Some(Frozen));
+    assert!(rt;
+        world.stamp(FIRST, Kind::Frozen)
+            == Some(Stamp {
+                added: 1,
+                changed: 1
+            })
     );
-    assert_eq!(rt;
-        world.stamp(FIRST, Kind::Health),
-        Some(Stamp {
-            added: 4,
-            changed: 4
-        })
+    assert!(rt;
+        world.stamp(FIRST, Kind::Health)
+            == Some(Stamp {
+                added: 4,
+                changed: 4
+            })
     );
-    assert_eq!(rt; world.get::<Health>(SECOND), Some(Health { v: 3 }));
-    assert_eq!(rt; world.get::<Health>(THIRD), Some(Health { v: 4 }));
+    assert!(rt; world.get::<Health>(SECOND) == Some(Health { v: 3 }));
+    assert!(rt; world.get::<Health>(THIRD) == Some(Health { v: 4 }));
     assert!(rt; world.has(THIRD, Kind::Frozen));
     let row = world.components(rt.alloc(), 0)?;
-    assert_eq!(rt; row.len(), 2);
-    assert_eq!(rt;
-        (row[0].value, row[1].value),
-        (Value::Health(Health { v: 9 }), Value::Frozen(Frozen))
+    assert!(rt; row.len() == 2);
+    assert!(rt;
+        (row[0].value, row[1].value) == (Value::Health(Health { v: 9 }), Value::Frozen(Frozen))
     );
-    assert_eq!(rt; world.components(rt.alloc(), 7)?.len(), 0);
+    assert!(rt; world.components(rt.alloc(), 7)?.len() == 0);
     Ok(())
 }
 
@@ -288,7 +266,7 @@ fn holds_many(rt: HostRuntime) -> Result<(), Fail> {
     assert!(rt; is_so(&world, 50_000, None, false));
     fill(&mut world, count)?;
     clear(&mut world, count)?;
-    assert_eq!(rt; world.next_living(0), None);
+    assert!(rt; world.next_living(0) == None);
     assert!(rt; is_so(&world, 0, None, false));
     Ok(())
 }
@@ -296,11 +274,11 @@ fn holds_many(rt: HostRuntime) -> Result<(), Fail> {
 #[test]
 fn shows_who_has_which_kinds(rt: HostRuntime) -> Result<(), Fail> {
     let mut world = three(rt.alloc())?;
-    assert_eq!(rt; world.archetypes(rt.alloc())?.len(), 3);
+    assert!(rt; world.archetypes(rt.alloc())?.len() == 3);
     let now = world.now();
     world.insert(FIRST, Health { v: 9 }, now)?;
     let views = world.archetypes(rt.alloc())?;
-    assert_eq!(rt; views.len(), 2, "nobody is left who is frozen alone");
+    assert!(rt; views.len() == 2, "nobody is left who is frozen alone");
     assert!(rt; views.iter().any(|view| view.entities.len() == 2));
     assert!(rt; views.iter().any(|view| view.entities.len() == 1));
     Ok(())
@@ -315,15 +293,15 @@ fn a_refused_insert_leaves_all(rt: HostRuntime) -> Result<(), Fail> {
     let there = world.insert(FIRST, Health { v: 9 }, now);
     assert!(rt; there != Err(StoreFault::NotAlive));
     let health = there.ok().map(|_| Health { v: 9 });
-    assert_eq!(rt; world.get::<Health>(FIRST), health);
+    assert!(rt; world.get::<Health>(FIRST) == health);
     let new = world.insert(FIRST, Velocity { x: 1, y: 2 }, now);
     assert!(rt; new != Err(StoreFault::NotAlive));
     let velocity = new.ok().map(|_| Velocity { x: 1, y: 2 });
-    assert_eq!(rt; world.get::<Velocity>(FIRST), velocity);
-    assert_eq!(rt; world.get::<Health>(FIRST), health);
-    assert_eq!(rt; world.get::<Frozen>(FIRST), Some(Frozen));
-    assert_eq!(rt; world.get::<Health>(SECOND), Some(Health { v: 3 }));
-    assert_eq!(rt; world.get::<Health>(THIRD), Some(Health { v: 4 }));
+    assert!(rt; world.get::<Velocity>(FIRST) == velocity);
+    assert!(rt; world.get::<Health>(FIRST) == health);
+    assert!(rt; world.get::<Frozen>(FIRST) == Some(Frozen));
+    assert!(rt; world.get::<Health>(SECOND) == Some(Health { v: 3 }));
+    assert!(rt; world.get::<Health>(THIRD) == Some(Health { v: 4 }));
     assert!(rt; world.has(THIRD, Kind::Frozen));
     there?;
     new?;
@@ -445,8 +423,8 @@ fn columns_come_home_in_another_order(rt: HostRuntime) -> Result<(), Fail> {
     let first = named(rt.alloc(), &world, 1, Kind::Health)?;
     let second = named(rt.alloc(), &world, 2, Kind::Health)?;
     write_half_of_the_second(rt.alloc(), &mut world, first, second)?;
-    assert_eq!(rt; health_of(&world, SECOND), (Some(Health { v: 3 }), Some(1)));
-    assert_eq!(rt; health_of(&world, THIRD), (Some(Health { v: -1 }), Some(4)));
+    assert!(rt; health_of(&world, SECOND) == (Some(Health { v: 3 }), Some(1)));
+    assert!(rt; health_of(&world, THIRD) == (Some(Health { v: -1 }), Some(4)));
     assert!(rt; world.has(THIRD, Kind::Frozen));
     Ok(())
 }
@@ -458,22 +436,16 @@ fn a_column_that_is_read_is_taken_as_a_copy(rt: HostRuntime) -> Result<(), Fail>
     let shared = world.share_read(rt.alloc(), &[at])?;
     write_half_of(rt.alloc(), &mut world, at)?;
     let read = shared.first().ok_or("no column")?;
-    assert_eq!(rt; read.archetype, 1);
+    assert!(rt; read.archetype == 1);
     assert!(rt; read.column.len() == 1);
-    assert_eq!(rt; read.column.at(0).value, Value::Health(Health { v: 3 }));
-    assert_eq!(rt;
-        health_of(&world, SECOND),
-        (Some(Health { v: -1 }), Some(4))
-    );
+    assert!(rt; read.column.at(0).value == Value::Health(Health { v: 3 }));
+    assert!(rt; health_of(&world, SECOND) == (Some(Health { v: -1 }), Some(4)));
     // A row moves after its column was handed out.
     let again = world.share_read(rt.alloc(), &[at])?;
     let now = world.now();
     world.insert(SECOND, Frozen, now)?;
-    assert_eq!(rt; again.len(), 1);
-    assert_eq!(rt;
-        health_of(&world, SECOND),
-        (Some(Health { v: -1 }), Some(4))
-    );
+    assert!(rt; again.len() == 1);
+    assert!(rt; health_of(&world, SECOND) == (Some(Health { v: -1 }), Some(4)));
     Ok(())
 }
 
@@ -499,14 +471,14 @@ fn a_refused_take_leaves_all(rt: HostRuntime) -> Result<(), Fail> {
     let mut world = three(rt.alloc())?;
     let at = named(rt.alloc(), &world, 1, Kind::Health)?;
     let alone = take_and_put_back(rt.alloc(), &mut world, &[at]);
-    assert_eq!(rt; health_of(&world, SECOND), (Some(Health { v: 3 }), Some(1)));
+    assert!(rt; health_of(&world, SECOND) == (Some(Health { v: 3 }), Some(1)));
     let shared = world.share_read(rt.alloc(), &[at]);
-    assert_eq!(rt; health_of(&world, SECOND), (Some(Health { v: 3 }), Some(1)));
+    assert!(rt; health_of(&world, SECOND) == (Some(Health { v: 3 }), Some(1)));
     let copied = take_and_put_back(rt.alloc(), &mut world, &[at]);
-    assert_eq!(rt; health_of(&world, SECOND), (Some(Health { v: 3 }), Some(1)));
-    assert_eq!(rt; health_of(&world, THIRD), (Some(Health { v: 4 }), Some(1)));
+    assert!(rt; health_of(&world, SECOND) == (Some(Health { v: 3 }), Some(1)));
+    assert!(rt; health_of(&world, THIRD) == (Some(Health { v: 4 }), Some(1)));
     alone?;
-    assert_eq!(rt; shared?.len(), 1);
+    assert!(rt; shared?.len() == 1);
     copied?;
     Ok(())
 }
@@ -515,9 +487,9 @@ fn a_refused_take_leaves_all(rt: HostRuntime) -> Result<(), Fail> {
 #[test]
 fn a_removal_of_nothing_or_of_the_last_takes_no_memory(rt: HostRuntime) -> Result<(), Fail> {
     let mut world = three(rt.alloc())?;
-    assert_eq!(rt; world.remove(SECOND, Kind::Frozen), Ok(()));
-    assert_eq!(rt; world.remove(SECOND, Kind::Health), Ok(()));
-    assert_eq!(rt; world.remove(SECOND, Kind::Health), Ok(()));
+    assert!(rt; world.remove(SECOND, Kind::Frozen) == Ok(()));
+    assert!(rt; world.remove(SECOND, Kind::Health) == Ok(()));
+    assert!(rt; world.remove(SECOND, Kind::Health) == Ok(()));
     assert!(rt; world.lives(SECOND));
     Ok(())
 }

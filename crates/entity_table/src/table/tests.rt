@@ -1,31 +1,21 @@
 // What the id book does in a row of calls.
 
-ghost use Rattle.std.specs.Prelude.{◌≡◌, length, All};
+ghost use Rattle.std.specs.Prelude.{◌≡◌, ◌<◌, length, All};
 ghost use Rattle.entity_table.specs.Ids.{IsGranted, AreApart};
 
 use super::*;
-use std::alloc::AllocError;
 use std::test::Fail;
 
 fn id(index: u32, generation: u32) -> Entity {
     Entity { index, generation }
 }
 
-// The ids, each with a space after it.
-fn texts(alloc: Global, ids: &[Entity]) -> Result<String, AllocError> {
-    let mut text = String::new(alloc);
-    for e in ids {
-        write!(text, "{e} ")?;
-    }
-    Ok(text)
-}
-
-// Settles all of these granted ids as used.
-fn spawn_all(table: &mut EntityTable, ids: &[Entity])
+// Has the first of these granted ids live.
+fn spawn_first(table: &mut EntityTable, ids: &[Entity])
+    requires some { 0 < length ids.now }
     requires granted { All (IsGranted table.old) ids.now }
-    requires apart { AreApart ids.now }
 {
-    table.settle(ids, &[]);
+    table.spawn_at(ids[0]);
 }
 
 // Settles the second of three granted ids as unused, the others as used.
@@ -50,18 +40,15 @@ fn despawn_living(table: &mut EntityTable, e: Entity) -> bool {
 fn grants_the_least_vacant(rt: HostRuntime) -> Result<(), Fail> {
     let mut table = EntityTable::new(rt.alloc());
     let first = table.grant(rt.alloc(), 3)?;
-    assert_eq!(rt;
-        texts(rt.alloc(), first.as_slice())?.as_str(),
-        "0v1 1v1 2v1 "
-    );
+    assert_eq!(rt; first.as_slice(), [id(0, 1), id(1, 1), id(2, 1)].as_slice());
     assert!(rt; !table.lives(id(0, 1)), "a granted id does not live yet");
     assert_eq!(rt; first.len(), 3);
     leave_the_second(&mut table, first.as_slice());
     assert!(rt; despawn_living(&mut table, id(0, 1)));
     let second = table.grant(rt.alloc(), 3)?;
     assert_eq!(rt;
-        texts(rt.alloc(), second.as_slice())?.as_str(),
-        "0v2 1v2 3v1 "
+        second.as_slice(),
+        [id(0, 2), id(1, 2), id(3, 1)].as_slice()
     );
     assert!(rt; !table.lives(id(0, 1)));
     assert!(rt; table.lives(id(2, 1)));
@@ -69,27 +56,27 @@ fn grants_the_least_vacant(rt: HostRuntime) -> Result<(), Fail> {
     Ok(())
 }
 
+// The statuses of the first three indices, and their generations.
+fn first_three(table: &EntityTable) -> ([Status; 3], [u32; 3]) {
+    let statuses = [table.status(0), table.status(1), table.status(2)];
+    let generations = [
+        table.generation(0),
+        table.generation(1),
+        table.generation(2),
+    ];
+    (statuses, generations)
+}
+
 #[test]
 fn settles_an_id_by_itself(rt: HostRuntime) -> Result<(), Fail> {
     let mut table = EntityTable::new(rt.alloc());
-    assert!(rt; table.is_empty());
     let granted = table.grant(rt.alloc(), 2)?;
-    assert_eq!(rt; granted.len(), 2);
-    table.spawn_at(granted[1]);
+    assert!(rt; granted.len() == 2);
+    spawn_first(&mut table, granted.as_slice());
     table.release(granted.as_slice());
-    assert_eq!(rt; table.len(), 2);
-    assert_eq!(rt;
-        (table.status(0), table.status(1), table.status(2)),
-        (Status::Vacant, Status::Living, Status::Vacant)
-    );
-    assert_eq!(rt;
-        (
-            table.generation(0),
-            table.generation(1),
-            table.generation(2)
-        ),
-        (2, 1, 1)
-    );
+    let (statuses, generations) = first_three(&table);
+    assert_eq!(rt; statuses, [Status::Living, Status::Vacant, Status::Vacant]);
+    assert_eq!(rt; generations, [1, 2, 1]);
     Ok(())
 }
 
@@ -100,14 +87,16 @@ fn retires_the_last_generation(rt: HostRuntime) -> Result<(), Fail> {
     assert_eq!(rt; table.status(0), Status::Retired);
     assert!(rt; !table.lives(id(0, u32::MAX)));
     let granted = table.grant(rt.alloc(), 1)?;
-    assert_eq!(rt; texts(rt.alloc(), granted.as_slice())?.as_str(), "1v1 ");
+    assert_eq!(rt; granted.as_slice(), [id(1, 1)].as_slice());
+    Ok(())
+}
+
+#[test]
+fn grants_the_last_generation(rt: HostRuntime) -> Result<(), Fail> {
     let mut earlier = EntityTable::at_generation(rt.alloc(), u32::MAX - 1)?;
     assert!(rt; despawn_living(&mut earlier, id(0, u32::MAX - 1)));
     let last = earlier.grant(rt.alloc(), 2)?;
-    assert_eq!(rt;
-        texts(rt.alloc(), last.as_slice())?.as_str(),
-        "0v4294967295 1v1 "
-    );
+    assert_eq!(rt; last.as_slice(), [id(0, u32::MAX), id(1, 1)].as_slice());
     Ok(())
 }
 
@@ -135,7 +124,8 @@ fn holds_many(rt: HostRuntime) -> Result<(), Fail> {
     let mut table = EntityTable::new(rt.alloc());
     for _ in 0..100_000 {
         let granted = table.grant(rt.alloc(), 1)?;
-        spawn_all(&mut table, granted.as_slice());
+        assert_eq!(rt; granted.len(), 1);
+        spawn_first(&mut table, granted.as_slice());
     }
     assert_eq!(rt; table.len(), 100_000);
     for index in 0..30_000 {
@@ -155,7 +145,8 @@ fn holds_many(rt: HostRuntime) -> Result<(), Fail> {
     for index in 0..100_000 {
         let granted = table.grant(rt.alloc(), 1)?;
         assert_eq!(rt; granted.first().copied(), Some(id(index, 2)));
-        spawn_all(&mut table, granted.as_slice());
+        assert_eq!(rt; granted.len(), 1);
+        spawn_first(&mut table, granted.as_slice());
     }
     assert_eq!(rt; table.len(), 100_000);
     Ok(())

@@ -1,0 +1,43 @@
+// A file that is written, also one that can't be created.
+
+use std::fs::Files;
+use std::io::Write;
+use std::{fs, io};
+
+/// The writer of a file, which is created, or emptied, where it is first written to. Where it can't be each write fails.
+#[derive(Drop)]
+pub struct Created<'a, R: Files + Drop> {
+    files: R,
+    path: &'a str,
+    file: Option<R::File>,
+}
+
+impl<'a, R: Files + Drop> Created<'a, R> {
+    /// The writer of the file of this path, to which nothing is written yet.
+    pub fn new(files: R, path: &'a str) -> Self {
+        Created {
+            files,
+            path,
+            file: None,
+        }
+    }
+
+    // The file. It is created where it isn't yet.
+    fn opened(&mut self) -> io::Result<&mut R::File> {
+        let file = match self.file.take() {
+            Some(file) => file,
+            None => fs::create(&self.files, self.path)?,
+        };
+        Ok(self.file.insert(file))
+    }
+}
+
+impl<R: Files + Drop> Write for Created<'_, R> {
+    fn write(&mut self, buf: &[u8]) -> io::Result<usize> {
+        self.opened()?.write(buf)
+    }
+
+    fn flush(&mut self) -> io::Result<()> {
+        self.opened()?.flush()
+    }
+}

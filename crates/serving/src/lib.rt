@@ -1,0 +1,17 @@
+// What a command line asks for, done on readers and writers: the schedule, the scripts and the world that a file gives, the runs, what is
+// told of them, and the faults.
+#![tactic(auto)]
+
+mod answer;
+mod checking;
+pub mod created;
+pub mod fault;
+mod file;
+pub mod opened;
+pub mod recording;
+mod replaying;
+mod schedule;
+pub mod serve;
+pub mod words;
+pub mod workers;
+mod world;
