@@ -10,59 +10,73 @@ fn words_of(alloc: Global, line: &str) -> Result<Vec<String>, AllocError> {
         .try_collect(alloc)
 }
 
-// So many runs on so many workers.
-fn runs(times: u32, workers: u8, recorded: bool) -> Work {
-    Work::Run {
-        times,
-        workers,
-        recorded,
-    }
-}
+// Command lines, the files that each names (the program, a trace, and the record of its runs), and what it asks for.
+const LINES: [(&str, (&str, &str, &str), Work); 8] = [
+    (
+        "ecsrun run world.toml",
+        ("world.toml", "", ""),
+        Work::Run {
+            times: 1,
+            workers: 0,
+            recorded: false,
+        },
+    ),
+    (
+        "ecsrun run world.toml --times 3",
+        ("world.toml", "", ""),
+        Work::Run {
+            times: 3,
+            workers: 0,
+            recorded: false,
+        },
+    ),
+    (
+        "ecsrun run --times=0 a.toml",
+        ("a.toml", "", ""),
+        Work::Run {
+            times: 0,
+            workers: 0,
+            recorded: false,
+        },
+    ),
+    (
+        "ecsrun run a.toml --times 1000000 --workers 64",
+        ("a.toml", "", ""),
+        Work::Run {
+            times: 1_000_000,
+            workers: 64,
+            recorded: false,
+        },
+    ),
+    (
+        "ecsrun run a.toml --trace b.txt --workers 2",
+        ("a.toml", "", "b.txt"),
+        Work::Run {
+            times: 1,
+            workers: 2,
+            recorded: true,
+        },
+    ),
+    (
+        "ecsrun check a.toml b.txt",
+        ("a.toml", "b.txt", ""),
+        Work::Check,
+    ),
+    (
+        "ecsrun replay a.toml b.txt",
+        ("a.toml", "b.txt", ""),
+        Work::Replay,
+    ),
+    (
+        "ecsrun ambiguities a.toml",
+        ("a.toml", "", ""),
+        Work::Ambiguities,
+    ),
+];
 
 #[test]
 fn lines_are_read(rt: HostRuntime) -> Result<(), Fail> {
-    for (line, files, work) in [
-        (
-            "ecsrun run world.toml",
-            ("world.toml", "", ""),
-            runs(1, 0, false),
-        ),
-        (
-            "ecsrun run world.toml --times 3",
-            ("world.toml", "", ""),
-            runs(3, 0, false),
-        ),
-        (
-            "ecsrun run --times=0 a.toml",
-            ("a.toml", "", ""),
-            runs(0, 0, false),
-        ),
-        (
-            "ecsrun run a.toml --times 1000000 --workers 64",
-            ("a.toml", "", ""),
-            runs(1_000_000, 64, false),
-        ),
-        (
-            "ecsrun run a.toml --trace b.txt --workers 2",
-            ("a.toml", "", "b.txt"),
-            runs(1, 2, true),
-        ),
-        (
-            "ecsrun check a.toml b.txt",
-            ("a.toml", "b.txt", ""),
-            Work::Check,
-        ),
-        (
-            "ecsrun replay a.toml b.txt",
-            ("a.toml", "b.txt", ""),
-            Work::Replay,
-        ),
-        (
-            "ecsrun ambiguities a.toml",
-            ("a.toml", "", ""),
-            Work::Ambiguities,
-        ),
-    ] {
+    for (line, files, work) in LINES {
         let words = words_of(rt.alloc(), line)?;
         let args = Args::read(rt.alloc(), words.as_slice())?;
         let found = (args.file, args.trace, args.record);
