@@ -50,7 +50,7 @@ fn registers_stay_and_resources_are_shared(rt: HostRuntime) -> Result<(), Fail> 
 }
 
 // The cases of the test below: code and total.
-const COMPARISONS_CHOOSE_WHAT_IS_DONE: [(&str, u32); 6] = [
+const COMPARISONS_CHOOSE_WHAT_IS_DONE: [(&str, i64); 6] = [
     ("\"less 1 2 1\", \"add Total 1\", \"add Total 10\"", 10),
     ("\"less 2 2 1\", \"add Total 1\", \"add Total 10\"", 11),
     ("\"equal Total 0 2\", \"add Total 1\", \"add Total 10\"", 0),

@@ -121,7 +121,7 @@ fn both_sides_of_and_are_asked(rt: HostRuntime) -> Result<(), Fail> {
 }
 
 // The cases of the test below: condition and total.
-const EACH_CONDITION_IS_ASKED: [(&str, u32); 8] = [
+const EACH_CONDITION_IS_ASKED: [(&str, i64); 8] = [
     ("run_once", 1),
     ("not(run_once)", 2),
     ("or(run_once, resource_equals(Round, 2))", 2),

@@ -69,7 +69,7 @@ fn systems_that_ran_together_are_replayed(rt: HostRuntime) -> Result<(), Fail> {
 }
 
 // The cases of the test below: trace, runs and total.
-const RECORDED_ORDER_IS_KEPT: [(&str, u32, u32); 3] = [
+const RECORDED_ORDER_IS_KEPT: [(&str, u32, i64); 3] = [
     ("R 1\nS 0\nF 0\nS 1\nF 1\nY 0\n", 1, 2),
     ("R 1\nS 1\nF 1\nS 0\nF 0\nY 0\n", 1, 1),
     (
@@ -157,7 +157,7 @@ fn a_trace_without_runs_leaves_what_was_loaded(rt: HostRuntime) -> Result<(), Fa
 }
 
 // The cases of the test below: each workers.
-const WHAT_WORKERS_DID_IS_REPLAYED: [u32; 4] = [1, 2, 3, 8];
+const WHAT_WORKERS_DID_IS_REPLAYED: [u8; 4] = [1, 2, 3, 8];
 
 #[test]
 fn what_workers_did_is_replayed(rt: HostRuntime) -> Result<(), Fail> {

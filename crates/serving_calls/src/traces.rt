@@ -57,7 +57,7 @@ fn runs_are_recorded(rt: HostRuntime) -> Result<(), Fail> {
 }
 
 // The cases of the test below: each workers.
-const RECORDED_RUNS_ARE_COMPLETE: [u32; 3] = [1, 2, 8];
+const RECORDED_RUNS_ARE_COMPLETE: [u8; 3] = [1, 2, 8];
 
 #[test]
 fn recorded_runs_are_complete(rt: HostRuntime) -> Result<(), Fail> {
