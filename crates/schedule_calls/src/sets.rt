@@ -76,15 +76,13 @@ fn many_sets_are_quick(rt: HostRuntime) -> Result<(), Fail> {
     Ok(())
 }
 
-// An order of two items.
-const fn order(first: usize, second: usize) -> Order {
-    Order { first, second }
-}
-
 #[test]
 fn sets_that_are_apart_are_ordered(rt: HostRuntime) -> Result<(), Fail> {
     let hierarchy = two_in_one(rt.alloc())?;
-    let apart = [order(0, 1)];
+    let apart = [Order {
+        first: 0,
+        second: 1,
+    }];
     assert!(rt; hierarchy.crossing(rt.alloc(), &apart)?.is_none());
     assert!(rt; hierarchy.sharing(rt.alloc(), &apart)?.is_none());
     assert!(rt; hierarchy.edges(rt.alloc(), &apart)?.as_slice() == apart.as_slice());
@@ -94,13 +92,32 @@ fn sets_that_are_apart_are_ordered(rt: HostRuntime) -> Result<(), Fail> {
 #[test]
 fn orders_of_what_holds_the_other_are_told(rt: HostRuntime) -> Result<(), Fail> {
     let hierarchy = two_in_one(rt.alloc())?;
-    assert!(rt; hierarchy.crossing(rt.alloc(), &[order(2, 4)])? == Some(order(4, 2)));
+    assert!(rt;
+        hierarchy.crossing(
+            rt.alloc(),
+            &[Order {
+                first: 2,
+                second: 4
+            }]
+        )? == Some(Order {
+            first: 4,
+            second: 2
+        })
+    );
     let found = Sharing {
         first: 2,
         second: 1,
         system: 4,
     };
-    assert!(rt; hierarchy.sharing(rt.alloc(), &[order(2, 1)])? == Some(found));
+    assert!(rt;
+        hierarchy.sharing(
+            rt.alloc(),
+            &[Order {
+                first: 2,
+                second: 1
+            }]
+        )? == Some(found)
+    );
     Ok(())
 }
 
