@@ -150,29 +150,15 @@ fn who_does_not_live_is_passed_over(rt: HostRuntime) -> Result<(), Fail> {
     Ok(())
 }
 
-// The command that the first entity lives no more.
-fn despawning(alloc: Global) -> Result<CommandBuffer, AllocError>
-    ensures { IfOk result (λ commands. spawned_by commands ≡ []) }
-{
-    let mut commands = CommandBuffer::new(alloc);
-    commands.despawn(FIRST)?;
-    Ok(commands)
-}
-
-// The command that gives the first entity a score.
-fn scoring(alloc: Global) -> Result<CommandBuffer, AllocError>
-    ensures { IfOk result (λ commands. spawned_by commands ≡ []) }
-{
-    let mut commands = CommandBuffer::new(alloc);
-    commands.insert(FIRST, Score { v: 7 })?;
-    Ok(commands)
-}
-
 #[test]
 fn buffers_are_done_in_the_order_that_is_told(rt: HostRuntime) -> Result<(), Fail> {
     for first in 0..2u32 {
         let mut world = world_of(rt.alloc(), 1)?;
-        let buffers = [despawning(rt.alloc())?, scoring(rt.alloc())?];
+        let mut despawning = CommandBuffer::new(rt.alloc());
+        despawning.despawn(FIRST)?;
+        let mut inserting = CommandBuffer::new(rt.alloc());
+        inserting.insert(FIRST, Score { v: 7 })?;
+        let buffers = [despawning, inserting];
         let passed = apply(rt.alloc(), &mut world, &buffers, &[first, 1 - first], 4)?;
         assert!(rt; passed == u64::from(1 - first));
         assert!(rt; !world.lives(FIRST));

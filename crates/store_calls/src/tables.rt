@@ -68,19 +68,10 @@ fn rows_in_rising_ids(rt: HostRuntime) -> Result<(), Fail> {
     Ok(())
 }
 
-// The table of one entity that is frozen.
-fn of_frozen(alloc: Global) -> Result<Table, Fail>
-    ensures kinds { IfOk result (λ table. table.kinds ≡ kind_number the_kinds.Frozen ∷ []) }
-    ensures homes { IfOk result (λ table. map is_home table.standings ≡ true ∷ []) }
-{
-    let mut table = Table::new(alloc, &[Kind::Frozen])?;
-    table.put(SECOND, &[added(Value::Frozen(Frozen))])?;
-    Ok(table)
-}
-
 #[test]
 fn a_row_is_taken(rt: HostRuntime) -> Result<(), Fail> {
-    let mut table = of_frozen(rt.alloc())?;
+    let mut table = Table::new(rt.alloc(), &[Kind::Frozen])?;
+    table.put(SECOND, &[added(Value::Frozen(Frozen))])?;
     assert!(rt; table.has(SECOND));
     let taken = table.take(rt.alloc(), SECOND)?;
     assert!(rt; taken.as_slice() == [added(Value::Frozen(Frozen))].as_slice());
