@@ -78,7 +78,8 @@ fn conditions_answer(rt: HostRuntime) -> Result<(), Fail> {
     let alloc = rt.alloc();
     let world = world(alloc)?;
     let events = events(alloc)?;
-    for (text, last_run, answer) in ANSWERS {
+    for row in &ANSWERS {
+        let (text, last_run, answer) = *row;
         let asked = asked(alloc, text, &world, &events, last_run)?;
         assert!(rt; asked == answer, "at {text}");
     }

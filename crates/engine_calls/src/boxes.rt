@@ -4,7 +4,7 @@ ghost use Rattle.std.specs.Prelude.{◌≤◌, IfOk};
 ghost use Rattle.archetype_store.specs.Layout.{AreAllHome};
 
 use crate::gathering::Answering;
-use crate::threads::run_on_threads;
+use crate::threads::{run_alone, run_on_threads};
 use access_set::params::Params;
 use archetype_store::store::World;
 use body::system_body::Body;
@@ -24,7 +24,6 @@ use std::sync::Wait;
 use std::test::Fail;
 use std::thread::Threads;
 use store_calls::filling::{put, world_of_one};
-use worker_pool::Single;
 use worker_pool::single::NoGate;
 
 const FIRST: Entity = Entity {
@@ -96,32 +95,32 @@ fn moving_engine<B: Body>(alloc: Global, bodies: Vec<B>) -> Result<Engine<B>, Fa
     Ok(Engine::new(alloc, built, bodies, state)?)
 }
 
-// Three runs of an engine on one thread.
-fn run_alone<B: Body>(alloc: Global, engine: &mut Engine<B>) -> Result<(), Fail> {
-    engine.run(alloc, 3, &Single)?;
-    Ok(())
+// Whether the first entity has moved three times.
+fn has_moved<B: Body>(engine: &Engine<B>) -> bool {
+    engine.state().world().get::<Position>(FIRST) == Some(Position { x: 3, y: -6 })
 }
 
-// Whether bodies for these two systems leave the moved entity, on one thread or on two.
-fn is_moved_by<R: Threads + Wait + Copy + Send + Sync + 'static, B: Body + 'static>(
+// Whether bodies for these two systems leave the moved entity, on this thread.
+fn move_alone<B: Body>(alloc: Global, bodies: Vec<B>) -> Result<bool, Fail> {
+    let mut engine = moving_engine(alloc, bodies)?;
+    run_alone(alloc, &mut engine, 3)?;
+    Ok(has_moved(&engine))
+}
+
+// Whether they do on two threads.
+fn move_on_threads<R: Threads + Wait + Copy + Send + Sync + 'static, B: Body + 'static>(
     runtime: R,
     alloc: Global,
     bodies: Vec<B>,
-    on_threads: bool,
 ) -> Result<bool, Fail> {
     let mut engine = moving_engine(alloc, bodies)?;
-    if on_threads {
-        run_on_threads(runtime, &NoGate, alloc, 2, 3, &mut engine)?;
-    } else {
-        run_alone(alloc, &mut engine)?;
-    }
-    Ok(engine.state().world().get::<Position>(FIRST) == Some(Position { x: 3, y: -6 }))
+    run_on_threads(runtime, &NoGate, alloc, 2, 3, &mut engine)?;
+    Ok(has_moved(&engine))
 }
 
 #[test]
 fn boxes_of_two_types(rt: HostRuntime) -> Result<(), Fail> {
-    for on_threads in [false, true] {
-        assert!(rt; is_moved_by(rt, rt.alloc(), boxes(rt.alloc())?, on_threads)?);
-    }
+    assert!(rt; move_alone(rt.alloc(), boxes(rt.alloc())?)?);
+    assert!(rt; move_on_threads(rt, rt.alloc(), boxes(rt.alloc())?)?);
     Ok(())
 }

@@ -3,7 +3,7 @@
 ghost use Rattle.std.specs.Prelude.{IfOk};
 ghost use Rattle.archetype_store.specs.Layout.{AreAllHome};
 
-use crate::threads::run_on_threads;
+use crate::threads::{run_alone, run_on_threads};
 use access_set::params::Params;
 use archetype_store::store::World;
 use change_ticks::clock::Clock;
@@ -19,9 +19,10 @@ use script::script_body::{Block, Rounds, ScriptBody};
 use std::alloc::Global;
 use std::sync::{Condvar, Mutex, Wait};
 use std::test::Fail;
+use std::thread::Threads;
 use std::time::{Clock as Watch, Duration};
 use store_calls::filling::{put, world_of_many, world_of_one};
-use worker_pool::{Gate, Single};
+use worker_pool::Gate;
 
 // How long a start is held at most, in milliseconds.
 const PATIENCE: u64 = 20_000;
@@ -61,15 +62,24 @@ fn spawning(alloc: Global, living: u32, spawns: u32) -> Result<Engine<ScriptBody
     Ok(Engine::new(alloc, built, bodies, state)?)
 }
 
+// The fault of one run.
+fn fault_of(alloc: Global, engine: &mut Engine<ScriptBody>) -> Option<RunFault> {
+    run_alone(alloc, engine, 1).err()
+}
+
 #[test]
 fn ids_are_spent(rt: HostRuntime) -> Result<(), Fail> {
-    let alloc = rt.alloc();
-    let mut engine = spawning(alloc, 1_048_575, 2)?;
-    assert!(rt; engine.run(alloc, 1, &Single).err() == Some(RunFault::IdsSpent));
-    assert!(rt; engine.run(alloc, 1, &Single).err() == Some(RunFault::Spoiled));
-    let mut engine = spawning(alloc, 1_048_575, 1)?;
-    assert!(rt; engine.run(alloc, 1, &Single).err() == None);
-    assert!(rt; engine.run(alloc, 1, &Single).err() == Some(RunFault::IdsSpent));
+    let mut engine = spawning(rt.alloc(), 1_048_575, 2)?;
+    assert!(rt; fault_of(rt.alloc(), &mut engine) == Some(RunFault::IdsSpent));
+    assert!(rt; fault_of(rt.alloc(), &mut engine) == Some(RunFault::Spoiled));
+    Ok(())
+}
+
+#[test]
+fn the_last_id_is_granted(rt: HostRuntime) -> Result<(), Fail> {
+    let mut engine = spawning(rt.alloc(), 1_048_575, 1)?;
+    assert!(rt; fault_of(rt.alloc(), &mut engine) == None);
+    assert!(rt; fault_of(rt.alloc(), &mut engine) == Some(RunFault::IdsSpent));
     Ok(())
 }
 
@@ -110,17 +120,17 @@ fn is_left(
     Ok(text.as_str().ends_with(end.as_str()))
 }
 
+// Whether a run of two such systems leaves no entity, with so many commands passed over.
+fn leaves_nobody(alloc: Global, instructions: [&str; 2], passed: u64) -> Result<bool, Fail> {
+    let mut engine = commanding(alloc, instructions)?;
+    run_alone(alloc, &mut engine, 1)?;
+    is_left(alloc, &engine, "", passed)
+}
+
 #[test]
 fn commands_are_done_in_schedule_order(rt: HostRuntime) -> Result<(), Fail> {
-    let alloc = rt.alloc();
-    for (instructions, passed) in [
-        (["despawn row", "insert row Score 1"], 1),
-        (["insert row Score 1", "despawn row"], 0),
-    ] {
-        let mut engine = commanding(alloc, instructions)?;
-        engine.run(alloc, 1, &Single)?;
-        assert!(rt; is_left(alloc, &engine, "", passed)?);
-    }
+    assert!(rt; leaves_nobody(rt.alloc(), ["despawn row", "insert row Score 1"], 1)?);
+    assert!(rt; leaves_nobody(rt.alloc(), ["insert row Score 1", "despawn row"], 0)?);
     Ok(())
 }
 
@@ -178,15 +188,23 @@ impl<R: Wait + Watch + Send + Sync + Drop> Gate for Holding<R> {
     }
 }
 
+// Whether two systems that insert a score leave that of the second, on two threads with this gate.
+fn leaves_the_second<R: Threads + Wait + Copy + Send + Sync + 'static, G: Gate + 'static>(
+    runtime: R,
+    alloc: Global,
+    gate: &G,
+) -> Result<bool, Fail> {
+    let mut engine = commanding(alloc, ["insert row Score 1", "insert row Score 2"])?;
+    run_on_threads(runtime, gate, alloc, 2, 1, &mut engine)?;
+    is_left(alloc, &engine, "0v1 Health 1 Score 2\n", 0)
+}
+
 #[test]
 fn commands_are_done_in_schedule_order_whoever_ends_first(rt: HostRuntime) -> Result<(), Fail> {
-    let alloc = rt.alloc();
     for (held, awaited) in [(1, 2), (2, 1)] {
-        let mut engine = commanding(alloc, ["insert row Score 1", "insert row Score 2"])?;
         let gate = Holding::new(rt, held, awaited, Duration::from_millis(PATIENCE));
-        run_on_threads(rt, &gate, alloc, 2, 1, &mut engine)?;
+        assert!(rt; leaves_the_second(rt, rt.alloc(), &gate)?);
         assert!(rt; gate.has_left());
-        assert!(rt; is_left(alloc, &engine, "0v1 Health 1 Score 2\n", 0)?);
     }
     Ok(())
 }

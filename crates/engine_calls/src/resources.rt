@@ -3,6 +3,7 @@
 ghost use Rattle.std.specs.Prelude.{Ok};
 ghost use Rattle.engine_calls.specs.Tallied.{tallied, may_tally};
 
+use crate::threads::run_alone;
 use access_set::params::Params;
 use archetype_store::store::World;
 use body::system_body::{Body, BodyFault};
@@ -16,7 +17,6 @@ use schedule_builder::built::Built;
 use schedule_builder::desc::{ScheduleDesc, SystemDesc};
 use std::alloc::{AllocError, Global};
 use std::test::Fail;
-use worker_pool::Single;
 
 // A body that adds the step to the total, and counts its runs in register 0.
 #[derive(Drop)]
@@ -77,7 +77,7 @@ fn resource_of(engine: &Engine<Tally>, res: Res) -> (i64, u64) {
 #[test]
 fn tallies(rt: HostRuntime) -> Result<(), Fail> {
     let mut engine = engine(rt.alloc())?;
-    let _traces = engine.run(rt.alloc(), 3, &Single)?;
+    let _traces = run_alone(rt.alloc(), &mut engine, 3)?;
     assert!(rt; resource_of(&engine, Res::Total) == (15, 9));
     assert!(rt; resource_of(&engine, Res::Step) == (5, 1));
     assert!(rt; engine.state().systems() == 1);

@@ -1,5 +1,6 @@
 // Runs of one system that moves what has a velocity, and what an engine refuses.
 
+use crate::threads::run_alone;
 use access_set::params::Params;
 use body::state::State;
 use change_ticks::clock::{Clock, LAST_TICK, Tick};
@@ -17,7 +18,6 @@ use script::script_body::{Block, Rounds, ScriptBody};
 use std::alloc::{AllocError, Global};
 use std::test::Fail;
 use store_calls::filling::{put, world_of_one};
-use worker_pool::Single;
 
 const FIRST: Entity = Entity {
     index: 0,
@@ -86,7 +86,7 @@ fn engine(alloc: Global, clock: Clock) -> Result<Engine<ScriptBody>, Fail> {
 
 // The steps of so many runs, as they are debugged.
 fn steps_of(alloc: Global, engine: &mut Engine<ScriptBody>, times: u32) -> Result<String, Fail> {
-    let traces = engine.run(alloc, times, &Single)?;
+    let traces = run_alone(alloc, engine, times)?;
     let mut text = String::new(alloc);
     for trace in &traces {
         text = format!(in alloc; "{text}{:?}", trace.steps.as_slice())?;
@@ -96,7 +96,7 @@ fn steps_of(alloc: Global, engine: &mut Engine<ScriptBody>, times: u32) -> Resul
 
 // The fault of so many runs.
 fn fault_of(alloc: Global, engine: &mut Engine<ScriptBody>, times: u32) -> Result<RunFault, Fail> {
-    Ok(engine.run(alloc, times, &Single).err().ok_or("no fault")?)
+    Ok(run_alone(alloc, engine, times).err().ok_or("no fault")?)
 }
 
 // When the component of a kind of the first entity was added and changed, and how far the clock is.

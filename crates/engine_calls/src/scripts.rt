@@ -118,7 +118,8 @@ const SPELLED: [(&str, Instruction); 12] = [
 
 #[test]
 fn instructions_are_read(rt: HostRuntime) -> Result<(), Fail> {
-    for (text, wanted) in SPELLED {
+    for row in &SPELLED {
+        let (text, wanted) = *row;
         let instruction = Instruction::read(rt.alloc(), text)?;
         assert!(rt; instruction == wanted, "at {text}");
     }
@@ -160,9 +161,9 @@ const OUTSIDE: [&str; 29] = [
 
 #[test]
 fn other_texts_are_no_instruction(rt: HostRuntime) {
-    for text in OUTSIDE {
+    for text in &OUTSIDE {
         assert!(rt;
-            Instruction::read(rt.alloc(), text) == Err(ReadError::Outside),
+            Instruction::read(rt.alloc(), *text) == Err(ReadError::Outside),
             "at {text}"
         );
     }
@@ -220,7 +221,8 @@ const REFUSED: [(Rounds, &str, Cause); 9] = [
 #[test]
 fn commands_are_refused(rt: HostRuntime) -> Result<(), Fail> {
     let params = commanding(rt.alloc())?;
-    for (rounds, text, cause) in REFUSED {
+    for row in &REFUSED {
+        let (rounds, text, cause) = *row;
         let blocks = blocks_of(rt.alloc(), &[(rounds, text)])?;
         let fault = ScriptBody::check(rt.alloc(), &params, blocks).err();
         assert!(rt; fault == fault_of(cause, 0), "at {text}");
@@ -274,7 +276,8 @@ const UNDECLARED: [(Rounds, &str, Cause); 7] = [
 #[test]
 fn what_is_not_declared_is_refused(rt: HostRuntime) -> Result<(), Fail> {
     let params = Params::new(rt.alloc());
-    for (rounds, text, cause) in UNDECLARED {
+    for row in &UNDECLARED {
+        let (rounds, text, cause) = *row;
         let blocks = blocks_of(rt.alloc(), &[(rounds, text)])?;
         let fault = ScriptBody::check(rt.alloc(), &params, blocks).err();
         assert!(rt; fault == fault_of(cause, 0), "at {text}");

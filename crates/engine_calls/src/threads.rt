@@ -64,6 +64,15 @@ pub fn run_on_threads<
     )
 }
 
+/// Runs an engine so many times on this thread.
+pub fn run_alone<B: Body>(
+    alloc: Global,
+    engine: &mut Engine<B>,
+    times: u32,
+) -> Result<Vec<Trace>, RunFault> {
+    engine.run(alloc, times, &Single)
+}
+
 // An engine of systems that touch nothing, with these bodies.
 fn engine_of<B: Body>(alloc: Global, bodies: Vec<B>) -> Result<Engine<B>, Fail> {
     let mut desc = ScheduleDesc::new(alloc);
@@ -164,18 +173,22 @@ fn sixty_four_of_many_run_at_once(rt: HostRuntime) -> Result<(), Fail> {
 
 #[test]
 fn a_refusal_spoils(rt: HostRuntime) -> Result<(), Fail> {
-    let alloc = rt.alloc();
-    let mut engine = answering(alloc, &[None, Some(7)])?;
-    let single = engine.run(alloc, 1, &Single).err();
-    assert!(rt; single == Some(RunFault::BodyFault(7)));
-    let again = engine.run(alloc, 1, &Single).err();
+    let mut engine = answering(rt.alloc(), &[None, Some(7)])?;
+    let refused = run_alone(rt.alloc(), &mut engine, 1).err();
+    assert!(rt; refused == Some(RunFault::BodyFault(7)));
+    let again = run_alone(rt.alloc(), &mut engine, 1).err();
     assert!(rt; again == Some(RunFault::Spoiled));
+    Ok(())
+}
+
+#[test]
+fn a_refusal_on_threads_spoils(rt: HostRuntime) -> Result<(), Fail> {
     let gate = Gathering::new(rt, 2, Duration::from_millis(PATIENCE));
-    let mut engine = answering(alloc, &[None, Some(7)])?;
-    let wide = run_on_threads(rt, &gate, alloc, 2, 1, &mut engine).err();
-    assert!(rt; wide == Some(RunFault::BodyFault(7)));
+    let mut engine = answering(rt.alloc(), &[None, Some(7)])?;
+    let refused = run_on_threads(rt, &gate, rt.alloc(), 2, 1, &mut engine).err();
+    assert!(rt; refused == Some(RunFault::BodyFault(7)));
     assert!(rt; gate.most() == 2);
-    let again = run_on_threads(rt, &gate, alloc, 2, 1, &mut engine).err();
+    let again = run_on_threads(rt, &gate, rt.alloc(), 2, 1, &mut engine).err();
     assert!(rt; again == Some(RunFault::Spoiled));
     Ok(())
 }

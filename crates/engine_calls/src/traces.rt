@@ -43,9 +43,9 @@ const TEXTS: [&str; 4] = [
 
 #[test]
 fn texts_are_read_and_written(rt: HostRuntime) -> Result<(), Fail> {
-    for text in TEXTS {
+    for text in &TEXTS {
         let written = told(rt.alloc(), text.as_bytes(), LIMIT)?;
-        assert!(rt; written.as_str() == text);
+        assert!(rt; written.as_str() == *text);
     }
     Ok(())
 }
@@ -74,7 +74,8 @@ const FAULTS: [(&str, &str); 18] = [
 
 #[test]
 fn texts_at_fault_are_told(rt: HostRuntime) -> Result<(), Fail> {
-    for (text, want) in FAULTS {
+    for row in &FAULTS {
+        let (text, want) = *row;
         let answer = told(rt.alloc(), text.as_bytes(), LIMIT)?;
         assert!(rt; answer.as_str() == want, "at {text}");
     }
@@ -198,7 +199,8 @@ const BAD: [([Step; 3], usize, StepFault); 6] = [
 
 #[test]
 fn steps_are_judged(rt: HostRuntime) -> Result<(), Fail> {
-    for (steps, number, fault) in BAD {
+    for row in &BAD {
+        let (steps, number, fault) = *row;
         let verdict = judged(rt.alloc(), true, steps.as_slice())?;
         assert!(rt; verdict == Some(Verdict::Bad(number, fault)));
     }
