@@ -18,6 +18,7 @@ use event_buffers::buffers::Events;
 use kinds::res::Event;
 use query::Query;
 use query_plan::plan::plan;
+use query_plan::row_room::RowRoom;
 use run_condition::{Cond, Tree};
 use std::alloc::{AllocError, Global};
 
@@ -77,7 +78,7 @@ fn has_row(alloc: Global, query: &Query, world: &World, last_run: Tick) -> Resul
     requires { ArePickedHome query.now world.now.layout }
     ensures { IfOk result (λ answer. answer ≡ is_there (rows_of query.now last_run world.now.state.slots)) }
 {
-    let plan = plan(alloc, query, world, last_run)?;
+    let plan = plan(alloc, query, world, last_run, &mut RowRoom::new(alloc))?;
     Ok(!plan.rows.is_empty(world))
 }
 

@@ -38,6 +38,7 @@ use entity_table::Entity;
 use event_buffers::buffers::Events;
 use event_buffers::queue::SendFault;
 use kinds::res::Event;
+use query_plan::row_room::RowRoom;
 use run_condition::Cond;
 use std::alloc::{AllocError, Global};
 use std::marker::Model;
@@ -55,6 +56,7 @@ pub struct OpenState {
     systems: Vec<Memory>,
     conditions: Vec<Memory>,
     passed_over: u64,
+    room: RowRoom,
 }
 
 impl Model for OpenState {
@@ -75,6 +77,7 @@ impl OpenState {
         systems: Vec<Memory>,
         conditions: Vec<Memory>,
         passed_over: u64,
+        room: RowRoom,
     ) -> Self
         requires in_time { AreInTime world.state.clock systems.items conditions.items }
         requires counted { passed_over ≤ most_passed_over }
@@ -86,6 +89,7 @@ impl OpenState {
             systems,
             conditions,
             passed_over,
+            room,
         }
     }
 
@@ -100,6 +104,7 @@ impl OpenState {
             systems,
             conditions,
             passed_over,
+            room,
         } = self;
         State::of_parts(
             world,
@@ -109,6 +114,7 @@ impl OpenState {
                 conditions,
             },
             passed_over,
+            room,
         )
     }
 
@@ -247,6 +253,7 @@ impl OpenState {
             tick,
             granted,
             commands,
+            &mut self.room,
         )
     }
 
@@ -314,7 +321,7 @@ impl OpenState {
         ensures spent { IsErrOf result SendFault.NumbersSpent ↔ (has_event_numbers (events_sent view.params.writes view.outcome.events) self.old.state.events ≡ false) }
     {
         self.world.laid();
-        let (registers, sent, commands) = view.close(&mut self.world);
+        let (registers, sent, commands) = view.close(&mut self.world, &mut self.room);
         sent.send(&mut self.events)?;
         keep_registers(&mut self.systems, system, registers);
         Ok(commands)

@@ -21,6 +21,7 @@ use change_ticks::clock::Tick;
 use query::Query;
 use query_plan::kept_rows::Rows;
 use query_plan::plan::plan;
+use query_plan::row_room::RowRoom;
 use std::alloc::{AllocError, Global};
 
 // A query as it is opened over a world at a tick to come: it shows its rows, and the columns that it writes are away. After an error the
@@ -31,6 +32,7 @@ pub(crate) fn open_query(
     world: &mut World,
     last_run: Tick,
     tick: Tick,
+    room: &mut RowRoom,
 ) -> Result<ViewQuery, AllocError>
     requires home { ArePickedHome query.now world.old.layout }
     requires coming { world.old.state.clock < tick }
@@ -45,7 +47,7 @@ pub(crate) fn open_query(
     // Tell how the layout is that of the state, and that no stamp is above the clock.
     world.laid();
     let _now = world.now();
-    let plan = plan(alloc, query, world, last_run)?;
+    let plan = plan(alloc, query, world, last_run, room)?;
     let Ok(count) = u32::try_from(plan.picks.len()) else {
         return Err(AllocError);
     };
@@ -63,6 +65,7 @@ pub(crate) fn open_queries(
     world: &mut World,
     last_run: Tick,
     tick: Tick,
+    room: &mut RowRoom,
 ) -> Result<Vec<ViewQuery>, AllocError>
     requires home { AllByRecursion (λ query. ArePickedHome query world.old.layout) queries.now }
     requires apart { (kind : ℕ) → TwoConflictAt queries.now kind → ⊥ }
@@ -82,10 +85,10 @@ pub(crate) fn open_queries(
     let _now = world.now();
     let mut opened = Vec::with_capacity(alloc, queries.len())?;
     for query in queries {
-        match open_query(alloc, query, world, last_run, tick) {
+        match open_query(alloc, query, world, last_run, tick, room) {
             Ok(one) => opened.push_reserved(one),
             Err(_) => {
-                put_home(opened, world);
+                put_home(opened, world, room);
                 return Err(AllocError);
             }
         }

@@ -11,6 +11,7 @@ use crate::open_state::OpenState;
 use archetype_store::store::World;
 use change_ticks::clock::Clock;
 use event_buffers::buffers::Events;
+use query_plan::row_room::RowRoom;
 use std::alloc::Global;
 use std::marker::Model;
 
@@ -32,6 +33,8 @@ pub struct State {
     systems: Vec<Memory>,
     conditions: Vec<Memory>,
     passed_over: u64,
+    // Buffers of rows, for the next starts.
+    room: RowRoom,
 }
 
 impl Model for State {
@@ -56,6 +59,7 @@ impl State {
             systems: Vec::new(alloc),
             conditions: Vec::new(alloc),
             passed_over: 0,
+            room: RowRoom::new(alloc),
         }
     }
 
@@ -69,12 +73,14 @@ impl State {
             systems,
             conditions,
         } = memories;
+        let room = RowRoom::new(*systems.allocator());
         State {
             world,
             events,
             systems,
             conditions,
             passed_over: 0,
+            room,
         }
     }
 
@@ -84,6 +90,7 @@ impl State {
         events: Events,
         memories: Memories,
         passed_over: u64,
+        room: RowRoom,
     ) -> Self
         requires last_runs { AreInTime world.state.clock memories.systems.items memories.conditions.items }
         requires home { AreAllHome world.layout }
@@ -100,6 +107,7 @@ impl State {
             systems,
             conditions,
             passed_over,
+            room,
         }
     }
 
@@ -114,8 +122,9 @@ impl State {
             systems,
             conditions,
             passed_over,
+            room,
         } = self;
-        OpenState::of_parts(world, events, systems, conditions, passed_over)
+        OpenState::of_parts(world, events, systems, conditions, passed_over, room)
     }
 
     /// What holds of every state, whatever the schedule.

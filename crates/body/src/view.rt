@@ -38,6 +38,7 @@ use kinds::each_kind;
 use kinds::fields::Fields;
 use kinds::kind::Kind;
 use kinds::res::{Event, Res};
+use query_plan::row_room::RowRoom;
 use std::alloc::{AllocError, Global};
 use std::marker::Model;
 
@@ -78,6 +79,7 @@ impl View {
         tick: Tick,
         granted: Vec<Entity>,
         commands: CommandBuffer,
+        room: &mut RowRoom,
     ) -> Result<Self, AllocError>
         requires empty { commands ≡ [] }
         requires home { AllByRecursion (λ query. ArePickedHome query world.old.layout) params.now.queries }
@@ -97,7 +99,14 @@ impl View {
         let unread = EventLists::unread(alloc, params.reads(), memory.cursors(), events)?;
         let sent = EventLists::empty(alloc, params.writes())?;
         let issued = ViewCommands::open(params, granted, commands);
-        let queries = open_queries(alloc, params.queries(), world, memory.last_run(), tick)?;
+        let queries = open_queries(
+            alloc,
+            params.queries(),
+            world,
+            memory.last_run(),
+            tick,
+            room,
+        )?;
         Ok(View {
             tick,
             queries,
@@ -125,8 +134,12 @@ impl View {
 
     /// Brings the columns home, and so lays what was written over the world, and writes its resources. All else of the world stays. All that
     /// was written is written in columns that the world lent. The registers, as they are in the end, the events that were emitted, and the
-    /// commands.
-    pub fn close(self, world: &mut World) -> ([i64; 8], EventLists, CommandBuffer)
+    /// commands. The buffers of its rows go to this room.
+    pub fn close(
+        self,
+        world: &mut World,
+        room: &mut RowRoom,
+    ) -> ([i64; 8], EventLists, CommandBuffer)
         requires lent { AreLent world.old self.opening.taken }
         requires past { self.opening.tick ≤ world.old.state.clock }
         ensures home { world.new ≡ record { state = world_after self.opening.tick self world.old.state; layout = with_back (lent_in self.opening.taken) world.old.layout } }
@@ -146,7 +159,7 @@ impl View {
             sent,
             issued,
         } = self;
-        put_home(queries, world);
+        put_home(queries, world, room);
         values.lay(tick, world);
         (values.registers(), sent, issued.into_commands())
     }

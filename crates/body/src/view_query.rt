@@ -20,6 +20,7 @@ use kinds::kind::Kind;
 use query::Query;
 use query_plan::kept_rows::Rows;
 use query_plan::row::Row;
+use query_plan::row_room::RowRoom;
 use std::marker::Model;
 use std::snapshot::Snapshot;
 
@@ -131,12 +132,18 @@ impl ViewQuery {
         );
     }
 
-    /// Gives the columns back: each as it was taken, with what was written laid over it.
-    pub fn close(self) -> Vec<Held>
+    /// Gives the columns back: each as it was taken, with what was written laid over it. The buffer of its rows goes to this room.
+    pub fn close(self, room: &mut RowRoom) -> Vec<Held>
         ensures columns { map held_seen result.items ≡ map (column_after self.tick (words_in_query self.terms self.rows self.cells)) self.taken }
         ensures reach { WritesReach (words_in_query self.terms self.rows self.cells) self.taken }
     {
-        self.columns
+        let ViewQuery {
+            placing,
+            columns,
+            taken: _taken,
+        } = self;
+        placing.rows.give_back(room);
+        columns
     }
 }
 

@@ -9,14 +9,16 @@ use crate::keeping::keep_entities;
 use entity_table::Entity;
 use std::alloc::{AllocError, Global};
 use std::marker::Model;
+use std::mem;
 use std::sync::Arc;
 
 // The entities of a table, row by row. To be read elsewhere too they are copied once, for all readers together, and the copy is kept until
-// rows change: so rows change without memory, whoever still reads.
+// rows change: so rows change without memory, whoever still reads. The room of a copy that nobody reads any more is used for the next one.
 #[derive(Drop, Debug)]
 pub(crate) struct EntityList {
     list: Vec<Entity>,
     copy: Option<Arc<Vec<Entity>, Global>>,
+    room: Vec<Entity>,
 }
 
 impl Model for EntityList {
@@ -39,6 +41,7 @@ impl EntityList {
         EntityList {
             list: Vec::new(alloc),
             copy: None,
+            room: Vec::new(alloc),
         }
     }
 
@@ -46,7 +49,12 @@ impl EntityList {
     pub(crate) fn of(list: Vec<Entity>) -> Self
         ensures { result ≡ list.items }
     {
-        EntityList { list, copy: None }
+        let room = Vec::new(*list.allocator());
+        EntityList {
+            list,
+            copy: None,
+            room,
+        }
     }
 
     // The entities.
@@ -62,7 +70,7 @@ impl EntityList {
         ensures ok { OnOk result (self.new ≡ insert self.old row e) }
         ensures err { OnErr result (self.new ≡ self.old) }
     {
-        self.copy = None;
+        keep_room(self.copy.take(), &mut self.room);
         self.list.insert(row, e)?;
         Ok(())
     }
@@ -72,7 +80,7 @@ impl EntityList {
         requires { row < length self.old }
         ensures { self.new ≡ remove self.old row }
     {
-        self.copy = None;
+        keep_room(self.copy.take(), &mut self.room);
         self.list.remove(row);
     }
 
@@ -81,7 +89,7 @@ impl EntityList {
         requires { first ≤ length self.old }
         ensures { self.new ≡ kept_from first gone.now self.old self.old }
     {
-        self.copy = None;
+        keep_room(self.copy.take(), &mut self.room);
         keep_entities(&mut self.list, first, gone);
     }
 
@@ -93,7 +101,9 @@ impl EntityList {
         if let Some(copy) = &self.copy {
             return Arc::try_clone(copy);
         }
-        let mut list = Vec::with_capacity(alloc, self.list.len())?;
+        let mut list = mem::replace(&mut self.room, Vec::new(alloc));
+        list.clear();
+        list.reserve(self.list.len())?;
         list.extend_from_slice(&self.list)?;
         let Ok(copy) = Arc::new(alloc, list) else {
             return Err(AllocError);
@@ -101,5 +111,15 @@ impl EntityList {
         let shared = Arc::try_clone(&copy)?;
         self.copy = Some(copy);
         Ok(shared)
+    }
+}
+
+// Keeps the room of a copy that nobody else reads any more.
+fn keep_room(copy: Option<Arc<Vec<Entity>, Global>>, room: &mut Vec<Entity>) {
+    let Some(copy) = copy else {
+        return;
+    };
+    if let Some(list) = Arc::into_inner(copy) {
+        *room = list;
     }
 }

@@ -6,7 +6,8 @@ use Rattle.model.specs.state.State.{State}
 use Rattle.model.specs.steps.Schedule.{Schedule}
 use Rattle.engine.specs.declared.faults.RunFault.{RunFault}
 use Rattle.engine.specs.declared.faults.RunFault.TheVariants.{Memory, ClockSpent, IdsSpent, Spoiled, NoWorker, BodyFault}
-use Rattle.engine.specs.Meanings.{body_at, fits_at, IsFirstMisfit}
+use Rattle.engine.specs.Meanings.{body_at, fits_at, IsFirstMisfit, Miscounts, Suits}
+use Rattle.engine.proofs.Beginning.{counts_right}
 
 -- the body at a place
 pub at_body : {B : Type 0} (bodies : List B) (n : ℕ) (d : B) → n < length bodies → body_at (map Some bodies) n ≡ Some (get_or bodies n d)
@@ -23,6 +24,13 @@ one_misfit fits s slots state n m h k = go (n < m) (λ l. unlike (fits_at fits s
   where
     go : Type 0 → (n < m → ⊥) → (m < n → ⊥) → n ≡ m
     go x below above = omega arith
+
+-- where the bodies and memories are those of the schedule there is no miscount, and no misfit
+pub suits_counts : {B : Type 0} (fits : B → Params → Bool) (s : Schedule) (slots : List (Option B)) (state : State) → Suits fits s slots state → Miscounts s slots state → ⊥
+suits_counts fits s slots state suits = counts_right s slots state suits.body_count suits.memories
+
+pub suits_fits : {B : Type 0} (fits : B → Params → Bool) (s : Schedule) (slots : List (Option B)) (state : State) (n : ℕ) → Suits fits s slots state → IsFirstMisfit fits s slots state n → ⊥
+suits_fits fits s slots state n suits found = unlike (fits_at fits s slots n) (suits.fit n found.known) found.misfit
 
 -- neither of two
 pub neither : {A B : Type 0} → (A → ⊥) → (B → ⊥) → A ⊎ B → ⊥

@@ -39,22 +39,9 @@ module _ (core : Stand) (s : Schedule) (h : List Step) (running width : ℕ) (ne
   there : IsTurn s h running width (Some next)
   there = subst (λ (x : Schedule). IsTurn x h running width (Some next)) same (told h stands)
 
-  pub turn_start : (n : ℕ) → next ≡ turn.Start n → IsTake s h running width (ready.Start n) (MayStart s h n)
-  turn_start n is = subst (λ t. IsTurn s h running width (Some t)) is there
-
-  pub turn_quiet : (q : Quiet) → next ≡ turn.Quiet q → IsTurn s h running width (Some (turn.Quiet q))
-  turn_quiet q is = subst (λ t. IsTurn s h running width (Some t)) is there
-
-  pub turn_sync : (k : ℕ) → next ≡ turn.Sync k → IsTake s h running width (ready.Sync k) (MaySync s h k)
-  turn_sync k is = subst (λ t. IsTurn s h running width (Some t)) is there
-
-  pub turn_collect : next ≡ turn.Collect → (0 < running) × ((running ≡ width) ⊎ IsReady s h None)
-  turn_collect is = subst (λ t. IsTurn s h running width (Some t)) is there
-
--- as many run as are out, and there is room for so many
-pub waits : (s : Schedule) (h : List Step) (running width many room : ℕ) → running ≡ many → width ≡ room → (running ≡ width) ⊎ IsReady s h None → (many ≡ room) ⊎ IsReady s h None
-waits s h running width many room e f (inl full) = inl (sym e ∙ full ∙ f)
-waits s h running width many room e f (inr is) = inr is
+  -- with as many running as jobs are out, and room for so many
+  pub turn_next : (many room : ℕ) → running ≡ many → width ≡ room → IsTurn s h many room (Some next)
+  turn_next many room e f = subst (λ (r : ℕ). IsTurn s h many r (Some next)) f (subst (λ (r : ℕ). IsTurn s h r width (Some next)) e there)
 
 pub no_elements : {A : Type 0} (xs : List A) → length xs ≡ 0 → xs ≡ []
 no_elements [] e = refl

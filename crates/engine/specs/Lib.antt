@@ -6,5 +6,6 @@ pub mod Left
 pub mod Starts
 pub mod Jobs
 pub mod Stage
+pub mod Next
 pub mod FirstState
 pub mod Quiets

@@ -1,7 +1,9 @@
 // The turns of a run: what is ready is done while there is room for one more running system, else a job is waited for.
 
-ghost use Rattle.std.specs.Prelude.{◌≡◌, ◌<◌, ◌⊎◌, ◌∷◌, [], ℕ, length, reverse, map, true, Some, Err, OnOk, IfOk};
-ghost use Rattle.model.specs.declared.steps.Step.{Step};
+ghost use Rattle.std.specs.Prelude.{◌≡◌, ◌<◌, ◌⊎◌, ◌∷◌, [], ℕ, List, length, reverse, map, true, Some, Err, OnOk, IfOk};
+ghost use Rattle.model.specs.declared.steps.Step.{Step as Action};
+ghost use Rattle.model.specs.state.State.{State};
+ghost use Rattle.model.specs.shown.Outcome.{BodyMeaning};
 ghost use Rattle.model.specs.steps.Lawful.{May};
 ghost use Rattle.model.specs.runs.Causes.{Cause};
 ghost use Rattle.model.specs.runs.WideRuns.{IsWideRun, AreWideRuns, WideStops, IsWideStopped};
@@ -10,6 +12,7 @@ ghost use Rattle.executor_core.specs.Stands.{Stands};
 ghost use Rattle.engine.specs.Left.{IsLeftFor, IsNothingLeft};
 ghost use Rattle.engine.specs.Meanings.{meanings, AllKeepWithin, Suits};
 ghost use Rattle.engine.specs.History.{history_of};
+ghost use Rattle.engine.specs.Next.{IsNext, IsTaken};
 
 use crate::effects::{do_quiet, finish, open, start};
 use crate::faults::RunFault;
@@ -117,33 +120,68 @@ fn run_turns<'s, M: Mode<'s>, B: Body + 's>(
     let width = mode.width();
     let mut core = Core::new(alloc, built)?;
     let mut steps = Vec::new(alloc);
-    let mut number: u64 = 0;
+    let mut started: u64 = 0;
     open(state)?;
     while let Some(turn) = next_turn(&core, pool.count(), width) {
-        match turn {
-            Turn::Start(system) => {
-                number = number.saturating_add(1);
-                start(alloc, built, slots, state, left, pool, mode, system, number)?;
-                take(&mut core, &mut steps, Step::Start(system))?;
-            }
-            Turn::Quiet(quiet) => {
-                state.law();
-                let step = do_quiet(alloc, built, state, quiet)?;
-                take(&mut core, &mut steps, step)?;
-            }
-            Turn::Sync(point) => {
-                state.law();
-                left.sync(alloc, built, state, point)?;
-                take(&mut core, &mut steps, Step::Sync(point))?;
-            }
-            Turn::Collect => {
-                let system = finish(built, slots, state, left, pool, mode)?;
-                take(&mut core, &mut steps, Step::Finish(system))?;
-            }
-        }
+        let step = do_turn(
+            alloc,
+            built,
+            slots,
+            state,
+            left,
+            pool,
+            mode,
+            &mut started,
+            turn,
+        )?;
+        take(&mut core, &mut steps, step)?;
     }
     state.law();
     Ok(Trace { steps })
+}
+
+// Does what is next, and gives the step that it is. So many jobs were started in this run.
+fn do_turn<'s, M: Mode<'s>, B: Body + 's>(
+    alloc: Global,
+    built: &Built,
+    slots: &mut [Option<B>],
+    state: &mut OpenState,
+    left: &mut Left,
+    pool: &mut Pool<B>,
+    mode: &M,
+    started: &mut u64,
+    turn: Turn,
+) -> Result<Step, RunFault>
+    requires next { (bodies : List BodyMeaning) × (start : State) × (h : List Action) × IsNext B.meaning B.fits (M.has_scope mode.now) (M.width mode.now) built.now bodies start h slots.old left.old pool.old state.old turn }
+    ensures taken { IfOk result (λ step. (bodies : List BodyMeaning) → (start : State) → (h : List Action) → IsNext B.meaning B.fits (M.has_scope mode.now) (M.width mode.now) built.now bodies start h slots.old left.old pool.old state.old turn → IsTaken B.meaning B.fits (M.has_scope mode.now) (M.width mode.now) built.now bodies start h slots.new left.new pool.new state.new step) }
+    ensures clock { result ≡ Err RunFault.ClockSpent → (bodies : List BodyMeaning) → (start : State) → (h : List Action) → IsNext B.meaning B.fits (M.has_scope mode.now) (M.width mode.now) built.now bodies start h slots.old left.old pool.old state.old turn → WideStops (M.width mode.now) built.now bodies start Cause.NoTick ⊎ WideStops (M.width mode.now) built.now bodies start Cause.NoEventNumber }
+    ensures ids { result ≡ Err RunFault.IdsSpent → (bodies : List BodyMeaning) → (start : State) → (h : List Action) → IsNext B.meaning B.fits (M.has_scope mode.now) (M.width mode.now) built.now bodies start h slots.old left.old pool.old state.old turn → WideStops (M.width mode.now) built.now bodies start Cause.NoIds }
+    ensures refusal { (k : ℕ) → result ≡ Err (RunFault.BodyFault k) → (bodies : List BodyMeaning) → (start : State) → (h : List Action) → IsNext B.meaning B.fits (M.has_scope mode.now) (M.width mode.now) built.now bodies start h slots.old left.old pool.old state.old turn → WideStops (M.width mode.now) built.now bodies start (Cause.Refused k) }
+    ensures worker { result ≡ Err RunFault.NoWorker → M.has_scope mode.now ≡ true }
+    ensures unspoiled { result ≡ Err RunFault.Spoiled → ⊥ }
+{
+    match turn {
+        Turn::Start(system) => {
+            *started = started.saturating_add(1);
+            start(
+                alloc, built, slots, state, left, pool, mode, system, *started,
+            )?;
+            Ok(Step::Start(system))
+        }
+        Turn::Quiet(quiet) => {
+            state.law();
+            do_quiet(alloc, built, state, quiet)
+        }
+        Turn::Sync(point) => {
+            state.law();
+            left.sync(alloc, built, state, point)?;
+            Ok(Step::Sync(point))
+        }
+        Turn::Collect => {
+            let system = finish(built, slots, state, left, pool, mode)?;
+            Ok(Step::Finish(system))
+        }
+    }
 }
 
 // Takes a step that may come.

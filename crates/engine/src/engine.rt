@@ -11,8 +11,7 @@ ghost use Rattle.engine.specs.History.{history_of};
 
 use crate::coordinator::run_times;
 use crate::faults::{NewFault, RunFault};
-use crate::first_state::lacks_memories;
-use crate::fitting::{first_misfit, placed};
+use crate::fitting::{check_parts, placed};
 use crate::left::Left;
 use body::state::State;
 use body::system_body::Body;
@@ -58,21 +57,11 @@ impl<B: Body> Engine<B> {
         ensures count { IsErrOf result NewFault.Count ↔ Miscounts built (map Some bodies.items) state }
         ensures misfit { (n : ℕ) → IsErrOf result (NewFault.Misfit n) ↔ IsFirstMisfit B.fits built (map Some bodies.items) state n }
     {
-        if bodies.len() != built.count() as usize {
-            return Err(NewFault::Count);
+        if let Err(fault) = check_parts(&built, &bodies, &state) {
+            return Err(fault);
         }
-        if lacks_memories(&built, &state) {
-            return Err(NewFault::Count);
-        }
-        if let Some(system) = first_misfit(&built, &bodies) {
-            return Err(NewFault::Misfit(system));
-        }
-        let Ok(bodies) = placed(alloc, bodies) else {
-            return Err(NewFault::Memory);
-        };
-        let Ok(left) = Left::new(alloc, &built) else {
-            return Err(NewFault::Memory);
-        };
+        let bodies = placed(alloc, bodies)?;
+        let left = Left::new(alloc, &built)?;
         Ok(Engine {
             built,
             bodies,

@@ -1,6 +1,7 @@
 // Why an engine isn't made, and why a run stops.
 
 ghost use Rattle.std.specs.Prelude.{◌≡◌};
+ghost use Rattle.engine.specs.declared.faults.NewFault.TheVariants as new_fault;
 ghost use Rattle.engine.specs.declared.faults.RunFault.TheVariants.{Memory, ClockSpent as Spent};
 ghost use Rattle.engine.specs.Faults.{fault_of_grant, fault_of_send};
 
@@ -45,6 +46,14 @@ pub enum RunFault {
     /// A body refused, with this number.
     #[error("a body refused with {0}")]
     BodyFault(u32),
+}
+
+impl From<AllocError> for NewFault {
+    ghost from_gives = { λ _ fault. fault ≡ new_fault.Memory };
+
+    fn from(_error: AllocError) -> Self {
+        NewFault::Memory
+    }
 }
 
 impl From<AllocError> for RunFault {

@@ -1,14 +1,42 @@
 // Which bodies fit the systems of a schedule.
 
-ghost use Rattle.std.specs.Prelude.{◌≡◌, ◌<◌, ℕ, length, map, true, false, Some, IfSome, IfNone, IfOk, IsTrue};
+ghost use Rattle.std.specs.Prelude.{◌≡◌, ◌<◌, ◌↔◌, ℕ, length, map, true, false, Some, Err, IfSome, IfNone, IfOk, OnOk, IsErrOf, IsTrue};
 ghost use Rattle.model.specs.runs.RunState.{body_of};
 ghost use Rattle.model.specs.steps.Schedule.{params_of};
 ghost use Rattle.body.specs.Keeps.{KeepsWithin};
-ghost use Rattle.engine.specs.Meanings.{meanings, fits_at, AllKeepWithin};
+ghost use Rattle.engine.specs.Meanings.{meanings, fits_at, AllKeepWithin, IsFirstMisfit, Miscounts, Suits};
 
+use crate::faults::NewFault;
+use crate::first_state::lacks_memories;
+use body::state::State;
 use body::system_body::Body;
 use schedule_builder::built::Built;
 use std::alloc::{AllocError, Global};
+
+/// Refuses bodies and a state that are not those of a schedule: `Count` where there isn't a body and a memory for each system and a memory for
+/// each condition, each memory with a cursor for each event reader, else `Misfit` for the least system whose body doesn't fit its parameters.
+pub(crate) fn check_parts<B: Body>(
+    built: &Built,
+    bodies: &[B],
+    state: &State,
+) -> Result<(), NewFault>
+    ensures suits { OnOk result (Suits B.fits built.now (map Some bodies.now) state.now) }
+    ensures keep { OnOk result (AllKeepWithin built.now (meanings B.meaning built.now (map Some bodies.now))) }
+    ensures count { IsErrOf result NewFault.Count ↔ Miscounts built.now (map Some bodies.now) state.now }
+    ensures misfit { (n : ℕ) → IsErrOf result (NewFault.Misfit n) ↔ IsFirstMisfit B.fits built.now (map Some bodies.now) state.now n }
+    ensures memory { result ≡ Err NewFault.Memory → ⊥ }
+{
+    if bodies.len() != built.count() as usize {
+        return Err(NewFault::Count);
+    }
+    if lacks_memories(built, state) {
+        return Err(NewFault::Count);
+    }
+    match first_misfit(built, bodies) {
+        Some(system) => Err(NewFault::Misfit(system)),
+        None => Ok(()),
+    }
+}
 
 /// The least system whose body doesn't fit its parameters. Where there is none, each body keeps within them.
 pub(crate) fn first_misfit<B: Body>(built: &Built, bodies: &[B]) -> Option<u32>

@@ -7,6 +7,7 @@ ghost use Rattle.query_plan.specs.Places.{every_row, rows_of_places, IsCounted};
 
 use crate::row::Row;
 use crate::row_places::RowPlaces;
+use crate::row_room::RowRoom;
 use archetype_store::store::World;
 use entity_table::Entity;
 use std::alloc::{AllocError, Global};
@@ -66,6 +67,13 @@ impl Rows {
     {
         Rows {
             kept: KeptRows::Listed(rows),
+        }
+    }
+
+    /// Gives the buffer of the rows back, where they are listed.
+    pub fn give_back(self, room: &mut RowRoom) {
+        if let KeptRows::Listed(rows) = self.kept {
+            room.give(rows);
         }
     }
 

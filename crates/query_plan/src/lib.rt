@@ -10,6 +10,7 @@ pub mod plan;
 pub mod planned;
 pub mod row;
 pub mod row_places;
+pub mod row_room;
 
 ghost use Rattle.query_plan.specs.Standing.{HomeTellsPicks};
 

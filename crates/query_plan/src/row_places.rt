@@ -7,6 +7,7 @@ ghost use Rattle.model.specs.Lists.{is_there};
 ghost use Rattle.query_plan.specs.Places.{every_row, rows_of_places, IsCounted};
 
 use crate::row::Row;
+use crate::row_room::RowRoom;
 use archetype_store::store::{ArchetypeView, World};
 use entity_table::Entity;
 use std::alloc::{AllocError, Global};
@@ -37,7 +38,7 @@ impl RowPlaces {
         ensures { IfOk result (λ rows. rows.items ≡ rows_of_places world.now.layout self) }
     {
         let views = world.archetypes(alloc)?;
-        listed(alloc, self, world, &views)
+        listed(alloc, self, world, &views, &mut RowRoom::new(alloc))
     }
 }
 
@@ -47,12 +48,13 @@ pub(crate) fn listed(
     places: RowPlaces,
     _world: &World,
     views: &[ArchetypeView<'_>],
+    room: &mut RowRoom,
 ) -> Result<Vec<Row>, AllocError>
     requires { map entities_seen views.now ≡ map (λ a. a.entities) _world.now.layout }
     ensures { IfOk result (λ rows. rows.items ≡ rows_of_places _world.now.layout places) }
 {
     match places {
-        RowPlaces::All(archetype, _count) => all_listed(alloc, archetype, _world, views),
+        RowPlaces::All(archetype, _count) => all_listed(alloc, archetype, _world, views, room),
         RowPlaces::Listed(rows) => Ok(rows),
     }
 }
@@ -63,6 +65,7 @@ fn all_listed(
     archetype: u32,
     _world: &World,
     views: &[ArchetypeView<'_>],
+    room: &mut RowRoom,
 ) -> Result<Vec<Row>, AllocError>
     requires { map entities_seen views.now ≡ map (λ a. a.entities) _world.now.layout }
     ensures { IfOk result (λ rows. rows.items ≡ every_row archetype 0 (archetype_at _world.now.layout archetype).entities) }
@@ -71,17 +74,23 @@ fn all_listed(
         return Ok(Vec::new(alloc));
     }
     let view = &views[archetype as usize];
-    every_row(alloc, archetype, view.entities)
+    every_row(alloc, archetype, view.entities, room)
 }
 
 // A row for each of these entities, which are those of the archetype of a number.
-fn every_row(alloc: Global, archetype: u32, entities: &[Entity]) -> Result<Vec<Row>, AllocError>
+fn every_row(
+    alloc: Global,
+    archetype: u32,
+    entities: &[Entity],
+    room: &mut RowRoom,
+) -> Result<Vec<Row>, AllocError>
     ensures { IfOk result (λ rows. rows.items ≡ every_row archetype 0 entities.now) }
 {
     let Ok(count) = u32::try_from(entities.len()) else {
         return Err(AllocError);
     };
-    let mut rows = Vec::with_capacity(alloc, entities.len())?;
+    let mut rows = room.take(alloc);
+    rows.reserve(entities.len())?;
     for place in 0..count {
         rows.push(Row {
             entity: entities[place as usize],
