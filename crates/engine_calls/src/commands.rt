@@ -3,88 +3,51 @@
 ghost use Rattle.std.specs.Prelude.{IfOk};
 ghost use Rattle.archetype_store.specs.Layout.{AreAllHome};
 
-use crate::threads::{run_alone, run_on_threads};
-use access_set::params::Params;
+use crate::engines::{commanding, engine_of, script};
+use crate::fault::{Answer, Fault};
+use crate::filling::{put, world_of_many, world_of_one};
+use crate::threads::{fault_of, run_on_threads};
 use archetype_store::store::World;
 use change_ticks::clock::Clock;
-use engine::first_state::first_state;
-use engine::{Engine, RunFault};
+use engine::Engine;
 use kinds::component::Health;
 use output_text::world::text_of_world;
-use query::Query;
-use schedule_builder::builder::build;
-use schedule_builder::desc::{ScheduleDesc, SystemDesc};
-use script::instruction::Instruction;
-use script::script_body::{Block, Rounds, ScriptBody};
+use script::script_body::{Rounds, ScriptBody};
 use std::alloc::Global;
 use std::sync::{Condvar, Mutex, Wait};
-use std::test::Fail;
 use std::thread::Threads;
 use std::time::{Clock as Watch, Duration};
-use store_calls::filling::{put, world_of_many, world_of_one};
-use worker_pool::Gate;
+use worker_pool::{Gate, Single};
 
 // How long a start is held at most, in milliseconds.
 const PATIENCE: u64 = 20_000;
 
-// The parameters of a system with this query that is granted so many ids.
-fn params(alloc: Global, query: &str, spawns: u32) -> Result<Params, Fail> {
-    let mut params = Params::new(alloc);
-    params.add_query(Query::read(alloc, query)?)?;
-    params.set_spawns(spawns);
-    Ok(params)
-}
-
-// A script of one instruction.
-fn script(
-    alloc: Global,
-    params: &Params,
-    rounds: Rounds,
-    instruction: &str,
-) -> Result<ScriptBody, Fail> {
-    let mut code = Vec::new(alloc);
-    code.push(Instruction::read(alloc, instruction)?)?;
-    let mut blocks = Vec::new(alloc);
-    blocks.push(Block { rounds, code })?;
-    Ok(ScriptBody::check(alloc, params, blocks)?)
-}
-
 // An engine of one system that is granted so many ids in a world in which so many entities live, and spawns one.
-fn spawning(alloc: Global, living: u32, spawns: u32) -> Result<Engine<ScriptBody>, Fail> {
-    let granted = params(alloc, "", spawns)?;
+fn spawning(alloc: Global, living: u32, spawns: u32) -> Result<Engine<ScriptBody>, Fault> {
+    let granted = commanding(alloc, "", spawns)?;
     let mut bodies = Vec::new(alloc);
-    bodies.push(script(alloc, &granted, Rounds::Once, "spawn g0")?)?;
-    let mut desc = ScheduleDesc::new(alloc);
-    desc.add_system(SystemDesc::new(alloc, String::from_str(alloc, "a")?, granted))?;
-    let built = build(alloc, desc)?;
-    let world = world_of_many(alloc, Clock::at(1), living)?;
-    let state = first_state(alloc, &built, world)?;
-    Ok(Engine::new(alloc, built, bodies, state)?)
+    bodies.push(script(alloc, &granted, Rounds::Once, &["spawn g0"])?)?;
+    let mut params = Vec::new(alloc);
+    params.push(granted)?;
+    engine_of(
+        alloc,
+        world_of_many(alloc, Clock::at(1), living)?,
+        params,
+        bodies,
+    )
 }
 
-// The fault of one run.
-fn fault_of(alloc: Global, engine: &mut Engine<ScriptBody>) -> Option<RunFault> {
-    run_alone(alloc, engine, 1).err()
-}
-
-#[test]
-fn ids_are_spent(rt: HostRuntime) -> Result<(), Fail> {
-    let mut engine = spawning(rt.alloc(), 1_048_575, 2)?;
-    assert!(rt; fault_of(rt.alloc(), &mut engine) == Some(RunFault::IdsSpent));
-    assert!(rt; fault_of(rt.alloc(), &mut engine) == Some(RunFault::Spoiled));
-    Ok(())
-}
-
-#[test]
-fn the_last_id_is_granted(rt: HostRuntime) -> Result<(), Fail> {
-    let mut engine = spawning(rt.alloc(), 1_048_575, 1)?;
-    assert!(rt; fault_of(rt.alloc(), &mut engine) == None);
-    assert!(rt; fault_of(rt.alloc(), &mut engine) == Some(RunFault::IdsSpent));
-    Ok(())
+/// `spawn LIVING SPAWNS`: the faults of two runs of such an engine.
+pub fn spawn_twice(alloc: Global, counts: [u32; 2]) -> Answer {
+    let [living, spawns] = counts;
+    let mut engine = spawning(alloc, living, spawns)?;
+    let first = fault_of(engine.run(alloc, 1, &Single));
+    let second = fault_of(engine.run(alloc, 1, &Single));
+    Ok(format!(in alloc; "{first:?} {second:?}")?)
 }
 
 // A world in which one entity lives, with health.
-fn world(alloc: Global) -> Result<World, Fail>
+fn world(alloc: Global) -> Result<World, Fault>
     ensures { IfOk result (λ world. AreAllHome world.layout) }
 {
     let (mut world, entity) = world_of_one(alloc, Clock::at(1))?;
@@ -92,46 +55,32 @@ fn world(alloc: Global) -> Result<World, Fail>
     Ok(world)
 }
 
-// An engine of two systems of one level, each of which does this with each entity that has health.
-fn commanding(alloc: Global, instructions: [&str; 2]) -> Result<Engine<ScriptBody>, Fail> {
-    let mut desc = ScheduleDesc::new(alloc);
+// An engine of systems of one level, each of which does with each entity that has health what its instruction says, with bars between these.
+fn obeying(alloc: Global, text: &str) -> Result<Engine<ScriptBody>, Fault> {
+    let instructions: Vec<&str> = text.split('|').collect(alloc)?;
+    let mut params = Vec::new(alloc);
     let mut bodies = Vec::new(alloc);
-    for instruction in instructions {
-        let seen = params(alloc, "entity, read Health", 0)?;
-        bodies.push(script(alloc, &seen, Rounds::EachRow(0), instruction)?)?;
-        let name = format!(in alloc; "s{}", bodies.len())?;
-        desc.add_system(SystemDesc::new(alloc, name, seen))?;
+    for instruction in &instructions {
+        let seen = commanding(alloc, "entity, read Health", 0)?;
+        bodies.push(script(alloc, &seen, Rounds::EachRow(0), &[*instruction])?)?;
+        params.push(seen)?;
     }
-    let built = build(alloc, desc)?;
-    let state = first_state(alloc, &built, world(alloc)?)?;
-    Ok(Engine::new(alloc, built, bodies, state)?)
+    engine_of(alloc, world(alloc)?, params, bodies)
 }
 
-// Whether so many commands were passed over, and the world's last line before their count is this.
-fn is_left(
-    alloc: Global,
-    engine: &Engine<ScriptBody>,
-    line: &str,
-    passed: u64,
-) -> Result<bool, Fail> {
+// What is left after a run: the lines of the world's text from its entities on.
+fn left(alloc: Global, engine: &Engine<ScriptBody>) -> Answer {
     let state = engine.state();
     let text = text_of_world(alloc, 1, state.world(), state.passed_over())?;
-    let end = format!(in alloc; "Step 0\n{line}passed {passed}\n")?;
-    Ok(text.as_str().ends_with(end.as_str()))
+    let (_, left) = text.as_str().split_once("Step 0\n").ok_or(Fault::Barred)?;
+    Ok(left.to_string(alloc)?)
 }
 
-// Whether a run of two such systems leaves no entity, with so many commands passed over.
-fn leaves_nobody(alloc: Global, instructions: [&str; 2], passed: u64) -> Result<bool, Fail> {
-    let mut engine = commanding(alloc, instructions)?;
-    run_alone(alloc, &mut engine, 1)?;
-    is_left(alloc, &engine, "", passed)
-}
-
-#[test]
-fn commands_are_done_in_schedule_order(rt: HostRuntime) -> Result<(), Fail> {
-    assert!(rt; leaves_nobody(rt.alloc(), ["despawn row", "insert row Score 1"], 1)?);
-    assert!(rt; leaves_nobody(rt.alloc(), ["insert row Score 1", "despawn row"], 0)?);
-    Ok(())
+/// `leave [INSTRUCTION | INSTRUCTION]`: what a run of such systems leaves.
+pub fn leave(alloc: Global, text: &str) -> Answer {
+    let mut engine = obeying(alloc, text)?;
+    engine.run(alloc, 1, &Single)?;
+    left(alloc, &engine)
 }
 
 // A gate that holds a start until another has left, or its patience is at an end.
@@ -188,23 +137,19 @@ impl<R: Wait + Watch + Send + Sync + Drop> Gate for Holding<R> {
     }
 }
 
-// Whether two systems that insert a score leave that of the second, on two threads with this gate.
-fn leaves_the_second<R: Threads + Wait + Copy + Send + Sync + 'static, G: Gate + 'static>(
+/// `threads leave HELD AWAITED [INSTRUCTION | INSTRUCTION]`: what a run of such systems leaves on two threads, where the start of the first number
+/// is held until that of the second has left, and whether it has.
+pub fn leave_late<R: Threads + Wait + Watch + Copy + Send + Sync + Drop + 'static>(
     runtime: R,
     alloc: Global,
-    gate: &G,
-) -> Result<bool, Fail> {
-    let mut engine = commanding(alloc, ["insert row Score 1", "insert row Score 2"])?;
-    run_on_threads(runtime, gate, alloc, 2, 1, &mut engine)?;
-    is_left(alloc, &engine, "0v1 Health 1 Score 2\n", 0)
-}
-
-#[test]
-fn commands_are_done_in_schedule_order_whoever_ends_first(rt: HostRuntime) -> Result<(), Fail> {
-    for (held, awaited) in [(1, 2), (2, 1)] {
-        let gate = Holding::new(rt, held, awaited, Duration::from_millis(PATIENCE));
-        assert!(rt; leaves_the_second(rt, rt.alloc(), &gate)?);
-        assert!(rt; gate.has_left());
-    }
-    Ok(())
+    numbers: [u32; 2],
+    text: &str,
+) -> Answer {
+    let [held, awaited] = numbers;
+    let patience = Duration::from_millis(PATIENCE);
+    let gate = Holding::new(runtime, u64::from(held), u64::from(awaited), patience);
+    let mut engine = obeying(alloc, text)?;
+    run_on_threads(runtime, &gate, alloc, 2, 1, &mut engine)?;
+    let left = left(alloc, &engine)?;
+    Ok(format!(in alloc; "{left}{}", gate.has_left())?)
 }

@@ -1,4 +1,4 @@
-// Bodies that touch nothing, and a gate at which starts gather: what tests of threads stand on.
+// Bodies that touch nothing, and a gate at which starts gather: what cases of threads stand on.
 
 ghost use Rattle.std.specs.Prelude.{Ok, Err, None, Some, true};
 ghost use Rattle.model.specs.shown.Outcome.{untouched};

@@ -4,6 +4,7 @@ ghost use Rattle.std.specs.Prelude.{◌≡◌, Err, IfOk, true};
 ghost use Rattle.model.specs.shown.Outcome.{untouched};
 ghost use Rattle.body.specs.Keeps.{CanBeShown};
 
+use crate::fault::Answer;
 use access_set::params::Params;
 use archetype_store::store::World;
 use body::memory::Memory;
@@ -12,9 +13,9 @@ use body::view::View;
 use change_ticks::clock::Clock;
 use command_queue::buffer::CommandBuffer;
 use event_buffers::buffers::Events;
+use query_plan::row_room::RowRoom;
 use std::alloc::{AllocError, Global};
 use std::sync::{Condvar, Mutex, Wait};
-use std::test::Fail;
 use std::thread;
 use std::thread::{Scope, Threads};
 use worker_pool::{Done, Gate, HandFault, Mode, Pool, Single, Start, Workers};
@@ -56,6 +57,7 @@ fn opened(alloc: Global) -> Result<View, AllocError>
         2,
         Vec::new(alloc),
         CommandBuffer::new(alloc),
+        &mut RowRoom::new(alloc),
     )?;
     Ok(view)
 }
@@ -87,14 +89,13 @@ fn refused(done: &Option<Done<Refusing>>, system: u32) -> bool {
     }
 }
 
-#[test]
-fn one_thread(rt: HostRuntime) -> Result<(), Fail> {
-    let mut pool = Pool::new(rt.alloc());
-    pool.hand_out(&Single, start_of(rt.alloc(), 1, 5)?)?;
-    assert!(rt; pool.count() == 1);
-    assert!(rt; refused(&next(&mut pool, &Single), 5));
-    assert!(rt; pool.count() == 0);
-    Ok(())
+/// `job`: how many jobs are out, whether the one that comes back refused, and how many are out then.
+pub fn one_job(alloc: Global) -> Answer {
+    let mut pool = Pool::new(alloc);
+    pool.hand_out(&Single, start_of(alloc, 1, 5)?)?;
+    let out = pool.count();
+    let refused = refused(&next(&mut pool, &Single), 5);
+    Ok(format!(in alloc; "{out} {refused} {}", pool.count())?)
 }
 
 // A gate at which the first start waits until the second has entered.
@@ -151,13 +152,16 @@ fn two_on_threads<R: Threads + Wait + Copy + Send + Sync + 'static, G: Gate + 's
     })
 }
 
-#[test]
-fn two_threads_meet(rt: HostRuntime) -> Result<(), Fail> {
+/// `threads jobs`: whether two jobs that meet come back and refuse.
+pub fn two_jobs<R: Threads + Wait + Copy + Send + Sync + Drop + 'static>(
+    runtime: R,
+    alloc: Global,
+) -> Answer {
     let gate = Meeting {
-        runtime: rt,
+        runtime,
         entered: Mutex::new(false),
         changed: Condvar::new(),
     };
-    assert!(rt; two_on_threads(rt, &gate, rt.alloc())?);
-    Ok(())
+    let refused = two_on_threads(runtime, &gate, alloc)?;
+    Ok(refused.to_string(alloc)?)
 }

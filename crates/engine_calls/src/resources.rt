@@ -3,20 +3,17 @@
 ghost use Rattle.std.specs.Prelude.{Ok};
 ghost use Rattle.engine_calls.specs.Tallied.{tallied, may_tally};
 
-use crate::threads::run_alone;
+use crate::engines::engine_of;
+use crate::fault::{Answer, Fault};
 use access_set::params::Params;
 use archetype_store::store::World;
 use body::system_body::{Body, BodyFault};
 use body::view::View;
 use change_ticks::clock::Clock;
 use engine::Engine;
-use engine::first_state::first_state;
 use kinds::res::Res;
-use schedule_builder::builder::build;
-use schedule_builder::built::Built;
-use schedule_builder::desc::{ScheduleDesc, SystemDesc};
 use std::alloc::{AllocError, Global};
-use std::test::Fail;
+use worker_pool::Single;
 
 // A body that adds the step to the total, and counts its runs in register 0.
 #[derive(Drop)]
@@ -49,23 +46,15 @@ fn params(alloc: Global) -> Result<Params, AllocError> {
     Ok(params)
 }
 
-// The schedule of the one system.
-fn schedule(alloc: Global) -> Result<Built, Fail> {
-    let mut desc = ScheduleDesc::new(alloc);
-    let name = String::from_str(alloc, "tally")?;
-    desc.add_system(SystemDesc::new(alloc, name, params(alloc)?))?;
-    Ok(build(alloc, desc)?)
-}
-
 // An engine of the one system, over a world in which the step is 5.
-fn engine(alloc: Global) -> Result<Engine<Tally>, Fail> {
+fn engine(alloc: Global) -> Result<Engine<Tally>, Fault> {
     let mut world = World::new(alloc, Clock::at(1))?;
     world.set_res(Res::Step, 5, 1);
+    let mut all = Vec::new(alloc);
+    all.push(params(alloc)?)?;
     let mut bodies = Vec::new(alloc);
     bodies.push(Tally)?;
-    let built = schedule(alloc)?;
-    let state = first_state(alloc, &built, world)?;
-    Ok(Engine::new(alloc, built, bodies, state)?)
+    engine_of(alloc, world, all, bodies)
 }
 
 // The value of a resource, and when it was changed last.
@@ -74,13 +63,17 @@ fn resource_of(engine: &Engine<Tally>, res: Res) -> (i64, u64) {
     (world.res(res), world.res_changed(res))
 }
 
-#[test]
-fn tallies(rt: HostRuntime) -> Result<(), Fail> {
-    let mut engine = engine(rt.alloc())?;
-    let _traces = run_alone(rt.alloc(), &mut engine, 3)?;
-    assert!(rt; resource_of(&engine, Res::Total) == (15, 9));
-    assert!(rt; resource_of(&engine, Res::Step) == (5, 1));
-    assert!(rt; engine.state().systems() == 1);
-    assert!(rt; engine.state().memory(0).registers() == [3, 0, 0, 0, 0, 0, 0, 0]);
-    Ok(())
+/// `tally TIMES`: after so many runs the total and the step, each with when it was changed, how many systems there are, and the registers of the
+/// first of them.
+pub fn tally_runs(alloc: Global, times: u32) -> Answer {
+    let mut engine = engine(alloc)?;
+    let _traces = engine.run(alloc, times, &Single)?;
+    let total = resource_of(&engine, Res::Total);
+    let step = resource_of(&engine, Res::Step);
+    let systems = engine.state().systems();
+    if systems == 0 {
+        return Err(Fault::Barred);
+    }
+    let registers = engine.state().memory(0).registers();
+    Ok(format!(in alloc; "{total:?} {step:?} {systems} {registers:?}")?)
 }

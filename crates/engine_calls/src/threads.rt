@@ -1,20 +1,18 @@
-// Runs on threads: how many systems run at once, what a refusal does, and that many threads leave what one leaves.
+// Runs on threads: how many systems run at once, what a refusal does, and many runs.
 
 ghost use Rattle.std.specs.Prelude.{◌≤◌};
 
+use crate::engines::engine_of;
+use crate::fault::{Answer, Fault};
 use crate::gathering::{Answering, Gathering, Meeting};
 use access_set::params::Params;
 use archetype_store::store::World;
 use body::system_body::Body;
 use change_ticks::clock::Clock;
-use engine::first_state::first_state;
 use engine::{Engine, RunFault};
 use executor_core::Trace;
-use schedule_builder::builder::build;
-use schedule_builder::desc::{ScheduleDesc, SystemDesc};
-use std::alloc::Global;
+use std::alloc::{AllocError, Global};
 use std::sync::{Arc, Wait};
-use std::test::Fail;
 use std::thread;
 use std::thread::{Scope, Threads};
 use std::time::{Clock as Watch, Duration};
@@ -64,139 +62,119 @@ pub fn run_on_threads<
     )
 }
 
-/// Runs an engine so many times on this thread.
-pub fn run_alone<B: Body>(
-    alloc: Global,
-    engine: &mut Engine<B>,
-    times: u32,
-) -> Result<Vec<Trace>, RunFault> {
-    engine.run(alloc, times, &Single)
+// So many systems that touch nothing.
+fn idle(alloc: Global, count: usize) -> Result<Vec<Params>, AllocError> {
+    let mut all = Vec::new(alloc);
+    for _ in 0..count {
+        all.push(Params::new(alloc))?;
+    }
+    Ok(all)
 }
 
 // An engine of systems that touch nothing, with these bodies.
-fn engine_of<B: Body>(alloc: Global, bodies: Vec<B>) -> Result<Engine<B>, Fail> {
-    let mut desc = ScheduleDesc::new(alloc);
-    for number in 0..bodies.len() {
-        let name = format!(in alloc; "s{number}")?;
-        desc.add_system(SystemDesc::new(alloc, name, Params::new(alloc)))?;
-    }
-    let world = World::empty(alloc, Clock::at(1));
-    let built = build(alloc, desc)?;
-    let state = first_state(alloc, &built, world)?;
-    Ok(Engine::new(alloc, built, bodies, state)?)
+fn idle_engine<B: Body>(alloc: Global, bodies: Vec<B>) -> Result<Engine<B>, Fault> {
+    let params = idle(alloc, bodies.len())?;
+    engine_of(alloc, World::empty(alloc, Clock::at(1)), params, bodies)
 }
 
-// An engine of systems that touch nothing, each with one of these bodies.
-fn answering(alloc: Global, refusals: &[Option<u32>]) -> Result<Engine<Answering>, Fail> {
+// An engine of so many systems that touch nothing, and one more that refuses with 7 where one is to.
+fn answering(alloc: Global, count: u32, refuses: bool) -> Result<Engine<Answering>, Fault> {
     let mut bodies = Vec::new(alloc);
-    for refusal in refusals {
-        bodies.push(Answering { refusal: *refusal })?;
+    for _ in 0..count {
+        bodies.push(Answering { refusal: None })?;
     }
-    engine_of(alloc, bodies)
+    if refuses {
+        bodies.push(Answering { refusal: Some(7) })?;
+    }
+    idle_engine(alloc, bodies)
 }
 
-// How long starts and bodies wait for others that come, in milliseconds.
+// How long starts wait for others that come, in milliseconds.
 const PATIENCE: u64 = 20_000;
 
-// How long bodies wait for others that can't come, in milliseconds.
-const HASTE: u64 = 20;
-
-// How many of so many bodies ran at once, that wait so many milliseconds for each other, on so many threads.
-fn met<R: Threads + Wait + Watch + Copy + Send + Sync + Drop + 'static>(
-    runtime: R,
+// So many bodies, that wait for each other at a place.
+fn meeting<R: Wait + Watch + Send + Sync + Drop>(
     alloc: Global,
-    systems: u64,
-    workers: usize,
-    patience: u64,
-) -> Result<u64, Fail>
-    requires some { 1 ≤ workers }
-    requires few { workers ≤ 64 }
-{
-    let patience = Duration::from_millis(patience);
-    let place = Arc::new(alloc, Gathering::new(runtime, systems, patience))?;
+    place: &Arc<Gathering<R>, Global>,
+    count: u32,
+) -> Result<Vec<Meeting<R>>, Fault> {
     let mut bodies = Vec::new(alloc);
-    for _system in 0..systems {
-        let place = Arc::try_clone(&place)?;
+    for _ in 0..count {
+        let place = Arc::try_clone(place)?;
         bodies.push(Meeting { place })?;
     }
-    let mut engine = engine_of(alloc, bodies)?;
-    run_on_threads(runtime, &NoGate, alloc, workers, 1, &mut engine)?;
-    Ok(place.most())
+    Ok(bodies)
 }
 
-// How many of these systems were past a gate at once, that waits for so many, where so many threads run them.
-fn gathered<R: Threads + Wait + Watch + Copy + Send + Sync + Drop + 'static>(
+/// `threads meet SYSTEMS WORKERS PATIENCE`: how many of so many bodies ran at once, that wait so many milliseconds for each other, on so many
+/// threads.
+pub fn meet<R: Threads + Wait + Watch + Copy + Send + Sync + Drop + 'static>(
     runtime: R,
     alloc: Global,
-    systems: &[Option<u32>],
-    workers: usize,
-) -> Result<u64, Fail>
-    requires some { 1 ≤ workers }
-    requires few { workers ≤ 64 }
-{
-    let patience = Duration::from_millis(PATIENCE);
-    let gate = Gathering::new(runtime, workers as u64, patience);
-    let mut engine = answering(alloc, systems)?;
-    run_on_threads(runtime, &gate, alloc, workers, 1, &mut engine)?;
-    Ok(gate.most())
-}
-
-#[test]
-fn starts_meet(rt: HostRuntime) -> Result<(), Fail> {
-    for _trial in 0..3 {
-        assert!(rt; gathered(rt, rt.alloc(), &[None; 2], 2)? == 2);
-        assert!(rt; gathered(rt, rt.alloc(), &[None; 3], 3)? == 3);
+    counts: [u32; 3],
+) -> Answer {
+    let [systems, workers, patience] = counts;
+    if workers < 1 || workers > 64 {
+        return Err(Fault::Barred);
     }
-    Ok(())
+    let patience = Duration::from_millis(u64::from(patience));
+    let place = Arc::new(alloc, Gathering::new(runtime, u64::from(systems), patience))?;
+    let mut engine = idle_engine(alloc, meeting(alloc, &place, systems)?)?;
+    run_on_threads(runtime, &NoGate, alloc, workers as usize, 1, &mut engine)?;
+    Ok(place.most().to_string(alloc)?)
 }
 
-#[test]
-fn bodies_meet(rt: HostRuntime) -> Result<(), Fail> {
-    for _trial in 0..3 {
-        assert!(rt; met(rt, rt.alloc(), 2, 2, PATIENCE)? == 2);
-        assert!(rt; met(rt, rt.alloc(), 3, 3, PATIENCE)? == 3);
+/// `threads gather SYSTEMS WORKERS`: how many of so many systems were past a gate at once, that waits for as many as there are threads.
+pub fn gather<R: Threads + Wait + Watch + Copy + Send + Sync + Drop + 'static>(
+    runtime: R,
+    alloc: Global,
+    counts: [u32; 2],
+) -> Answer {
+    let [systems, workers] = counts;
+    if workers < 1 || workers > 64 {
+        return Err(Fault::Barred);
     }
-    Ok(())
+    let gate = Gathering::new(runtime, u64::from(workers), Duration::from_millis(PATIENCE));
+    let mut engine = answering(alloc, systems, false)?;
+    run_on_threads(runtime, &gate, alloc, workers as usize, 1, &mut engine)?;
+    Ok(gate.most().to_string(alloc)?)
 }
 
-#[test]
-fn bodies_do_not_meet_on_one_thread(rt: HostRuntime) -> Result<(), Fail> {
-    assert!(rt; met(rt, rt.alloc(), 2, 1, HASTE)? == 1);
-    Ok(())
+/// The fault of a run, if it has one.
+pub fn fault_of(outcome: Result<Vec<Trace>, RunFault>) -> Option<RunFault> {
+    match outcome {
+        Ok(_traces) => None,
+        Err(fault) => Some(fault),
+    }
 }
 
-#[test]
-fn sixty_four_of_many_run_at_once(rt: HostRuntime) -> Result<(), Fail> {
-    assert!(rt; gathered(rt, rt.alloc(), &[None; 256], 64)? == 64);
-    Ok(())
+/// `refuse`: the faults of two runs of two systems, of which the second refuses.
+pub fn refuse(alloc: Global) -> Answer {
+    let mut engine = answering(alloc, 1, true)?;
+    let first = fault_of(engine.run(alloc, 1, &Single));
+    let second = fault_of(engine.run(alloc, 1, &Single));
+    Ok(format!(in alloc; "{first:?} {second:?}")?)
 }
 
-#[test]
-fn a_refusal_spoils(rt: HostRuntime) -> Result<(), Fail> {
-    let mut engine = answering(rt.alloc(), &[None, Some(7)])?;
-    let refused = run_alone(rt.alloc(), &mut engine, 1).err();
-    assert!(rt; refused == Some(RunFault::BodyFault(7)));
-    let again = run_alone(rt.alloc(), &mut engine, 1).err();
-    assert!(rt; again == Some(RunFault::Spoiled));
-    Ok(())
+/// `threads refuse`: the same on two threads, where both systems meet at a gate, and how many did.
+pub fn refuse_on_threads<R: Threads + Wait + Watch + Copy + Send + Sync + Drop + 'static>(
+    runtime: R,
+    alloc: Global,
+) -> Answer {
+    let gate = Gathering::new(runtime, 2, Duration::from_millis(PATIENCE));
+    let mut engine = answering(alloc, 1, true)?;
+    let first = fault_of(run_on_threads(runtime, &gate, alloc, 2, 1, &mut engine));
+    let second = fault_of(run_on_threads(runtime, &gate, alloc, 2, 1, &mut engine));
+    Ok(format!(in alloc; "{first:?} {second:?} {}", gate.most())?)
 }
 
-#[test]
-fn a_refusal_on_threads_spoils(rt: HostRuntime) -> Result<(), Fail> {
-    let gate = Gathering::new(rt, 2, Duration::from_millis(PATIENCE));
-    let mut engine = answering(rt.alloc(), &[None, Some(7)])?;
-    let refused = run_on_threads(rt, &gate, rt.alloc(), 2, 1, &mut engine).err();
-    assert!(rt; refused == Some(RunFault::BodyFault(7)));
-    assert!(rt; gate.most() == 2);
-    let again = run_on_threads(rt, &gate, rt.alloc(), 2, 1, &mut engine).err();
-    assert!(rt; again == Some(RunFault::Spoiled));
-    Ok(())
-}
-
-#[test]
-fn runs_many_times(rt: HostRuntime) -> Result<(), Fail> {
-    let mut engine = answering(rt.alloc(), &[None; 2])?;
-    let traces = run_on_threads(rt, &NoGate, rt.alloc(), 4, 10_000, &mut engine)?;
-    assert!(rt; traces.len() == 10_000);
-    Ok(())
+/// `threads repeat TIMES`: how many traces so many runs of two systems on four threads leave.
+pub fn repeat<R: Threads + Wait + Copy + Send + Sync + 'static>(
+    runtime: R,
+    alloc: Global,
+    times: u32,
+) -> Answer {
+    let mut engine = answering(alloc, 2, false)?;
+    let traces = run_on_threads(runtime, &NoGate, alloc, 4, times, &mut engine)?;
+    Ok(traces.len().to_string(alloc)?)
 }

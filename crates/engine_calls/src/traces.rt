@@ -1,218 +1,90 @@
-// Tests of texts and verdicts, by what the format and the rules of steps say of each.
+// Texts and verdicts of traces, by what the format and the rules of steps say of each.
 
-use access_set::params::Params;
-use executor_core::{StepFault, Trace};
-use kinds::kind::Kind;
-use model::steps::Step;
-use query::{Query, Term};
+ghost use Rattle.std.specs.Prelude.{};
+
+use crate::engines::params;
+use crate::fault::{Answer, Fault};
 use schedule_builder::builder::build;
 use schedule_builder::built::Built;
 use schedule_builder::desc::{ScheduleDesc, SystemDesc};
 use std::alloc::{AllocError, Global};
-use std::test::Fail;
-use trace_checker::check::{Verdict, check};
+use trace_checker::check::check;
 use trace_checker::read::read_traces;
 use trace_checker::write::text_of_traces;
 
-// No text of a test is longer.
-const LIMIT: usize = 1_000_000;
-
-// What is told of a text: as it is written again, or why it is not read or written.
-fn told(alloc: Global, text: &[u8], limit: usize) -> Result<String, AllocError> {
+// What is told of a text: as it is written again, in at most so many bytes, or why it is not read or written.
+fn told(alloc: Global, text: &[u8], limit: u32) -> Answer {
     match read_traces(alloc, text) {
-        Ok(traces) if traces.len() < LIMIT => match text_of_traces(
-            alloc,
-            traces.as_slice(),
-            limit,
-        ) {
-            Ok(text) => Ok(text),
-            Err(fault) => fault.to_string(alloc),
-        },
-        Ok(_) => String::from_str(alloc, "more runs than any test has"),
-        Err(fault) => fault.to_string(alloc),
+        Ok(traces) if traces.len() < 1_000_000 => {
+            match text_of_traces(alloc, traces.as_slice(), limit as usize) {
+                Ok(text) => Ok(text),
+                Err(fault) => Ok(fault.to_string(alloc)?),
+            }
+        }
+        Ok(_) => Err(Fault::Barred),
+        Err(fault) => Ok(fault.to_string(alloc)?),
     }
 }
 
-// Texts of traces.
-const TEXTS: [&str; 4] = [
-    "",
-    "R 1\nY 0\n",
-    "R 1\nR 2\n",
-    "R 1\nS 0\nF 0\nY 0\nR 2\nC 0 1\nC 10 0\nK 3\nY 4294967295\n",
-];
-
-#[test]
-fn texts_are_read_and_written(rt: HostRuntime) -> Result<(), Fail> {
-    for text in &TEXTS {
-        let written = told(rt.alloc(), text.as_bytes(), LIMIT)?;
-        assert!(rt; written.as_str() == *text);
+// The bytes of a text in which `/` stands for the end of a line, `^` for a carriage return and `#` for a byte that is no text.
+fn bytes_of(alloc: Global, text: &str) -> Result<Vec<u8>, AllocError> {
+    let mut bytes = Vec::new(alloc);
+    for byte in text.bytes() {
+        bytes.push(match byte {
+            b'/' => b'\n',
+            b'^' => b'\r',
+            b'#' => 255,
+            _ => byte,
+        })?;
     }
-    Ok(())
+    Ok(bytes)
 }
 
-// Texts at fault, and what is told of each.
-const FAULTS: [(&str, &str); 18] = [
-    ("R 2\n", "line 1 is out of order"),
-    ("R 0\n", "line 1 is out of order"),
-    ("S 0\n", "line 1 is out of order"),
-    ("R 1\nY 0\nR 1\n", "line 3 is out of order"),
-    ("R 1", "line 1 is no line of a trace"),
-    ("R 01\n", "line 1 is no line of a trace"),
-    ("R 4294967296\n", "line 1 is no line of a trace"),
-    ("R 1\r\n", "line 1 is no line of a trace"),
-    ("R 1\nY 0", "line 2 is no line of a trace"),
-    ("R 1\n\n", "line 2 is no line of a trace"),
-    ("R 1\nS 00\n", "line 2 is no line of a trace"),
-    ("R 1\nS 4294967296\n", "line 2 is no line of a trace"),
-    ("R 1\nS -1\n", "line 2 is no line of a trace"),
-    ("R 1\nS 0 \n", "line 2 is no line of a trace"),
-    ("R 1\nC 0\n", "line 2 is no line of a trace"),
-    ("R 1\nC 0 2\n", "line 2 is no line of a trace"),
-    ("R 1\nX 0\nR 1\n", "line 2 is no line of a trace"),
-    ("R 1\nR 1\nX 0\n", "line 2 is out of order"),
-];
+/// `trace LIMIT [TEXT]`: what is told of the bytes of a text.
+pub fn trace(alloc: Global, limit: u32, text: &str) -> Answer {
+    told(alloc, bytes_of(alloc, text)?.as_slice(), limit)
+}
 
-#[test]
-fn texts_at_fault_are_told(rt: HostRuntime) -> Result<(), Fail> {
-    for row in &FAULTS {
-        let (text, want) = *row;
-        let answer = told(rt.alloc(), text.as_bytes(), LIMIT)?;
-        assert!(rt; answer.as_str() == want, "at {text}");
+/// `traces COUNT`: whether a text of so many runs is written as it was read, and what is told where one more follows that is out of order.
+pub fn many_traces(alloc: Global, count: u32) -> Answer {
+    let mut text = String::new(alloc);
+    for run in 0..count {
+        writeln!(text, "R {}\nS 0\nF 0\nY 0", u64::from(run) + 1)?;
     }
-    let bytes = [82, 32, 255, 10];
-    let answer = told(rt.alloc(), bytes.as_slice(), LIMIT)?;
-    assert!(rt; answer.as_str() == "line 1 is no line of a trace");
-    Ok(())
+    let written = told(alloc, text.as_bytes(), 1_000_000)?;
+    let is_same = written.as_str() == text.as_str();
+    writeln!(text, "R {count}")?;
+    let fault = told(alloc, text.as_bytes(), 1_000_000)?;
+    Ok(format!(in alloc; "{is_same} {fault}")?)
 }
 
-#[test]
-fn long_texts_are_told(rt: HostRuntime) -> Result<(), Fail> {
-    let text = "R 1\nY 0\n";
-    let within = told(rt.alloc(), text.as_bytes(), 8)?;
-    assert!(rt; within.as_str() == text);
-    let past = told(rt.alloc(), text.as_bytes(), 7)?;
-    assert!(rt; past.as_str() == "the text would be too long");
-    Ok(())
+// A system of this name that writes healths.
+fn system(alloc: Global, name: &str) -> Result<SystemDesc, Fault> {
+    let params = params(alloc, "mut Health")?;
+    Ok(SystemDesc::new(alloc, name.to_string(alloc)?, params))
 }
 
-#[test]
-fn many_runs_are_read(rt: HostRuntime) -> Result<(), Fail> {
-    let mut text = String::new(rt.alloc());
-    for run in 1..20_001 {
-        writeln!(text, "R {run}\nS 0\nF 0\nY 0")?;
+// The schedule of two systems that write the same, the first before the second where they are ordered.
+fn schedule(alloc: Global, is_ordered: bool) -> Result<Built, Fault> {
+    let mut first = system(alloc, "a")?;
+    if is_ordered {
+        first.add_before("b".to_string(alloc)?)?;
     }
-    let written = told(rt.alloc(), text.as_bytes(), LIMIT)?;
-    assert!(rt; written.as_str() == text.as_str());
-    text.push_str("R 20000\n")?;
-    let answer = told(rt.alloc(), text.as_bytes(), LIMIT)?;
-    assert!(rt; answer.as_str() == "line 80001 is out of order");
-    Ok(())
-}
-
-// A system of this name that writes healths, before another where that is named.
-fn system(alloc: Global, name: &str, before: &str) -> Result<SystemDesc, AllocError> {
-    let mut params = Params::new(alloc);
-    params.add_query(Query::of_terms(alloc, &[Term::Mut(Kind::Health)])?)?;
-    let mut system = SystemDesc::new(alloc, String::from_str(alloc, name)?, params);
-    if !before.is_empty() {
-        system.add_before(String::from_str(alloc, before)?)?;
-    }
-    Ok(system)
-}
-
-// The verdict on these steps by a schedule of two systems that write the same, ordered or not.
-fn judged(alloc: Global, ordered: bool, steps: &[Step]) -> Result<Option<Verdict>, AllocError> {
     let mut desc = ScheduleDesc::new(alloc);
-    desc.add_system(system(alloc, "a", if ordered { "b" } else { "" })?)?;
-    desc.add_system(system(alloc, "b", "")?)?;
-    match build(alloc, desc) {
-        Ok(built) => judged_by(alloc, &built, steps),
-        Err(_) => Ok(None),
-    }
+    desc.add_system(first)?;
+    desc.add_system(system(alloc, "b")?)?;
+    Ok(build(alloc, desc)?)
 }
 
-// The verdict of a schedule on these steps.
-fn judged_by(alloc: Global, built: &Built, steps: &[Step]) -> Result<Option<Verdict>, AllocError> {
-    let mut trace = Trace {
-        steps: Vec::new(alloc),
+/// `judge [ordered: TEXT]` or `judge [free: TEXT]`: the verdict of such a schedule on the steps of a run.
+pub fn judge(alloc: Global, text: &str) -> Answer {
+    let (order, steps) = text.split_once(": ").ok_or(Fault::Outside)?;
+    let built = schedule(alloc, order == "ordered")?;
+    let steps = format!(in alloc; "R 1/{steps}")?;
+    let Ok(traces) = read_traces(alloc, bytes_of(alloc, steps.as_str())?.as_slice()) else {
+        return Err(Fault::Outside);
     };
-    trace.steps.extend_from_slice(steps)?;
-    Ok(Some(check(alloc, built, &trace)?))
-}
-
-// The steps of a complete run of two systems in order.
-const ALL: [Step; 5] = [
-    Step::Start(0),
-    Step::Finish(0),
-    Step::Start(1),
-    Step::Finish(1),
-    Step::Sync(0),
-];
-
-#[test]
-fn fronts_are_judged(rt: HostRuntime) -> Result<(), Fail> {
-    for count in 0..6 {
-        let front = &ALL.as_slice()[..count];
-        let wanted = if count == 5 {
-            Verdict::Complete
-        } else {
-            Verdict::Unfinished
-        };
-        assert!(rt; judged(rt.alloc(), true, front)? == Some(wanted));
-    }
-    Ok(())
-}
-
-// Three steps of which one may not come, which one, and its fault.
-const BAD: [([Step; 3], usize, StepFault); 6] = [
-    (
-        [Step::Start(0), Step::Finish(0), Step::Start(2)],
-        3,
-        StepFault::Unknown,
-    ),
-    (
-        [Step::Start(0), Step::Finish(0), Step::Start(0)],
-        3,
-        StepFault::Repeated,
-    ),
-    (
-        [Step::Start(1), Step::Start(0), Step::Finish(0)],
-        1,
-        StepFault::NotReady,
-    ),
-    (
-        [Step::Start(0), Step::Finish(0), Step::Skip(1)],
-        3,
-        StepFault::ConditionTrue,
-    ),
-    (
-        [Step::Start(0), Step::Finish(0), Step::Finish(0)],
-        3,
-        StepFault::NotRunning,
-    ),
-    (
-        [Step::Start(0), Step::Finish(0), Step::Sync(0)],
-        3,
-        StepFault::LevelOpen,
-    ),
-];
-
-#[test]
-fn steps_are_judged(rt: HostRuntime) -> Result<(), Fail> {
-    for row in &BAD {
-        let (steps, number, fault) = *row;
-        let verdict = judged(rt.alloc(), true, steps.as_slice())?;
-        assert!(rt; verdict == Some(Verdict::Bad(number, fault)));
-    }
-    Ok(())
-}
-
-#[test]
-fn conflicts_are_judged(rt: HostRuntime) -> Result<(), Fail> {
-    let (first, second) = (Step::Start(0), Step::Start(1));
-    let together = judged(rt.alloc(), false, &[first, second])?;
-    assert!(rt; together == Some(Verdict::Bad(2, StepFault::Conflict)));
-    let apart = judged(rt.alloc(), false, &[second, Step::Finish(1), first])?;
-    assert!(rt; apart == Some(Verdict::Unfinished));
-    Ok(())
+    let trace = traces.first().ok_or(Fault::Outside)?;
+    let verdict = check(alloc, &built, trace)?;
+    Ok(format!(in alloc; "{verdict:?}")?)
 }

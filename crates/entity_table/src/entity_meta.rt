@@ -38,17 +38,6 @@ impl EntityMeta {
         }
     }
 
-    /// An index whose entity lives at this generation.
-    #[cfg(test)]
-    pub fn living(generation: u32) -> Self
-        ensures { result ≡ record { generation = generation; status = ModelStatus.Living; row = [] } }
-    {
-        EntityMeta {
-            generation,
-            status: Status::Living,
-        }
-    }
-
     /// The generation.
     pub fn generation(&self) -> u32
         ensures { result ≡ self.now.generation }

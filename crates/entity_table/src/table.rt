@@ -55,18 +55,6 @@ impl EntityTable {
         }
     }
 
-    // An index that lives at this generation.
-    #[cfg(test)]
-    fn at_generation(alloc: Global, generation: u32) -> Result<Self, GrantFault>
-        requires { 1 ≤ generation }
-    {
-        let mut table = EntityTable::new(alloc);
-        table.places.reserve(1)?;
-        table.vacant.make_room(1)?;
-        let _ = table.places.push(EntityMeta::living(generation));
-        Ok(table)
-    }
-
     /// How many indices there are: past them every index is vacant at generation 1.
     pub fn len(&self) -> u32
         ensures value { result ≡ length self.now }
@@ -285,6 +273,3 @@ fn grant_one(places: &mut Vec<EntityMeta>, vacant: &mut MinHeap) -> Entity
         }
     }
 }
-
-#[cfg(test)]
-mod tests;

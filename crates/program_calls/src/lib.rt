@@ -1,9 +1,12 @@
-// Tests of public calls of command lines, files and what is printed, in one crate: so that one check proves them all.
+// Tests of what no case of `serving_calls` shows: what command lines ask for, faults that no file meets, words that are no text, and files and
+// records as they are written.
 #![tactic(auto)]
 
 #[cfg(test)]
-mod files;
-#[cfg(test)]
 mod lines;
 #[cfg(test)]
-mod printed;
+mod told;
+#[cfg(test)]
+mod words;
+#[cfg(test)]
+mod written;

@@ -22,7 +22,7 @@ impl RowRoom {
     }
 
     /// A buffer without rows.
-    pub fn take(&mut self, alloc: Global) -> Vec<Row>
+    pub(crate) fn take(&mut self, alloc: Global) -> Vec<Row>
         ensures { result.items ≡ [] }
     {
         let Some(mut rows) = self.spare.pop() else {
@@ -33,7 +33,7 @@ impl RowRoom {
     }
 
     /// Keeps a buffer. Where memory is wanting for its place it is dropped.
-    pub fn give(&mut self, rows: Vec<Row>) {
+    pub(crate) fn give(&mut self, rows: Vec<Row>) {
         if rows.capacity() > 0 {
             let _kept = self.spare.push(rows);
         }

@@ -1,361 +1,159 @@
-// Built schedules, and which refusal is told.
+// Built schedules, which refusal is told, what races in them, and which steps a core accepts.
 
+ghost use Rattle.std.specs.Prelude.{};
+
+use crate::declared::declared;
+use crate::fault::{Answer, Fault};
+use crate::words::number_of;
 use access_set::params::Params;
-use kinds::kind::Kind;
-use query::{Query, Term};
+use ambiguity_report::report::{Pair, Racer, is_settled, report};
+use executor_core::{Core, Step};
 use schedule_builder::builder::build;
-use schedule_builder::desc::{ChainDesc, ItemDesc, ScheduleDesc, SystemDesc};
-use schedule_builder::fault::BuildFault;
+use schedule_builder::built::Built;
+use schedule_builder::desc::{ItemDesc, ScheduleDesc, SystemDesc};
 use std::alloc::{AllocError, Global};
-use std::test::Fail;
+use texts::words::words_of;
 
-/// A system of this name before one and after another, where these are named.
-fn system(alloc: Global, name: &str, before: &str, after: &str) -> Result<SystemDesc, AllocError> {
-    let mut system = SystemDesc::new(alloc, String::from_str(alloc, name)?, Params::new(alloc));
-    if !before.is_empty() {
-        system.add_before(String::from_str(alloc, before)?)?;
-    }
-    if !after.is_empty() {
-        system.add_after(String::from_str(alloc, after)?)?;
-    }
-    Ok(system)
-}
-
-/// The schedule order, or what is refused.
-fn answer(alloc: Global, desc: ScheduleDesc) -> Result<String, AllocError> {
+// The schedule order, or what is refused.
+fn order_of(alloc: Global, desc: ScheduleDesc) -> Answer {
     match build(alloc, desc) {
-        Ok(built) => format!(in alloc; "{:?}", built.order()),
-        Err(fault) => fault.to_string(alloc),
+        Ok(built) => Ok(format!(in alloc; "{:?}", built.order())?),
+        Err(fault) => Ok(fault.to_string(alloc)?),
     }
 }
 
-/// What is told of systems, each by its name and the names that it runs before and after.
-fn told(alloc: Global, systems: &[(&str, &str, &str)]) -> Result<String, AllocError> {
-    let mut desc = ScheduleDesc::new(alloc);
-    for (name, before, after) in systems {
-        desc.add_system(system(alloc, *name, *before, *after)?)?;
-    }
-    answer(alloc, desc)
+/// `order [DECLARED]`: the schedule order of what is declared, or what is refused.
+pub fn order(alloc: Global, text: &str) -> Answer {
+    order_of(alloc, declared(alloc, text)?)
 }
 
-// Systems, each by its name and the names that it runs before and after, and what is told of them.
-const ORDERED: [(&[(&str, &str, &str)], &str); 7] = [
-    (
-        &[("a", "b", ""), ("b", "c", ""), ("c", "a", "")],
-        "refused B6 a b c a",
-    ),
-    (
-        &[("d", "c", ""), ("c", "b", ""), ("b", "c", "")],
-        "refused B6 c b c",
-    ),
-    (&[("a", "b", "zz"), ("a", "", "b")], "refused B1 b"),
-    (&[("a", "", ""), ("a", "", "a")], "refused B2 a"),
-    (&[("a", "", ""), ("b", "", "b")], "refused B5 b"),
-    (&[], "[]"),
-    (
-        &[("a", "", "c"), ("b", "", ""), ("c", "", ""), ("d", "b", "")],
-        "[2, 0, 3, 1]",
-    ),
-];
-
-#[test]
-fn orders_of_systems(rt: HostRuntime) -> Result<(), Fail> {
-    for (systems, wanted) in ORDERED {
-        assert!(rt;
-            told(rt.alloc(), systems)?.as_str() == wanted,
-            "where {wanted}"
-        );
+/// `behind [DECLARED]`: the schedule order, and which systems each system runs behind.
+pub fn behind(alloc: Global, text: &str) -> Answer {
+    let Ok(built) = build(alloc, declared(alloc, text)?) else {
+        return Err(Fault::Barred);
+    };
+    let mut text = format!(in alloc; "{:?}", built.order())?;
+    for system in 0..built.count() {
+        write!(text, " {:?}", built.predecessors(system))?;
     }
+    Ok(text)
+}
+
+// Adds a pair that races.
+fn push_pair(text: &mut String, pair: &Pair) -> Result<(), AllocError> {
+    let silenced = if pair.silenced { " silenced" } else { "" };
+    let (second, datum) = (pair.second, pair.datum);
+    match pair.first {
+        Racer::System(first) => write!(text, "{first} {second} {datum}{silenced}, "),
+        Racer::Condition(first) => write!(text, "if {first} {second} {datum}{silenced}, "),
+    }
+}
+
+/// `races [DECLARED]`: the pairs that race, and whether the schedule is settled.
+pub fn races(alloc: Global, text: &str) -> Answer {
+    let Ok(built) = build(alloc, declared(alloc, text)?) else {
+        return Err(Fault::Barred);
+    };
+    let mut text = String::new(alloc);
+    for pair in report(alloc, &built)? {
+        push_pair(&mut text, &pair)?;
+    }
+    text.push_str(if is_settled(&built) {
+        "settled"
+    } else {
+        "open"
+    })?;
+    Ok(text)
+}
+
+// The step that a text spells: `start N`, `skip N`, `finish N`, `sync N`, or `yes N` and `no N` for what a condition answers.
+fn step_of(alloc: Global, text: &str) -> Result<Step, Fault> {
+    let words = words_of(alloc, text)?;
+    let [verb, number] = words.as_slice() else {
+        return Err(Fault::Outside);
+    };
+    let number = number_of(number)?;
+    match *verb {
+        "start" => Ok(Step::Start(number)),
+        "skip" => Ok(Step::Skip(number)),
+        "finish" => Ok(Step::Finish(number)),
+        "sync" => Ok(Step::Sync(number)),
+        "yes" => Ok(Step::Cond(number, true)),
+        "no" => Ok(Step::Cond(number, false)),
+        _ => Err(Fault::Outside),
+    }
+}
+
+// Adds what is ready and whether all is done, or whether a step may come and whether it came.
+fn push_step(alloc: Global, text: &mut String, core: &mut Core, part: &str) -> Result<(), Fault> {
+    if part.trim() == "ready" {
+        writeln!(text, "{:?} {}", core.ready(), core.complete())?;
+        return Ok(());
+    }
+    let step = step_of(alloc, part)?;
+    let may = core.may(step).err();
+    let came = core.step(step).err();
+    writeln!(text, "{may:?} {came:?}")?;
     Ok(())
 }
 
-/// What is told of a system with a query without terms and one with these terms, behind a system without queries.
-fn told_of_query(alloc: Global, terms: &[Term]) -> Result<String, AllocError> {
-    let mut query = Query::new(alloc);
-    for term in terms {
-        query.push(*term)?;
+// What is told of steps of a schedule.
+fn told_of_steps(alloc: Global, built: &Built, parts: &[&str]) -> Answer {
+    let mut core = Core::new(alloc, built)?;
+    let mut text = String::new(alloc);
+    for part in parts {
+        push_step(alloc, &mut text, &mut core, part)?;
     }
-    let mut params = Params::new(alloc);
-    params.add_query(Query::new(alloc))?;
-    params.add_query(query)?;
-    let mut desc = ScheduleDesc::new(alloc);
-    desc.add_system(system(alloc, "first", "", "")?)?;
-    desc.add_system(SystemDesc::new(alloc, String::from_str(alloc, "second")?, params))?;
-    answer(alloc, desc)
+    Ok(text)
 }
 
-// The terms of the last query of the second system, and what is told of it.
-const QUERIES: [(&[Term], &str); 5] = [
-    (
-        &[Term::Mut(Kind::Position), Term::Read(Kind::Position)],
-        "refused B10 second 1 2",
-    ),
-    (
-        &[Term::Opt(Kind::Health), Term::Without(Kind::Health)],
-        "refused B10 second 1 3",
-    ),
-    (
-        &[Term::Read(Kind::Health), Term::Without(Kind::Health)],
-        "refused B10 second 1 1",
-    ),
-    (
-        &[
-            Term::Read(Kind::Health),
-            Term::Without(Kind::Health),
-            Term::Opt(Kind::Health),
-        ],
-        "refused B10 second 1 1",
-    ),
-    (
-        &[Term::Mut(Kind::Health), Term::With(Kind::Frozen)],
-        "[0, 1]",
-    ),
-];
-
-#[test]
-fn tells_a_bad_query(rt: HostRuntime) -> Result<(), Fail> {
-    for (terms, wanted) in QUERIES {
-        assert!(rt;
-            told_of_query(rt.alloc(), terms)?.as_str() == wanted,
-            "of {terms:?}"
-        );
-    }
-    Ok(())
+/// `steps [DECLARED / STEP, ..]`: the faults of steps, each as it is asked whether it may come and as it comes. For `ready` what is ready, and
+/// whether all is done.
+pub fn steps(alloc: Global, text: &str) -> Answer {
+    let (text, steps) = text.split_once('/').ok_or(Fault::Outside)?;
+    let Ok(built) = build(alloc, declared(alloc, text)?) else {
+        return Err(Fault::Barred);
+    };
+    let parts: Vec<&str> = steps.split(',').collect(alloc)?;
+    told_of_steps(alloc, &built, parts.as_slice())
 }
 
-/// A system of this name with two queries of these terms.
-fn with_two_queries(
-    alloc: Global,
-    name: &str,
-    first: &[Term],
-    second: &[Term],
-) -> Result<SystemDesc, AllocError> {
-    let mut params = Params::new(alloc);
-    params.add_query(Query::of_terms(alloc, first)?)?;
-    params.add_query(Query::of_terms(alloc, second)?)?;
-    Ok(SystemDesc::new(alloc, String::from_str(alloc, name)?, params))
-}
-
-/// What is told of one system with two queries of these terms.
-fn told_of_two(alloc: Global, first: &[Term], second: &[Term]) -> Result<String, AllocError> {
-    let mut desc = ScheduleDesc::new(alloc);
-    desc.add_system(with_two_queries(alloc, "a", first, second)?)?;
-    answer(alloc, desc)
-}
-
-// A query that writes healths, one that reads them, those of who is frozen and who isn't, one that is at fault, and one that asks for more.
-const WRITING: [Term; 1] = [Term::Mut(Kind::Health)];
-
-const READING: [Term; 1] = [Term::Read(Kind::Health)];
-
-const FROZEN: [Term; 2] = [Term::Mut(Kind::Health), Term::With(Kind::Frozen)];
-
-const THAWED: [Term; 2] = [Term::Read(Kind::Health), Term::Without(Kind::Frozen)];
-
-const FAULTY: [Term; 2] = [Term::Opt(Kind::Score), Term::Without(Kind::Score)];
-
-const PERHAPS: [Term; 2] = [Term::Mut(Kind::Health), Term::Opt(Kind::Frozen)];
-
-// The terms of both queries of one system, and what is told of it.
-const PAIRS: [(&[Term], &[Term], &str); 6] = [
-    (&WRITING, &READING, "refused B9 a"),
-    (&READING, &WRITING, "refused B9 a"),
-    (&READING, &READING, "[0]"),
-    (&FROZEN, &THAWED, "[0]"),
-    (&PERHAPS, &THAWED, "refused B9 a"),
-    (&FAULTY, &FAULTY, "refused B10 a 0 3"),
-];
-
-#[test]
-fn tells_a_self_conflict(rt: HostRuntime) -> Result<(), Fail> {
-    for (first, second, wanted) in PAIRS {
-        let told = told_of_two(rt.alloc(), first, second)?;
-        assert!(rt; told.as_str() == wanted, "of {first:?} and {second:?}");
-    }
-    Ok(())
-}
-
-#[test]
-fn tells_a_self_conflict_before_a_bad_query(rt: HostRuntime) -> Result<(), Fail> {
-    let mut desc = ScheduleDesc::new(rt.alloc());
-    desc.add_system(with_two_queries(rt.alloc(), "a", &WRITING, &FAULTY)?)?;
-    desc.add_system(with_two_queries(rt.alloc(), "b", &WRITING, &WRITING)?)?;
-    desc.add_system(with_two_queries(rt.alloc(), "c", &WRITING, &WRITING)?)?;
-    assert!(rt; answer(rt.alloc(), desc)?.as_str() == "refused B9 b");
-    Ok(())
-}
-
-/// A set of this name in one and before one, where these are named.
-fn set(alloc: Global, name: &str, inside: &str, before: &str) -> Result<ItemDesc, AllocError> {
-    let mut set = ItemDesc::new(alloc, String::from_str(alloc, name)?);
-    if !inside.is_empty() {
-        set.add_in(String::from_str(alloc, inside)?)?;
-    }
-    if !before.is_empty() {
-        set.add_before(String::from_str(alloc, before)?)?;
-    }
-    Ok(set)
-}
-
-/// A system of this name in a set.
-fn member(alloc: Global, name: &str, inside: &str) -> Result<SystemDesc, AllocError> {
-    let mut system = system(alloc, name, "", "")?;
-    system.add_in(String::from_str(alloc, inside)?)?;
-    Ok(system)
-}
-
-/// The schedule order, and which systems each system runs behind.
-fn orders(alloc: Global, desc: ScheduleDesc) -> Result<String, AllocError> {
-    match build(alloc, desc) {
-        Ok(built) => {
-            let mut text = format!(in alloc; "{:?}", built.order())?;
-            for system in 0..built.count() {
-                text = format!(in alloc; "{text} {:?}", built.predecessors(system))?;
-            }
-            Ok(text)
-        }
-        Err(fault) => fault.to_string(alloc),
-    }
-}
-
-/// Two sets of which one is before the other, and a set in the first that is before a system; of three systems one is in the last of them,
-/// one in the inner set, and one before the last set.
-fn of_three_sets(alloc: Global) -> Result<ScheduleDesc, AllocError> {
-    let mut desc = ScheduleDesc::new(alloc);
-    desc.add_system(member(alloc, "a", "late")?)?;
-    desc.add_system(member(alloc, "b", "inner")?)?;
-    desc.add_system(system(alloc, "c", "late", "")?)?;
-    desc.add_set(set(alloc, "early", "", "late")?)?;
-    desc.add_set(set(alloc, "late", "", "")?)?;
-    desc.add_set(set(alloc, "inner", "early", "c")?)?;
-    Ok(desc)
-}
-
-#[test]
-fn sets_order_their_members(rt: HostRuntime) -> Result<(), Fail> {
-    let orders = orders(rt.alloc(), of_three_sets(rt.alloc())?)?;
-    assert!(rt; orders.as_str() == "[1, 2, 0] [1, 2] [] [1]");
-    Ok(())
-}
-
-/// What is told of these sets, each by its name, the set that it is in and the item that it is before, and of one system in these sets.
-fn told_of_items(
-    alloc: Global,
-    sets: &[(&str, &str, &str)],
-    inside: &[&str],
-) -> Result<String, AllocError> {
-    let mut desc = ScheduleDesc::new(alloc);
-    for (name, inside, before) in sets {
-        desc.add_set(set(alloc, *name, *inside, *before)?)?;
-    }
-    let mut system = system(alloc, "s", "", "")?;
-    for set in inside {
-        system.add_in(String::from_str(alloc, *set)?)?;
-    }
-    desc.add_system(system)?;
-    answer(alloc, desc)
-}
-
-// Sets, each by its name, the set that it is in and the item that it is before, the sets of one system, and what is told of them.
-const SETS: [(&[(&str, &str, &str)], &[&str], &str); 3] = [
-    (&[("x", "y", ""), ("y", "", "s")], &["x"], "refused B7 s y"),
-    (
-        &[("x", "", "y"), ("y", "", ""), ("z", "x", "")],
-        &["y", "z"],
-        "refused B8 x y s",
-    ),
-    (&[("x", "y", ""), ("y", "x", "")], &[], "refused B4 x y x"),
-];
-
-#[test]
-fn tells_refusals_of_sets(rt: HostRuntime) -> Result<(), Fail> {
-    for (sets, inside, wanted) in SETS {
-        assert!(rt;
-            told_of_items(rt.alloc(), sets, inside)?.as_str() == wanted,
-            "where {wanted}"
-        );
-    }
-    Ok(())
-}
-
-/// What is told of so many sets.
-fn told_of_sets(alloc: Global, count: u32) -> Result<String, AllocError> {
+/// `sets COUNT`: the schedule order of so many sets, or what is refused.
+pub fn many_sets(alloc: Global, count: u32) -> Answer {
     let mut desc = ScheduleDesc::new(alloc);
     for number in 0..count {
-        let name = format!(in alloc; "s{number}")?;
-        desc.add_set(ItemDesc::new(alloc, name))?;
+        desc.add_set(ItemDesc::new(alloc, format!(in alloc; "s{number}")?))?;
     }
-    answer(alloc, desc)
+    order_of(alloc, desc)
 }
 
-#[test]
-fn refuses_more_than_64_sets(rt: HostRuntime) -> Result<(), Fail> {
-    assert!(rt; told_of_sets(rt.alloc(), 64)?.as_str() == "[]");
-    assert!(rt; told_of_sets(rt.alloc(), 65)?.as_str() == "refused B12 2");
-    Ok(())
+// A system of a number that is after another, if it is to be.
+fn link(alloc: Global, number: u32, after: Option<u32>) -> Result<SystemDesc, AllocError> {
+    let name = format!(in alloc; "s{number}")?;
+    let mut system = SystemDesc::new(alloc, name, Params::new(alloc));
+    if let Some(earlier) = after {
+        system.add_after(format!(in alloc; "s{earlier}")?)?;
+    }
+    Ok(system)
 }
 
-/// A chain of systems, each before the next; where it is closed, the last is before the first.
-fn chain(alloc: Global, count: u32, is_closed: bool) -> Result<ScheduleDesc, AllocError> {
+// A text, of which the middle is left out where it has many words.
+fn ends_of(alloc: Global, text: &str) -> Answer {
+    let words = words_of(alloc, text)?;
+    match words.as_slice() {
+        [a, b, c, d, e, .., x, y, z] => Ok(format!(in alloc;
+            "{a} {b} {c} {d} {e} .. {x} {y} {z}"
+        )?),
+        _ => Ok(text.to_string(alloc)?),
+    }
+}
+
+/// `chain COUNT` or `circle COUNT`: what is told of so many systems, each after the one before it, and in a circle the first after the last.
+pub fn chain(alloc: Global, count: u32, is_closed: bool) -> Answer {
     let mut desc = ScheduleDesc::new(alloc);
-    for number in 1..=count {
-        let name = format!(in alloc; "s{number}")?;
-        let mut system = SystemDesc::new(alloc, name, Params::new(alloc));
-        if is_closed && number == count {
-            system.add_before(String::from_str(alloc, "s1")?)?;
-        }
-        if number > 1 {
-            system.add_after(format!(in alloc; "s{}", number - 1)?)?;
-        }
-        desc.add_system(system)?;
+    desc.add_system(link(alloc, 1, if is_closed { Some(count) } else { None })?)?;
+    for number in 1..count {
+        desc.add_system(link(alloc, number + 1, Some(number))?)?;
     }
-    Ok(desc)
-}
-
-#[test]
-fn refuses_long_chains_quickly(rt: HostRuntime) -> Result<(), Fail> {
-    let alloc = rt.alloc();
-    let long = answer(alloc, chain(alloc, 40_000, false)?)?;
-    assert!(rt; long.as_str() == "refused B12 1");
-    let closed = answer(alloc, chain(alloc, 4_000, true)?)?;
-    assert!(rt; closed.as_str().starts_with("refused B6 s1 s2 s3 "));
-    assert!(rt; closed.as_str().ends_with(" s3999 s4000 s1"));
-    Ok(())
-}
-
-/// What is told of the systems a, b and c, a chain of these names, and c before one of this name whatever commands are deferred.
-fn told_of_chain(alloc: Global, items: &[&str], later: &str) -> Result<String, AllocError> {
-    let mut desc = ScheduleDesc::new(alloc);
-    for name in ["a", "b"] {
-        desc.add_system(system(alloc, name, "", "")?)?;
-    }
-    let mut item = ItemDesc::new(alloc, String::from_str(alloc, "c")?);
-    if !later.is_empty() {
-        item.add_before_ignore_deferred(String::from_str(alloc, later)?)?;
-    }
-    desc.add_system(SystemDesc::of_item(item, Params::new(alloc)))?;
-    let mut chain = ChainDesc::new(alloc, false);
-    for name in items {
-        chain.add_item(String::from_str(alloc, name)?)?;
-    }
-    desc.add_chain(chain)?;
-    answer(alloc, desc)
-}
-
-// The names of a chain, what c is before, and what is told.
-const CHAINS: [(&[&str], &str, &str); 3] = [
-    (&["c", "b", "a"], "", "[2, 1, 0]"),
-    (&["b", "c"], "b", "refused B6 b c b"),
-    (&["zz"], "", "refused B1 zz"),
-];
-
-#[test]
-fn orders_chains(rt: HostRuntime) -> Result<(), Fail> {
-    for (chain, later, wanted) in CHAINS {
-        assert!(rt;
-            told_of_chain(rt.alloc(), chain, later)?.as_str() == wanted,
-            "where {wanted}"
-        );
-    }
-    Ok(())
+    ends_of(alloc, order_of(alloc, desc)?.as_str())
 }

@@ -2,15 +2,87 @@
 
 ghost use Rattle.std.specs.Prelude.{◌≡◌, ◌+◌, ◌<◌, ◌^◌, IfOk};
 
-use cycle_search::Order;
+use crate::fault::{Answer, Fault};
+use crate::words::number_of;
 use std::alloc::{AllocError, Global};
-use std::test::Fail;
-use system_set::{HierarchyFault, SetHierarchy, Sharing};
+use system_set::{HierarchyFault, SetHierarchy};
+use texts::words::words_of;
+
+// Puts an item into a set, as a text `ITEM SET` asks.
+fn put(
+    alloc: Global,
+    hierarchy: &mut SetHierarchy,
+    sets: usize,
+    items: usize,
+    text: &str,
+) -> Result<(), Fault>
+    requires sets { hierarchy.old.sets ≡ sets }
+    requires items { hierarchy.old.items ≡ items }
+    ensures sets { hierarchy.new.sets ≡ sets }
+    ensures items { hierarchy.new.items ≡ items }
+{
+    let words = words_of(alloc, text)?;
+    let [item, set] = words.as_slice() else {
+        return Err(Fault::Outside);
+    };
+    let (item, set) = (number_of(item)? as usize, number_of(set)? as usize);
+    if item >= items || set >= sets {
+        return Err(Fault::Barred);
+    }
+    hierarchy.put(item, set)?;
+    Ok(())
+}
+
+// So many sets and systems, put into sets as the parts of a text ask.
+fn hierarchy_of(
+    alloc: Global,
+    sets: usize,
+    systems: usize,
+    parts: &[&str],
+) -> Result<SetHierarchy, Fault>
+    requires few { sets + systems < 2 ^ 64 }
+    ensures sets { IfOk result (λ h. h.sets ≡ sets) }
+{
+    let mut hierarchy = SetHierarchy::new(alloc, sets, systems);
+    for part in parts {
+        put(alloc, &mut hierarchy, sets, sets + systems, part)?;
+    }
+    Ok(hierarchy)
+}
+
+// What is told of a hierarchy: that it is fine, or why not.
+fn checked(alloc: Global, hierarchy: &SetHierarchy) -> Answer {
+    match hierarchy.check(alloc) {
+        Ok(()) => Ok("fine".to_string(alloc)?),
+        Err(HierarchyFault::Cycle(items)) if items.len() > 8 => {
+            Ok(format!(in alloc; "circle of {}", items.len())?)
+        }
+        Err(fault) => Ok(format!(in alloc; "{fault:?}")?),
+    }
+}
+
+/// `hold SETS SYSTEMS [ITEM SET; ..]`: what is told of so many sets and systems, each item in a set, and the members of each set.
+pub fn hold(alloc: Global, counts: [u32; 2], text: &str) -> Answer {
+    let [sets, systems] = counts;
+    let parts: Vec<&str> = text.split(';').collect(alloc)?;
+    let hierarchy = hierarchy_of(alloc, sets as usize, systems as usize, parts.as_slice())?;
+    let mut told = checked(alloc, &hierarchy)?;
+    if told.as_str() == "fine" {
+        for set in 0..sets {
+            write!(
+                told,
+                " {:?}",
+                hierarchy.members(alloc, set as usize)?.as_slice()
+            )?;
+        }
+    }
+    Ok(told)
+}
 
 // So many sets, each in the next, with so many systems in the first.
 fn nested(alloc: Global, sets: usize, systems: usize) -> Result<SetHierarchy, AllocError>
     requires some { 0 < sets }
-    requires few { sets + systems < 2 ^ 32 }
+    requires few { sets + systems < 2 ^ 64 }
     ensures sets { IfOk result (λ h. h.sets ≡ sets) }
     ensures items { IfOk result (λ h. h.items ≡ sets + systems) }
 {
@@ -24,117 +96,18 @@ fn nested(alloc: Global, sets: usize, systems: usize) -> Result<SetHierarchy, Al
     Ok(hierarchy)
 }
 
-// Three sets and three systems: the first two sets are in the third, two systems in one of them each, and one in none.
-fn two_in_one(alloc: Global) -> Result<SetHierarchy, AllocError>
-    ensures sets { IfOk result (λ h. h.sets ≡ 3) }
-    ensures items { IfOk result (λ h. h.items ≡ 6) }
-{
-    let mut hierarchy = SetHierarchy::new(alloc, 3, 3);
-    hierarchy.put(0, 2)?;
-    hierarchy.put(1, 2)?;
-    hierarchy.put(4, 1)?;
-    hierarchy.put(3, 0)?;
-    Ok(hierarchy)
-}
-
-#[test]
-fn members_reach_through_sets(rt: HostRuntime) -> Result<(), Fail> {
-    let alloc = rt.alloc();
-    let hierarchy = two_in_one(alloc)?;
-    assert!(rt; hierarchy.check(alloc).is_ok());
-    assert!(rt; hierarchy.members(alloc, 0)?.as_slice() == [3].as_slice());
-    assert!(rt; hierarchy.members(alloc, 1)?.as_slice() == [4].as_slice());
-    assert!(rt; hierarchy.members(alloc, 2)?.as_slice() == [3, 4].as_slice());
-    Ok(())
-}
-
-#[test]
-fn refuses_a_set_in_itself_first(rt: HostRuntime) -> Result<(), Fail> {
-    let alloc = rt.alloc();
-    let mut hierarchy = two_in_one(alloc)?;
-    hierarchy.put(2, 0)?;
-    let circle = hierarchy.check(alloc);
-    assert!(rt;
-        matches!(&circle, Err(HierarchyFault::Cycle(items)) if items.as_slice() == [0, 2].as_slice())
-    );
-    hierarchy.put(1, 1)?;
-    let itself = hierarchy.check(alloc);
-    assert!(rt; matches!(&itself, Err(HierarchyFault::Loop(1))));
-    Ok(())
-}
-
-#[test]
-fn many_sets_are_quick(rt: HostRuntime) -> Result<(), Fail> {
-    let alloc = rt.alloc();
-    let mut hierarchy = nested(alloc, 20_000, 40_000)?;
-    assert!(rt; hierarchy.check(alloc).is_ok());
-    assert!(rt; hierarchy.members(alloc, 0)?.len() == 40_000);
-    assert!(rt; hierarchy.members(alloc, 19_999)?.len() == 40_000);
-    hierarchy.put(19_999, 0)?;
-    let circle = hierarchy.check(alloc);
-    assert!(rt; matches!(&circle, Err(HierarchyFault::Cycle(items)) if items.len() == 20_000));
-    Ok(())
-}
-
-#[test]
-fn sets_that_are_apart_are_ordered(rt: HostRuntime) -> Result<(), Fail> {
-    let hierarchy = two_in_one(rt.alloc())?;
-    let apart = [Order {
-        first: 0,
-        second: 1,
-    }];
-    assert!(rt; hierarchy.crossing(rt.alloc(), &apart)?.is_none());
-    assert!(rt; hierarchy.sharing(rt.alloc(), &apart)?.is_none());
-    assert!(rt; hierarchy.edges(rt.alloc(), &apart)?.as_slice() == apart.as_slice());
-    Ok(())
-}
-
-#[test]
-fn orders_of_what_holds_the_other_are_told(rt: HostRuntime) -> Result<(), Fail> {
-    let hierarchy = two_in_one(rt.alloc())?;
-    assert!(rt;
-        hierarchy.crossing(
-            rt.alloc(),
-            &[Order {
-                first: 2,
-                second: 4
-            }]
-        )? == Some(Order {
-            first: 4,
-            second: 2
-        })
-    );
-    let found = Sharing {
-        first: 2,
-        second: 1,
-        system: 4,
-    };
-    assert!(rt;
-        hierarchy.sharing(
-            rt.alloc(),
-            &[Order {
-                first: 2,
-                second: 1
-            }]
-        )? == Some(found)
-    );
-    Ok(())
-}
-
-#[test]
-fn items_cover_their_members(rt: HostRuntime) -> Result<(), Fail> {
-    let alloc = rt.alloc();
-    let mut hierarchy = SetHierarchy::new(alloc, 4, 3);
-    hierarchy.put(0, 2)?;
-    hierarchy.put(6, 2)?;
-    hierarchy.put(4, 0)?;
-    hierarchy.put(5, 1)?;
-    let items = [2, 4, 3, 0];
-    let told = hierarchy.coverage(alloc, items.as_slice())?;
-    assert!(rt; told.len() == 4);
-    assert!(rt; told[0].numbers() == [0, 2].as_slice());
-    assert!(rt; told[1].numbers() == [0].as_slice());
-    assert!(rt; told[2].numbers() == [].as_slice());
-    assert!(rt; told[3].numbers() == [0].as_slice());
-    Ok(())
+/// `many SETS SYSTEMS`: of so many such sets what is told, how many members the first and the last have, and what is told once the last is in the
+/// first.
+pub fn hold_many(alloc: Global, counts: [u32; 2]) -> Answer {
+    let (sets, systems) = (counts[0] as usize, counts[1] as usize);
+    if sets == 0 {
+        return Err(Fault::Barred);
+    }
+    let mut hierarchy = nested(alloc, sets, systems)?;
+    let fine = checked(alloc, &hierarchy)?;
+    let first = hierarchy.members(alloc, 0)?.len();
+    let last = hierarchy.members(alloc, sets - 1)?.len();
+    hierarchy.put(sets - 1, 0)?;
+    let circle = checked(alloc, &hierarchy)?;
+    Ok(format!(in alloc; "{fine} {first} {last} {circle}")?)
 }

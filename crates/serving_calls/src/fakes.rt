@@ -1,10 +1,8 @@
-// Readers and writers for tests, which move few bytes at once and fail after a while, and a command line.
+// Readers and writers in memory, which move few bytes at once and fail after a while.
 
 use std::alloc::Global;
-use std::env::FillError;
 use std::io;
 use std::io::{ErrorKind, Read, Write};
-use std::rt::Env;
 
 /// A reader of these bytes that fails where so many reads were made.
 #[derive(Drop)]
@@ -71,48 +69,5 @@ impl Write for Sink {
 
     fn flush(&mut self) -> io::Result<()> {
         Ok(())
-    }
-}
-
-/// A command line of these words, each of any bytes.
-#[derive(Drop)]
-pub struct Line<'a> {
-    alloc: Global,
-    words: &'a [&'a [u8]],
-}
-
-impl<'a> Line<'a> {
-    /// The command line of these words.
-    pub(crate) fn new(alloc: Global, words: &'a [&'a [u8]]) -> Self {
-        Line { alloc, words }
-    }
-}
-
-impl Alloc for Line<'_> {
-    type A = Global;
-
-    fn alloc(&self) -> Global {
-        self.alloc
-    }
-}
-
-impl Env for Line<'_> {
-    fn arg(&self, i: usize, buf: &mut [u8]) -> Result<usize, FillError> {
-        let Some(word) = self.words.get(i) else {
-            return Err(FillError::NotPresent);
-        };
-        if buf.len() < word.len() {
-            return Err(FillError::TooLong);
-        }
-        buf[..word.len()].copy_from_slice(word);
-        Ok(word.len())
-    }
-
-    fn var(&self, _name: &str, _buf: &mut [u8]) -> Result<usize, FillError> {
-        Err(FillError::NotPresent)
-    }
-
-    fn var_at(&self, _i: usize, _buf: &mut [u8]) -> Result<usize, FillError> {
-        Err(FillError::NotPresent)
     }
 }

@@ -1,0 +1,45 @@
+use Rattle.std.proofs.Common.{◌≡◌, ◌≤◌, [], ◌∷◌, ◌++◌, refl, sym, ap, ap₂, subst, ◌∙◌, arith}
+use Rattle.kinds.specs.Kind.{kind_number}
+use Rattle.archetype_store.specs.declared.columns.TakenColumn.{TakenColumn}
+use Rattle.archetype_store.specs.Store.{StoreValue}
+use Rattle.archetype_store.specs.Lending.{CanComeHome, AreTaken, all_away, all_home}
+use Rattle.archetype_store.proofs.Returned.{IsWritten, can_two, taken_two, two_returned}
+use Rattle.store_calls.proofs.columns.write_half_of_the_second.Goals as goal
+
+pub take_written-requires : goal.take_written-requires
+take_written-requires c = can_two c.args.world.now.layout c.args.first c.args.second c.requires.apart c.requires.first c.requires.second
+
+pub write_half-requires : goal.write_half-requires
+write_half-requires c =
+    let w = c.args.world.now in
+    let items : c.in_ok-taken.taken.items ≡ c.pop.new.self.items ++ c.in_ok-last.last ∷ [] = rw c.in_ok-last.ensures.ok_part at c.pop.ensures.items in
+    let two = taken_two w.state.slots w.layout c.args.first c.args.second c.pop.new.self.items c.in_ok-last.last (subst (AreTaken w.state.slots w.layout (c.args.first ∷ c.args.second ∷ [])) items c.in_ok-taken.ensures.taken) in
+    two.1.1.1.kind_is ∙ ap kind_number c.requires.health
+
+pub put_back-requires : goal.put_back-requires
+put_back-requires c =
+    let w = c.args.world.now in
+    let items : c.in_ok-taken.taken.items ≡ c.pop.new.self.items ++ c.in_ok-last.last ∷ [] = rw c.in_ok-last.ensures.ok_part at c.pop.ensures.items in
+    let d : TakenColumn = record { archetype = c.in_ok-last.last.archetype; column = c.write_half.new.column } in
+    let past : c.now-now.result ≤ w.state.clock = omega (arith, c.now-now.ensures.value) in
+    let written : IsWritten w.state.clock c.in_ok-last.last d
+    = record { archetype = refl; kind = c.write_half.ensures.kind; many = c.write_half.ensures.many; past = c.write_half.ensures.past w.state.clock past } in
+    let can = can_two w.layout c.args.first c.args.second c.requires.apart c.requires.first c.requires.second in
+    let back = two_returned w.state c.now-now.ensures.world w.layout c.laid.ensures c.args.first c.args.second c.in_ok-taken.taken.items c.pop.new.self.items c.in_ok-last.last d
+    c.requires.apart can c.in_ok-taken.ensures.taken items written in
+    subst (CanComeHome c.insert.new.self.items) (sym c.in_ok-taken.ensures.away)
+    (subst (λ xs. CanComeHome xs (record { state = w.state; layout = all_away (c.args.first ∷ c.args.second ∷ []) w.layout })) (sym c.in_ok-insert.ensures.items) back.0)
+
+pub returns : goal.returns
+returns c =
+    let w = c.args.world.now in
+    let items : c.in_ok-taken.taken.items ≡ c.pop.new.self.items ++ c.in_ok-last.last ∷ [] = rw c.in_ok-last.ensures.ok_part at c.pop.ensures.items in
+    let d : TakenColumn = record { archetype = c.in_ok-last.last.archetype; column = c.write_half.new.column } in
+    let past : c.now-now.result ≤ w.state.clock = omega (arith, c.now-now.ensures.value) in
+    let written : IsWritten w.state.clock c.in_ok-last.last d
+    = record { archetype = refl; kind = c.write_half.ensures.kind; many = c.write_half.ensures.many; past = c.write_half.ensures.past w.state.clock past } in
+    let can = can_two w.layout c.args.first c.args.second c.requires.apart c.requires.first c.requires.second in
+    let back = two_returned w.state c.now-now.ensures.world w.layout c.laid.ensures c.args.first c.args.second c.in_ok-taken.taken.items c.pop.new.self.items c.in_ok-last.last d
+    c.requires.apart can c.in_ok-taken.ensures.taken items written in
+    ap (λ (v : StoreValue). v.layout) c.put_back.ensures
+    ∙ ap₂ (λ xs v. (all_home xs v).layout) c.in_ok-insert.ensures.items c.in_ok-taken.ensures.away ∙ back.1
