@@ -120,14 +120,6 @@ pub fn move_twice(alloc: Global, counts: [u32; 3]) -> Answer {
     Ok(format!(in alloc; "{first} / {second}")?)
 }
 
-// Boxes of a script that moves and of a body that touches nothing.
-fn boxes(alloc: Global) -> Result<Vec<Box<dyn Body + Send>>, Fault> {
-    let mut bodies: Vec<Box<dyn Body + Send>> = Vec::new(alloc);
-    bodies.push(Box::new(alloc, movement(alloc)?)?)?;
-    bodies.push(Box::new(alloc, Answering { refusal: None })?)?;
-    Ok(bodies)
-}
-
 // Where three runs of these two bodies on this thread move the first entity.
 fn alone<B: Body>(alloc: Global, bodies: Vec<B>) -> Result<Option<Position>, Fault> {
     let mut engine = engine(alloc, Clock::at(1), &[MOVING, "read Health"], bodies)?;
@@ -146,13 +138,33 @@ fn on_threads<R: Threads + Wait + Copy + Send + Sync + 'static, B: Body + 'stati
     Ok(position(&engine))
 }
 
-/// `threads boxes`: where bodies of two types in boxes move the first entity on this thread, and on two.
+// Where they move it from boxes, on this thread.
+fn boxed_alone(alloc: Global) -> Result<Option<Position>, Fault> {
+    let mut bodies: Vec<Box<dyn Body + Send>> = Vec::new(alloc);
+    bodies.push(Box::new(alloc, movement(alloc)?)?)?;
+    bodies.push(Box::new(alloc, Answering { refusal: None })?)?;
+    alone(alloc, bodies)
+}
+
+// The same on two threads.
+fn boxed_on_threads<R: Threads + Wait + Copy + Send + Sync + 'static>(
+    runtime: R,
+    alloc: Global,
+) -> Result<Option<Position>, Fault> {
+    let mut bodies: Vec<Box<dyn Body + Send>> = Vec::new(alloc);
+    bodies.push(Box::new(alloc, movement(alloc)?)?)?;
+    bodies.push(Box::new(alloc, Answering { refusal: None })?)?;
+    on_threads(runtime, alloc, bodies)
+}
+
+/// `threads boxes`: where bodies of two types in boxes, a script that moves and one that touches nothing, move the first entity on this
+/// thread, and on two.
 pub fn move_boxes<R: Threads + Wait + Copy + Send + Sync + 'static>(
     runtime: R,
     alloc: Global,
 ) -> Answer {
-    let alone = alone(alloc, boxes(alloc)?)?;
-    let there = on_threads(runtime, alloc, boxes(alloc)?)?;
+    let alone = boxed_alone(alloc)?;
+    let there = boxed_on_threads(runtime, alloc)?;
     Ok(format!(in alloc; "{alone:?} {there:?}")?)
 }
 
