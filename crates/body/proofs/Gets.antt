@@ -37,6 +37,22 @@ get-update-other zero (suc k) f (x ∷ xs) d = refl
 get-update-other (suc i) zero f (x ∷ xs) d = refl
 get-update-other (suc i) (suc k) f (x ∷ xs) d = get-update-other i k f xs (λ e. d (ap suc e))
 
+-- two changes that agree on what is there, two that are one, and none
+pub update-as : {A : Type 0} (f g : A → A) (xs : List A) (i : ℕ) → ((x : A) → slice_get xs i ≡ Some x → f x ≡ g x) → update_at i f xs ≡ update_at i g xs
+update-as f g [] i h = refl
+update-as f g (x ∷ xs) zero h = ap (λ y. y ∷ xs) (h x refl)
+update-as f g (x ∷ xs) (suc i) h = ap (λ ys. x ∷ ys) (update-as f g xs i h)
+
+pub update-twice : {A : Type 0} (f g : A → A) (xs : List A) (i : ℕ) → update_at i f (update_at i g xs) ≡ update_at i (λ x. f (g x)) xs
+update-twice f g [] i = refl
+update-twice f g (x ∷ xs) zero = refl
+update-twice f g (x ∷ xs) (suc i) = ap (λ ys. x ∷ ys) (update-twice f g xs i)
+
+pub update-id : {A : Type 0} (xs : List A) (i : ℕ) → update_at i (λ x. x) xs ≡ xs
+update-id [] i = refl
+update-id (x ∷ xs) zero = refl
+update-id (x ∷ xs) (suc i) = ap (λ ys. x ∷ ys) (update-id xs i)
+
 -- a fact of each, of the element at a place
 pub all-get : {A : Type 0} (P : A → Type 0) (xs : List A) (i : ℕ) (x : A) → AllByRecursion P xs → slice_get xs i ≡ Some x → P x
 all-get P [] i x h e = absurd (cc)

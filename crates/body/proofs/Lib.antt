@@ -22,3 +22,5 @@ pub mod Openings
 pub mod QueryOpens
 pub mod Outs
 pub mod Counts
+pub mod FieldWords
+pub mod FieldRows

@@ -18,11 +18,11 @@ use Rattle.body.proofs.Gets.{same-some, all-get}
 use Rattle.body.proofs.Sheets.{cell_in-is, is-some, readable, read-row, within-slots}
 use Rattle.body.proofs.SheetWrites.{writable, cells-written, sheet-written}
 
-words_of-map : (o : Option Cell) → words_of o ≡ option_map (λ c. c.words) o
+pub words_of-map : (o : Option Cell) → words_of o ≡ option_map (λ c. c.words) o
 words_of-map None = refl
 words_of-map (Some c) = refl
 
-held-is : (columns : List Held) (slot : ℕ) (column : Column) (h : Held) → slice_get (map held_seen columns) slot ≡ Some column → h ≡ get_or columns slot h → column ≡ held_seen h
+pub held-is : (columns : List Held) (slot : ℕ) (column : Column) (h : Held) → slice_get (map held_seen columns) slot ≡ Some column → h ≡ get_or columns slot h → column ≡ held_seen h
 held-is columns slot column h there is =
     let inside : slot < length columns = (let l = slice_get_within (map held_seen columns) slot column there in omega (arith, length-map columns held_seen)) in
     same-some column (held_seen h) (sym there ∙ slice_get-map held_seen columns slot ∙ ap (option_map held_seen) (slice_get_read columns (length columns) slot h refl inside is))
@@ -38,7 +38,7 @@ cell-read slots columns row k slot h w e r is words =
     ∙ words_of-map (slice_get (held_seen h).cells row.place) ∙ words)
 
 module _ (tick : ℕ) (terms : List Term) (slots : List (List (Option ℕ))) (rows : List Row) (taken columns : List Column) (is : IsSheet tick terms slots rows taken columns) (s : Sheet) (seen : sheet_of tick terms slots rows taken columns ≡ s) where
-  rows-within : (r : ℕ) → r < length s.rows → r < length rows
+  pub rows-within : (r : ℕ) → r < length s.rows → r < length rows
   rows-within r l = let e = length-map rows (row_of slots taken terms) in let f = ap (λ (x : Sheet). length x.rows) seen in omega arith
 
   pub row-there : (r : ℕ) (row : Row) → r < length s.rows → row ≡ get_or rows r row → slice_get rows r ≡ Some row

@@ -1,5 +1,5 @@
 -- A view whose queries change.
-use Rattle.std.proofs.Common.{◌≡◌, ℕ, zero, suc, ◌<◌, ◌⊎◌, inl, inr, ℤ, List, [], ◌∷◌, length, map, get_or, set, slice_get, Some, None, refl, sym, ap, ◌∙◌, subst, arith}
+use Rattle.std.proofs.Common.{◌≡◌, ℕ, zero, suc, ◌<◌, ◌⊎◌, inl, inr, ℤ, List, [], ◌∷◌, length, map, get_or, set, slice_get, Option, Some, None, refl, sym, ap, ap₂, ◌∙◌, subst, arith}
 use Rattle.std.specs.List.{AllByRecursion}
 use Rattle.std.proofs.lemmas.Option.{slice_get-get_or}
 use Rattle.std.proofs.lemmas.List.{get_or-map, length-map}
@@ -7,10 +7,10 @@ use Rattle.model.specs.Lists.{update_at}
 use Rattle.model.specs.state.State.{EventQueue, Memory, World, State}
 use Rattle.model.specs.access.Query.{Term, writes as model_writes}
 use Rattle.model.specs.access.Access.{Params}
-use Rattle.model.specs.shown.Input.{rows_of, shown, value_of, unread_of}
+use Rattle.model.specs.shown.Input.{ShownRow, rows_of, shown, value_of, unread_of}
 use Rattle.event_buffers.specs.Lists.{ListsValue}
 use Rattle.body.specs.Issued.{IssuedSeen}
-use Rattle.body.specs.Seen.{Seen, with_words, with_written}
+use Rattle.body.specs.Seen.{Seen, query_at, rows_at, with_words, with_written}
 use Rattle.body.specs.Sheet.{Sheet}
 use Rattle.body.specs.SeenOver.{seen_over, AreTogether}
 use Rattle.body.specs.Values.{ValuesSeen, first_values}
@@ -21,19 +21,26 @@ use Rattle.body.proofs.Gets.{same-some}
 pub query-within : (tick : ℕ) (qs : List Sheet) (values : ValuesSeen) (unread sent : ListsValue) (issued : IssuedSeen) (seen : Seen) (q : ℕ) → seen_over tick qs values unread sent issued ≡ seen → q < length seen.shown.rows → q < length qs
 query-within tick qs values unread sent issued seen q e l = let a = ap (λ (s : Seen). length s.shown.rows) e in let b = length-map qs (λ (s : Sheet). s.rows) in omega arith
 
--- a view over columns with words written
-pub seen_over-written : (tick : ℕ) (qs us : List Sheet) (values : ValuesSeen) (unread sent : ListsValue) (issued : IssuedSeen) (q r k : ℕ) (w : List ℤ) (d new : Sheet) → q < length qs → us ≡ set qs q new →
-    new ≡ (let s = get_or qs q d in record { terms = s.terms; rows = s.rows; cells = update_at r (with_words s.terms k w) s.cells; taken = s.taken; tick = s.tick }) →
-    seen_over tick us values unread sent issued ≡ with_written (seen_over tick qs values unread sent issued) q r k w
-seen_over-written tick qs us values unread sent issued q r k w d new l e n =
+-- a view over columns with other cells of a query, which its terms, its rows and its cells determine
+pub seen_over-cells : (tick : ℕ) (qs us : List Sheet) (values : ValuesSeen) (unread sent : ListsValue) (issued : IssuedSeen) (q : ℕ) (f : List Term → List ShownRow → List (List (Option (List ℤ))) → List (List (Option (List ℤ)))) (d new : Sheet) →
+    q < length qs → us ≡ set qs q new →
+    new ≡ (let s = get_or qs q d in record { terms = s.terms; rows = s.rows; cells = f s.terms s.rows s.cells; taken = s.taken; tick = s.tick }) →
+    seen_over tick us values unread sent issued ≡ (let seen = seen_over tick qs values unread sent issued in let o = seen.outcome in record {
+      params = seen.params;
+      shown = seen.shown;
+      outcome = record { cells = update_at q (f (query_at seen.params q) (rows_at seen.shown q)) o.cells; res_mut = o.res_mut; events = o.events; commands = o.commands; registers = o.registers };
+      opening = seen.opening;
+    })
+seen_over-cells tick qs us values unread sent issued q f d new l e n =
     let terms = get_or-map (λ (s : Sheet). s.terms) qs q d [] l in
+    let rows = get_or-map (λ (s : Sheet). s.rows) qs q d [] l in
     ap (λ (xs : List Sheet). seen_over tick xs values unread sent issued) e
     ∙ (λ i. record {
       params = record { queries = map-set_same (λ (s : Sheet). s.terms) qs q new d (ap (λ (s : Sheet). s.terms) n) i; res = values.res; res_mut = values.res_mut; reads = unread.kinds; writes = sent.kinds; spawns = issued.spawns };
       shown = record { rows = map-set_same (λ (s : Sheet). s.rows) qs q new d (ap (λ (s : Sheet). s.rows) n) i; res = values.res_shown; res_mut = values.res_mut_shown; unread = unread.values; registers = values.registers_shown; granted = issued.granted };
       outcome = record {
-        cells = map-set_update (λ (s : Sheet). s.cells) (update_at r (with_words (get_or (map (λ (s : Sheet). s.terms) qs) q []) k w)) qs q new d
-            (ap (λ (s : Sheet). s.cells) n ∙ ap (λ ts. update_at r (with_words ts k w) (get_or qs q d).cells) (sym terms)) i;
+        cells = map-set_update (λ (s : Sheet). s.cells) (f (get_or (map (λ (s : Sheet). s.terms) qs) q []) (get_or (map (λ (s : Sheet). s.rows) qs) q [])) qs q new d
+            (ap (λ (s : Sheet). s.cells) n ∙ ap₂ (λ ts rs. f ts rs (get_or qs q d).cells) (sym terms) (sym rows)) i;
         res_mut = values.written;
         events = sent.values;
         commands = issued.commands;
@@ -44,6 +51,12 @@ seen_over-written tick qs us values unread sent issued q r k w d new l e n =
         tick = tick;
       };
     })
+
+-- with words written
+pub seen_over-written : (tick : ℕ) (qs us : List Sheet) (values : ValuesSeen) (unread sent : ListsValue) (issued : IssuedSeen) (q r k : ℕ) (w : List ℤ) (d new : Sheet) → q < length qs → us ≡ set qs q new →
+    new ≡ (let s = get_or qs q d in record { terms = s.terms; rows = s.rows; cells = update_at r (with_words s.terms k w) s.cells; taken = s.taken; tick = s.tick }) →
+    seen_over tick us values unread sent issued ≡ with_written (seen_over tick qs values unread sent issued) q r k w
+seen_over-written tick qs us values unread sent issued q r k w d new l e n = seen_over-cells tick qs us values unread sent issued q (λ terms rows. update_at r (with_words terms k w)) d new l e n
 
 -- what a view that is opened shows
 pub seen_over-shown : (params : Params) (memory : Memory) (events : List EventQueue) (world : World) (tick : ℕ) (qs : List Sheet) (values : ValuesSeen) (unread sent : ListsValue) (issued : IssuedSeen) →

@@ -5,6 +5,7 @@ pub mod Steps
 pub mod Columns
 pub mod HeldColumns
 pub mod Sheet
+pub mod Fields
 pub mod Values
 pub mod SeenOver
 pub mod Together

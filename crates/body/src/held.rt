@@ -1,11 +1,15 @@
 // The columns that a query of a view holds: its own where it writes, shared ones where it reads.
 
-ghost use Rattle.std.specs.Prelude.{◌≡◌, ◌<◌, true, Some, length, slice_get, option_map};
+ghost use Rattle.std.specs.Prelude.{◌≡◌, ◌+◌, ◌<◌, ◌≤◌, ℕ, pos, true, Some, length, get_or, slice_get, option_map};
 ghost use Rattle.column_store.specs.Cells.{changed_cell};
 ghost use Rattle.kinds.specs.Kind.{kind_number};
+ghost use Rattle.kinds.specs.Components.{widths};
+ghost use Rattle.model.specs.shown.Input.{words_of};
 ghost use Rattle.body.specs.Columns.{with_cell};
+ghost use Rattle.body.specs.Fields.{field_of, field_cell, column_with_fields};
 ghost use Rattle.body.specs.HeldColumns.{column_in, held_seen};
 
+use crate::field_words::{field_of, with_field};
 use archetype_store::store::World;
 use change_ticks::clock::Tick;
 use column_store::stamped::StampedColumn;
@@ -70,6 +74,60 @@ impl Held {
         match &mut self.cells {
             Cells::Written(column) => column.set(place, component, tick),
             Cells::Read(_) => unreachable!(),
+        }
+    }
+
+    // How many components there are.
+    fn len(&self) -> usize
+        ensures { result ≡ length (held_seen self.now).cells }
+    {
+        self.column().len()
+    }
+
+    // The values of a field of the components from a place on, as many as there is room for.
+    pub(crate) fn read_field<C: Component>(&self, from: usize, place: usize, values: &mut [i64])
+        requires kind { (held_seen self.now).kind ≡ C.NUMBER }
+        requires within { from + length values.old ≤ length (held_seen self.now).cells }
+        ensures length { length values.new ≡ length values.old }
+        ensures values { (i : ℕ) → i < length values.old → get_or values.new i (pos 0) ≡ field_of place (words_of (slice_get (held_seen self.now).cells (from + i))) }
+    {
+        // Tells that places fit.
+        let _count = self.len();
+        for i in 0..values.len() {
+            values[i] = field_of(&self.get::<C>(from + i), place);
+        }
+    }
+
+    // Replaces a field of the component at a place, which counts as changed at this tick.
+    fn set_field<C: Component>(&mut self, at: usize, place: usize, value: i64, tick: Tick)
+        requires written { (held_seen self.old).is_written ≡ true }
+        requires kind { (held_seen self.old).kind ≡ C.NUMBER }
+        requires within { at < length (held_seen self.old).cells }
+        requires place { place < widths C.NUMBER }
+        ensures { held_seen self.new ≡ with_cell at (field_cell (widths C.NUMBER) tick place value) (held_seen self.old) }
+    {
+        let component = self.get::<C>(at);
+        self.set(at, with_field(component, place, value), tick);
+    }
+
+    // Replaces a field of the components from a place on by these values, a value a component. They count as changed at this tick.
+    pub(crate) fn write_field<C: Component>(
+        &mut self,
+        from: usize,
+        place: usize,
+        values: &[i64],
+        tick: Tick,
+    )
+        requires written { (held_seen self.old).is_written ≡ true }
+        requires kind { (held_seen self.old).kind ≡ C.NUMBER }
+        requires within { from + length values.now ≤ length (held_seen self.old).cells }
+        requires place { place < widths C.NUMBER }
+        ensures { held_seen self.new ≡ column_with_fields (widths C.NUMBER) tick place from values.now (held_seen self.old) }
+    {
+        // Tells that places fit.
+        let _count = self.len();
+        for i in 0..values.len() {
+            self.set_field::<C>(from + i, place, values[i], tick);
         }
     }
 }

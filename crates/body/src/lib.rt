@@ -3,6 +3,7 @@
 
 mod closing;
 mod columns;
+pub mod field_words;
 pub mod held;
 pub mod memory;
 pub mod open_state;

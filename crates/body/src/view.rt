@@ -1,6 +1,6 @@
 // A view: what a system is shown at its start, and its outcome so far, where the columns lie.
 
-ghost use Rattle.std.specs.Prelude.{◌≡◌, ◌<◌, ◌≤◌, true, false, [], length, get_or, pos, option_map, is_some, unwrap_or, IfOk, IsTrue, OnOk, OnErr};
+ghost use Rattle.std.specs.Prelude.{◌≡◌, ◌+◌, ◌<◌, ◌≤◌, ℕ, true, false, [], length, get_or, pos, option_map, is_some, unwrap_or, IfOk, IsTrue, OnOk, OnErr};
 ghost use Rattle.std.specs.List.{AllByRecursion};
 ghost use Rattle.kinds.specs.Kind.{kind_number};
 ghost use Rattle.kinds.specs.Res.{res_number, event_number};
@@ -15,6 +15,7 @@ ghost use Rattle.model.specs.shown.Outcome.{spawned_by, untouched, words_written
 ghost use Rattle.model.specs.shown.Outcome.Command.{Spawn, Insert, Remove, Despawn};
 ghost use Rattle.query_plan.specs.Standing.{ArePickedHome};
 ghost use Rattle.archetype_store.specs.Overlays.{AreReached};
+ghost use Rattle.body.specs.Fields.{field_read, with_fields};
 ghost use Rattle.body.specs.Laid.{world_after};
 ghost use Rattle.body.specs.Lent.{AreLent, lent_in, with_away, with_back};
 ghost use Rattle.body.specs.Out.{IsWrittenBy};
@@ -349,6 +350,80 @@ impl View {
         ensures { self.new ≡ with_written self.old query row C.NUMBER words.now }
     {
         self.set(query, row, C::from_words(words));
+    }
+}
+
+impl View {
+    /// The values of a field of a kind in the rows of a query from one on, as many as there is room for: what was written there, else what is
+    /// shown. 0 where a row has not the kind, where no term of the query fetches it, and where the kind has no such field.
+    pub fn read_field(
+        &self,
+        query: usize,
+        kind: Kind,
+        place: usize,
+        from: usize,
+        values: &mut [i64],
+    )
+        requires query { query < length self.now.shown.rows }
+        requires rows { from + length values.old ≤ length (rows_at self.now.shown query) }
+        ensures length { length values.new ≡ length values.old }
+        ensures values { (i : ℕ) → i < length values.old → get_or values.new i (pos 0) ≡ field_read self.now query (from + i) (kind_number kind) place }
+    {
+        each_kind!(kind, K => { self.read_field_of::<K>(query, place, from, values) })
+    }
+
+    // The values of a field of a component in the rows of a query from one on.
+    fn read_field_of<C: Component>(
+        &self,
+        query: usize,
+        place: usize,
+        from: usize,
+        values: &mut [i64],
+    )
+        requires query { query < length self.now.shown.rows }
+        requires rows { from + length values.old ≤ length (rows_at self.now.shown query) }
+        ensures length { length values.new ≡ length values.old }
+        ensures values { (i : ℕ) → i < length values.old → get_or values.new i (pos 0) ≡ field_read self.now query (from + i) C.NUMBER place }
+    {
+        let query = &self.queries[query];
+        query.read_field::<C>(from, place, values);
+    }
+
+    /// Writes values into a field of a kind in the rows of a query from one on, a value a row. The query has a `mut` term of the kind, and the
+    /// other field of each component stays.
+    pub fn write_field(
+        &mut self,
+        query: usize,
+        kind: Kind,
+        place: usize,
+        from: usize,
+        values: &[i64],
+    )
+        requires query { query < length self.old.shown.rows }
+        requires rows { from + length values.now ≤ length (rows_at self.old.shown query) }
+        requires mut_term { IsTrue (writes (query_at self.old.params query) (kind_number kind)) }
+        requires place { place < widths (kind_number kind) }
+        ensures { self.new ≡ with_fields self.old query (kind_number kind) place from values.now }
+    {
+        each_kind!(kind, K => { self.write_field_of::<K>(query, place, from, values) })
+    }
+
+    // Writes values into a field of a component in the rows of a query from one on.
+    fn write_field_of<C: Component>(
+        &mut self,
+        query: usize,
+        place: usize,
+        from: usize,
+        values: &[i64],
+    )
+        requires query { query < length self.old.shown.rows }
+        requires rows { from + length values.now ≤ length (rows_at self.old.shown query) }
+        requires mut_term { IsTrue (writes (query_at self.old.params query) C.NUMBER) }
+        requires place { place < widths C.NUMBER }
+        ensures { self.new ≡ with_fields self.old query C.NUMBER place from values.now }
+    {
+        let query = &mut self.queries[query];
+        query.write_field::<C>(from, place, values);
     }
 }
 

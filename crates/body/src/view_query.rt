@@ -1,17 +1,20 @@
 // A query of a view: its rows stand in columns, are read there and written there.
 
-ghost use Rattle.std.specs.Prelude.{◌≡◌, ◌<◌, [], map, length, get_or, option_map, IsTrue};
+ghost use Rattle.std.specs.Prelude.{◌≡◌, ◌+◌, ◌<◌, ◌≤◌, ℕ, pos, [], ◌∷◌, map, length, get_or, option_map, IsTrue};
 ghost use Rattle.column_store.specs.Cells.{changed_cell};
 ghost use Rattle.kinds.specs.Kind.{kind_number};
+ghost use Rattle.kinds.specs.Components.{widths};
 ghost use Rattle.model.specs.Lists.{update_at};
 ghost use Rattle.model.specs.access.Query.{writes};
 ghost use Rattle.model.specs.shown.Input.{words_of};
 ghost use Rattle.model.specs.shown.Outcome.{untouched_rows, words_in_query};
 ghost use Rattle.body.specs.Columns.{with_cell, column_after};
 ghost use Rattle.body.specs.HeldColumns.{held_seen, slots_seen};
+ghost use Rattle.body.specs.Fields.{field_of, field_seen, sheet_with_fields, column_with_fields};
 ghost use Rattle.body.specs.Seen.{words_read, with_words, no_row};
-ghost use Rattle.body.specs.Sheet.{slot_in, seen_at, at_slot, row_of, IsPlan, IsReadable, IsWritable, WritesReach};
+ghost use Rattle.body.specs.Sheet.{slot_in, slot_cell, seen_at, at_slot, row_of, IsPlan, IsReadableAt, IsReadable, IsWritableAt, IsWritable, WritesReach};
 
+use crate::field_words::{field_of, with_field, zeros};
 use crate::held::Held;
 use change_ticks::clock::Tick;
 use entity_table::Entity;
@@ -132,6 +135,48 @@ impl ViewQuery {
         );
     }
 
+    /// The values of a field of the rows from one on, as many as there is room for: 0 where a row has not the kind, and where the query
+    /// doesn't fetch it.
+    pub fn read_field<C: Component>(&self, from: usize, place: usize, values: &mut [i64])
+        requires { from + length values.old ≤ length self.now.rows }
+        ensures length { length values.new ≡ length values.old }
+        ensures values { (i : ℕ) → i < length values.old → get_or values.new i (pos 0) ≡ field_seen self.now (from + i) C.NUMBER place }
+    {
+        match self.placing.rows.archetype() {
+            Some(archetype) => read_column::<C>(
+                &self.placing.slots,
+                &self.columns,
+                archetype as usize,
+                from,
+                place,
+                values,
+            ),
+            None => read_each::<C>(self, from, place, values),
+        }
+    }
+
+    /// Writes values into a field of the rows from one on, a value a row, of a query that has a `mut` term of its kind. The other field of
+    /// each component stays.
+    pub fn write_field<C: Component>(&mut self, from: usize, place: usize, values: &[i64])
+        requires rows { from + length values.now ≤ length self.old.rows }
+        requires mut_term { IsTrue (writes self.old.terms C.NUMBER) }
+        requires place { place < widths C.NUMBER }
+        ensures { self.new ≡ sheet_with_fields self.old C.NUMBER place from values.now }
+    {
+        match self.placing.rows.archetype() {
+            Some(archetype) => write_column::<C>(
+                &self.placing.slots,
+                &mut self.columns,
+                archetype as usize,
+                from,
+                place,
+                values,
+                self.placing.tick,
+            ),
+            None => write_each::<C>(self, from, place, values),
+        }
+    }
+
     /// Gives the columns back: each as it was taken, with what was written laid over it. The buffer of its rows goes to this room.
     pub fn close(self, room: &mut RowRoom) -> Vec<Held>
         ensures columns { map held_seen result.items ≡ map (column_after self.tick (words_in_query self.terms self.rows self.cells)) self.taken }
@@ -190,4 +235,118 @@ fn set_in<C: Component>(slots: &[Slots], columns: &mut Vec<Held>, at: Row, compo
     ensures { map held_seen columns.new.items ≡ at_slot (slot_in (map slots_seen slots.now) at.archetype C.NUMBER) (with_cell at.place (changed_cell (C.words component) tick)) (map held_seen columns.old.items) }
 {
     set_at(slots, columns, at, component, tick);
+}
+
+// The values of a field of the components of an archetype from a place on, 0 where it has none of the kind.
+fn read_column<C: Component>(
+    slots: &[Slots],
+    columns: &[Held],
+    archetype: usize,
+    from: usize,
+    place: usize,
+    values: &mut [i64],
+)
+    requires archetype { 0 < length values.old → archetype < length slots.now }
+    requires readable { (i : ℕ) → i < length values.old → IsReadableAt (slot_in (map slots_seen slots.now) archetype C.NUMBER) (map held_seen columns.now) C.NUMBER (from + i) }
+    ensures length { length values.new ≡ length values.old }
+    ensures values { (i : ℕ) → i < length values.old → get_or values.new i (pos 0) ≡ field_of place (words_of (slot_cell (slot_in (map slots_seen slots.now) archetype C.NUMBER) (map held_seen columns.now) (from + i))) }
+{
+    let count = values.len();
+    if count == 0 {
+        return;
+    }
+    match slot_of(slots, archetype, C::NUMBER) {
+        Some(slot) => columns[slot as usize].read_field::<C>(from, place, values),
+        None => clear(values),
+    }
+}
+
+// Makes all values 0.
+fn clear(values: &mut [i64])
+    ensures length { length values.new ≡ length values.old }
+    ensures values { (i : ℕ) → i < length values.old → get_or values.new i (pos 0) ≡ pos 0 }
+{
+    for value in values.iter_mut() {
+        *value = 0;
+    }
+}
+
+// Writes values into a field of the components of an archetype from a place on, which count as changed at this tick.
+fn write_column<C: Component>(
+    slots: &[Slots],
+    columns: &mut Vec<Held>,
+    archetype: usize,
+    from: usize,
+    place: usize,
+    values: &[i64],
+    tick: Tick,
+)
+    requires archetype { 0 < length values.now → archetype < length slots.now }
+    requires writable { (i : ℕ) → i < length values.now → IsWritableAt (slot_in (map slots_seen slots.now) archetype C.NUMBER) (map held_seen columns.old.items) C.NUMBER (from + i) }
+    requires place { place < widths C.NUMBER }
+    ensures { map held_seen columns.new.items ≡ at_slot (slot_in (map slots_seen slots.now) archetype C.NUMBER) (column_with_fields (widths C.NUMBER) tick place from values.now) (map held_seen columns.old.items) }
+{
+    let count = values.len();
+    if count == 0 {
+        return;
+    }
+    match slot_of(slots, archetype, C::NUMBER) {
+        Some(slot) => {
+            let held = &mut columns[slot as usize];
+            held.write_field::<C>(from, place, values, tick);
+        }
+        None => unreachable!(),
+    }
+}
+
+// The value of a field of a row of a query.
+fn field_at<C: Component>(query: &ViewQuery, row: usize, place: usize) -> i64
+    requires { row < length query.now.rows }
+    ensures { result ≡ field_seen query.now row C.NUMBER place }
+{
+    match query.get::<C>(row) {
+        Some(component) => field_of(&component, place),
+        None => 0,
+    }
+}
+
+// The values of a field of the rows from one on, each found by itself.
+fn read_each<C: Component>(query: &ViewQuery, from: usize, place: usize, values: &mut [i64])
+    requires { from + length values.old ≤ length query.now.rows }
+    ensures length { length values.new ≡ length values.old }
+    ensures values { (i : ℕ) → i < length values.old → get_or values.new i (pos 0) ≡ field_seen query.now (from + i) C.NUMBER place }
+{
+    // Tells that numbers of rows fit.
+    let _count = query.rows();
+    for i in 0..values.len() {
+        values[i] = field_at::<C>(query, from + i, place);
+    }
+}
+
+// Writes a field of a row of a query.
+fn set_field<C: Component>(query: &mut ViewQuery, row: usize, place: usize, value: i64)
+    requires row { row < length query.old.rows }
+    requires mut_term { IsTrue (writes query.old.terms C.NUMBER) }
+    requires place { place < widths C.NUMBER }
+    ensures { query.new ≡ sheet_with_fields query.old C.NUMBER place row (value ∷ []) }
+{
+    let component = match query.get::<C>(row) {
+        Some(component) => component,
+        None => zeros::<C>(),
+    };
+    query.set(row, with_field(component, place, value));
+}
+
+// Writes values into a field of the rows from one on, each found by itself.
+fn write_each<C: Component>(query: &mut ViewQuery, from: usize, place: usize, values: &[i64])
+    requires rows { from + length values.now ≤ length query.old.rows }
+    requires mut_term { IsTrue (writes query.old.terms C.NUMBER) }
+    requires place { place < widths C.NUMBER }
+    ensures { query.new ≡ sheet_with_fields query.old C.NUMBER place from values.now }
+{
+    // Tells that numbers of rows fit.
+    let _count = query.rows();
+    for i in 0..values.len() {
+        set_field::<C>(query, from + i, place, values[i]);
+    }
 }

@@ -1,5 +1,5 @@
 -- A row for each entity of an archetype.
-use Rattle.std.proofs.Common.{◌≡◌, ℕ, zero, suc, ◌+◌, ◌<◌, ◌≤◌, Bool, true, false, cond, not, ◌==◌, List, [], ◌∷◌, ◌++◌, length, get_or, map, drop, refl, sym, ap, ◌∙◌, append_assoc, append-nil, arith}
+use Rattle.std.proofs.Common.{◌≡◌, ℕ, zero, suc, ◌+◌, ◌<◌, ◌≤◌, Bool, true, false, cond, not, ◌==◌, List, [], ◌∷◌, ◌++◌, length, get_or, slice_get, Option, Some, map, drop, refl, sym, ap, ◌∙◌, append_assoc, append-nil, arith}
 use Rattle.std.proofs.lemmas.List.{drop_more, drop_all, get_or_past}
 use Rattle.std.proofs.lemmas.Bool.{ne_eqb}
 use Rattle.model.specs.declared.entities.Entity.{Entity}
@@ -8,7 +8,7 @@ use Rattle.model.specs.state.State.{Slot}
 use Rattle.archetype_store.specs.Layout.{Archetype, archetype_at}
 use Rattle.query_plan.specs.declared.row.Row.{Row}
 use Rattle.model.specs.access.Query.{Term}
-use Rattle.query_plan.specs.Places.{every_row}
+use Rattle.query_plan.specs.Places.{every_row, AreEvery}
 use Rattle.query_plan.specs.Standing.{is_row_at, rows_in}
 
 -- as many as entities
@@ -28,6 +28,22 @@ every-at n place (suc i) (e ∷ es) d x l =
 pub every-first : (n i : ℕ) (es : List Entity) (d : Row) (x : Entity) → i < length es → get_or (every_row n 0 es) i d ≡ record { entity = get_or es i x; archetype = n; place = i }
 every-first n i es d x l =
     every-at n 0 i es d x l ∙ ap (λ p. (let r : Row = record { entity = get_or es i x; archetype = n; place = p } in r)) (let h : 0 + i ≡ i = omega arith in h)
+
+-- each is of the archetype, at its own place
+every-placed : (n place i : ℕ) (es : List Entity) (row : Row) → slice_get (every_row n place es) i ≡ Some row → (row.archetype ≡ n) × (row.place ≡ place + i)
+every-placed n place i [] row h = absurd (cc)
+every-placed n place zero (e ∷ es) row h =
+    let made : Row = record { entity = e; archetype = n; place = place } in
+    let same : made ≡ row = cc in
+    (sym (ap (λ (r : Row). r.archetype) same), sym (ap (λ (r : Row). r.place) same) ∙ (let p : place ≡ place + 0 = omega arith in p))
+every-placed n place (suc i) (e ∷ es) row h =
+    let more = every-placed n (suc place) i es row h in
+    (more.0, more.1 ∙ (let p : suc place + i ≡ place + suc i = omega arith in p))
+
+pub are-every : (n : ℕ) (es : List Entity) → AreEvery n (every_row n 0 es)
+are-every n es = λ i row h.
+    let p = every-placed n 0 i es row h in
+    (p.0, p.1 ∙ (let e : 0 + i ≡ i = omega arith in e))
 
 -- there is none just where the count is 0
 pub none-every : (n count : ℕ) (es : List Entity) → length es ≡ count → (count == 0) ≡ not (is_there (every_row n 0 es))

@@ -1,5 +1,5 @@
 -- Where the rows of a query stand, and the rows as a list.
-use Rattle.std.specs.Prelude.{◌≡◌, ℕ, suc, List, [], ◌∷◌, length}
+use Rattle.std.specs.Prelude.{◌≡◌, ℕ, suc, List, [], ◌∷◌, length, slice_get, Some}
 use Rattle.model.specs.declared.entities.Entity.{Entity}
 use Rattle.archetype_store.specs.Layout.{Archetype, archetype_at}
 use Rattle.query_plan.specs.declared.row.Row.{Row}
@@ -10,6 +10,10 @@ use Rattle.query_plan.specs.declared.row_places.RowPlaces.TheVariants.{All, List
 abbrev pub every_row : ℕ → ℕ → List Entity → List Row
 every_row n place [] = []
 every_row n place (e ∷ es) = record { entity = e; archetype = n; place = place } ∷ every_row n (suc place) es
+
+-- rows of the archetype of a number, each at its own place among the rows
+abbrev pub AreEvery : ℕ → List Row → Type 0
+AreEvery n rows = (i : ℕ) (row : Row) → slice_get rows i ≡ Some row → (row.archetype ≡ n) × (row.place ≡ i)
 
 -- the rows that stand at these places
 abbrev pub rows_of_places : List Archetype → RowPlaces → List Row

@@ -1,9 +1,9 @@
 // Rows that are kept while the world goes on.
 
-ghost use Rattle.std.specs.Prelude.{◌≡◌, ◌<◌, get_or, length, IfOk};
+ghost use Rattle.std.specs.Prelude.{◌≡◌, ◌<◌, get_or, length, IfSome, IfOk};
 ghost use Rattle.std.specs.Arc.{arc_value};
 ghost use Rattle.archetype_store.specs.Layout.{archetype_at};
-ghost use Rattle.query_plan.specs.Places.{every_row, rows_of_places, IsCounted};
+ghost use Rattle.query_plan.specs.Places.{every_row, rows_of_places, AreEvery, IsCounted};
 
 use crate::row::Row;
 use crate::row_places::RowPlaces;
@@ -84,6 +84,16 @@ impl Rows {
         match &self.kept {
             KeptRows::All(_archetype, count, _entities) => *count as usize,
             KeptRows::Listed(rows) => rows.len(),
+        }
+    }
+
+    /// The number of the archetype whose rows these are, each at its own place. None where they are listed one by one.
+    pub fn archetype(&self) -> Option<u32>
+        ensures { IfSome result (λ number. AreEvery number self.now) }
+    {
+        match &self.kept {
+            KeptRows::All(archetype, _count, _entities) => Some(*archetype),
+            KeptRows::Listed(_rows) => None,
         }
     }
 

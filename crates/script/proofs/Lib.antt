@@ -15,3 +15,4 @@ pub mod Steps
 pub mod Stores
 pub mod OtherRow
 pub mod Follows
+pub mod ColumnCode

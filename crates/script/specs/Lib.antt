@@ -7,4 +7,5 @@ pub mod Block
 pub mod Frame
 pub mod Machine
 pub mod RowPlan
+pub mod Columns
 pub mod Within

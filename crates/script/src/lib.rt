@@ -4,6 +4,7 @@
 ghost use Rattle.script.specs.Within.{ScriptsKeepWithin, ScriptsKeepWithinShown};
 
 pub mod check;
+mod columns;
 pub mod fault;
 pub mod frame;
 pub mod instruction;

@@ -1,0 +1,74 @@
+-- Fields of components: the words of one with a field replaced, and those of the rows of a query, many rows at once.
+use Rattle.std.specs.Prelude.{ℕ, zero, suc, ℤ, pos, List, [], ◌∷◌, get_or, Option, unwrap_or}
+use Rattle.model.specs.Lists.{head_or, tail_of, update_at}
+use Rattle.model.specs.state.State.{Cell}
+use Rattle.model.specs.access.Query.{Term}
+use Rattle.model.specs.shown.Input.{ShownRow}
+use Rattle.kinds.specs.Components.{widths, word_at}
+use Rattle.body.specs.Columns.{Column, with_cell}
+use Rattle.body.specs.Seen.{Seen, words_read, with_words, query_at, rows_at, read_at, no_row}
+use Rattle.body.specs.Sheet.{Sheet}
+
+-- the words of a kind of this width, 0 where there are none
+abbrev pub words_of_width : ℕ → List ℤ → List ℤ
+words_of_width zero words = []
+words_of_width (suc n) words = head_or (pos 0) words ∷ words_of_width n (tail_of words)
+
+-- the same with the word at a place replaced
+abbrev pub words_with : ℕ → ℕ → ℤ → List ℤ → List ℤ
+words_with zero place value words = []
+words_with (suc n) zero value words = value ∷ words_of_width n (tail_of words)
+words_with (suc n) (suc place) value words = head_or (pos 0) words ∷ words_with n place value (tail_of words)
+
+-- the field of a component that is there, else 0
+abbrev pub field_of : ℕ → Option (List ℤ) → ℤ
+field_of place words = word_at (unwrap_or words []) place
+
+-- what a view reads in a field of a row of a query
+abbrev pub field_read : Seen → ℕ → ℕ → ℕ → ℕ → ℤ
+field_read seen q r kind place = field_of place (read_at seen q r kind)
+
+-- the cells of the rows of a query, with these values written in a field of the rows from one on, a value a row: the other field of each
+-- component keeps its value
+abbrev pub with_field_rows : List Term → List ShownRow → ℕ → ℕ → ℕ → List ℤ → List (List (Option (List ℤ))) → List (List (Option (List ℤ)))
+with_field_rows terms rows kind place r [] cells = cells
+with_field_rows terms rows kind place r (value ∷ more) cells =
+    with_field_rows terms rows kind place (suc r) more
+    (update_at r (with_words terms kind (words_with (widths kind) place value (unwrap_or (words_read terms (get_or rows r no_row).values (get_or cells r []) kind) []))) cells)
+
+-- a view with these values written in a field of the rows of a query, from one on
+abbrev pub with_fields : Seen → ℕ → ℕ → ℕ → ℕ → List ℤ → Seen
+with_fields seen q kind place r values = record {
+  params = seen.params;
+  shown = seen.shown;
+  outcome = record {
+    cells = update_at q (with_field_rows (query_at seen.params q) (rows_at seen.shown q) kind place r values) seen.outcome.cells;
+    res_mut = seen.outcome.res_mut;
+    events = seen.outcome.events;
+    commands = seen.outcome.commands;
+    registers = seen.outcome.registers;
+  };
+  opening = seen.opening;
+}
+
+-- ---- the same of a query by its sheet, and of a column
+
+abbrev pub field_seen : Sheet → ℕ → ℕ → ℕ → ℤ
+field_seen s r kind place = field_of place (words_read s.terms (get_or s.rows r no_row).values (get_or s.cells r []) kind)
+
+abbrev pub sheet_with_fields : Sheet → ℕ → ℕ → ℕ → List ℤ → Sheet
+sheet_with_fields s kind place r values = record {
+  terms = s.terms;
+  rows = s.rows;
+  cells = with_field_rows s.terms s.rows kind place r values s.cells;
+  taken = s.taken;
+  tick = s.tick;
+}
+
+-- a cell with a field replaced at a tick, and a column with these values in a field of its cells, from one on
+abbrev pub field_cell : ℕ → ℕ → ℕ → ℤ → Cell → Cell
+field_cell width tick place value c = record { words = words_with width place value c.words; added = c.added; changed = tick }
+
+abbrev pub column_with_fields : ℕ → ℕ → ℕ → ℕ → List ℤ → Column → Column
+column_with_fields width tick place i [] c = c
+column_with_fields width tick place i (value ∷ more) c = column_with_fields width tick place (suc i) more (with_cell i (field_cell width tick place value) c)
