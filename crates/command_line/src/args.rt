@@ -99,7 +99,7 @@ impl<'a> Args<'a> {
         if let Some(ambiguities) = matches.subcommand_matches("ambiguities") {
             return Ok(Args::of(ambiguities, Work::Ambiguities));
         }
-        Err(LineFault::Memory)
+        Err(LineFault::usage(alloc, "error: no command is named\n"))
     }
 
     // The work, on the files that the matches name.
@@ -135,6 +135,14 @@ impl LineFault {
             LineFault::Help(_) => 0,
             LineFault::Usage(_) => 2,
             LineFault::Memory => 3,
+        }
+    }
+
+    // A line outside what the program takes, told by this text.
+    pub(crate) fn usage(alloc: Global, text: &str) -> LineFault {
+        match String::from_str(alloc, text) {
+            Ok(text) => LineFault::Usage(text),
+            Err(_) => LineFault::Memory,
         }
     }
 

@@ -1,4 +1,5 @@
-// The command line: what a user asks for.
+// The command line: its words, and what a user asks for.
 #![tactic(auto)]
 
 pub mod args;
+pub mod words;

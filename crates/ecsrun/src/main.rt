@@ -2,11 +2,11 @@
 #![tactic(auto)]
 
 use command_line::args::{Args, LineFault, Work};
+use command_line::words::words_of;
 use serving::created::Created;
 use serving::fault::Fault;
 use serving::opened::open;
 use serving::serve::{serve, tell};
-use serving::words::words_of;
 use serving::workers::serve_on_threads;
 use std::alloc::Global;
 use std::io::Write;
@@ -46,12 +46,15 @@ fn args_of<'a, O: Write, E: Write>(
 }
 
 fn main(rt: HostRuntime) -> ExitCode {
-    let words: Vec<String> = match words_of(&rt) {
-        Ok(words) => words,
-        Err(fault) => return ExitCode::from(tell(rt.alloc(), &mut rt.stderr(), &fault)),
-    };
     let mut out = rt.stdout();
     let mut faults = rt.stderr();
+    let words: Vec<String> = match words_of(&rt) {
+        Ok(words) => words,
+        Err(fault) => {
+            let status = tell_line_fault(rt.alloc(), &mut out, &mut faults, &fault);
+            return ExitCode::from(status);
+        }
+    };
     let args = match args_of(rt.alloc(), words.as_slice(), &mut out, &mut faults) {
         Ok(args) => args,
         Err(status) => return ExitCode::from(status),

@@ -12,6 +12,5 @@ pub mod recording;
 mod replaying;
 mod schedule;
 pub mod serve;
-pub mod words;
 pub mod workers;
 mod world;

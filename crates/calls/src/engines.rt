@@ -1,0 +1,85 @@
+// Engines of systems with some parameters and bodies, and scripts.
+
+ghost use Rattle.std.specs.Prelude.{};
+ghost use Rattle.archetype_store.specs.Layout.{AreAllHome};
+
+use access_set::params::Params;
+use archetype_store::store::World;
+use body::system_body::Body;
+use engine::first_state::first_state;
+use engine::{Engine, NewFault};
+use query::Query;
+use schedule_builder::builder::build;
+use schedule_builder::built::Built;
+use schedule_builder::desc::{ScheduleDesc, SystemDesc};
+use script::instruction::Instruction;
+use script::script_body::{Block, Rounds, ScriptBody};
+use std::alloc::Global;
+
+/// The parameters of a system with this query.
+pub fn params(alloc: Global, query: &str) -> Option<Params> {
+    let mut params = Params::new(alloc);
+    params.add_query(Query::read(alloc, query).ok()?).ok()?;
+    Some(params)
+}
+
+/// The parameters of a system with this query that gives commands and is granted so many ids.
+pub fn commanding(alloc: Global, query: &str, spawns: u32) -> Option<Params> {
+    let mut params = params(alloc, query)?;
+    params.set_spawns(spawns);
+    Some(params)
+}
+
+/// The script of these instructions, in one block.
+pub fn script(
+    alloc: Global,
+    params: &Params,
+    rounds: Rounds,
+    instructions: &[&str],
+) -> Option<ScriptBody> {
+    let mut code = Vec::new(alloc);
+    for instruction in instructions {
+        code.push(Instruction::read(alloc, instruction).ok()?).ok()?;
+    }
+    let mut blocks = Vec::new(alloc);
+    blocks.push(Block { rounds, code }).ok()?;
+    ScriptBody::check(alloc, params, blocks).ok()
+}
+
+/// The schedule of systems with these parameters, in no order.
+pub fn built_of(alloc: Global, params: Vec<Params>) -> Option<Built> {
+    let mut desc = ScheduleDesc::new(alloc);
+    let mut number = 0u32;
+    for params in params {
+        let name = format!(in alloc; "s{number}").ok()?;
+        desc.add_system(SystemDesc::new(alloc, name, params)).ok()?;
+        number = number.wrapping_add(1);
+    }
+    build(alloc, desc).ok()
+}
+
+/// An engine of systems with these parameters and bodies, over a world, or why there is none.
+pub fn made<B: Body>(
+    alloc: Global,
+    world: World,
+    params: Vec<Params>,
+    bodies: Vec<B>,
+) -> Option<Result<Engine<B>, NewFault>>
+    requires { AreAllHome world.layout }
+{
+    let built = built_of(alloc, params)?;
+    let state = first_state(alloc, &built, world).ok()?;
+    Some(Engine::new(alloc, built, bodies, state))
+}
+
+/// An engine of systems with these parameters and bodies, over a world.
+pub fn engine_of<B: Body>(
+    alloc: Global,
+    world: World,
+    params: Vec<Params>,
+    bodies: Vec<B>,
+) -> Option<Engine<B>>
+    requires { AreAllHome world.layout }
+{
+    made(alloc, world, params, bodies)?.ok()
+}
