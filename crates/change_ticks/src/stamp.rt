@@ -19,18 +19,3 @@ pub fn newer(stamp: Tick, last_run: Tick) -> bool
 {
     last_run < stamp
 }
-
-#[cfg(test)]
-mod tests {
-    use super::*;
-
-    #[test]
-    fn new_since_a_last_run(rt: HostRuntime) {
-        assert!(rt; newer(1, 0), "all is new to one that never ran");
-        assert!(rt;
-            !newer(5, 5),
-            "what a system wrote in its last run is not new to it"
-        );
-        assert!(rt; newer(6, 5));
-    }
-}

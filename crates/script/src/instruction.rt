@@ -13,7 +13,7 @@ use texts::read_error::ReadError;
 use texts::words::words_of;
 
 /// What becomes of a target and a source.
-#[derive(Clone, Copy, PartialEq, Eq, Debug)]
+#[derive(Clone, Copy, PartialEq, Eq)]
 pub enum Operation {
     /// The source.
     Set,
@@ -47,7 +47,7 @@ impl Operation {
 }
 
 /// How two values compare.
-#[derive(Clone, Copy, PartialEq, Eq, Debug)]
+#[derive(Clone, Copy, PartialEq, Eq)]
 pub enum Relation {
     /// The left is less than the right.
     Less,
@@ -72,7 +72,7 @@ impl Relation {
 }
 
 /// An instruction.
-#[derive(Clone, Copy, PartialEq, Eq, Debug)]
+#[derive(Clone, Copy, PartialEq, Eq)]
 pub enum Instruction {
     /// The target becomes what the operation makes of it and the source.
     Change {

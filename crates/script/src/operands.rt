@@ -10,7 +10,7 @@ use kinds::res::Res;
 use texts::integer::{read_integer, read_number};
 
 /// The letter of a field within its kind. Not every kind has each: that is looked at when the script is checked.
-#[derive(Clone, Copy, PartialEq, Eq, Debug)]
+#[derive(Clone, Copy, PartialEq, Eq)]
 pub enum Axis {
     X,
     Y,
@@ -32,7 +32,7 @@ impl Axis {
 }
 
 /// A field of the row at hand, as `Position.x`.
-#[derive(Clone, Copy, PartialEq, Eq, Debug)]
+#[derive(Clone, Copy, PartialEq, Eq)]
 pub struct Field {
     /// The kind of the component.
     pub kind: Kind,
@@ -62,7 +62,7 @@ fn read_register(word: &str) -> Option<u32>
 }
 
 /// What an instruction writes.
-#[derive(Clone, Copy, PartialEq, Eq, Debug)]
+#[derive(Clone, Copy, PartialEq, Eq)]
 pub enum Target {
     /// A register of the system, by number.
     Register(u32),
@@ -88,7 +88,7 @@ impl Target {
 }
 
 /// Where an instruction takes a value from.
-#[derive(Clone, Copy, PartialEq, Eq, Debug)]
+#[derive(Clone, Copy, PartialEq, Eq)]
 pub enum Source {
     /// The value itself.
     Integer(i64),
@@ -129,7 +129,7 @@ pub(crate) fn read_slot(word: &str) -> Option<u32>
 }
 
 /// Whom a command is about.
-#[derive(Clone, Copy, PartialEq, Eq, Debug)]
+#[derive(Clone, Copy, PartialEq, Eq)]
 pub enum Subject {
     /// The entity of the row at hand.
     Row,
@@ -150,7 +150,7 @@ impl Subject {
 }
 
 /// The values of the fields of a component, in order. Whether they are as many as the kind has fields is looked at when the script is checked.
-#[derive(Clone, Copy, PartialEq, Eq, Debug)]
+#[derive(Clone, Copy, PartialEq, Eq)]
 pub enum Values {
     /// No value.
     Empty,

@@ -51,23 +51,3 @@ pub fn read_whole<R: Read>(
     }
     Err(ReadFault::Failed)
 }
-
-#[cfg(test)]
-mod tests {
-    use super::*;
-    use std::test::Fail;
-
-    #[test]
-    fn readers_are_read_to_their_end(rt: HostRuntime) -> Result<(), Fail> {
-        let text = "a text of 22 bytes ...".as_bytes();
-        for limit in [22, 1_000_000] {
-            let bytes = read_whole(rt.alloc(), &mut &text[..], limit)?;
-            assert_eq!(rt; bytes.as_slice(), text);
-        }
-        for limit in [0, 21] {
-            let answer = read_whole(rt.alloc(), &mut &text[..], limit);
-            assert_eq!(rt; answer.err(), Some(ReadFault::TooLong), "at {limit}");
-        }
-        Ok(())
-    }
-}

@@ -11,19 +11,3 @@ pub fn parts_of<'a>(alloc: Global, text: &'a str) -> Result<Vec<&'a str>, AllocE
 {
     text.split(',').collect(alloc)
 }
-
-#[cfg(test)]
-mod tests {
-    use super::*;
-    use std::test::Fail;
-
-    #[test]
-    fn parts_have_commas_between(rt: HostRuntime) -> Result<(), Fail> {
-        let parts = parts_of(rt.alloc(), "read Health, with Frozen,")?;
-        assert_eq!(rt;
-            parts.as_slice(),
-            ["read Health", " with Frozen", ""].as_slice()
-        );
-        Ok(())
-    }
-}

@@ -20,19 +20,3 @@ pub fn is_blank(text: &str) -> bool
 {
     text.bytes().all(|byte| byte == b' ')
 }
-
-#[cfg(test)]
-mod tests {
-    use super::*;
-    use std::test::Fail;
-
-    #[test]
-    fn words_have_spaces_between(rt: HostRuntime) -> Result<(), Fail> {
-        let words = words_of(rt.alloc(), "  set  Position.x 3 ")?;
-        assert_eq!(rt; words.as_slice(), ["set", "Position.x", "3"].as_slice());
-        let tab = words_of(rt.alloc(), "a\tb")?;
-        assert_eq!(rt; tab.len(), 1, "a tab is no space");
-        assert!(rt; is_blank("  "));
-        Ok(())
-    }
-}
