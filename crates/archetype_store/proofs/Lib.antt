@@ -2,6 +2,7 @@ pub mod Rows
 pub mod RowEdits
 pub mod Held
 pub mod KindSets
+pub mod TableIndex
 pub mod Laid
 pub mod Moves
 pub mod RowMoves

@@ -18,4 +18,5 @@ mod settling;
 pub mod slot;
 mod slots;
 pub mod store;
+mod table_index;
 mod tables;
