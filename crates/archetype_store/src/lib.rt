@@ -4,7 +4,7 @@
 mod archetypes;
 pub mod change;
 mod columns;
-mod components;
+pub mod components;
 pub mod fault;
 mod gathering;
 pub mod laws;
