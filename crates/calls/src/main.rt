@@ -87,7 +87,15 @@ fn tell_threads<R: Threads + Wait + Clock + Copy + Send + Sync + Drop + 'static,
         out,
         "two bodies do not meet on one thread",
         not_met(rt, alloc),
-    )?;
+    )
+}
+
+// The tests of gates, and of what comes back in which order.
+fn tell_gates<R: Threads + Wait + Clock + Copy + Send + Sync + Drop + 'static, W: Write>(
+    rt: R,
+    alloc: Global,
+    out: &mut W,
+) -> io::Result<()> {
     tell(
         out,
         "who ends first comes back first",
@@ -113,5 +121,6 @@ fn tell_threads<R: Threads + Wait + Clock + Copy + Send + Sync + Drop + 'static,
 
 fn main(rt: HostRuntime) -> io::Result<()> {
     tell_alone(rt.alloc(), &mut rt.stdout())?;
-    tell_threads(rt, rt.alloc(), &mut rt.stdout())
+    tell_threads(rt, rt.alloc(), &mut rt.stdout())?;
+    tell_gates(rt, rt.alloc(), &mut rt.stdout())
 }
