@@ -6,56 +6,56 @@ use crate::view::{Content, View};
 use atomic_table::Play;
 use std::marker::PhantomData;
 
-// A hand's first look.
+/// A hand's first look.
 pub struct Enter;
 
 impl<J, O> Play<Option<Content<J, O>>, View<J, O>> for Enter {
     ghost then = { entered };
 }
 
-// A look.
+/// A look.
 pub struct Look;
 
 impl<J, O> Play<Option<Content<J, O>>, View<J, O>> for Look {
     ghost then = { looked };
 }
 
-// A look of the lead's.
+/// A look of the lead's.
 pub struct Seek;
 
 impl<J, O> Play<Option<Content<J, O>>, View<J, O>> for Seek {
     ghost then = { sought };
 }
 
-// One of the lead's first looks, which makes the slot its own.
+/// One of the lead's first looks, which makes the slot its own.
 pub struct Claim;
 
 impl<J, O> Play<Option<Content<J, O>>, View<J, O>> for Claim {
     ghost then = { claimed };
 }
 
-// A job is posted.
+/// A job is posted.
 pub struct Post;
 
 impl<J, O> Play<Option<Content<J, O>>, View<J, O>> for Post {
     ghost then = { gave_job };
 }
 
-// A job is taken, or the word is another by now.
+/// A job is taken, or the word is another by now.
 pub struct Take;
 
 impl<J, O> Play<Option<Content<J, O>>, View<J, O>> for Take {
     ghost then = { took_job };
 }
 
-// A job is done.
+/// A job is done.
 pub struct Finish;
 
 impl<J, O> Play<Option<Content<J, O>>, View<J, O>> for Finish {
     ghost then = { gave_outcome };
 }
 
-// An outcome is collected.
+/// An outcome is collected.
 pub struct Collect<T> {
     task: PhantomData<T>,
 }
@@ -64,7 +64,7 @@ impl<T: Task> Play<Option<Content<T::Job, T::Outcome>>, View<T::Job, T::Outcome>
     ghost then = { took_outcome T.answers };
 }
 
-// The board is closed.
+/// The board is closed.
 pub struct Close;
 
 impl<J, O> Play<Option<Content<J, O>>, View<J, O>> for Close {
