@@ -1,0 +1,13 @@
+pub mod Places
+pub mod Stays
+pub mod Frees
+pub mod Looks
+pub mod Comes
+pub mod Steps
+pub mod Moves
+pub mod Stacks
+pub mod Leads
+pub mod Baskets
+pub mod Contents
+pub mod Hands
+pub mod Opens

@@ -1,0 +1,22 @@
+use Rattle.std.proofs.Common.{rules, ◌≡◌, ◌+◌, ◌∙◌, ◌∷◌, [], ⊎_elim, ℕ, List, sym, ap, subst, get_or, length, replicate, length-append}
+use Rattle.std.proofs.lemmas.List.{length-replicate}
+use Rattle.std.specs.Arc.{arc_value}
+use mathlib.Core.Option.{some}
+use lib.ListN.{get_elem?}
+use Rattle.job_board.specs.Ends.{hand_view, hand_slots, hand_table}
+use Rattle.job_board.proofs.Places.{at_end}
+use Rattle.job_board.proofs.Opens.{starts, zeros_there}
+use Rattle.job_board.proofs.board.Board.new.Goals as goal
+
+pub vacant-requires : goal.vacant-requires
+vacant-requires g c = let all : c.as_slice.result.now ≡ replicate c.in-Some.count 0 = c.as_slice.ensures.value ∙ c.in_ok-words.ensures.items_if_clones_equal (λ y h. h) in
+    let count : c.in-Some.count ≡ c.args.slots + 1 = search rules in
+    starts g.T.Task.answers _ c.args.slots (ap length all ∙ length-replicate c.in-Some.count 0 ∙ count) (λ k. subst (λ (l : List ℕ). get_or l k 0 ≡ 0) (sym all) (zeros_there c.in-Some.count k))
+
+pub loop-made-preserved : goal.loop-made-preserved
+loop-made-preserved g c = let inv = c.loop-made.invariant in let items = c.push_reserved.ensures.items in let hand = c.in_ok-hand.hand in let of = c.in_ok-hand.ensures in (
+  ap length items ∙ length-append c.loop-made.all.items (hand ∷ []) ∙ ap (λ (z : ℕ). z + 1) inv.0,
+  c.push_reserved.ensures.capacity ∙ inv.1,
+  λ at h e. ⊎_elim (λ old. inv.2 at h old) (λ t. subst (λ z. (hand_table z ≡ (arc_value c.in_ok-board.board).shared.table_id) × (hand_slots z ≡ c.args.slots) × ((hand_view z).taken ≡ []) × ((hand_view z).done ≡ [])) t.1
+      (of.slots.1 ∙ ap (λ z. z.shared.table_id) c.in_ok-words-2.ensures, of.slots.0, of.view.0, of.view.1)) (at_end c.loop-made.all.items hand h at (subst (λ l. get_elem? l at ≡ some h) items e)),
+)

@@ -1,0 +1,19 @@
+use Rattle.std.proofs.Common.{rules, ◌∙◌, ap}
+use Rattle.job_board.proofs.Baskets.{turn_holds, turn_basket, turn_at}
+use Rattle.job_board.proofs.hand.Hand.raise.Goals as goal
+
+pub invariant_of-self : goal.invariant_of-self
+invariant_of-self g c = let it = c.loop-turned.self in let first = c.in-Some-pop_front.first in record {
+  seated = search rules;
+  sized = search rules;
+  holds = turn_holds it.slots it.held.items c.pop_front.new.self.items c.push_back_reserved.new.self.items first it.seat.me c.turn.new.self.me c.in-Some-pop_front.ensures.items c.push_back_reserved.ensures.items c.turn.ensures.2 it.holds;
+  basket = turn_basket it.slots it.held.items c.pop_front.new.self.items c.push_back_reserved.new.self.items first it.seat.me c.turn.new.self.me c.in-Some-pop_front.ensures.items c.push_back_reserved.ensures.items c.turn.ensures.2 it.basket;
+  roomy = search rules;
+}
+
+pub loop-turned-preserved : goal.loop-turned-preserved
+loop-turned-preserved g c = let it = c.loop-turned.self in let inv = c.loop-turned.invariant in (
+  (inv.0.0, turn_at it.held.items c.pop_front.new.self.items c.push_back_reserved.new.self.items c.in-Some-pop_front.first _ c.in-Some.place c.loop-turned.turned c.in-Some-pop_front.ensures.items c.push_back_reserved.ensures.items (search rules) inv.0.1),
+  ap (λ m. m.0) c.turn.ensures.2 ∙ inv.1,
+  inv.2,
+)

@@ -1,0 +1,25 @@
+use Rattle.std.proofs.Common.{rules, arith, ◌≡◌, ◌≢◌, ◌<◌, ◌≤◌, ◌+◌, ◌-◌, ◌∙◌, ◌∷◌, [], ℕ, List, sym, ap, subst, length, length-append}
+use mathlib.Core.Option.{some}
+use lib.ListN.{get_elem?}
+use Rattle.job_board.specs.Held.{IsStack}
+use Rattle.job_board.proofs.Looks.{claims}
+use Rattle.job_board.proofs.Opens.{claim_stack, claim_late}
+use Rattle.job_board.proofs.lead.Lead.open.Goals as goal
+
+pub load-requires : goal.load-requires
+load-requires g c = let inv = c.loop-claimed.invariant in let slot : ℕ = c.args.slots - 1 - c.loop-claimed.claimed in let near : slot < c.args.slots = omega arith in
+    let new : (at : ℕ) → get_elem? c.loop-claimed.seat.me.0.free at ≢ some slot = λ at e. let l : c.args.slots ≤ slot + c.loop-claimed.claimed = inv.late at slot e in omega arith in
+    (search rules, search rules, claims g.T.Task.answers _ _ _ _ inv.leads inv.blank.0 (search rules) new)
+
+pub loop-claimed-preserved : goal.loop-claimed-preserved
+loop-claimed-preserved g c = let inv = c.loop-claimed.invariant in let slot : ℕ = c.args.slots - 1 - c.loop-claimed.claimed in let lower : slot + c.loop-claimed.claimed + 1 ≡ c.args.slots = omega arith in
+    let is = c.load.ensures.2 in record {
+      same_table = c.load.ensures.0 ∙ inv.same_table;
+      leads = ap (λ m. m.0.leads) is ∙ inv.leads;
+      blank = (ap (λ m. m.0.posted) is ∙ inv.blank.0, ap (λ m. m.0.collected) is ∙ inv.blank.1, ap (λ m. m.0.closed) is ∙ inv.blank.2);
+      stack = subst (λ (l : List ℕ). IsStack c.args.slots l c.load.new.seat.me.0 c.load.new.seat.me.1) (sym c.push_reserved.ensures.items)
+          (claim_stack c.args.slots c.loop-claimed.claimed slot c.load.result c.loop-claimed.free.items c.loop-claimed.seat.me c.load.new.seat.me is lower inv.late inv.stack);
+      roomy = search rules;
+      count = ap length c.push_reserved.ensures.items ∙ length-append c.loop-claimed.free.items (slot ∷ []) ∙ ap (λ (z : ℕ). z + 1) inv.count;
+      late = claim_late c.args.slots c.loop-claimed.claimed slot c.load.result c.loop-claimed.free.items c.loop-claimed.seat.me c.load.new.seat.me is lower inv.late;
+    }

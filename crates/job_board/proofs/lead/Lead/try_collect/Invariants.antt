@@ -1,0 +1,7 @@
+use Rattle.std.proofs.Common.{ℕ, ◌≡◌, List}
+use Rattle.job_board.specs.Views.{having_read, NoneFinished}
+use Rattle.job_board.specs.Ends.{lead_view, lead_slots}
+use Rattle.job_board.proofs.lead.Lead.try_collect.Given as goal
+
+abbrev pub invariant-loop-slot : goal.invariant-loop-slot
+invariant-loop-slot g l = ((gained : List (ℕ × ℕ)) × (lead_view l.self ≡ having_read (lead_view l.fn.self) gained) × NoneFinished l.slot gained) × (lead_slots l.self ≡ lead_slots l.fn.self)
