@@ -1,15 +1,16 @@
 // What the systems of a schedule leave for the sync points of their levels: the commands of those that finished, and the ids that each was
 // granted.
 
-ghost use Rattle.std.specs.Prelude.{◌≡◌, ◌<◌, ◌↔◌, ◌⊎◌, ℕ, [], true, false, length, get_or, All, IfOk, OnOk, IsErrOf, Err};
+ghost use Rattle.std.specs.Prelude.{◌≡◌, ◌<◌, ℕ, [], true, false, length, get_or, All, IfErr, IfOk, OnOk};
 ghost use Rattle.model.specs.state.Commands.{release};
 ghost use Rattle.model.specs.steps.Schedule.{Schedule};
 ghost use Rattle.model.specs.runs.RunState.{after_sync, has_tick, systems_of_level};
 ghost use Rattle.archetype_store.specs.Layout.{AreAllHome};
 ghost use Rattle.body.specs.Steps.{with_slots_in};
-ghost use Rattle.engine.specs.Left.{AreInHand, IsLeftFor, IsNothingLeft, commands_at, emptied, grants_of, run_with, with_commands, with_grants};
+ghost use Rattle.engine.specs.Deferred.{AreInHand, IsDeferredFor, IsNothingDeferred, commands_at, emptied, grants_of, run_with, with_commands, with_grants};
+ghost use Rattle.engine.specs.Stops.{LacksTick, StopsBy};
 
-use crate::faults::RunFault;
+use crate::stop::Stop;
 use body::open_state::OpenState;
 use command_queue::buffer::CommandBuffer;
 use entity_table::Entity;
@@ -50,25 +51,25 @@ impl Model for Granted {
 /// What the systems of a schedule leave for the sync points of their levels. Contracts see the systems of each level in schedule order, and
 /// by system the commands and the ids granted. The room of a buffer is used again once its commands are done.
 #[derive(Drop)]
-pub struct Left {
+pub struct Deferred {
     levels: Vec<Level>,
     commands: Vec<CommandBuffer>,
     grants: Vec<Granted>,
 }
 
-impl Model for Left {
-    ghost use Rattle.engine.specs.Left.{LeftValue};
+impl Model for Deferred {
+    ghost use Rattle.engine.specs.Deferred.{DeferredValue};
 
-    ghost Value = { LeftValue };
+    ghost Value = { DeferredValue };
 
     ghost view = { λ l. record { levels = l.levels.items; commands = l.commands.items; grants = l.grants.items } };
 }
 
-impl Left {
-    /// Nothing is left, for a schedule.
+impl Deferred {
+    /// Nothing is deferred, for a schedule.
     pub fn new(alloc: Global, built: &Built) -> Result<Self, AllocError>
-        ensures suits { IfOk result (IsLeftFor built.now) }
-        ensures nothing { IfOk result IsNothingLeft }
+        ensures suits { IfOk result (IsDeferredFor built.now) }
+        ensures nothing { IfOk result IsNothingDeferred }
     {
         let levels = levels_of(alloc, built)?;
         let mut commands = Vec::new(alloc);
@@ -79,23 +80,32 @@ impl Left {
                 ids: Vec::new(alloc),
             })?;
         }
-        Ok(Left {
+        Ok(Deferred {
             levels,
             commands,
             grants,
         })
     }
 
-    /// Drops what is left; the room of buffers stays.
+    /// Nothing is deferred, for no schedule.
+    pub(crate) fn none(alloc: Global) -> Self {
+        Deferred {
+            levels: Vec::new(alloc),
+            commands: Vec::new(alloc),
+            grants: Vec::new(alloc),
+        }
+    }
+
+    /// Drops what is deferred; the room of buffers stays.
     pub fn clear(&mut self)
-        ensures suits { (s : Schedule) → IsLeftFor s self.old → IsLeftFor s self.new }
-        ensures nothing { IsNothingLeft self.new }
+        ensures suits { (s : Schedule) → IsDeferredFor s self.old → IsDeferredFor s self.new }
+        ensures nothing { IsNothingDeferred self.new }
     {
         empty_commands(&mut self.commands);
         empty_grants(&mut self.grants);
     }
 
-    /// The buffer of a system that has left nothing, for its next commands.
+    /// The buffer of a system that has deferred nothing, for its next commands.
     pub fn take_buffer(&mut self, alloc: Global, system: usize) -> CommandBuffer
         requires known { system < length self.old.commands }
         requires none { commands_at self.old system ≡ [] }
@@ -122,26 +132,24 @@ impl Left {
     }
 
     /// A sync point: the clock moves to the next tick, the commands of the systems of the level are done in schedule order at that tick, and
-    /// the ids granted to them that were not spawned are freed. `ClockSpent` where there is no next tick; where memory is wanting the state
-    /// is of no more use.
-    pub fn sync(
+    /// the ids granted to them that were not spawned are freed. After a stop the state is of no more use.
+    pub(crate) fn sync(
         &mut self,
         alloc: Global,
         built: &Built,
         state: &mut OpenState,
         point: u32,
-    ) -> Result<(), RunFault>
-        requires suits { IsLeftFor built.now self.old }
+    ) -> Result<(), Stop>
+        requires suits { IsDeferredFor built.now self.old }
         requires known { point < built.now.syncs }
         requires home { AreAllHome state.old.layout }
         requires in_hand { AreInHand state.old.state.world.slots self.old }
         ensures synced { OnOk result (run_with state.new.state self.new ≡ after_sync built.now point (run_with state.old.state self.old)) }
         ensures ticked { OnOk result (has_tick state.old.state ≡ true) }
         ensures home { OnOk result (AreAllHome state.new.layout) }
-        ensures suits { OnOk result (IsLeftFor built.now self.new) }
+        ensures suits { OnOk result (IsDeferredFor built.now self.new) }
         ensures in_hand { OnOk result (AreInHand state.new.state.world.slots self.new) }
-        ensures spent { IsErrOf result RunFault.ClockSpent ↔ (has_tick state.old.state ≡ false) }
-        ensures only { (f : RunFault) → result ≡ Err f → (f ≡ RunFault.ClockSpent) ⊎ (f ≡ RunFault.Memory) }
+        ensures stopped { IfErr result (StopsBy false (LacksTick state.old.state)) }
     {
         built.law();
         let tick = state.next()?;
@@ -180,7 +188,7 @@ fn systems_of(levels: &[Level], level: u32) -> &[u32]
     level.systems.as_slice()
 }
 
-// Drops what these systems left; the room of buffers stays.
+// Drops what these systems deferred; the room of buffers stays.
 fn clear_places(commands: &mut [CommandBuffer], grants: &mut [Granted], level: &[u32])
     requires commands { All (λ n. n < length commands.old) level.now }
     requires grants { All (λ n. n < length grants.old) level.now }

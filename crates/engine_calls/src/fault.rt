@@ -3,6 +3,7 @@
 ghost use Rattle.std.specs.Prelude.{};
 
 use archetype_store::fault::{GrantFault, StoreFault};
+use body::system_body::Body;
 use engine::{NewFault, RunFault};
 use event_buffers::queue::SendFault;
 use schedule_builder::fault::BuildFault;
@@ -93,8 +94,8 @@ impl From<CheckFault> for Fault {
     }
 }
 
-impl From<HandFault> for Fault {
-    fn from(_fault: HandFault) -> Fault {
+impl<B: Body> From<HandFault<B>> for Fault {
+    fn from(_fault: HandFault<B>) -> Fault {
         Fault::Barred
     }
 }

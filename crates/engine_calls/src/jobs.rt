@@ -4,7 +4,7 @@ ghost use Rattle.std.specs.Prelude.{◌≡◌, Err, IfOk, true};
 ghost use Rattle.model.specs.shown.Outcome.{untouched};
 ghost use Rattle.body.specs.Keeps.{CanBeShown};
 
-use crate::fault::Answer;
+use crate::fault::{Answer, Fault};
 use access_set::params::Params;
 use archetype_store::store::World;
 use body::memory::Memory;
@@ -18,7 +18,7 @@ use std::alloc::{AllocError, Global};
 use std::sync::{Condvar, Mutex, Wait};
 use std::thread;
 use std::thread::{Scope, Threads};
-use worker_pool::{Done, Gate, HandFault, Mode, Pool, Single, Start, Workers};
+use worker_pool::{Done, Gate, Mode, Pool, Single, Start, Workers};
 
 // A body that refuses with a number.
 #[derive(Drop)]
@@ -129,7 +129,7 @@ fn two_in_scope<'s, E: 's, R: Threads + Wait + Copy + Send + 's, G: Gate + 's>(
     runtime: R,
     gate: &'s G,
     alloc: Global,
-) -> Result<bool, HandFault> {
+) -> Result<bool, Fault> {
     let mode = Workers::new(2, scope, runtime, gate);
     let mut pool = Pool::new(alloc);
     pool.hand_out(&mode, start_of(alloc, 1, 0)?)?;
@@ -146,7 +146,7 @@ fn two_on_threads<R: Threads + Wait + Copy + Send + Sync + 'static, G: Gate + 's
     runtime: R,
     gate: &G,
     alloc: Global,
-) -> Result<bool, HandFault> {
+) -> Result<bool, Fault> {
     thread::scope(thread::scope_env(), &runtime, |scope| {
         two_in_scope(scope, runtime, gate, alloc)
     })

@@ -9,8 +9,8 @@ pub returns-in-Ok : goal.returns-in-Ok
 returns-in-Ok g c =
     if_some c.text_of.result (λ text told. record {
       runs = map history_of c.in-Ok._traces.items;
-      count = length-map c.in-Ok._traces.items history_of ∙ c.in-Ok.ensures.ran.0;
+      count = length-map c.in-Ok._traces.items history_of ∙ c.in-Ok.ensures.ran.count;
       last = c.run.new.self.state;
-      single = c.in-Ok.ensures.single refl;
+      single = c.in-Ok.ensures.ran.single refl;
       text = told;
     }) c.text_of.ensures

@@ -1,6 +1,6 @@
 use Rattle.std.proofs.Common.{◌≡◌, drop, length}
-use Rattle.engine.specs.Left.{emptied}
-use Rattle.engine.proofs.left.clear_places.Given as goal
+use Rattle.engine.specs.Deferred.{emptied}
+use Rattle.engine.proofs.deferred.clear_places.Given as goal
 
 abbrev pub invariant-loop-system : goal.invariant-loop-system
 invariant-loop-system l = record {

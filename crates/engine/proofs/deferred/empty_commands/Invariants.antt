@@ -1,6 +1,6 @@
 use Rattle.std.proofs.Common.{◌≡◌, length}
 use Rattle.engine.proofs.Emptying.{AreEmptyTo}
-use Rattle.engine.proofs.left.empty_commands.Given as goal
+use Rattle.engine.proofs.deferred.empty_commands.Given as goal
 
 abbrev pub invariant-loop-buffer : goal.invariant-loop-buffer
 invariant-loop-buffer l = record {

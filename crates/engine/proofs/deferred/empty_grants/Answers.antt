@@ -1,7 +1,7 @@
 use Rattle.std.proofs.Common.{refl, arith, ◌∙◌}
 use Rattle.std.proofs.lemmas.List.{length-set}
 use Rattle.engine.proofs.Emptying.{emptied_more, emptied_all}
-use Rattle.engine.proofs.left.empty_grants.Goals as goal
+use Rattle.engine.proofs.deferred.empty_grants.Goals as goal
 
 pub loop-granted-init : goal.loop-granted-init
 loop-granted-init c = record { count = refl; empty = λ n below. absurd (omega arith) }

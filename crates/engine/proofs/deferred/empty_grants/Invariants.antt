@@ -1,6 +1,6 @@
 use Rattle.std.proofs.Common.{◌≡◌, length}
 use Rattle.engine.proofs.Emptying.{AreEmptyTo}
-use Rattle.engine.proofs.left.empty_grants.Given as goal
+use Rattle.engine.proofs.deferred.empty_grants.Given as goal
 
 abbrev pub invariant-loop-granted : goal.invariant-loop-granted
 invariant-loop-granted l = record {

@@ -6,7 +6,7 @@ use Rattle.model.specs.steps.Schedule.{Schedule, level_of}
 use Rattle.model.specs.steps.Built.{IsBuilt}
 use Rattle.engine.proofs.Levelling.{AreLevelsOf, level_more}
 use Rattle.engine.proofs.Syncing.{in-get_or}
-use Rattle.engine.proofs.left.levels_of.Goals as goal
+use Rattle.engine.proofs.deferred.levels_of.Goals as goal
 
 -- what stands in the order is a system
 listed-known : (s : Schedule) (items : List ℕ) (i : ℕ) → IsBuilt s → items ≡ s.order → i < length items → get_or items i 0 < length s.systems

@@ -1,5 +1,5 @@
 use Rattle.std.proofs.Common.{◌≡◌, ℕ, [], length, get_or}
-use Rattle.engine.proofs.left.no_levels.Given as goal
+use Rattle.engine.proofs.deferred.no_levels.Given as goal
 
 abbrev pub invariant-loop-level : goal.invariant-loop-level
 invariant-loop-level l = record {

@@ -1,6 +1,6 @@
 use Rattle.std.proofs.Common.{[], ◌∙◌, ap, get_or, arith, length, length-append}
 use Rattle.engine.proofs.Emptying.{nothing_more}
-use Rattle.engine.proofs.left.Left.new.Goals as goal
+use Rattle.engine.proofs.deferred.Deferred.new.Goals as goal
 
 pub loop-system-preserved : goal.loop-system-preserved
 loop-system-preserved c =

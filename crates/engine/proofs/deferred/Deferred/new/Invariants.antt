@@ -1,5 +1,5 @@
 use Rattle.std.proofs.Common.{◌≡◌, ℕ, [], length, get_or}
-use Rattle.engine.proofs.left.Left.new.Given as goal
+use Rattle.engine.proofs.deferred.Deferred.new.Given as goal
 
 abbrev pub invariant-loop-system : goal.invariant-loop-system
 invariant-loop-system l = record {
