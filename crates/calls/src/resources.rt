@@ -1,6 +1,7 @@
 // A body that writes a resource and a register, over several runs.
 
 ghost use Rattle.std.specs.Prelude.{Ok};
+ghost use Rattle.archetype_store.specs.Layout.{AreAllHome};
 ghost use Rattle.calls.specs.Tallied.{tallied, may_tally};
 
 use crate::engines::engine_of;
@@ -37,18 +38,30 @@ impl Body for Tally {
     }
 }
 
-// An engine of the one system, over a world in which the step is 5.
-fn engine(alloc: Global) -> Option<Engine<Tally>> {
-    let mut world = World::new(alloc, Clock::at(1)).ok()?;
-    world.set_res(Res::Step, 5, 1);
+// The parameters of the system that tallies.
+fn params(alloc: Global) -> Option<Params> {
     let mut params = Params::new(alloc);
     params.add_res(Res::Step).ok()?;
     params.add_res_mut(Res::Total).ok()?;
+    Some(params)
+}
+
+// A world in which the step is 5.
+fn world(alloc: Global) -> World
+    ensures { AreAllHome result.layout }
+{
+    let mut world = World::empty(alloc, Clock::at(1));
+    world.set_res(Res::Step, 5, 1);
+    world
+}
+
+// An engine of the one system, over that world.
+fn engine(alloc: Global) -> Option<Engine<Tally>> {
     let mut all = Vec::new(alloc);
-    all.push(params).ok()?;
+    all.push(params(alloc)?).ok()?;
     let mut bodies = Vec::new(alloc);
     bodies.push(Tally).ok()?;
-    engine_of(alloc, world, all, bodies)
+    engine_of(alloc, world(alloc), all, bodies)
 }
 
 /// After three runs the total is 15 since tick 9 and the step 5 since tick 1, and register 0 of the one system is 3.
