@@ -80,7 +80,7 @@ impl Params {
         Ok(self)
     }
 
-    /// Adds a query after the others. Where memory is wanting the parameters stay as they were.
+    /// Adds a query after the others. Where an allocation fails the parameters stay as they were.
     pub fn add_query(&mut self, query: Query) -> Result<(), AllocError>
         ensures ok { OnOk result (self.new ≡ record self.old { queries = self.old.queries ++ query ∷ [] }) }
         ensures err { OnErr result (self.new ≡ self.old) }
@@ -93,7 +93,7 @@ impl Params {
         Ok(())
     }
 
-    /// Adds a resource that is read (`Res`) after the others. Where memory is wanting the parameters stay as they were.
+    /// Adds a resource that is read (`Res`) after the others. Where an allocation fails the parameters stay as they were.
     pub fn add_res(&mut self, resource: Res) -> Result<(), AllocError>
         ensures ok { OnOk result (self.new ≡ record self.old { res = self.old.res ++ res_number resource ∷ [] }) }
         ensures err { OnErr result (self.new ≡ self.old) }
@@ -102,7 +102,7 @@ impl Params {
         Ok(())
     }
 
-    /// Adds a resource that is written (`ResMut`) after the others. Where memory is wanting the parameters stay as they were.
+    /// Adds a resource that is written (`ResMut`) after the others. Where an allocation fails the parameters stay as they were.
     pub fn add_res_mut(&mut self, resource: Res) -> Result<(), AllocError>
         ensures ok { OnOk result (self.new ≡ record self.old { res_mut = self.old.res_mut ++ res_number resource ∷ [] }) }
         ensures err { OnErr result (self.new ≡ self.old) }
@@ -111,7 +111,7 @@ impl Params {
         Ok(())
     }
 
-    /// Adds a reader of events of a kind after the others. A kind that is named twice has two readers. Where memory is wanting the parameters
+    /// Adds a reader of events of a kind after the others. A kind that is named twice has two readers. Where an allocation fails the parameters
     /// stay as they were.
     pub fn add_reads(&mut self, event: Event) -> Result<(), AllocError>
         ensures ok { OnOk result (self.new ≡ record self.old { reads = self.old.reads ++ event_number event ∷ [] }) }
@@ -121,7 +121,7 @@ impl Params {
         Ok(())
     }
 
-    /// Adds a writer of events of a kind after the others. Where memory is wanting the parameters stay as they were.
+    /// Adds a writer of events of a kind after the others. Where an allocation fails the parameters stay as they were.
     pub fn add_writes(&mut self, event: Event) -> Result<(), AllocError>
         ensures ok { OnOk result (self.new ≡ record self.old { writes = self.old.writes ++ event_number event ∷ [] }) }
         ensures err { OnErr result (self.new ≡ self.old) }

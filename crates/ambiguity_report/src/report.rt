@@ -34,7 +34,7 @@ pub struct Pair {
 
 /// The pairs of systems that conflict with neither before the other, and those of a condition and a system that conflict, where the
 /// system is no member of the condition, nor before every member, nor after any: each once, first the pairs of systems and then those
-/// with a condition, in rising order of their numbers. Fails only for want of memory.
+/// with a condition, in rising order of their numbers. Fails only for a failed allocation.
 pub fn report(alloc: Global, built: &Built) -> Result<Vec<Pair>, AllocError>
     ensures { IfOk result (λ pairs. IsReport built.now pairs.items) }
 {

@@ -37,7 +37,7 @@ use std::sync::Arc;
 /// The components of entities, one entity at most for each index. An entity that has some has its row in the table of just their kinds,
 /// and no two tables have the same kinds. Contracts see the rows by index, the generations of the entities
 /// that have one, and the archetypes that have entities.
-#[derive(Drop, Debug)]
+#[derive(Drop)]
 pub struct Archetypes {
     tables: Vec<Table>,
     index: TableIndex,
@@ -195,7 +195,7 @@ impl Archetypes {
         share_entities_at(&mut self.tables, table, alloc)
     }
 
-    /// Puts a column that was taken back, with as many cells as the archetype has entities. It takes no memory.
+    /// Puts a column that was taken back, with as many cells as the archetype has entities. It allocates nothing.
     pub fn put_column(&mut self, archetype: usize, column: StampedColumn)
         requires away { column_home (archetype_at self.old.layout archetype) column.kind ≡ Some false }
         requires same_length { length column.cells ≡ length (archetype_at self.old.layout archetype).entities }
@@ -208,7 +208,7 @@ impl Archetypes {
     }
 
     /// Inserts a component of an entity at a tick: where its kind is there the value is replaced and counts as changed, else it is added.
-    /// Where memory is wanting all rows stay as they were.
+    /// Where an allocation fails all rows stay as they were.
     pub fn insert(&mut self, e: Entity, value: Value, tick: Tick) -> Result<(), AllocError>
         requires holder { IsHolder e.generation (holder_of self.old.holders e.index) }
         requires home { AreAllHome self.old.layout }
@@ -231,7 +231,7 @@ impl Archetypes {
     }
 
     /// Removes the component of the kind with this number of an entity, where it has one: where it has none no memory is asked for. Where
-    /// memory is wanting all rows stay as they were.
+    /// an allocation fails all rows stay as they were.
     pub fn remove(&mut self, e: Entity, number: u32) -> Result<(), AllocError>
         requires holder { IsHolder e.generation (holder_of self.old.holders e.index) }
         requires home { AreAllHome self.old.layout }
@@ -255,7 +255,7 @@ impl Archetypes {
         removed
     }
 
-    /// Makes these changes, no two of one index: each entity is left with just the components that are told. Where memory is wanting all rows stay
+    /// Makes these changes, no two of one index: each entity is left with just the components that are told. Where an allocation fails all rows stay
     /// as they were.
     pub fn change(&mut self, changes: &[EntityChange]) -> Result<(), AllocError>
         requires apart { AreOfOtherIndices changes.now }

@@ -7,7 +7,7 @@ use column_store::stamped::StampedValue;
 use entity_table::Entity;
 
 /// What an entity is left as.
-#[derive(Drop, Debug)]
+#[derive(Drop)]
 pub enum Fate {
     /// It lives, with these components, in rising kinds.
     Lives(Vec<StampedValue>),
@@ -16,7 +16,7 @@ pub enum Fate {
 }
 
 /// What becomes of an entity that lives, or whose id is granted.
-#[derive(Drop, Debug)]
+#[derive(Drop)]
 pub struct EntityChange {
     /// The entity.
     pub entity: Entity,

@@ -15,7 +15,7 @@ pub struct ColumnAt {
 }
 
 /// A column that has left the store, to be written.
-#[derive(Drop, Debug)]
+#[derive(Drop)]
 pub struct TakenColumn {
     /// The number of its archetype.
     pub archetype: usize,
@@ -24,7 +24,7 @@ pub struct TakenColumn {
 }
 
 /// A column of the store, to be read.
-#[derive(Drop, Debug)]
+#[derive(Drop)]
 pub struct SharedColumn {
     /// The number of its archetype.
     pub archetype: usize,

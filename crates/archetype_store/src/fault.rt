@@ -13,7 +13,7 @@ pub enum StoreFault {
     /// The id names no entity that lives.
     #[error("the entity does not live")]
     NotAlive,
-    /// Memory is wanting.
+    /// An allocation failed.
     #[error("out of memory")]
     Memory,
 }

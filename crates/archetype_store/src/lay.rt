@@ -91,7 +91,7 @@ pub(crate) fn clear_in(
     }
 }
 
-// Inserts a component of an entity at a tick. Where memory is wanting all rows stay as they were.
+// Inserts a component of an entity at a tick. Where an allocation fails all rows stay as they were.
 pub(crate) fn insert_in(
     tables: &mut Vec<Table>,
     index: &mut TableIndex,
@@ -126,8 +126,8 @@ pub(crate) fn insert_in(
     lay(tables, index, places, e, &components)
 }
 
-// Removes the component of the kind with this number of an entity that has one. The last one is not copied, and takes no memory. Where
-// memory is wanting all rows stay as they were.
+// Removes the component of the kind with this number of an entity that has one. The last one is not copied, and allocates nothing. Where
+// an allocation fails all rows stay as they were.
 pub(crate) fn remove_in(
     tables: &mut Vec<Table>,
     index: &mut TableIndex,

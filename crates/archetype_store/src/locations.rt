@@ -6,7 +6,7 @@ ghost use Rattle.archetype_store.specs.Archetypes.{place_of};
 use std::alloc::AllocError;
 
 // The generation of an entity that has components, and the table that has its row.
-#[derive(Clone, Copy, Debug)]
+#[derive(Clone, Copy)]
 pub(crate) struct EntityLocation {
     pub(crate) generation: u32,
     pub(crate) table: usize,

@@ -6,7 +6,7 @@ ghost use Rattle.archetype_store.specs.Tables.{AreHome, AreOwned, AreUnshared, A
 use column_store::table::Table;
 use std::alloc::{AllocError, Global};
 
-// Takes the columns of these tables for them alone. Where memory is wanting some of them may be.
+// Takes the columns of these tables for them alone. Where an allocation fails some of them may be.
 fn own_each(tables: &mut [Table], alloc: Global) -> Result<(), AllocError>
     requires { AreHome tables.old }
     ensures ok { OnOk result (AreOwned tables.new) }

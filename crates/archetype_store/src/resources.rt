@@ -21,7 +21,7 @@ struct Resource {
 }
 
 /// The resources, which contracts see as a list by number.
-#[derive(Drop, Debug)]
+#[derive(Drop)]
 pub struct Resources {
     by_number: [Resource; Res::COUNT],
 }

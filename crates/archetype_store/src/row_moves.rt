@@ -25,7 +25,7 @@ use entity_table::Entity;
 use std::alloc::{AllocError, Global};
 
 /// What becomes of the row of an entity: where it is, and the table of the row that it is left with.
-#[derive(Drop, Debug)]
+#[derive(Drop)]
 pub(crate) struct RowMove<'a> {
     pub(crate) change: &'a EntityChange,
     pub(crate) from: Option<EntityLocation>,
@@ -149,7 +149,7 @@ fn withdraw_all(tables: &mut Vec<Table>, rows: &[RowMove<'_>])
     }
 }
 
-// Lays rows where they newly come into, each table in one pass. Where memory is wanting all rows are as they were.
+// Lays rows where they newly come into, each table in one pass. Where an allocation fails all rows are as they were.
 fn arrive_all(
     tables: &mut Vec<Table>,
     rows: &[RowMove<'_>],
@@ -285,7 +285,7 @@ fn planned_all<'a>(
     Ok(rows)
 }
 
-// Takes rows where they go. Where memory is wanting all rows stay as they were.
+// Takes rows where they go. Where an allocation fails all rows stay as they were.
 fn move_all(
     tables: &mut Vec<Table>,
     places: &mut Vec<Option<EntityLocation>>,
@@ -311,7 +311,7 @@ fn move_all(
     Ok(())
 }
 
-// Makes these changes. Where memory is wanting all rows stay as they were.
+// Makes these changes. Where an allocation fails all rows stay as they were.
 pub(crate) fn change_in(
     tables: &mut Vec<Table>,
     index: &mut TableIndex,

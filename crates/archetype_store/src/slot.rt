@@ -15,7 +15,7 @@ use entity_table::status::Status;
 use std::marker::Model;
 
 /// The components of one entity, which contracts see as a list in rising kinds.
-#[derive(Drop, Debug)]
+#[derive(Drop)]
 pub struct RowView<'a> {
     archetypes: &'a Archetypes,
     index: u32,
@@ -63,7 +63,7 @@ impl<'a> RowView<'a> {
 }
 
 /// What the store has of one index. Contracts see the generation, the status and the row.
-#[derive(Drop, Debug)]
+#[derive(Drop)]
 pub struct Slot<'a> {
     generation: u32,
     status: Status,

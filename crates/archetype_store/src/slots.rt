@@ -40,7 +40,7 @@ use std::sync::Arc;
 
 /// The slots, which contracts see as a list by index, and the archetypes that have entities. An index past the end is vacant at
 /// generation 1.
-#[derive(Drop, Debug)]
+#[derive(Drop)]
 pub struct Slots {
     book: EntityTable,
     archetypes: Archetypes,
@@ -208,7 +208,7 @@ impl Slots {
         self.archetypes.share_entities(alloc, archetype)
     }
 
-    /// Puts a column that was taken back, with as many cells as the archetype has entities. It takes no memory.
+    /// Puts a column that was taken back, with as many cells as the archetype has entities. It allocates nothing.
     pub fn put_column(&mut self, archetype: usize, column: StampedColumn)
         requires away { column_home (archetype_at self.old.layout archetype) column.kind ≡ Some false }
         requires same_length { length column.cells ≡ length (archetype_at self.old.layout archetype).entities }
@@ -292,7 +292,7 @@ impl Slots {
         Ok(())
     }
 
-    /// Makes these changes, no two of one index: each entity lives with just the components that are told, or no more. Where memory is wanting
+    /// Makes these changes, no two of one index: each entity lives with just the components that are told, or no more. Where an allocation fails
     /// the slots are as they were.
     pub fn change(&mut self, changes: &[EntityChange]) -> Result<(), AllocError>
         requires home { AreAllHome self.old.layout }

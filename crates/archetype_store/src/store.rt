@@ -45,7 +45,7 @@ use std::sync::Arc;
 
 /// The world. Contracts see its state (slots by index, resources by number, the clock) and beside it how components are laid out: the
 /// archetypes that have entities.
-#[derive(Drop, Debug)]
+#[derive(Drop)]
 pub struct World {
     slots: Slots,
     resources: Resources,
@@ -72,7 +72,7 @@ impl World {
         Ok(World::empty(alloc, clock))
     }
 
-    /// The same, which takes no memory.
+    /// The same, which allocates nothing.
     pub fn empty(alloc: Global, clock: Clock) -> World
         ensures { result ≡ record { state = empty_world clock; layout = [] } }
     {
@@ -168,7 +168,7 @@ impl World {
         self.slots.share_entities(alloc, archetype)
     }
 
-    /// Puts a column that was taken back: each entity of its archetype has the component beside it. It takes no memory.
+    /// Puts a column that was taken back: each entity of its archetype has the component beside it. It allocates nothing.
     pub fn put_column(&mut self, archetype: usize, column: StampedColumn)
         requires away { column_home (archetype_at self.old.layout archetype) column.kind ≡ Some false }
         requires same_length { length column.cells ≡ length (archetype_at self.old.layout archetype).entities }
@@ -230,7 +230,7 @@ impl World {
         Ok(shared)
     }
 
-    /// Puts columns that were taken back: each entity of their archetypes has the components beside it. It takes no memory.
+    /// Puts columns that were taken back: each entity of their archetypes has the components beside it. It allocates nothing.
     pub fn put_back(&mut self, columns: Vec<TakenColumn>)
         requires { CanComeHome columns.items self.old }
         ensures { self.new ≡ all_home columns.items self.old }
@@ -357,7 +357,7 @@ impl World {
     }
 
     /// Makes these changes, no two of one index: an entity that is left alive has just the components that are told, and no other's change. Where
-    /// memory is wanting nothing has changed.
+    /// an allocation fails nothing has changed.
     pub fn change(&mut self, changes: &[EntityChange]) -> Result<(), AllocError>
         requires home { AreAllHome self.old.layout }
         requires apart { AreOfOtherIndices changes.now }

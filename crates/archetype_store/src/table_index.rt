@@ -16,7 +16,7 @@ use std::alloc::{AllocError, Global};
 use std::collections::HashMap;
 
 /// The tables by the words of their kinds, and those that have rows, in order: the one at place n is that of archetype n.
-#[derive(Drop, Debug)]
+#[derive(Drop)]
 pub(crate) struct TableIndex {
     by_word: HashMap<u32, usize>,
     peopled: Vec<usize>,
@@ -58,7 +58,7 @@ impl TableIndex {
         self.by_word.get(&word).copied()
     }
 
-    /// Adds a table of other kinds, whose word is told. Where memory is wanting there is none.
+    /// Adds a table of other kinds, whose word is told. Where an allocation fails there is none.
     pub(crate) fn add(
         &mut self,
         tables: &mut Vec<Table>,
@@ -81,7 +81,7 @@ impl TableIndex {
         Ok(table)
     }
 
-    /// Notes which tables have rows. It takes no memory.
+    /// Notes which tables have rows. It allocates nothing.
     pub(crate) fn note_rows(&mut self, tables: &[Table])
         requires { IsFound tables.now self.old }
         ensures { IsIndexed tables.now self.new }

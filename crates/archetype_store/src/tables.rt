@@ -31,7 +31,7 @@ use kinds::value::Value;
 use std::alloc::{AllocError, Global};
 
 /// An archetype that has entities.
-#[derive(Clone, Copy, Debug)]
+#[derive(Clone, Copy)]
 pub struct ArchetypeView<'a> {
     /// Its kinds, in rising numbers.
     pub kinds: &'a [Kind],
@@ -176,7 +176,7 @@ pub(crate) fn write_at(tables: &mut Vec<Table>, table: usize, e: Entity, value: 
     there.write(e, value, tick);
 }
 
-// Adds the row of an entity that isn't in the table. Where memory is wanting the tables stay as they were.
+// Adds the row of an entity that isn't in the table. Where an allocation fails the tables stay as they were.
 pub(crate) fn put_at(
     tables: &mut Vec<Table>,
     table: usize,
@@ -195,7 +195,7 @@ pub(crate) fn put_at(
     there.put(e, components)
 }
 
-// Adds the rows of entities that aren't in a table, whose ids rise, in one pass. Where memory is wanting the tables stay as they were.
+// Adds the rows of entities that aren't in a table, whose ids rise, in one pass. Where an allocation fails the tables stay as they were.
 pub(crate) fn put_all_at(
     tables: &mut Vec<Table>,
     table: usize,

@@ -29,7 +29,7 @@ fn put_held(held: Held, world: &mut World)
     }
 }
 
-// Brings the columns of a query home. It takes no memory.
+// Brings the columns of a query home. It allocates nothing.
 fn put_columns(columns: Vec<Held>, world: &mut World)
     requires { CanComeHome (lent_of (map held_seen columns.items)) world.old }
     ensures { world.new ≡ all_home (lent_of (map held_seen columns.items)) world.old }

@@ -13,7 +13,7 @@ use std::alloc::{AllocError, Global};
 use std::marker::Model;
 
 /// What a system or a condition remembers: the tick of its last run, the cursor of each of its event readers in order, and eight registers.
-#[derive(Drop, Debug)]
+#[derive(Drop)]
 pub struct Memory {
     last_run: Tick,
     cursors: Vec<u64>,

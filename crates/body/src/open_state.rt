@@ -30,10 +30,10 @@ use crate::view::View;
 use access_set::params::Params;
 use archetype_store::fault::GrantFault;
 use archetype_store::store::World;
-use asking::answer::ask;
 use change_ticks::clock::{ClockSpent, LAST_TICK, Tick};
 use command_queue::apply::apply;
 use command_queue::buffer::CommandBuffer;
+use condition_eval::answer::ask;
 use entity_table::Entity;
 use event_buffers::buffers::Events;
 use event_buffers::queue::SendFault;
@@ -49,7 +49,7 @@ const MOST_PASSED_OVER: u64 = 1 << 62;
 /// A state in a run. While views are open over it, the columns that they write are away. Contracts see the state that the definitions
 /// speak of, in which a column that is away has the components with which it left, and beside it how components are laid out. No last run is
 /// above the clock, and each memory has its registers.
-#[derive(Drop, Debug)]
+#[derive(Drop)]
 pub struct OpenState {
     world: World,
     events: Events,
@@ -187,7 +187,7 @@ impl OpenState {
     }
 
     /// Does the commands of the buffers of these numbers at a tick that isn't above the clock: one buffer after the other, each in its order of
-    /// issue. Where memory is wanting nothing has changed.
+    /// issue. Where an allocation fails nothing has changed.
     pub fn apply(
         &mut self,
         alloc: Global,
@@ -274,7 +274,7 @@ impl OpenState {
         );
     }
 
-    /// What a condition answers of the state, for when it was last asked and what its readers have read. Fails only for want of memory.
+    /// What a condition answers of the state, for when it was last asked and what its readers have read. Fails only for a failed allocation.
     pub fn ask(&self, alloc: Global, condition: usize, cond: &Cond) -> Result<bool, AllocError>
         requires known { condition < length self.now.state.conditions }
         requires home { AllByRecursion (λ query. ArePickedHome query self.now.layout) (queries_of cond.now) }
@@ -310,7 +310,7 @@ impl OpenState {
 
     /// Brings the columns of a view of a system home, and so lays what was written over the state, at the tick of the view, which isn't above
     /// the clock: components, resources, events, and the registers of the system. What other views hold stays away. Where an event gets no
-    /// number, or memory is wanting, the state is of no more use. The commands.
+    /// number, or an allocation fails, the state is of no more use. The commands.
     pub fn close(&mut self, view: View, system: usize) -> Result<CommandBuffer, SendFault>
         requires known { system < length self.old.state.systems }
         requires lent { AreLent (store_of self.old) view.opening.taken }

@@ -16,7 +16,7 @@ use std::alloc::Global;
 use std::marker::Model;
 
 /// The memories of a schedule: of its systems, and of its conditions, each by number.
-#[derive(Drop, Debug)]
+#[derive(Drop)]
 pub struct Memories {
     /// Those of the systems.
     pub systems: Vec<Memory>,
@@ -26,7 +26,7 @@ pub struct Memories {
 
 /// The state of an engine. Contracts see the state that the definitions speak of. No last run is above the
 /// clock, each memory has its registers, and all columns are at home.
-#[derive(Drop, Debug)]
+#[derive(Drop)]
 pub struct State {
     world: World,
     events: Events,
@@ -49,7 +49,7 @@ impl Model for State {
 }
 
 impl State {
-    /// The state of a world without entities, for no system. Takes no memory.
+    /// The state of a world without entities, for no system. Allocates nothing.
     pub fn empty(alloc: Global) -> Self
         ensures { result ≡ state_of (empty_world 1) (replicate event_count empty_queue) [] [] }
     {

@@ -14,7 +14,7 @@ use thiserror::Error;
 /// Why a body stops.
 #[derive(Clone, Copy, PartialEq, Eq, Debug, Error)]
 pub enum BodyFault {
-    /// Memory is wanting.
+    /// An allocation failed.
     #[error("out of memory")]
     Memory,
     /// The body refuses, with a number of its own.

@@ -230,7 +230,7 @@ impl View {
         self.unread.of_kind(kind)
     }
 
-    /// Emits an event of a kind that is written. Where memory is wanting nothing changes.
+    /// Emits an event of a kind that is written. Where an allocation fails nothing changes.
     pub fn emit(&mut self, kind: Event, value: i64) -> Result<(), AllocError>
         requires { IsTrue (has (event_number kind) self.old.params.writes) }
         ensures ok { OnOk result (self.new ≡ with_emitted self.old (event_number kind) value) }
@@ -254,7 +254,7 @@ impl View {
         self.issued.granted(slot)
     }
 
-    /// The entity of a slot is to live from the sync point on, with no component. Where memory is wanting nothing changes.
+    /// The entity of a slot is to live from the sync point on, with no component. Where an allocation fails nothing changes.
     pub fn spawn(&mut self, slot: usize) -> Result<(), AllocError>
         requires declared { is_some self.old.params.spawns ≡ true }
         requires slot { slot < length self.old.shown.granted }
@@ -265,7 +265,7 @@ impl View {
         self.issued.spawn(slot)
     }
 
-    /// An entity is to have a component from the sync point on. Where memory is wanting nothing changes.
+    /// An entity is to have a component from the sync point on. Where an allocation fails nothing changes.
     pub fn insert<C: Component>(&mut self, e: Entity, component: C) -> Result<(), AllocError>
         requires { is_some self.old.params.spawns ≡ true }
         ensures ok { OnOk result (self.new ≡ with_command self.old (Insert e C.NUMBER (C.words component))) }
@@ -274,7 +274,7 @@ impl View {
         self.issued.insert(e, component)
     }
 
-    /// An entity is to have no component of a kind from the sync point on. Where memory is wanting nothing changes.
+    /// An entity is to have no component of a kind from the sync point on. Where an allocation fails nothing changes.
     pub fn remove(&mut self, e: Entity, kind: Kind) -> Result<(), AllocError>
         requires { is_some self.old.params.spawns ≡ true }
         ensures ok { OnOk result (self.new ≡ with_command self.old (Remove e (kind_number kind))) }
@@ -283,7 +283,7 @@ impl View {
         self.issued.remove(e, kind)
     }
 
-    /// An entity is to live no more from the sync point on. Where memory is wanting nothing changes.
+    /// An entity is to live no more from the sync point on. Where an allocation fails nothing changes.
     pub fn despawn(&mut self, e: Entity) -> Result<(), AllocError>
         requires { is_some self.old.params.spawns ≡ true }
         ensures ok { OnOk result (self.new ≡ with_command self.old (Despawn e)) }

@@ -4,13 +4,13 @@ use std::alloc::{AllocError, AllocFailed};
 use std::{fmt, io};
 
 /// Why the cases of some files can't be served, each told in one line.
-#[derive(Clone, Copy, Debug)]
+#[derive(Clone, Copy)]
 pub enum CaseFault<'a> {
     /// This line of a case file, or the entry that it begins, isn't as it is to be.
     Malformed(&'a str),
     /// A file can't be read, or the output not be written.
     Stream,
-    /// Memory is wanting.
+    /// An allocation failed.
     Memory,
 }
 

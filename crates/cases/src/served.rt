@@ -3,9 +3,9 @@
 use crate::fakes::{Sink, Source};
 use crate::fault::CaseFault;
 use command_line::args::Args;
-use serving::opened::open;
-use serving::serve::serve;
-use serving::workers::serve_on_threads;
+use program::opened::open;
+use program::serve::serve;
+use program::workers::serve_on_threads;
 use std::alloc::{AllocError, Global};
 use std::io::Read;
 use std::rt::Files;

@@ -14,7 +14,7 @@ use entity_table::Entity;
 use std::alloc::{AllocError, Global};
 
 /// The row of an entity that comes into a table.
-#[derive(Clone, Copy, Debug)]
+#[derive(Clone, Copy)]
 pub struct Arrival<'a> {
     /// The entity.
     pub entity: Entity,
@@ -79,7 +79,7 @@ fn gap_behind(arrivals: &[Arrival<'_>], e: Entity) -> usize
     gap
 }
 
-/// Adds an arrival to others whose ids rise, at its place among them. Where memory is wanting they stay as they were.
+/// Adds an arrival to others whose ids rise, at its place among them. Where an allocation fails they stay as they were.
 pub fn join_arrival<'a>(
     arrivals: &mut Vec<Arrival<'a>>,
     arrival: Arrival<'a>,

@@ -19,11 +19,10 @@ use entity_table::Entity;
 use kinds::kind::Kind;
 use kinds::value::Value;
 use std::alloc::{AllocError, Global};
-use std::fmt::{Debug, Formatter, Write};
 use std::marker::Model;
+use std::mem;
 use std::snapshot::Snapshot;
 use std::sync::Arc;
-use std::{fmt, mem};
 
 // Where the column of a slot is: it is the table's alone, or read elsewhere too, or it has left. Of one that has left, clauses know the
 // cells.
@@ -49,16 +48,6 @@ impl Model for ColumnSlot {
     ghost view = { λ p. slot_of p.spot };
 }
 
-impl Debug for ColumnSlot {
-    fn fmt<W: Write>(&self, f: &mut Formatter<W>) -> fmt::Result {
-        match &self.spot {
-            Spot::Home(column) => column.fmt(f),
-            Spot::Shared(column) => column.fmt(f),
-            Spot::Away(_) => f.write_str("Away"),
-        }
-    }
-}
-
 impl ColumnSlot {
     // The slot of a column that is the table's alone.
     pub(crate) fn of(column: StampedColumn) -> Self
@@ -81,7 +70,7 @@ impl ColumnSlot {
         }
     }
 
-    // Takes the column, which is at home, for the table alone: one that is read elsewhere is copied. Where memory is wanting the slot stays as
+    // Takes the column, which is at home, for the table alone: one that is read elsewhere is copied. Where an allocation fails the slot stays as
     // it was.
     pub(crate) fn own(&mut self, alloc: Global) -> Result<(), AllocError>
         requires { is_home self.old.standing ≡ true }
@@ -107,7 +96,7 @@ impl ColumnSlot {
         }
     }
 
-    // Takes the column, which is at home, out of the slot. Where memory is wanting the slot stays as it was.
+    // Takes the column, which is at home, out of the slot. Where an allocation fails the slot stays as it was.
     pub(crate) fn lend(&mut self, alloc: Global) -> Result<StampedColumn, AllocError>
         requires { is_home self.old.standing ≡ true }
         ensures column { IfOk result (λ column. column ≡ self.old.column) }
@@ -183,7 +172,7 @@ impl ColumnSlot {
         }
     }
 
-    // Inserts a component before a row. Where memory is wanting the column stays as it was.
+    // Inserts a component before a row. Where an allocation fails the column stays as it was.
     fn insert(&mut self, row: usize, component: StampedValue) -> Result<(), AllocError>
         requires { Takes row self.old component }
         ensures ok { OnOk result (self.new ≡ insert_in row (stamped_cell component) self.old) }
@@ -219,7 +208,7 @@ impl ColumnSlot {
     }
 }
 
-// The column of an owner of it: moved where there is no other, else copied. Where memory is wanting the owner has it as before.
+// The column of an owner of it: moved where there is no other, else copied. Where an allocation fails the owner has it as before.
 fn regained(
     alloc: Global,
     shared: Arc<StampedColumn, Global>,
@@ -236,7 +225,7 @@ fn regained(
     }
 }
 
-// Takes all columns for the table alone. Where memory is wanting some that were read elsewhere too may be the table's alone.
+// Takes all columns for the table alone. Where an allocation fails some that were read elsewhere too may be the table's alone.
 pub(crate) fn own_each(columns: &mut [ColumnSlot], alloc: Global) -> Result<(), AllocError>
     requires { AllByRecursion IsAtHome columns.old }
     ensures ok { OnOk result (columns.new ≡ map (standing_at Owned) columns.old) }
@@ -249,7 +238,7 @@ pub(crate) fn own_each(columns: &mut [ColumnSlot], alloc: Global) -> Result<(), 
     Ok(())
 }
 
-// Inserts a row of components, one into each column. Where memory is wanting all columns stay as they were.
+// Inserts a row of components, one into each column. Where an allocation fails all columns stay as they were.
 pub(crate) fn insert_row(
     columns: &mut [ColumnSlot],
     row: usize,

@@ -13,8 +13,8 @@ use std::mem;
 use std::sync::Arc;
 
 // The entities of a table, row by row. To be read elsewhere too they are copied once, for all readers together, and the copy is kept until
-// rows change: so rows change without memory, whoever still reads. The room of a copy that nobody reads any more is used for the next one.
-#[derive(Drop, Debug)]
+// rows change: so rows change without allocating, whoever still reads. The room of a copy that nobody reads any more is used for the next one.
+#[derive(Drop)]
 pub(crate) struct EntityList {
     list: Vec<Entity>,
     copy: Option<Arc<Vec<Entity>, Global>>,
@@ -64,7 +64,7 @@ impl EntityList {
         self.list.as_slice()
     }
 
-    // Inserts an entity before a row. Where memory is wanting the list stays as it was.
+    // Inserts an entity before a row. Where an allocation fails the list stays as it was.
     pub(crate) fn insert(&mut self, row: usize, e: Entity) -> Result<(), AllocError>
         requires { row ≤ length self.old }
         ensures ok { OnOk result (self.new ≡ insert self.old row e) }

@@ -57,7 +57,7 @@ pub(crate) fn row_in(entities: &[Entity], e: Entity) -> Option<usize>
     }
 }
 
-/// Adds an entity to others whose ids rise, at its place among them. Where memory is wanting they stay as they were.
+/// Adds an entity to others whose ids rise, at its place among them. Where an allocation fails they stay as they were.
 pub fn join(entities: &mut Vec<Entity>, e: Entity) -> Result<(), AllocError>
     requires rising { AreRising entities.old.items }
     requires absent { is_among e entities.old.items ≡ false }

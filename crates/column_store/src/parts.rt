@@ -86,7 +86,7 @@ fn kind_place(kinds: &[Kind], kind: Kind) -> Option<usize>
     column_in(kinds, kind.number())
 }
 
-// Takes the column of a kind, which is at home, out of the table. Where memory is wanting it stays.
+// Takes the column of a kind, which is at home, out of the table. Where an allocation fails it stays.
 pub(crate) fn lend_in(
     kinds: &[Kind],
     entities: &[Entity],

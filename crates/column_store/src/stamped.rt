@@ -37,7 +37,7 @@ pub struct StampedValue {
 }
 
 /// Components of one kind with their stamps. Contracts see the number of the kind and the cells.
-#[derive(Drop, Debug)]
+#[derive(Drop)]
 pub struct StampedColumn {
     column: Column,
     stamps: Vec<Stamp>,
@@ -156,7 +156,7 @@ impl StampedColumn {
         self.stamps[place] = component.stamp;
     }
 
-    /// Inserts a component of the column's kind before a place. Where memory is wanting the column stays as it was.
+    /// Inserts a component of the column's kind before a place. Where an allocation fails the column stays as it was.
     pub fn insert(&mut self, place: usize, component: StampedValue) -> Result<(), AllocError>
         requires kind { self.old.kind ≡ stamped_number component }
         requires within { place ≤ length self.old.cells }

@@ -33,7 +33,7 @@ use std::sync::Arc;
 
 /// The entities of one archetype with their components: a row for each entity, in rising ids, and a column for each kind, in rising
 /// kinds. A column can leave and come home, and be read elsewhere too. To contracts one that is away has the cells with which it left.
-#[derive(Drop, Debug)]
+#[derive(Drop)]
 pub struct Table {
     kinds: Vec<Kind>,
     entities: EntityList,
@@ -196,7 +196,7 @@ impl Table {
         );
     }
 
-    /// Adds the row of an entity that isn't there, with its components in the order of the kinds. Where memory is wanting the table
+    /// Adds the row of an entity that isn't there, with its components in the order of the kinds. Where an allocation fails the table
     /// stays as it was.
     pub fn put(&mut self, e: Entity, components: &[StampedValue]) -> Result<(), AllocError>
         requires absent { IsNone (row_of e self.old.rows) }
@@ -253,7 +253,7 @@ impl Table {
     }
 
     /// Adds the rows of entities that aren't there, whose ids rise, each with its components in the order of the kinds, in one pass over the
-    /// rows; where they come behind all rows, no row is moved. Where memory is wanting the table stays as it was.
+    /// rows; where they come behind all rows, no row is moved. Where an allocation fails the table stays as it was.
     pub fn put_all(&mut self, arrivals: &[Arrival<'_>]) -> Result<(), AllocError>
         requires rising { AreRising (map entity_of arrivals.now) }
         requires absent { AllByRecursion (λ a. IsNone (row_of a.entity self.old.rows)) arrivals.now }
@@ -309,7 +309,7 @@ impl Table {
         read_in(alloc, self.entities.as_slice(), &self.columns, e)
     }
 
-    /// Removes the row of an entity, and gives its components, in the order of the kinds. Where memory is wanting the table stays as
+    /// Removes the row of an entity, and gives its components, in the order of the kinds. Where an allocation fails the table stays as
     /// it was.
     pub fn take(&mut self, alloc: Global, e: Entity) -> Result<Vec<StampedValue>, AllocError>
         requires there { IsSome (row_of e self.old.rows) }
@@ -371,7 +371,7 @@ impl Table {
         )
     }
 
-    /// Takes every column for the table alone. One that is still read elsewhere is copied for it. Where memory is wanting some may be the
+    /// Takes every column for the table alone. One that is still read elsewhere is copied for it. Where an allocation fails some may be the
     /// table's alone that were read elsewhere too.
     pub fn own(&mut self, alloc: Global) -> Result<(), AllocError>
         requires { IsTrue (list_all is_home self.old.standings) }

@@ -122,7 +122,7 @@ fn set_value_of<C: Component>(column: &mut Column, place: usize, value: Value)
     set_component(column, place, component);
 }
 
-// Inserts a component of the column's kind before a place. Where memory is wanting the column stays as it was.
+// Inserts a component of the column's kind before a place. Where an allocation fails the column stays as it was.
 pub(crate) fn insert_value(
     column: &mut Column,
     place: usize,

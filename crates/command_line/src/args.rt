@@ -60,7 +60,7 @@ pub enum LineFault {
     Help(String),
     /// The line is outside what the program takes.
     Usage(String),
-    /// Memory is wanting.
+    /// An allocation failed.
     Memory,
 }
 
@@ -127,7 +127,7 @@ impl LineFault {
         }
     }
 
-    /// The exit status: 0 for help, 2 for a line at fault, 3 where memory is wanting.
+    /// The exit status: 0 for help, 2 for a line at fault, 3 where an allocation fails.
     pub fn status(&self) -> u8
         ensures { result ≡ line_status_of self.now }
     {

@@ -13,7 +13,7 @@ use std::alloc::{AllocError, Global};
 use std::marker::Model;
 
 /// The commands that one system issued, in order of issue. Contracts see them by the numbers of kinds and the words of components.
-#[derive(Drop, Debug)]
+#[derive(Drop)]
 pub struct CommandBuffer {
     commands: Vec<Command>,
 }
@@ -38,7 +38,7 @@ impl CommandBuffer {
         }
     }
 
-    /// The entity of a granted id is to live. Where memory is wanting nothing is issued.
+    /// The entity of a granted id is to live. Where an allocation fails nothing is issued.
     pub fn spawn(&mut self, e: Entity) -> Result<(), AllocError>
         ensures ok { OnOk result (self.new ≡ self.old ++ Spawn e ∷ []) }
         ensures err { OnErr result (self.new ≡ self.old) }
@@ -46,7 +46,7 @@ impl CommandBuffer {
         self.issue(Command::Spawn(e))
     }
 
-    /// The entity is to have a component. Where memory is wanting nothing is issued.
+    /// The entity is to have a component. Where an allocation fails nothing is issued.
     pub fn insert<C: Component>(&mut self, e: Entity, component: C) -> Result<(), AllocError>
         ensures ok { OnOk result (self.new ≡ self.old ++ Insert e C.NUMBER (C.words component) ∷ []) }
         ensures err { OnErr result (self.new ≡ self.old) }
@@ -54,7 +54,7 @@ impl CommandBuffer {
         self.issue(Command::Insert(e, component.into_value()))
     }
 
-    /// The entity is to have no component of a kind. Where memory is wanting nothing is issued.
+    /// The entity is to have no component of a kind. Where an allocation fails nothing is issued.
     pub fn remove(&mut self, e: Entity, kind: Kind) -> Result<(), AllocError>
         ensures ok { OnOk result (self.new ≡ self.old ++ Remove e (kind_number kind) ∷ []) }
         ensures err { OnErr result (self.new ≡ self.old) }
@@ -62,7 +62,7 @@ impl CommandBuffer {
         self.issue(Command::Remove(e, kind))
     }
 
-    /// The entity is to live no more. Where memory is wanting nothing is issued.
+    /// The entity is to live no more. Where an allocation fails nothing is issued.
     pub fn despawn(&mut self, e: Entity) -> Result<(), AllocError>
         ensures ok { OnOk result (self.new ≡ self.old ++ Despawn e ∷ []) }
         ensures err { OnErr result (self.new ≡ self.old) }

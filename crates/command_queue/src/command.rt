@@ -5,7 +5,7 @@ use kinds::kind::Kind;
 use kinds::value::Value;
 
 /// What a system asks of the structure of the world. A command on an entity that doesn't live when it is done is passed over.
-#[derive(Clone, Copy, Debug)]
+#[derive(Clone, Copy)]
 pub enum Command {
     /// The entity of an id that was granted to the system lives, with no component.
     Spawn(Entity),

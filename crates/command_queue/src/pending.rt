@@ -27,7 +27,7 @@ use std::alloc::{AllocError, Global};
 const MOST_PASSED_OVER: u64 = 1 << 62;
 
 // How an entity stands once the commands so far are done.
-#[derive(Clone, Copy, Debug)]
+#[derive(Clone, Copy)]
 pub(crate) enum Found {
     // It lives, as the change at this place leaves it.
     Changed(usize),

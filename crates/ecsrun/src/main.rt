@@ -3,11 +3,11 @@
 
 use command_line::args::{Args, LineFault, Work};
 use command_line::words::words_of;
-use serving::created::Created;
-use serving::fault::Fault;
-use serving::opened::open;
-use serving::serve::{serve, tell};
-use serving::workers::serve_on_threads;
+use program::created::Created;
+use program::fault::Fault;
+use program::opened::open;
+use program::serve::{serve, tell};
+use program::workers::serve_on_threads;
 use std::alloc::Global;
 use std::io::Write;
 use std::process::ExitCode;

@@ -71,7 +71,7 @@ impl<B: Body> Engine<B> {
     }
 
     /// Runs the schedule so many times, in the mode: each run opens, does what is ready while fewer systems run than the mode has room for,
-    /// waits for one that ends else, and answers its trace once all have ended. `Memory` where memory is wanting, `ClockSpent` where a step
+    /// waits for one that ends else, and answers its trace once all have ended. `Memory` where an allocation fails, `ClockSpent` where a step
     /// has no next tick or an event no number, `IdsSpent` where a start lacks its ids, `BodyFault` where a body refuses, `NoWorker` where a
     /// thread couldn't be started; each spoils the engine, and from then on every run answers `Spoiled` and changes nothing. What the state is
     /// after a fault isn't said: that of the run is gone. The bodies come home, and mean what they meant, but where a thread was wanting. Where the

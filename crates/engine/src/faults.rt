@@ -17,7 +17,7 @@ pub enum NewFault {
     /// The body of this system, the least such one, doesn't fit the system's parameters.
     #[error("the body of system {0} does not fit its parameters")]
     Misfit(u32),
-    /// Memory is wanting.
+    /// An allocation failed.
     #[error("out of memory")]
     Memory,
 }
@@ -25,7 +25,7 @@ pub enum NewFault {
 /// Why a run stops. After each of these the engine is spoiled.
 #[derive(Clone, Copy, PartialEq, Eq, Debug, Error)]
 pub enum RunFault {
-    /// Memory is wanting.
+    /// An allocation failed.
     #[error("out of memory")]
     Memory,
     /// The clock gives no further tick, or the events of a kind no further number.

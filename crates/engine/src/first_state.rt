@@ -14,7 +14,7 @@ use event_buffers::buffers::Events;
 use schedule_builder::built::Built;
 use std::alloc::{AllocError, Global};
 
-/// The state of a world in which nothing was run, asked or sent, for the systems and conditions of a schedule. Fails only for want of memory.
+/// The state of a world in which nothing was run, asked or sent, for the systems and conditions of a schedule. Fails only for a failed allocation.
 pub fn first_state(alloc: Global, built: &Built, world: World) -> Result<State, AllocError>
     requires { AreAllHome world.layout }
     ensures { IfOk result (λ state. state ≡ first_state built.now world.state) }

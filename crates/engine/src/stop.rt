@@ -13,7 +13,7 @@ use std::alloc::{AllocError, AllocFailed};
 /// Why a step of a run stops it. A run tells of it by a `RunFault`.
 #[derive(Clone, Copy, PartialEq, Eq, Debug)]
 pub enum Stop {
-    /// Memory is wanting.
+    /// An allocation failed.
     Memory,
     /// A worker's thread couldn't be started, or can't be waited for.
     NoWorker,

@@ -11,7 +11,7 @@ use crate::status::Status;
 use std::marker::Model;
 
 /// One index, which contracts see as a slot without components.
-#[derive(Drop, Debug)]
+#[derive(Drop)]
 pub(crate) struct EntityMeta {
     generation: u32,
     status: Status,

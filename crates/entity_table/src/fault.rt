@@ -12,7 +12,7 @@ pub enum GrantFault {
     /// Fewer indices are left than are asked for.
     #[error("the ids are spent")]
     IdsSpent,
-    /// Memory is wanting.
+    /// An allocation failed.
     #[error("out of memory")]
     Memory,
 }

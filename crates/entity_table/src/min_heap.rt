@@ -10,7 +10,7 @@ use std::marker::Model;
 
 /// Numbers, of which the least comes out first. Contracts see them rising, and for how many there is room. A number is put in and
 /// taken out in a time that grows with the logarithm of how many there are.
-#[derive(Drop, Debug)]
+#[derive(Drop)]
 pub(crate) struct MinHeap {
     heap: BinaryHeap<Reverse<u32>>,
 }
@@ -53,7 +53,7 @@ impl MinHeap {
         self.heap.reserve(missing)
     }
 
-    /// Puts a number in. There is room for it, so this takes no memory.
+    /// Puts a number in. There is room for it, so this allocates nothing.
     pub fn push(&mut self, number: u32)
         requires { length self.old.rising < self.old.room }
         ensures numbers { self.new.rising ≡ insert_rising number self.old.rising }

@@ -26,7 +26,7 @@ pub const MOST_INDICES: usize = 1_048_576;
 ///
 /// The vacant indices stand apart, the least first: a grant of n ids among k vacant ones takes a time that grows as n times the
 /// logarithm of k, however many indices there are. Room for every index to be vacant is made by the grant that brings it.
-#[derive(Drop, Debug)]
+#[derive(Drop)]
 pub struct EntityTable {
     places: Vec<EntityMeta>,
     vacant: MinHeap,
@@ -141,7 +141,7 @@ impl EntityTable {
         place.spawn();
     }
 
-    /// Settles granted ids, none of them named twice: the used ones live, the unused ones are freed. It takes no memory.
+    /// Settles granted ids, none of them named twice: the used ones live, the unused ones are freed. It allocates nothing.
     pub fn settle(&mut self, used: &[Entity], unused: &[Entity])
         requires used { All (IsGranted self.old) used.now }
         requires unused { All (IsGranted self.old) unused.now }
@@ -166,7 +166,7 @@ impl EntityTable {
         }
     }
 
-    /// Frees the index of an entity that lives, so that its id names nothing. It takes no memory.
+    /// Frees the index of an entity that lives, so that its id names nothing. It allocates nothing.
     pub fn despawn(&mut self, e: Entity)
         requires { is_alive self.old e ≡ true }
         ensures { self.new ≡ update_at e.index freed self.old }

@@ -14,7 +14,7 @@ use std::alloc::Global;
 use std::marker::Model;
 
 /// The kept events of every kind. Contracts see the queue of each, by number.
-#[derive(Drop, Debug)]
+#[derive(Drop)]
 pub struct Events {
     queues: [Queue; 4],
 }
@@ -31,7 +31,7 @@ impl Model for Events {
 }
 
 impl Events {
-    /// Events of which none was sent. Takes no memory.
+    /// Events of which none was sent. Allocates nothing.
     pub fn new(alloc: Global) -> Self
         ensures { result ≡ replicate event_count empty_queue }
     {
@@ -87,7 +87,7 @@ impl Events {
         self.queues[kind.number() as usize].can_send(values)
     }
 
-    /// Sends events of a kind, in order. Where one gets no number, or memory is wanting, none is sent.
+    /// Sends events of a kind, in order. Where one gets no number, or an allocation fails, none is sent.
     pub fn send_all(&mut self, kind: Event, values: &[i64]) -> Result<(), SendFault>
         ensures ok { OnOk result (self.new ≡ update_at (event_number kind) (send_all values.now) self.old) }
         ensures spent { IsErrOf result SendFault.NumbersSpent ↔ (can_send values.now (queue_of self.old (event_number kind)) ≡ false) }
@@ -97,14 +97,14 @@ impl Events {
         queue.send_all(values)
     }
 
-    /// The kept events of a kind from a cursor on. Takes no memory.
+    /// The kept events of a kind from a cursor on. Allocates nothing.
     pub fn unread(&self, kind: Event, cursor: u64) -> Unread<'_>
         ensures { result.older.now ++ result.newer.now ≡ unread (queue_of self.now (event_number kind)) cursor }
     {
         self.queues[kind.number() as usize].unread(cursor)
     }
 
-    /// Drops the older buffer of every kind and makes the newer one the older, as the opening of a run does. Takes no memory, and keeps
+    /// Drops the older buffer of every kind and makes the newer one the older, as the opening of a run does. Allocates nothing, and keeps
     /// the room of the buffers.
     pub fn update(&mut self)
         ensures { self.new ≡ map updated_queue self.old }

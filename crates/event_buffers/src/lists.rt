@@ -20,7 +20,7 @@ use std::marker::Model;
 const EVENTS: [Event; Event::COUNT] = [Event::Hit, Event::Heal, Event::Spark, Event::Done];
 
 /// Events of one kind, in order. Contracts see the kind by number, and the values.
-#[derive(Drop, Debug)]
+#[derive(Drop)]
 pub struct EventList {
     kind: Event,
     values: Vec<i64>,
@@ -82,7 +82,7 @@ impl EventList {
 }
 
 /// Events of some kinds, a list for each, in the order in which the kinds are named. Contracts see the kinds by number, and the lists.
-#[derive(Drop, Debug)]
+#[derive(Drop)]
 pub struct EventLists {
     lists: Vec<EventList>,
 }
@@ -149,7 +149,7 @@ impl EventLists {
         }
     }
 
-    /// Sends the events, of each kind those of its first list. Where one gets no number none is sent; where memory is wanting those of some
+    /// Sends the events, of each kind those of its first list. Where one gets no number none is sent; where an allocation fails those of some
     /// kinds may have been.
     pub fn send(&self, events: &mut Events) -> Result<(), SendFault>
         ensures ok { OnOk result (events.new ≡ queues_after (events_sent self.now.kinds self.now.values) events.old) }

@@ -20,13 +20,13 @@ pub enum SendFault {
     /// Every number below the limit is given.
     #[error("the event numbers are spent")]
     NumbersSpent,
-    /// Memory is wanting.
-    #[error("memory is wanting")]
+    /// An allocation failed.
+    #[error("an allocation fails")]
     Memory,
 }
 
 /// The events that a reader has not read, oldest first: those of the older buffer, then those of the newer one.
-#[derive(Clone, Copy, Debug)]
+#[derive(Clone, Copy)]
 pub struct Unread<'a> {
     /// Their values in the older buffer.
     pub older: &'a [i64],
@@ -36,7 +36,7 @@ pub struct Unread<'a> {
 
 /// The kept events of one kind. Contracts see their numbers and values, where the newer buffer begins, and the next number.
 /// Room is used again: an update gives nothing back.
-#[derive(Drop, Debug)]
+#[derive(Drop)]
 pub struct Queue {
     first: u64,
     older: Vec<i64>,
@@ -105,7 +105,7 @@ impl Queue {
         values.len() as u64 <= NUMBER_LIMIT - self.next()
     }
 
-    /// Sends events, in order. Where one gets no number, or memory is wanting, none is sent.
+    /// Sends events, in order. Where one gets no number, or an allocation fails, none is sent.
     pub fn send_all(&mut self, values: &[i64]) -> Result<(), SendFault>
         ensures ok { OnOk result (self.new ≡ send_all values.now self.old) }
         ensures spent { IsErrOf result SendFault.NumbersSpent ↔ (can_send values.now self.old ≡ false) }
@@ -120,7 +120,7 @@ impl Queue {
         }
     }
 
-    /// The kept events from a cursor on. Takes no memory.
+    /// The kept events from a cursor on. Allocates nothing.
     pub fn unread(&self, cursor: u64) -> Unread<'_>
         ensures { result.older.now ++ result.newer.now ≡ unread self.now cursor }
     {
@@ -131,7 +131,7 @@ impl Queue {
         }
     }
 
-    /// Drops the older buffer and makes the newer one the older. Takes no memory and gives none back.
+    /// Drops the older buffer and makes the newer one the older. Allocates nothing and gives none back.
     pub fn update(&mut self)
         ensures { self.new ≡ updated_queue self.old }
     {

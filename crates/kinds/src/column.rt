@@ -10,7 +10,7 @@ use crate::types::{
 };
 
 /// Components of one kind, as their own type. Contracts see the number of the kind and the words of each component.
-#[derive(Drop, Debug)]
+#[derive(Drop)]
 pub enum Column {
     Position(Vec<Position>),
     Velocity(Vec<Velocity>),

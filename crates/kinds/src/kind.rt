@@ -3,7 +3,7 @@
 ghost use Rattle.std.specs.Prelude.{◌≡◌, ◌<◌, map, Some};
 ghost use Rattle.kinds.specs.Kind.{kind_count, kind_number, kind_name, IsKind, numbers_from, NumbersAreBelow, NumbersAreApart, NamesAreApart};
 ghost use Rattle.kinds.specs.Components.{widths};
-ghost use Rattle.texts.specs.Reads.{Reads};
+ghost use Rattle.parsing.specs.Reads.{Reads};
 
 use std::fmt;
 

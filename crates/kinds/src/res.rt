@@ -2,7 +2,7 @@
 
 ghost use Rattle.std.specs.Prelude.{◌≡◌, ◌<◌, Some};
 ghost use Rattle.kinds.specs.Res.{res_number, res_name, IsRes, event_number, event_name, IsEvent};
-ghost use Rattle.texts.specs.Reads.{Reads};
+ghost use Rattle.parsing.specs.Reads.{Reads};
 
 use std::fmt;
 

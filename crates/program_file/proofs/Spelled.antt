@@ -1,7 +1,7 @@
 -- Values that texts spell, one more at a time.
 use Rattle.std.proofs.Common.{◌≡◌, ℕ, Bor, ◌+◌, ◌<◌, List, [], ◌∷◌, ◌++◌, length, map, take, get_or}
 use Rattle.std.proofs.lemmas.List.{take_more, map-append}
-use Rattle.texts.specs.Reads.{SpellsOnly}
+use Rattle.parsing.specs.Reads.{SpellsOnly}
 use Rattle.program_file.specs.Readings.{AreSpelled}
 
 -- a value more, spelled by a text more

@@ -1,6 +1,6 @@
 -- What is told of a place of a program file.
-use Rattle.texts.specs.declared.read_error.ReadError.{ReadError}
-use Rattle.texts.specs.declared.read_error.ReadError.TheVariants as error
+use Rattle.parsing.specs.declared.read_error.ReadError.{ReadError}
+use Rattle.parsing.specs.declared.read_error.ReadError.TheVariants as error
 use Rattle.program_file.specs.declared.place.Place.{Place}
 use Rattle.program_file.specs.declared.fault.FileFault.{FileFault}
 use Rattle.program_file.specs.declared.fault.FileFault.TheVariants as fault

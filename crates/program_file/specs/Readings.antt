@@ -1,6 +1,6 @@
 -- Values that texts spell, each its own.
 use Rattle.std.specs.Prelude.{ℕ, List, [], ◌∷◌}
-use Rattle.texts.specs.Reads.{SpellsOnly}
+use Rattle.parsing.specs.Reads.{SpellsOnly}
 
 -- as many values as texts, each the only one that its text spells
 abbrev pub AreSpelled : {A : Type 0} → (A → List ℕ → Type 0) → List A → List (List ℕ) → Type 0

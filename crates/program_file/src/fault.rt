@@ -18,7 +18,7 @@ pub enum FileFault {
     Value(Place),
     /// A query or an instruction is outside its grammar.
     Text(Place),
-    /// Memory is wanting.
+    /// An allocation failed.
     Memory,
 }
 

@@ -5,7 +5,7 @@ ghost use Rattle.toml.specs.Data.{get_member, string, integer, array};
 ghost use Rattle.toml.specs.View.{view, table_view, items_of};
 ghost use Rattle.program_file.specs.Keys.{HasOnly, HasItems, HasTable, HasTables, HasNames, IsTable, HasResources, HasEvents, HasText, HasInteger, HasNumber, HasFlag, AreIntegers, lent_members};
 ghost use Rattle.program_file.specs.Rounds.{IsNumber};
-ghost use Rattle.texts.specs.Reads.{Reads};
+ghost use Rattle.parsing.specs.Reads.{Reads};
 ghost use Rattle.program_file.specs.PlaceFault.{IsNoText};
 ghost use Rattle.program_file.specs.Name.{IsName, IsAmong};
 

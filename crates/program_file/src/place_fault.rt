@@ -6,8 +6,8 @@ ghost use Rattle.program_file.specs.declared.place_fault.PlaceFault.TheVariants.
 
 use crate::fault::FileFault;
 use crate::place::Place;
+use parsing::read_error::ReadError;
 use std::alloc::{AllocError, AllocFailed};
-use texts::read_error::ReadError;
 
 /// Why a place of a program file is not read. Which place it is, is added by who knows it.
 #[derive(Clone, Copy, PartialEq, Eq, Debug)]
@@ -16,7 +16,7 @@ pub enum PlaceFault {
     Value,
     /// A text is outside its grammar.
     Text,
-    /// Memory is wanting.
+    /// An allocation failed.
     Memory,
 }
 

@@ -1,7 +1,7 @@
 // The texts of a place of a program file, read.
 
 ghost use Rattle.std.specs.Prelude.{◌≡◌, length, vec_len, map, Any, IfOk, IsErrOf};
-ghost use Rattle.texts.specs.Reads.{SpellsNone};
+ghost use Rattle.parsing.specs.Reads.{SpellsNone};
 ghost use Rattle.query.specs.Grammar.{IsQuery};
 ghost use Rattle.run_condition.specs.Grammar.{IsCondition};
 ghost use Rattle.script.specs.Instruction.{IsInstruction};

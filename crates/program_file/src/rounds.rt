@@ -1,7 +1,7 @@
 // How often a block runs.
 
 ghost use Rattle.std.specs.Prelude.{◌≡◌, option_map, IfOk, IfErr};
-ghost use Rattle.texts.specs.Reads.{Reads, SpellsOnly, SpellsNone};
+ghost use Rattle.parsing.specs.Reads.{Reads, SpellsOnly, SpellsNone};
 ghost use Rattle.toml.specs.View.{view, table_view};
 ghost use Rattle.program_file.specs.Rounds.{SaysRounds, IsEventName, block_keys};
 

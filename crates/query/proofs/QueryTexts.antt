@@ -4,14 +4,14 @@ use Rattle.std.proofs.lemmas.Bool.{both_ways}
 use Rattle.std.proofs.lemmas.List.{take_more, map-append, length-map, get_or-map}
 use Rattle.std.specs.List.{AllZip}
 use Rattle.model.specs.access.Query.{Term as ModelTerm}
-use Rattle.texts.specs.declared.read_error.ReadError.{ReadError}
-use Rattle.texts.specs.declared.read_error.ReadError.TheVariants.{Outside, Memory}
-use Rattle.texts.specs.Reads.{SpellsNone, SpellsOnly, Refuses, ReadsUnlessMemory, SpellsSeen}
-use Rattle.texts.specs.Words.{AreSpaces, Lacks}
-use Rattle.texts.specs.Parts.{ArePartsOf, ByParts}
-use Rattle.texts.proofs.WordsOfText.{same_words}
-use Rattle.texts.proofs.PartsOfText.{same_parts}
-use Rattle.texts.proofs.Grammars.{only_by_parts, none_by_parts, only_more, none_at, only_seen, none_seen}
+use Rattle.parsing.specs.declared.read_error.ReadError.{ReadError}
+use Rattle.parsing.specs.declared.read_error.ReadError.TheVariants.{Outside, Memory}
+use Rattle.parsing.specs.Reads.{SpellsNone, SpellsOnly, Refuses, ReadsUnlessMemory, SpellsSeen}
+use Rattle.parsing.specs.Words.{AreSpaces, Lacks}
+use Rattle.parsing.specs.Parts.{ArePartsOf, ByParts}
+use Rattle.parsing.proofs.WordsOfText.{same_words}
+use Rattle.parsing.proofs.PartsOfText.{same_parts}
+use Rattle.parsing.proofs.Grammars.{only_by_parts, none_by_parts, only_more, none_at, only_seen, none_seen}
 use Rattle.query.specs.declared.term.Term.{Term}
 use Rattle.query.specs.declared.term.Term.TheVariants.{Entity, Read, Mut, Opt, With, Without, Added, Changed}
 use Rattle.query.specs.Term.{term_of}

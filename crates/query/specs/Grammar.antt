@@ -2,9 +2,9 @@
 use Rattle.std.specs.Prelude.{◌≡◌, ℕ, List, [], ◌∷◌, codes}
 use Rattle.model.specs.access.Query.{Term as ModelTerm}
 use Rattle.kinds.specs.Kind.{IsKind}
-use Rattle.texts.specs.Reads.{SpellsSeen}
-use Rattle.texts.specs.Words.{AreSpaces, ByWords}
-use Rattle.texts.specs.Parts.{ByParts}
+use Rattle.parsing.specs.Reads.{SpellsSeen}
+use Rattle.parsing.specs.Words.{AreSpaces, ByWords}
+use Rattle.parsing.specs.Parts.{ByParts}
 use Rattle.query.specs.declared.term.Term.{Term}
 use Rattle.query.specs.declared.term.Term.TheVariants.{Entity, Read, Mut, Opt, With, Without, Added, Changed}
 use Rattle.query.specs.Term.{term_of}

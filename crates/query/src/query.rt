@@ -49,7 +49,7 @@ impl Query {
         })
     }
 
-    /// Adds a term at the end. Where memory is wanting the query stays as it was.
+    /// Adds a term at the end. Where an allocation fails the query stays as it was.
     pub fn push(&mut self, term: Term) -> Result<(), AllocError>
         ensures ok { OnOk result (self.new ≡ self.old ++ term_of term ∷ []) }
         ensures err { OnErr result (self.new ≡ self.old) }

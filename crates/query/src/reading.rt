@@ -3,17 +3,17 @@
 ghost use Rattle.std.specs.Prelude.{map, [], ◌∷◌};
 ghost use Rattle.std.specs.List.{AllZip};
 ghost use Rattle.kinds.specs.Kind.{kind_name};
-ghost use Rattle.texts.specs.Reads.{Reads, ReadsUnlessMemory, SpellsSeen};
+ghost use Rattle.parsing.specs.Reads.{Reads, ReadsUnlessMemory, SpellsSeen};
 ghost use Rattle.query.specs.Term.{term_of};
 ghost use Rattle.query.specs.Grammar.{AreTerm, IsTerm, IsQuery};
 
 use crate::query::Query;
 use crate::term::Term;
 use kinds::kind::Kind;
+use parsing::parts::parts_of;
+use parsing::read_error::ReadError;
+use parsing::words::{is_blank, words_of};
 use std::alloc::Global;
-use texts::parts::parts_of;
-use texts::read_error::ReadError;
-use texts::words::{is_blank, words_of};
 
 impl Term {
     /// Reads a term: `entity`, or one of `read`, `mut`, `opt`, `with`, `without`, `added` and `changed` and the name of a kind, with one or

@@ -16,7 +16,7 @@ use query::Term;
 use std::alloc::{AllocError, Global};
 
 // A filter: of the components of a column those pass that were added, or else changed, after a last run.
-#[derive(Clone, Copy, Debug)]
+#[derive(Clone, Copy)]
 pub(crate) struct Filter<'a> {
     pub(crate) column: &'a StampedColumn,
     pub(crate) is_added: bool,

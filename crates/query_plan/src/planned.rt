@@ -4,7 +4,7 @@ use crate::picks::Pick;
 use crate::row_places::RowPlaces;
 
 /// What a query asks of a world: its rows, and the columns that they are in.
-#[derive(Drop, Debug)]
+#[derive(Drop)]
 pub struct Plan {
     /// Where the rows stand, in rising index.
     pub rows: RowPlaces,

@@ -13,7 +13,7 @@ use entity_table::Entity;
 use std::alloc::{AllocError, Global};
 
 /// Where the rows of a query stand in a world.
-#[derive(Drop, Debug)]
+#[derive(Drop)]
 pub enum RowPlaces {
     /// The rows are the entities of the archetype of a number, all of them, in order. There are so many.
     All(u32, u32),

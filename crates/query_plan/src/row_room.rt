@@ -8,7 +8,7 @@ use std::alloc::Global;
 
 /// Buffers of rows that nobody reads any more. Who plans a query takes its buffers from here and gives them back, so that a start takes no
 /// memory for its rows once one like it was planned. Contracts see nothing of them: what is taken has no rows.
-#[derive(Drop, Debug)]
+#[derive(Drop)]
 pub struct RowRoom {
     spare: Vec<Vec<Row>>,
 }
@@ -32,7 +32,7 @@ impl RowRoom {
         rows
     }
 
-    /// Keeps a buffer. Where memory is wanting for its place it is dropped.
+    /// Keeps a buffer. Where an allocation fails for its place it is dropped.
     pub(crate) fn give(&mut self, rows: Vec<Row>) {
         if rows.capacity() > 0 {
             let _kept = self.spare.push(rows);

@@ -3,10 +3,10 @@ use Rattle.std.proofs.Common.{◌≡◌, ◌≢◌, ℕ, Bool, true, false, ◌=
 use Rattle.std.proofs.lemmas.Grind.{common_steps}
 use Rattle.std.proofs.lemmas.List.{append-nil}
 use Rattle.model.specs.access.Condition.{Condition}
-use Rattle.texts.specs.declared.read_error.ReadError.{ReadError}
-use Rattle.texts.specs.declared.read_error.ReadError.TheVariants.{Outside, Memory}
-use Rattle.texts.specs.Reads.{SpellsNone, SpellsOnly, Refuses}
-use Rattle.texts.specs.Words.{AreWordsOf, Lacks}
+use Rattle.parsing.specs.declared.read_error.ReadError.{ReadError}
+use Rattle.parsing.specs.declared.read_error.ReadError.TheVariants.{Outside, Memory}
+use Rattle.parsing.specs.Reads.{SpellsNone, SpellsOnly, Refuses}
+use Rattle.parsing.specs.Words.{AreWordsOf, Lacks}
 use Rattle.run_condition.specs.declared.word.Word.{Word}
 use Rattle.run_condition.specs.declared.word.Word.TheVariants as word
 use Rattle.run_condition.specs.Word.{word_text, IsConditionWord}

@@ -6,15 +6,15 @@ use Rattle.model.specs.access.Query.{Term}
 use Rattle.kinds.specs.declared.res.Res.{Res}
 use Rattle.kinds.specs.declared.res.Event.{Event}
 use Rattle.kinds.specs.Res.{IsRes, IsEvent, res_number, event_number}
-use Rattle.texts.specs.Integer.{IsInteger}
-use Rattle.texts.specs.declared.read_error.ReadError.{ReadError}
-use Rattle.texts.specs.declared.read_error.ReadError.TheVariants.{Outside, Memory}
-use Rattle.texts.specs.Reads.{SpellsNone, SpellsOnly, Refuses, Reads, ReadsUnlessMemory, SpellsSeen}
-use Rattle.texts.specs.Words.{AreWordsOf, Lacks}
-use Rattle.texts.specs.Parts.{ArePartsOf}
-use Rattle.texts.proofs.WordsOfText.{same_words}
-use Rattle.texts.proofs.PartsOfText.{same_parts}
-use Rattle.texts.proofs.Grammars.{only_seen, none_seen}
+use Rattle.parsing.specs.Integer.{IsInteger}
+use Rattle.parsing.specs.declared.read_error.ReadError.{ReadError}
+use Rattle.parsing.specs.declared.read_error.ReadError.TheVariants.{Outside, Memory}
+use Rattle.parsing.specs.Reads.{SpellsNone, SpellsOnly, Refuses, Reads, ReadsUnlessMemory, SpellsSeen}
+use Rattle.parsing.specs.Words.{AreWordsOf, Lacks}
+use Rattle.parsing.specs.Parts.{ArePartsOf}
+use Rattle.parsing.proofs.WordsOfText.{same_words}
+use Rattle.parsing.proofs.PartsOfText.{same_parts}
+use Rattle.parsing.proofs.Grammars.{only_seen, none_seen}
 use Rattle.query.specs.Grammar.{IsQuery}
 use Rattle.run_condition.specs.declared.word.Word.TheVariants as word
 use Rattle.run_condition.specs.Grammar.{ByWord, AreResAndInteger, AreNumberAndInteger, IsLeaf}

@@ -9,8 +9,8 @@ use Rattle.std.proofs.lemmas.Str.{IsUtf8-nil, IsUtf8-drop, IsCharBoundary-after_
 use Rattle.std.proofs.Math.Seq.{drop-append_seam, get_or-append_seam}
 use Rattle.std.specs.Option.{option_map}
 use Rattle.std.specs.Borrow.{Bor}
-use Rattle.texts.specs.Reads.{Reads}
-use Rattle.texts.specs.Words.{AreSpaces}
+use Rattle.parsing.specs.Reads.{Reads}
+use Rattle.parsing.specs.Words.{AreSpaces}
 use Rattle.run_condition.specs.Grammar.{is_mark, ArePlain}
 use Rattle.run_condition.specs.Fronts.{StartsMark, Ends, Closes, IsClosing}
 

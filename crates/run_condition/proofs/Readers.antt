@@ -1,8 +1,8 @@
 -- A reader that leaves its work to another reads what that one does.
 use Rattle.std.proofs.Common.{◌≡◌, ℕ, List, Result, Ok, Err, refl, sym, ap, subst, ◌∙◌, Bor}
-use Rattle.texts.specs.declared.read_error.ReadError.{ReadError}
-use Rattle.texts.specs.declared.read_error.ReadError.TheVariants.{Outside, Memory}
-use Rattle.texts.specs.Reads.{SpellsNone, SpellsOnly, Refuses, ReadsUnlessMemory}
+use Rattle.parsing.specs.declared.read_error.ReadError.{ReadError}
+use Rattle.parsing.specs.declared.read_error.ReadError.TheVariants.{Outside, Memory}
+use Rattle.parsing.specs.Reads.{SpellsNone, SpellsOnly, Refuses, ReadsUnlessMemory}
 use Rattle.std.specs.Result.{IsErrAnd}
 use Rattle.run_condition.specs.Fronts.{ReadsRest}
 

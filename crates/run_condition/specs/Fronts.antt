@@ -1,9 +1,9 @@
 -- How a condition is found at the front of a text: its word, what is in its brackets, and the rest.
 use Rattle.std.specs.Prelude.{◌≡◌, ◌≢◌, ℕ, true, List, [], ◌∷◌, ◌++◌, Option, None, Some, Result, Ok, Err, ◌⊎◌, MatchOption}
 use Rattle.std.specs.Borrow.{Bor}
-use Rattle.texts.specs.declared.read_error.ReadError.{ReadError}
-use Rattle.texts.specs.Reads.{SpellsOnly, Refuses}
-use Rattle.texts.specs.Words.{AreSpaces}
+use Rattle.parsing.specs.declared.read_error.ReadError.{ReadError}
+use Rattle.parsing.specs.Reads.{SpellsOnly, Refuses}
+use Rattle.parsing.specs.Words.{AreSpaces}
 use Rattle.run_condition.specs.Grammar.{is_mark}
 
 -- what follows a plain text: nothing, or a bracket or a comma first

@@ -5,10 +5,10 @@ use Rattle.std.specs.List.{AllByRecursion}
 use Rattle.model.specs.access.Condition.{Condition}
 use Rattle.kinds.specs.declared.res.Res.{Res}
 use Rattle.kinds.specs.Res.{IsRes, IsEvent, res_number, event_number}
-use Rattle.texts.specs.Integer.{IsInteger}
-use Rattle.texts.specs.Reads.{SpellsSeen}
-use Rattle.texts.specs.Words.{AreSpaces, AreWordsOf, Lacks}
-use Rattle.texts.specs.Parts.{ArePartsOf}
+use Rattle.parsing.specs.Integer.{IsInteger}
+use Rattle.parsing.specs.Reads.{SpellsSeen}
+use Rattle.parsing.specs.Words.{AreSpaces, AreWordsOf, Lacks}
+use Rattle.parsing.specs.Parts.{ArePartsOf}
 use Rattle.query.specs.Grammar.{IsQuery}
 use Rattle.run_condition.specs.declared.word.Word.{Word}
 use Rattle.run_condition.specs.declared.word.Word.TheVariants as word

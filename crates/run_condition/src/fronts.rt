@@ -3,11 +3,11 @@
 ghost use Rattle.std.specs.Prelude.{◌≡◌, ◌++◌};
 ghost use Rattle.std.specs.List.{position, position_or_len};
 ghost use Rattle.std.specs.Option.{option_map};
-ghost use Rattle.texts.specs.Reads.{Reads};
+ghost use Rattle.parsing.specs.Reads.{Reads};
 ghost use Rattle.run_condition.specs.Grammar.{is_mark, ArePlain};
 ghost use Rattle.run_condition.specs.Fronts.{StartsMark, Closes, IsClosing, IsBehind};
 
-use texts::words::is_blank;
+use parsing::words::is_blank;
 
 // Whether the byte is a bracket or a comma.
 fn is_mark(byte: u8) -> bool

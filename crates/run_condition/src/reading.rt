@@ -3,9 +3,9 @@
 ghost use Rattle.std.specs.Prelude.{◌≡◌, ◌≢◌, ℕ, List, ◌∷◌, [], Some, map, MatchOption};
 ghost use Rattle.kinds.specs.Res.{IsRes, IsEvent};
 ghost use Rattle.model.specs.access.Condition.{Condition};
-ghost use Rattle.texts.specs.Integer.{IsInteger};
-ghost use Rattle.texts.specs.Reads.{Reads, ReadsUnlessMemory};
-ghost use Rattle.texts.specs.Words.{AreWordsOf, Lacks};
+ghost use Rattle.parsing.specs.Integer.{IsInteger};
+ghost use Rattle.parsing.specs.Reads.{Reads, ReadsUnlessMemory};
+ghost use Rattle.parsing.specs.Words.{AreWordsOf, Lacks};
 ghost use Rattle.run_condition.specs.declared.word.Word.TheVariants as word;
 ghost use Rattle.run_condition.specs.Word.{IsConditionWord};
 ghost use Rattle.run_condition.specs.Grammar.{ByWord, AreTwo, AreResAndInteger, IsLeaf, IsMade, IsConditionWithin, IsCondition};
@@ -15,12 +15,12 @@ use crate::cond::Cond;
 use crate::fronts::{behind_comma, behind_opening, closed, closing, cut};
 use crate::word::Word;
 use kinds::res::{Event, Res};
+use parsing::integer::read_integer;
+use parsing::parts::parts_of;
+use parsing::read_error::ReadError;
+use parsing::words::words_of;
 use query::Query;
 use std::alloc::Global;
-use texts::integer::read_integer;
-use texts::parts::parts_of;
-use texts::read_error::ReadError;
-use texts::words::words_of;
 
 // How deep `not`, `and` and `or` may nest.
 const DEEPEST: u32 = 16;

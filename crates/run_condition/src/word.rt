@@ -1,6 +1,6 @@
 // The words that begin a condition.
 
-ghost use Rattle.texts.specs.Reads.{Reads};
+ghost use Rattle.parsing.specs.Reads.{Reads};
 ghost use Rattle.run_condition.specs.Word.{IsConditionWord};
 
 /// The word that begins a condition, and says which sort it is.

@@ -52,7 +52,7 @@ impl ItemDesc {
         }
     }
 
-    /// Declares that the item is in the set of this name. Where memory is wanting nothing is declared.
+    /// Declares that the item is in the set of this name. Where an allocation fails nothing is declared.
     pub fn add_in(&mut self, name: String) -> Result<(), AllocError>
         ensures ok { OnOk result (self.new ≡ record self.old { inside = self.old.inside ++ string_bytes name ∷ [] }) }
         ensures err { OnErr result (self.new ≡ self.old) }
@@ -61,7 +61,7 @@ impl ItemDesc {
         Ok(())
     }
 
-    /// Declares that the item runs before the item of this name. Where memory is wanting nothing is declared.
+    /// Declares that the item runs before the item of this name. Where an allocation fails nothing is declared.
     pub fn add_before(&mut self, name: String) -> Result<(), AllocError>
         ensures ok { OnOk result (self.new ≡ record self.old { before = self.old.before ++ string_bytes name ∷ [] }) }
         ensures err { OnErr result (self.new ≡ self.old) }
@@ -70,7 +70,7 @@ impl ItemDesc {
         Ok(())
     }
 
-    /// Declares that the item runs after the item of this name. Where memory is wanting nothing is declared.
+    /// Declares that the item runs after the item of this name. Where an allocation fails nothing is declared.
     pub fn add_after(&mut self, name: String) -> Result<(), AllocError>
         ensures ok { OnOk result (self.new ≡ record self.old { after = self.old.after ++ string_bytes name ∷ [] }) }
         ensures err { OnErr result (self.new ≡ self.old) }
@@ -79,7 +79,7 @@ impl ItemDesc {
         Ok(())
     }
 
-    /// Declares that the item runs before the item of this name, which then doesn't wait for commands. Where memory is wanting nothing
+    /// Declares that the item runs before the item of this name, which then doesn't wait for commands. Where an allocation fails nothing
     /// is declared.
     pub fn add_before_ignore_deferred(&mut self, name: String) -> Result<(), AllocError>
         ensures ok { OnOk result (self.new ≡ record self.old { before_ignore_deferred = self.old.before_ignore_deferred ++ string_bytes name ∷ [] }) }
@@ -89,7 +89,7 @@ impl ItemDesc {
         Ok(())
     }
 
-    /// Declares that the item runs after the item of this name, and doesn't wait for its commands. Where memory is wanting nothing is
+    /// Declares that the item runs after the item of this name, and doesn't wait for its commands. Where an allocation fails nothing is
     /// declared.
     pub fn add_after_ignore_deferred(&mut self, name: String) -> Result<(), AllocError>
         ensures ok { OnOk result (self.new ≡ record self.old { after_ignore_deferred = self.old.after_ignore_deferred ++ string_bytes name ∷ [] }) }
@@ -99,7 +99,7 @@ impl ItemDesc {
         Ok(())
     }
 
-    /// Declares that the item and the item of this name may be ambiguous. Where memory is wanting nothing is declared.
+    /// Declares that the item and the item of this name may be ambiguous. Where an allocation fails nothing is declared.
     pub fn add_ambiguous_with(&mut self, name: String) -> Result<(), AllocError>
         ensures ok { OnOk result (self.new ≡ record self.old { ambiguous_with = self.old.ambiguous_with ++ string_bytes name ∷ [] }) }
         ensures err { OnErr result (self.new ≡ self.old) }
@@ -108,7 +108,7 @@ impl ItemDesc {
         Ok(())
     }
 
-    /// Declares that the item runs on this condition, besides those that it has. Where memory is wanting nothing is declared.
+    /// Declares that the item runs on this condition, besides those that it has. Where an allocation fails nothing is declared.
     pub fn add_condition(&mut self, condition: Cond) -> Result<(), AllocError>
         ensures ok { OnOk result (self.new ≡ record self.old { conditions = self.old.conditions ++ condition ∷ [] }) }
         ensures err { OnErr result (self.new ≡ self.old) }
@@ -217,7 +217,7 @@ impl SystemDesc {
         SystemDesc { item, params }
     }
 
-    /// Declares that the system is in the set of this name. Where memory is wanting nothing is declared.
+    /// Declares that the system is in the set of this name. Where an allocation fails nothing is declared.
     pub fn add_in(&mut self, name: String) -> Result<(), AllocError>
         ensures ok { OnOk result (self.new ≡ record self.old { item = record self.old.item { inside = self.old.item.inside ++ string_bytes name ∷ [] } }) }
         ensures err { OnErr result (self.new ≡ self.old) }
@@ -225,7 +225,7 @@ impl SystemDesc {
         self.item.add_in(name)
     }
 
-    /// Declares that the system runs before the item of this name. Where memory is wanting nothing is declared.
+    /// Declares that the system runs before the item of this name. Where an allocation fails nothing is declared.
     pub fn add_before(&mut self, name: String) -> Result<(), AllocError>
         ensures ok { OnOk result (self.new ≡ record self.old { item = record self.old.item { before = self.old.item.before ++ string_bytes name ∷ [] } }) }
         ensures err { OnErr result (self.new ≡ self.old) }
@@ -233,7 +233,7 @@ impl SystemDesc {
         self.item.add_before(name)
     }
 
-    /// Declares that the system runs after the item of this name. Where memory is wanting nothing is declared.
+    /// Declares that the system runs after the item of this name. Where an allocation fails nothing is declared.
     pub fn add_after(&mut self, name: String) -> Result<(), AllocError>
         ensures ok { OnOk result (self.new ≡ record self.old { item = record self.old.item { after = self.old.item.after ++ string_bytes name ∷ [] } }) }
         ensures err { OnErr result (self.new ≡ self.old) }
@@ -241,7 +241,7 @@ impl SystemDesc {
         self.item.add_after(name)
     }
 
-    /// Declares that the system runs on this condition, besides those that it has. Where memory is wanting nothing is declared.
+    /// Declares that the system runs on this condition, besides those that it has. Where an allocation fails nothing is declared.
     pub fn add_condition(&mut self, condition: Cond) -> Result<(), AllocError>
         ensures ok { OnOk result (self.new ≡ record self.old { item = record self.old.item { conditions = self.old.item.conditions ++ condition ∷ [] } }) }
         ensures err { OnErr result (self.new ≡ self.old) }
@@ -301,7 +301,7 @@ impl ChainDesc {
         }
     }
 
-    /// Adds the item of this name at the end. Where memory is wanting nothing is added.
+    /// Adds the item of this name at the end. Where an allocation fails nothing is added.
     pub fn add_item(&mut self, name: String) -> Result<(), AllocError>
         ensures ok { OnOk result (self.new ≡ record self.old { items = self.old.items ++ string_bytes name ∷ [] }) }
         ensures err { OnErr result (self.new ≡ self.old) }
@@ -357,7 +357,7 @@ impl ScheduleDesc {
         }
     }
 
-    /// Declares a set after the others. Where memory is wanting nothing is declared.
+    /// Declares a set after the others. Where an allocation fails nothing is declared.
     pub fn add_set(&mut self, set: ItemDesc) -> Result<(), AllocError>
         ensures ok { OnOk result (self.new ≡ record self.old { sets = self.old.sets ++ set ∷ [] }) }
         ensures err { OnErr result (self.new ≡ self.old) }
@@ -366,7 +366,7 @@ impl ScheduleDesc {
         Ok(())
     }
 
-    /// Declares a system after the others. Where memory is wanting nothing is declared.
+    /// Declares a system after the others. Where an allocation fails nothing is declared.
     pub fn add_system(&mut self, system: SystemDesc) -> Result<(), AllocError>
         ensures ok { OnOk result (self.new ≡ record self.old { systems = self.old.systems ++ system ∷ [] }) }
         ensures err { OnErr result (self.new ≡ self.old) }
@@ -375,7 +375,7 @@ impl ScheduleDesc {
         Ok(())
     }
 
-    /// Declares a chain after the others. Where memory is wanting nothing is declared.
+    /// Declares a chain after the others. Where an allocation fails nothing is declared.
     pub fn add_chain(&mut self, chain: ChainDesc) -> Result<(), AllocError>
         ensures ok { OnOk result (self.new ≡ record self.old { chains = self.old.chains ++ chain ∷ [] }) }
         ensures err { OnErr result (self.new ≡ self.old) }

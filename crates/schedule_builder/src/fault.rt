@@ -56,7 +56,7 @@ pub enum BuildFault {
     /// B12: the number of the least limit that is passed (1: at most 256 systems, 2: at most 64 sets, 3: at most 512 conditions, 4: at
     /// most 8 queries in a system, 5: at most 1,024 ids at a start).
     OverLimit(u32),
-    /// Memory is wanting.
+    /// An allocation failed.
     Memory,
 }
 

@@ -2,8 +2,8 @@
 use Rattle.std.specs.Prelude.{◌≡◌, ◌≢◌, ℕ, ◌<◌, List, [], ◌∷◌, codes}
 use Rattle.kinds.specs.Kind.{IsKind}
 use Rattle.kinds.specs.Res.{IsEvent}
-use Rattle.texts.specs.Integer.{IsNumber}
-use Rattle.texts.specs.Words.{ByWords}
+use Rattle.parsing.specs.Integer.{IsNumber}
+use Rattle.parsing.specs.Words.{ByWords}
 use Rattle.script.specs.declared.instruction.Operation.{Operation}
 use Rattle.script.specs.declared.instruction.Operation.TheVariants.{Set, Add, Sub, Mul, Min, Max}
 use Rattle.script.specs.declared.instruction.Relation.{Relation}

@@ -3,7 +3,7 @@ use Rattle.std.specs.Prelude.{◌≡◌, ℕ, List, [], ◌∷◌, ◌++◌, cod
 use Rattle.std.specs.List.{AllByRecursion}
 use Rattle.kinds.specs.Kind.{kind_name}
 use Rattle.kinds.specs.Res.{IsRes}
-use Rattle.texts.specs.Integer.{IsInteger, IsNumber}
+use Rattle.parsing.specs.Integer.{IsInteger, IsNumber}
 use Rattle.script.specs.declared.operands.Axis.{Axis}
 use Rattle.script.specs.declared.operands.Axis.TheVariants.{X, Y, V}
 use Rattle.script.specs.declared.operands.Field.{Field}

@@ -80,7 +80,7 @@ pub enum CheckFault {
     /// Its first fault.
     #[error("{0}")]
     Script(ScriptFault),
-    /// Memory is wanting.
+    /// An allocation failed.
     #[error("error memory")]
     Memory,
 }

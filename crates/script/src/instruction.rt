@@ -1,16 +1,16 @@
 // The instructions of a script, and how they are read.
 
 ghost use Rattle.std.specs.Prelude.{◌≡◌, ◌≢◌, ◌↔◌, IsTrue, [], ◌∷◌, map, codes};
-ghost use Rattle.texts.specs.Reads.{Reads, ReadsUnlessMemory};
+ghost use Rattle.parsing.specs.Reads.{Reads, ReadsUnlessMemory};
 ghost use Rattle.script.specs.Instruction.{IsOperation, IsRelation, IsCount, AreInstruction, IsNoInsert, IsInstruction};
 
 use crate::operands::{Source, Subject, Target, Values, read_slot};
 use kinds::kind::Kind;
 use kinds::res::Event;
+use parsing::integer::read_number;
+use parsing::read_error::ReadError;
+use parsing::words::words_of;
 use std::alloc::Global;
-use texts::integer::read_number;
-use texts::read_error::ReadError;
-use texts::words::words_of;
 
 /// What becomes of a target and a source.
 #[derive(Clone, Copy, PartialEq, Eq)]

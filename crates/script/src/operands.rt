@@ -2,12 +2,12 @@
 
 ghost use Rattle.std.specs.Prelude.{◌≤◌, ◌↔◌, IsTrue, [], ◌∷◌, length, map};
 ghost use Rattle.std.specs.List.{AllByRecursion};
-ghost use Rattle.texts.specs.Reads.{Reads};
+ghost use Rattle.parsing.specs.Reads.{Reads};
 ghost use Rattle.script.specs.Operands.{IsAxis, IsField, IsRegister, IsTarget, IsSource, IsSlot, IsSubject, IsSomeSource, AreValues};
 
 use kinds::kind::Kind;
 use kinds::res::Res;
-use texts::integer::{read_integer, read_number};
+use parsing::integer::{read_integer, read_number};
 
 /// The letter of a field within its kind. Not every kind has each: that is looked at when the script is checked.
 #[derive(Clone, Copy, PartialEq, Eq)]

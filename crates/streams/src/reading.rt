@@ -15,8 +15,8 @@ pub enum ReadFault {
     /// A read failed.
     #[error("the input can't be read")]
     Failed,
-    /// Memory is wanting.
-    #[error("memory is wanting")]
+    /// An allocation failed.
+    #[error("an allocation fails")]
     Memory,
 }
 

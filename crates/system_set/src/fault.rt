@@ -12,7 +12,7 @@ pub enum HierarchyFault {
     Loop(usize),
     /// Sets that hold one another in a circle, each declared to be in the next, from the earliest declared one, each once.
     Cycle(Vec<usize>),
-    /// Memory is wanting.
+    /// An allocation failed.
     Memory,
 }
 

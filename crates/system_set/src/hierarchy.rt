@@ -55,7 +55,7 @@ impl SetHierarchy {
         }
     }
 
-    /// Declares that the item is in the set. Where memory is wanting nothing is declared.
+    /// Declares that the item is in the set. Where an allocation fails nothing is declared.
     pub fn put(&mut self, item: usize, set: usize) -> Result<(), AllocError>
         requires item_known { item < self.old.items }
         requires set_known { set < self.old.sets }

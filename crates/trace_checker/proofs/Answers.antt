@@ -1,7 +1,7 @@
 -- The line of a condition is that of its tail.
 use Rattle.std.proofs.Common.{◌≡◌, ℕ, Bool, List, [], ◌∷◌, length, take, drop, get_or, ◌≤◌, ◌-◌, refl, sym, ap, subst, ◌∙◌, arith}
 use Rattle.std.proofs.Math.Seq.{take-length}
-use Rattle.texts.specs.Reads.{SpellsNone, SpellsOnly}
+use Rattle.parsing.specs.Reads.{SpellsNone, SpellsOnly}
 use Rattle.model.specs.declared.steps.Step.TheVariants.{Cond, Start, Skip, Finish, Sync}
 use Rattle.trace_checker.specs.Grammar.{IsAnswerTail, IsLine}
 use Rattle.trace_checker.specs.declared.line.Line.{Line}

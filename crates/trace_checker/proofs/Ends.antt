@@ -7,8 +7,8 @@ use Rattle.std.proofs.lemmas.List.Quantifiers.{position-Some}
 use Rattle.std.proofs.lemmas.List.Sums.{position_or_len_is}
 use Rattle.std.proofs.lemmas.List.{length-append, length-drop}
 use Rattle.std.specs.List.{position, position_or_len}
-use Rattle.texts.specs.Reads.{SpellsNone, SpellsOnly}
-use Rattle.texts.specs.Words.{Lacks}
+use Rattle.parsing.specs.Reads.{SpellsNone, SpellsOnly}
+use Rattle.parsing.specs.Words.{Lacks}
 use Rattle.trace_checker.specs.declared.line.Line.{Line}
 use Rattle.trace_checker.specs.Grammar.{is_end, line_text, IsLine, IsLineBefore}
 use Rattle.trace_checker.proofs.Lines.{line_lacks, same_cut}

@@ -9,7 +9,7 @@ use Rattle.std.proofs.lemmas.Fmt.{decimal_is_IsNumeral}
 use Rattle.std.proofs.lemmas.List.{append_assoc, get_or-append-add, length-append}
 use Rattle.std.proofs.lemmas.Str.Parse.{digit_from_value}
 use Rattle.model.specs.declared.steps.Step.TheVariants.{Cond, Start, Skip, Finish, Sync}
-use Rattle.texts.specs.Words.{Lacks}
+use Rattle.parsing.specs.Words.{Lacks}
 use Rattle.trace_checker.specs.declared.line.Line.{Line}
 use Rattle.trace_checker.specs.declared.line.Line.TheVariants.{Begin, Take}
 use Rattle.trace_checker.specs.Grammar.{answer_code, answer_text, line_text, lines_text, IsFitting}

@@ -6,8 +6,8 @@ use Rattle.std.proofs.lemmas.Str.Parse.{numerals_by_value, tells_digits}
 use Rattle.std.specs.Fmt.{decimal}
 use Rattle.std.specs.Str.{IsUtf8}
 use Rattle.std.specs.Str.Parse.{AllDigits, digits_value}
-use Rattle.texts.specs.Integer.{IsNumber}
-use Rattle.texts.specs.Reads.{SpellsNone, SpellsOnly, Reads}
+use Rattle.parsing.specs.Integer.{IsNumber}
+use Rattle.parsing.specs.Reads.{SpellsNone, SpellsOnly, Reads}
 use Rattle.trace_checker.specs.Grammar.{IsNumeralOf}
 
 -- a number of 32 bits has 64

@@ -5,7 +5,7 @@ use Rattle.std.proofs.lemmas.Bool.{false≢true}
 use Rattle.std.proofs.lemmas.List.{append_assoc, append-nil, length-append}
 use Rattle.std.specs.List.{AllByRecursion}
 use Rattle.model.specs.declared.steps.Step.{Step}
-use Rattle.texts.specs.Reads.{SpellsNone}
+use Rattle.parsing.specs.Reads.{SpellsNone}
 use Rattle.trace_checker.specs.declared.line.Line.{Line}
 use Rattle.trace_checker.specs.Grammar.{line_text, lines_text, lines_from, trace_text, IsFitting, AreFitting, IsLineBefore}
 use Rattle.trace_checker.specs.TextFaults.{IsOutOfOrder}

@@ -1,7 +1,7 @@
 -- What is at fault in a text that is that of no runs. The lines before the fault are those of whole runs so far.
 use Rattle.std.specs.Prelude.{ℕ, ◌+◌, ◌≡◌, ◌≢◌, List, [], ◌∷◌, ◌++◌, length}
 use Rattle.model.specs.declared.steps.Step.{Step}
-use Rattle.texts.specs.Reads.{SpellsNone}
+use Rattle.parsing.specs.Reads.{SpellsNone}
 use Rattle.trace_checker.specs.declared.line.Line.{Line}
 use Rattle.trace_checker.specs.declared.line.Line.TheVariants.{Begin, Take}
 use Rattle.trace_checker.specs.Grammar.{trace_text, lines_from, line_text, IsFitting, AreFitting, IsLineBefore}

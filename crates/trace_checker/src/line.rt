@@ -1,6 +1,6 @@
 // The lines of a trace's text.
 
-ghost use Rattle.texts.specs.Reads.{Reads};
+ghost use Rattle.parsing.specs.Reads.{Reads};
 ghost use Rattle.trace_checker.specs.Grammar.{IsLine, IsAnswerTail};
 
 use crate::numeral::numeral_of;

@@ -1,10 +1,10 @@
 // Numbers as traces spell them.
 
-ghost use Rattle.texts.specs.Reads.{Reads};
+ghost use Rattle.parsing.specs.Reads.{Reads};
 ghost use Rattle.trace_checker.specs.Grammar.{IsNumeralOf};
 
+use parsing::integer::read_number;
 use std::str;
-use texts::integer::read_number;
 
 /// Reads a number of 32 bits: decimal digits without a leading zero, zero as one digit.
 pub(crate) fn numeral_of(bytes: &[u8]) -> Option<u32>

@@ -2,7 +2,7 @@
 
 ghost use Rattle.std.specs.Prelude.{ℕ, ◌≡◌, ◌++◌, ◌∷◌, [], List, true, false, IfOk, IfErr, IfSome, IfNone, OnOk, IsErrOf};
 ghost use Rattle.std.specs.List.{position};
-ghost use Rattle.texts.specs.Reads.{SpellsOnly, SpellsNone};
+ghost use Rattle.parsing.specs.Reads.{SpellsOnly, SpellsNone};
 ghost use Rattle.model.specs.declared.steps.Step.{Step};
 ghost use Rattle.trace_checker.specs.Grammar.{is_end, IsLineBefore, IsFitting, AreFitting, steps_of, lines_from, trace_text};
 ghost use Rattle.trace_checker.specs.TextFaults.{IsLineFault, IsOutOfOrder, IsOrderFault};
@@ -21,8 +21,8 @@ pub enum TextFault {
     /// This line begins another run than the next one, or is a step before any run.
     #[error("line {0} is out of order")]
     Order(usize),
-    /// Memory is wanting: nothing is said of the text.
-    #[error("memory is wanting")]
+    /// An allocation failed: nothing is said of the text.
+    #[error("an allocation fails")]
     Memory,
 }
 

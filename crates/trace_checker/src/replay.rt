@@ -46,7 +46,7 @@ pub enum ReplayFault {
     /// This step, counted from 1, is the first whose recorded answer isn't what its condition means there.
     #[error("the recorded answer of step {0} is not what its condition means there")]
     WrongAnswer(usize),
-    /// What stops a run: want of memory, of a tick, of ids or of an event number, or a body that refuses.
+    /// What stops a run: a failed allocation, of a tick, of ids or of an event number, or a body that refuses.
     #[error("{0}")]
     Run(RunFault),
 }

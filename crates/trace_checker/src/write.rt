@@ -14,8 +14,8 @@ pub enum WriteFault {
     /// The text would be longer than it may be.
     #[error("the text would be too long")]
     TooLong,
-    /// Memory is wanting.
-    #[error("memory is wanting")]
+    /// An allocation failed.
+    #[error("an allocation fails")]
     Memory,
 }
 

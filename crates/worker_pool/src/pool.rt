@@ -116,7 +116,7 @@ impl<B: Body> Pool<B> {
     }
 
     /// Hands a job out: to a thread where the mode has a scope, else it is kept to be run when it is brought back. After an error nothing
-    /// is handed out: where memory is wanting the job comes back, and it is lost where no thread can be started.
+    /// is handed out: where an allocation fails the job comes back, and it is lost where no thread can be started.
     pub fn hand_out<'s, M: Mode<'s>>(
         &mut self,
         mode: &M,

@@ -1,7 +1,7 @@
 -- What is inside ends at the next closing bracket.
 use Rattle.std.proofs.Common.{lit<}
 use Rattle.std.proofs.lemmas.Str.Pattern.{split_parts}
-use Rattle.texts.specs.Words.{Lacks}
+use Rattle.parsing.specs.Words.{Lacks}
 use Rattle.run_condition.specs.Grammar.{IsLeaf}
 use Rattle.run_condition.specs.Fronts.{InBrackets}
 use Rattle.run_condition.proofs.Readers.{rest_refused}

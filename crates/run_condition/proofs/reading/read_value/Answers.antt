@@ -1,5 +1,5 @@
 -- The text spells what its only word does.
-use Rattle.texts.specs.Integer.{IsInteger}
+use Rattle.parsing.specs.Integer.{IsInteger}
 use Rattle.run_condition.specs.Grammar.{ByWord}
 use Rattle.run_condition.proofs.Readers.{read_refused}
 use Rattle.run_condition.proofs.Leaves.{by_word_reads, by_word_refuses}

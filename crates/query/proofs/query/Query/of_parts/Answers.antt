@@ -1,6 +1,6 @@
 -- The parts are read in turn.
 use Rattle.std.proofs.lemmas.Result.{err_from_is_err_and}
-use Rattle.texts.proofs.Grammars.{only_empty}
+use Rattle.parsing.proofs.Grammars.{only_empty}
 use Rattle.query.proofs.QueryTexts.{IsSeenTerm, part_refused, part_read}
 use Rattle.query.proofs.query.Query.of_parts.Goals as goal
 

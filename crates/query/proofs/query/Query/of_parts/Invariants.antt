@@ -1,7 +1,7 @@
 -- The parts so far spell the query so far.
 use Rattle.std.proofs.Common.{map, take}
 use Rattle.std.specs.List.{AllZip}
-use Rattle.texts.specs.Reads.{SpellsOnly, SpellsSeen}
+use Rattle.parsing.specs.Reads.{SpellsOnly, SpellsSeen}
 use Rattle.query.specs.Term.{term_of}
 use Rattle.query.specs.Grammar.{IsTerm}
 use Rattle.query.proofs.query.Query.of_parts.Given as goal

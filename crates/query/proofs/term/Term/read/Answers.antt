@@ -1,5 +1,5 @@
 -- The text spells what its words do.
-use Rattle.texts.proofs.Grammars.{only_by_words, none_by_words}
+use Rattle.parsing.proofs.Grammars.{only_by_words, none_by_words}
 use Rattle.query.specs.Grammar.{AreTerm}
 use Rattle.query.proofs.term.Term.read.Goals as goal
 

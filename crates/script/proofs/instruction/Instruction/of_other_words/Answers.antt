@@ -1,6 +1,6 @@
 -- The words are those that the patterns name.
 use Rattle.std.proofs.Common.{◌≡◌, ◌<◌, ◌≤◌, List, [], ◌∷◌, length, get_or, map, refl, sym, subst, arith}
-use Rattle.texts.specs.Reads.{Reads}
+use Rattle.parsing.specs.Reads.{Reads}
 use Rattle.script.specs.Instruction.{AreInstruction}
 use Rattle.script.proofs.instruction.Instruction.of_other_words.Goals as goal
 

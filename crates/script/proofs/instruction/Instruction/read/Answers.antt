@@ -1,5 +1,5 @@
 -- The text spells what its words do.
-use Rattle.texts.proofs.Grammars.{only_by_words, none_by_words}
+use Rattle.parsing.proofs.Grammars.{only_by_words, none_by_words}
 use Rattle.script.specs.Instruction.{AreInstruction}
 use Rattle.script.proofs.instruction.Instruction.read.Goals as goal
 

@@ -1,6 +1,6 @@
 -- What is no slot is not spawned.
 use Rattle.std.proofs.Common.{ℕ, List, [], ◌∷◌, codes}
-use Rattle.texts.specs.Reads.{SpellsNone}
+use Rattle.parsing.specs.Reads.{SpellsNone}
 use Rattle.script.specs.declared.instruction.Instruction.TheVariants.{Change, Compare, Has, Emit, Spawn, Insert, Remove, Despawn}
 use Rattle.script.specs.Operands.{IsSlot}
 use Rattle.script.specs.Instruction.{AreInstruction}

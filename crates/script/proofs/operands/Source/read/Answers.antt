@@ -2,8 +2,8 @@
 use Rattle.std.proofs.Common.{◌≡◌, ℕ, List, codes}
 use Rattle.std.proofs.Common.{arith}
 use Rattle.std.proofs.lemmas.Grind.{common_steps}
-use Rattle.texts.specs.Integer.{IsInteger}
-use Rattle.texts.specs.Reads.{SpellsNone}
+use Rattle.parsing.specs.Integer.{IsInteger}
+use Rattle.parsing.specs.Reads.{SpellsNone}
 use Rattle.script.specs.declared.operands.Source.TheVariants.{Integer, Register, Field, Resource, Event}
 use Rattle.script.specs.declared.operands.Target.TheVariants as target
 use Rattle.script.specs.Operands.{IsTarget, IsSource}

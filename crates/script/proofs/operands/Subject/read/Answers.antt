@@ -1,7 +1,7 @@
 -- What is neither `row` nor a slot is no subject.
 use Rattle.std.proofs.Common.{◌≡◌, ℕ, List, codes, arith}
 use Rattle.std.proofs.lemmas.Grind.{common_steps}
-use Rattle.texts.specs.Reads.{SpellsNone}
+use Rattle.parsing.specs.Reads.{SpellsNone}
 use Rattle.script.specs.declared.operands.Subject.TheVariants.{Row, Granted}
 use Rattle.script.specs.Operands.{IsSlot, IsSubject}
 use Rattle.script.proofs.operands.Subject.read.Goals as goal

@@ -1,6 +1,6 @@
 -- What is none of the three is no target.
 use Rattle.std.proofs.Common.{ℕ, List}
-use Rattle.texts.specs.Reads.{SpellsNone}
+use Rattle.parsing.specs.Reads.{SpellsNone}
 use Rattle.kinds.specs.Res.{IsRes}
 use Rattle.script.specs.declared.operands.Target.TheVariants.{Register, Field, Resource}
 use Rattle.script.specs.Operands.{IsRegister, IsField, IsTarget}

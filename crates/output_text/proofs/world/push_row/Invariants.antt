@@ -1,8 +1,0 @@
-use Rattle.std.proofs.Common.{◌≡◌, ◌++◌, map, take, string_bytes}
-use Rattle.archetype_store.specs.Row.{component_of}
-use Rattle.output_text.specs.WorldText.{row_text}
-use Rattle.output_text.proofs.world.push_row.Given as goal
-
--- the components so far are written
-abbrev pub invariant-loop-component : goal.invariant-loop-component
-invariant-loop-component l = string_bytes l.text ≡ string_bytes l.fn.text ++ row_text (map component_of (take l.component-index l.components))

@@ -1,0 +1,311 @@
+-- What a command leaves, from what its parts leave.
+use Rattle.std.proofs.Common.{◌≡◌, ◌<◌, inl, inr, ℕ, zero, suc, ℤ, Bool, true, false, List, [], ◌∷◌, length, map, slice_get, Option, None, Some, Result, Ok, Err, IfOk, IfErr, IfSome, IsSome, is_some, refl, ap, sym, ◌∙◌, subst, string_bytes}
+use Rattle.std.specs.Prelude.{Vec}
+use Rattle.std.specs.declared.alloc.Global.{Global}
+use Rattle.std.specs.Io.KnownBytes.{Keeps}
+use Rattle.model.specs.state.Loaded.{Given, loaded}
+use Rattle.model.specs.access.Access.{Params}
+use Rattle.model.specs.shown.Outcome.{BodyMeaning}
+use Rattle.model.specs.declarations.Declarations.{Declared}
+use Rattle.model.specs.declarations.Refusals.{IsBuildable}
+use Rattle.model.specs.declarations.ScheduleOrder.{HasDeclaredSystems, HasDeclaredEdges, HasLevels, HasDeclaredConditions, HasDeclaredSilences, IsScheduleOrder}
+use Rattle.model.specs.steps.Schedule.{Schedule, params_of}
+use Rattle.model.specs.state.State.{State, World}
+use Rattle.script.specs.declared.script_body.ScriptBody.{ScriptBody}
+use Rattle.script.specs.Faults.{fits}
+use Rattle.engine.specs.Meanings.{body_at, IsFirstMisfit}
+use Rattle.engine.specs.Meanings as engine
+use Rattle.command_line.specs.declared.args.Work.{Work}
+use Rattle.command_line.specs.Args.{is_recorded}
+use Rattle.streams.specs.Writing.{WritesWhole, line_of}
+use Rattle.kinds.specs.declared.value.Value.{Value}
+use Rattle.program.specs.Load.{entity_given, loaded_world}
+use Rattle.engine.specs.FirstState.{first_state}
+use Rattle.program.specs.Setup.{IsScheduleOf, AreScriptsOf, declared_names, script_fits, meanings_of_scripts}
+use Rattle.program.specs.Recorded.{IsTextOfRuns}
+use Rattle.program.specs.declared.answer.Answer.{Answer}
+use Rattle.program.specs.declared.fault.Fault.{Fault}
+use Rattle.program.specs.declared.fault.Fault.TheVariants.{TooLong, Content, Script, TraceTooLong, TraceLine, TraceOrder, BadStep, UnfinishedRun, WrongAnswer, ClockSpent, IdsSpent, BodyRefused, File, Write, Memory, NoWorker}
+use Rattle.program.specs.Fault.{status_of, fault_of_build, fault_of_file}
+use Rattle.program.specs.Refused.{IsRefusedBy, IsReplayRefused, IsStoppedRun, IsTraceTooLong, IsTraceUnread, IsUngiven, IsUnread, IsUnreplayed, IsUnscripted, LoadsWorld, ReadsTrace}
+use Rattle.program.specs.Replayed.{IsRefusedReplay}
+use Rattle.program.specs.Served.{IsAnswerTo, IsRecordKept, IsServed, HasGained, HasGainedFront, Tells, WritesRecord}
+use Rattle.program_file.specs.declared.program_file.ProgramFile.{ProgramFile}
+use Rattle.program_file.specs.declared.fault.FileFault.{FileFault}
+use Rattle.program_file.specs.declared.program_file.SystemTable.{SystemTable}
+use Rattle.program.specs.declared.schedule.Code.{Code}
+use Rattle.program_file.specs.Keys.{HasOnly}
+use Rattle.program_file.specs.Tables.{keys_of_document, AreResourcesIn, AreEntitiesIn, AreSetsIn, AreSystemsIn, AreChainsIn}
+use Rattle.toml.specs.Data.{Members}
+use Rattle.program.specs.Said.{IsFileOf, declared_by, script_said, scripts_by}
+use Rattle.program_file.specs.declared.fault.FileFault.TheVariants as file
+use Rattle.program_file.specs.PlaceFault.{IsOfBytes, IsOfPlace}
+use Rattle.std.specs.Result.{IsErrAnd}
+use Rattle.std.specs.Str.{IsUtf8}
+use Rattle.schedule_builder.specs.Answers.{IsAnswered}
+use Rattle.schedule_builder.specs.declared.fault.BuildFault.{BuildFault}
+use Rattle.schedule_builder.specs.declared.fault.BuildFault.TheVariants as build
+use Rattle.streams.proofs.Parts.{front_of_whole}
+use Rattle.toml.specs.Parse.{parse_document}
+use Rattle.command_line.specs.declared.args.Work.TheVariants as work
+
+pub unlike : (a : Bool) → a ≡ true → a ≡ false → ⊥
+unlike a e f = absurd (let g : true ≡ false = sym e ∙ f in cc)
+
+-- a script at its place
+at-place : (params : Params) (scripts : List ScriptBody) (n : ℕ) → engine.body_fits (λ script p. fits p script) (body_at (map Some scripts) n) params ≡ script_fits (slice_get scripts n) params
+at-place params [] n = refl
+at-place params (x ∷ scripts) zero = refl
+at-place params (x ∷ scripts) (suc n) = at-place params scripts n
+
+-- every script fits
+pub no-misfit : (s : Schedule) (scripts : List ScriptBody) (state : State) (n : ℕ) → AreScriptsOf s scripts → IsFirstMisfit (λ script p. fits p script) s (map Some scripts) state n → ⊥
+no-misfit s scripts state n fitting wrong = unlike _ (fitting.fit n wrong.known) (sym (at-place (params_of s n) scripts n) ∙ wrong.misfit)
+
+-- the runs start from the state as loaded
+pub runs-loaded : (width : ℕ) (s : Schedule) (scripts : List ScriptBody) (world : World) (entities : List (List Given)) (values : List ℤ) (times : ℕ) (recorded : Bool) (text noted : List ℕ)
+    → world ≡ loaded_world entities values → IsTextOfRuns width s (meanings_of_scripts s scripts) (first_state s world) times recorded text noted
+    → IsTextOfRuns width s (meanings_of_scripts s scripts) (loaded s entities values) times recorded text noted
+runs-loaded width s scripts world entities values times recorded text noted is h =
+    subst (λ (start : State). IsTextOfRuns width s (meanings_of_scripts s scripts) start times recorded text noted) (ap (first_state s) is) h
+
+-- what is built is the schedule of what is declared
+pub schedule-of : (d : Declared) (s : Schedule) → IsBuildable d → HasDeclaredSystems d s → HasDeclaredEdges d s → HasLevels d s → IsScheduleOrder s → HasDeclaredConditions d s
+    → HasDeclaredSilences d s → IsScheduleOf d s
+schedule-of d s buildable systems edges levels order conditions silences =
+    record { buildable = buildable; systems = systems; edges = edges; levels = levels; order = order; conditions = conditions; silences = silences }
+
+-- so does a replay, with the scripts of the tables
+pub replay-loaded : (s : Schedule) (scripts others : List ScriptBody) (rows entities : List (Vec Value Global)) (values : List ℤ) (P : List BodyMeaning → State → Type 0) → scripts ≡ others → rows ≡ entities
+    → P (meanings_of_scripts s scripts) (loaded s (map entity_given rows) values) → P (meanings_of_scripts s others) (loaded s (map entity_given entities) values)
+replay-loaded s scripts others rows entities values P same is h =
+    subst (λ (xs : List ScriptBody). P (meanings_of_scripts s xs) (loaded s (map entity_given entities) values)) same
+    (subst (λ (es : List (Vec Value Global)). P (meanings_of_scripts s scripts) (loaded s (map entity_given es) values)) is h)
+
+map-twice : {A B C : Type 0} (f : A → B) (g : B → C) (xs : List A) → map g (map f xs) ≡ map (λ x. g (f x)) xs
+map-twice f g [] = refl
+map-twice f g (x ∷ xs) = ap (λ ys. g (f x) ∷ ys) (map-twice f g xs)
+
+-- the scripts of codes are those of the tables whose blocks they have
+pub scripts-same : (codes : List Code) (rows : List SystemTable) → map (λ (code : Code). code.blocks) codes ≡ map (λ (row : SystemTable). row.blocks) rows → map (λ (code : Code). script_said code.blocks) codes ≡ map (λ (row : SystemTable). script_said row.blocks) rows
+scripts-same codes rows e = sym (map-twice (λ (code : Code). code.blocks) script_said codes) ∙ ap (map script_said) e ∙ map-twice (λ (row : SystemTable). row.blocks) script_said rows
+
+-- what holds of an answer that is there
+pub of-ok : {T E : Type 0} (P Q : T → Type 0) (r : Result T E) → ((x : T) → P x → Q x) → IfOk r P → IfOk r Q
+of-ok P Q (Ok x) f h = f x h
+of-ok P Q (Err e) f h = h
+
+-- and of one of which two things are said
+pub of-ok-two : {T E : Type 0} (P R Q : T → Type 0) (r : Result T E) → ((x : T) → P x → R x → Q x) → IfOk r P → IfOk r R → IfOk r Q
+of-ok-two P R Q (Ok x) f h k = f x h k
+of-ok-two P R Q (Err e) f h k = h
+
+-- nothing is written
+pub keeps : (bytes : Option (List ℕ)) → Keeps bytes bytes
+keeps None = tt
+keeps (Some xs) = refl
+
+-- ---- the record
+
+-- it is written where there is one
+pub record-written : {T E : Type 0} (work : Work) (old new : Option (List ℕ)) (r : Result T E) (noted : List ℕ) → is_recorded work ≡ true → WritesWhole old new r noted
+    → WritesRecord work (old, new) r noted
+record-written work old new (Ok x) noted asked h = record { written = λ e. h; kept = λ no. absurd (no asked) }
+record-written work old new (Err e) noted asked h = (asked, h)
+
+-- and nothing where there is none
+pub record-left : (work : Work) (traces : Option (List ℕ)) (noted : List ℕ) → is_recorded work ≡ false → IsRecordKept work noted (traces, traces)
+record-left work traces noted none = record { written = λ asked. absurd (unlike (is_recorded work) asked none); kept = λ no. keeps traces }
+
+-- ---- what is left with the streams
+
+-- a line was told, or a beginning of it
+pub told-line : {T E : Type 0} (old new : Option (List ℕ)) (r : Result T E) (text : List ℕ) → WritesWhole old new r (line_of text) → HasGainedFront (old, new) (line_of text)
+told-line old new r text h = front_of_whole old new r (line_of text) h
+
+-- the file of the record failed
+pub record-failed : (width : ℕ) (work : Work) (bytes trace : Option (List ℕ)) (status : ℕ) (fault : Fault) (out old new : Option (List ℕ)) (faults : Option (List ℕ) × Option (List ℕ)) (answer : Answer) (noted : List ℕ)
+    → IsAnswerTo width work bytes trace answer → noted ≡ string_bytes answer.traces → is_recorded work ≡ true × HasGainedFront (old, new) noted → status ≡ status_of fault → Tells fault faults → fault ≡ Write
+    → IsServed width work bytes trace status (out, out) (old, new) faults
+record-failed width work bytes trace status fault out old new faults answer noted is same h ends told why = inr (inr (inl (record {
+  failure = ends ∙ ap status_of why;
+  told = subst (λ f. Tells f faults) why told;
+  asked = h.0;
+  answer = answer;
+  is = is;
+  recorded = subst (λ text. HasGainedFront (old, new) text) same h.1;
+  kept = keeps out;
+})))
+
+-- the output failed
+pub output-failed : (width : ℕ) (work : Work) (bytes trace : Option (List ℕ)) (status : ℕ) (fault : Fault) (old new : Option (List ℕ)) (traces faults : Option (List ℕ) × Option (List ℕ)) (answer : Answer) (noted text : List ℕ)
+    → IsAnswerTo width work bytes trace answer → noted ≡ string_bytes answer.traces → IsRecordKept work noted traces → text ≡ string_bytes answer.text → HasGainedFront (old, new) text
+    → status ≡ status_of fault → Tells fault faults → fault ≡ Write → IsServed width work bytes trace status (old, new) traces faults
+output-failed width work bytes trace status fault old new traces faults answer noted text is same kept here h ends told why = inr (inl (record {
+  failure = ends ∙ ap status_of why;
+  told = subst (λ f. Tells f faults) why told;
+  answer = answer;
+  is = is;
+  recorded = subst (λ t. IsRecordKept work t traces) same kept;
+  written = subst (λ t. HasGainedFront (old, new) t) here h;
+}))
+
+-- both were written
+pub all-written : (width : ℕ) (work : Work) (bytes trace : Option (List ℕ)) (old new faults : Option (List ℕ)) (traces : Option (List ℕ) × Option (List ℕ)) (answer : Answer) (noted text : List ℕ)
+    → IsAnswerTo width work bytes trace answer → noted ≡ string_bytes answer.traces → IsRecordKept work noted traces → text ≡ string_bytes answer.text → HasGained (old, new) text
+    → IsServed width work bytes trace answer.status (old, new) traces (faults, faults)
+all-written width work bytes trace old new faults traces answer noted text is same kept here h = inl (record {
+  answer = answer;
+  is = is;
+  ends = refl;
+  recorded = subst (λ t. IsRecordKept work t traces) same kept;
+  written = subst (λ t. HasGained (old, new) t) here h;
+  untold = keeps faults;
+})
+
+-- the work is refused
+pub refused-told : (width : ℕ) (work : Work) (bytes trace : Option (List ℕ)) (status : ℕ) (fault : Fault) (out traces : Option (List ℕ)) (faults : Option (List ℕ) × Option (List ℕ))
+    → IsRefusedBy bytes trace work fault → status ≡ status_of fault → Tells fault faults → IsServed width work bytes trace status (out, out) (traces, traces) faults
+refused-told width work bytes trace status fault out traces faults reason ends told = inr (inr (inr (record {
+  fault = fault;
+  reason = reason;
+  failure = ends;
+  told = told;
+  kept = keeps out;
+  untouched = keeps traces;
+})))
+
+-- ---- who refuses
+
+-- the reader of the file
+pub unread-refused : (bytes trace : Option (List ℕ)) (work : Work) (fault : Fault) → IsUnread bytes fault → IsRefusedBy bytes trace work fault
+unread-refused bytes trace work TooLong h = h
+unread-refused bytes trace work (Content fault) h = h
+unread-refused bytes trace work File h = tt
+unread-refused bytes trace work Memory h = tt
+unread-refused bytes trace work fault h = absurd h
+
+-- a file that is read is a document
+is-document : (bytes : Option (List ℕ)) (v : Members) → IfSome bytes (λ text. parse_document text ≡ Some v) → IfSome bytes (λ text. IsSome (parse_document text))
+is-document None v read = tt
+is-document (Some text) v read = ap is_some read
+
+-- and it has the tables that are read
+pub is-file : (bytes : Option (List ℕ)) (v : Members) (tables : ProgramFile) → IfSome bytes (λ text. parse_document text ≡ Some v) → HasOnly keys_of_document v → AreResourcesIn v tables.resources →
+    AreEntitiesIn v tables.entities.items → AreSetsIn v tables.sets.items → AreSystemsIn v tables.systems.items → AreChainsIn v tables.chains.items → IfSome bytes (IsFileOf tables)
+is-file None v tables read only resources entities sets systems chains = tt
+is-file (Some text) v tables read only resources entities sets systems chains = record {
+  document = v;
+  parsed = read;
+  only = only;
+  resources = resources;
+  entities = entities;
+  sets = sets;
+  systems = systems;
+  chains = chains;
+}
+
+-- what the tables of a document, and its texts, are refused for
+pub place-refused : (bytes trace : Option (List ℕ)) (work : Work) (v : Members) (fault : FileFault) → IfSome bytes (λ text. parse_document text ≡ Some v) → IsOfPlace fault → IsRefusedBy bytes trace work (fault_of_file fault)
+place-refused bytes trace work v file.Document read h = absurd h
+place-refused bytes trace work v (file.Value place) read h = is-document bytes v read
+place-refused bytes trace work v (file.Text place) read h = is-document bytes v read
+place-refused bytes trace work v file.Memory read h = tt
+
+-- the builder
+pub build-refused : (bytes trace : Option (List ℕ)) (work : Work) (tables : ProgramFile) (fault : BuildFault) → IfSome bytes (IsFileOf tables) → IsAnswered (declared_by tables) fault → IsRefusedBy bytes trace work (fault_of_build fault)
+build-refused bytes trace work tables build.Memory said h = tt
+build-refused bytes trace work tables (build.UnknownName name) said h = (tables, said, h)
+build-refused bytes trace work tables (build.DuplicateName name) said h = (tables, said, h)
+build-refused bytes trace work tables (build.HierarchyLoop name) said h = (tables, said, h)
+build-refused bytes trace work tables (build.HierarchyCycle names) said h = (tables, said, h)
+build-refused bytes trace work tables (build.DependencyLoop name) said h = (tables, said, h)
+build-refused bytes trace work tables (build.CrossDependency item holder) said h = (tables, said, h)
+build-refused bytes trace work tables (build.SetsIntersect first second system) said h = (tables, said, h)
+build-refused bytes trace work tables (build.DependencyCycle names) said h = (tables, said, h)
+build-refused bytes trace work tables (build.SelfConflict name) said h = (tables, said, h)
+build-refused bytes trace work tables (build.BadQuery owner query number) said h = (tables, said, h)
+build-refused bytes trace work tables (build.BadConditionQuery condition query number) said h = (tables, said, h)
+build-refused bytes trace work tables (build.ConditionWrites condition) said h = (tables, said, h)
+build-refused bytes trace work tables (build.OverLimit limit) said h = (tables, said, h)
+
+-- a script
+pub script-refused : (bytes trace : Option (List ℕ)) (work : Work) (tables : ProgramFile) (s : Schedule) (fault : Fault) → IfSome bytes (IsFileOf tables) → IsScheduleOf (declared_by tables) s → IsUnscripted s (declared_names (declared_by tables)) (scripts_by tables) fault → IsRefusedBy bytes trace work fault
+script-refused bytes trace work tables s (Script cause system block instruction) said is h = (tables, said, s, is, h)
+script-refused bytes trace work tables s Memory said is h = tt
+script-refused bytes trace work tables s fault said is h = absurd h.2
+
+too-long : (trace : Option (List ℕ)) (w : Work) → ReadsTrace w → IfSome trace (λ text. 67108864 < length text) → IsTraceTooLong trace w
+too-long trace (work.Run times workers recorded) reads h = absurd reads
+too-long trace work.Ambiguities reads h = absurd reads
+too-long trace work.Check reads h = h
+too-long trace work.Replay reads h = h
+
+-- the reader of a trace
+pub trace-refused : (bytes trace : Option (List ℕ)) (w : Work) (fault : Fault) → ReadsTrace w → IsTraceUnread trace fault → IsRefusedBy bytes trace w fault
+trace-refused bytes trace w TraceTooLong reads h = too-long trace w reads h
+trace-refused bytes trace w (TraceLine line) reads h = (reads, h)
+trace-refused bytes trace w (TraceOrder line) reads h = (reads, h)
+trace-refused bytes trace w File reads h = tt
+trace-refused bytes trace w Memory reads h = tt
+trace-refused bytes trace w fault reads h = absurd h
+
+-- the entities of a world
+pub given-refused : (bytes trace : Option (List ℕ)) (w : Work) (fault : Fault) → LoadsWorld w → IsUngiven fault → IsRefusedBy bytes trace w fault
+given-refused bytes trace w IdsSpent loads h = loads
+given-refused bytes trace w Memory loads h = tt
+given-refused bytes trace w fault loads h = absurd h
+
+-- the runs
+pub run-refused : (bytes trace : Option (List ℕ)) (times workers : ℕ) (recorded : Bool) (fault : Fault) → IsStoppedRun recorded fault → IsRefusedBy bytes trace (work.Run times workers recorded) fault
+run-refused bytes trace times workers recorded TraceTooLong h = h
+run-refused bytes trace times workers recorded ClockSpent h = tt
+run-refused bytes trace times workers recorded IdsSpent h = tt
+run-refused bytes trace times workers recorded BodyRefused h = tt
+run-refused bytes trace times workers recorded Memory h = tt
+run-refused bytes trace times workers recorded NoWorker h = tt
+run-refused bytes trace times workers recorded fault h = absurd h
+
+-- the runs of a trace, taken again
+module _ (bytes trace : Option (List ℕ)) (tables : ProgramFile) (s : Schedule) (read : IfSome bytes (IsFileOf tables)) (built : IsScheduleOf (declared_by tables) s) (fitting : AreScriptsOf s (scripts_by tables)) where
+  abbrev bodies : List BodyMeaning
+  bodies = meanings_of_scripts s (scripts_by tables)
+
+  abbrev start : State
+  start = loaded s (map entity_given tables.entities.items) tables.resources
+
+  refused-replay : (fault : Fault) → IsRefusedReplay s bodies start trace fault → IsReplayRefused bytes trace fault
+  refused-replay fault h = record { tables = tables; read = read; schedule = s; built = built; fitting = fitting; refused = h }
+
+  replay-refused : (fault : Fault) → IsRefusedReplay s bodies start trace fault → IsRefusedBy bytes trace work.Replay fault
+  replay-refused (BadStep run step wrong) h = (refl, refused-replay (BadStep run step wrong) h)
+  replay-refused (UnfinishedRun run) h = (refl, refused-replay (UnfinishedRun run) h)
+  replay-refused (WrongAnswer run step) h = (refl, refused-replay (WrongAnswer run step) h)
+  replay-refused ClockSpent h = refused-replay ClockSpent h
+  replay-refused IdsSpent h = tt
+  replay-refused BodyRefused h = refused-replay BodyRefused h
+  replay-refused Memory h = tt
+  replay-refused fault h = absurd h.refused.refused
+
+  pub unreplayed-refused : (fault : Fault) → IsUnreplayed s bodies start trace fault → IsRefusedBy bytes trace work.Replay fault
+  unreplayed-refused fault (inl unread) = trace-refused bytes trace work.Replay fault tt unread
+  unreplayed-refused fault (inr (inl ungiven)) = given-refused bytes trace work.Replay fault tt ungiven
+  unreplayed-refused fault (inr (inr refused)) = replay-refused fault refused
+
+-- what is told of a fault that is there
+pub of-err : {T E : Type 0} (P Q : E → Type 0) (r : Result T E) → ((e : E) → P e → Q e) → IfErr r P → IfErr r Q
+of-err P Q (Ok x) f h = h
+of-err P Q (Err e) f h = f e h
+
+-- and of one that a conversion gave
+pub of-given : {T E : Type 0} (P Q : E → Type 0) (r : Result T E) → IsErrAnd r P → ((e : E) → P e → Q e) → IfErr r Q
+of-given P Q (Ok x) h f = absurd h
+of-given P Q (Err e) h f = f e h
+
+-- the reader of a document
+pub document-unread : (bytes : Option (List ℕ)) (text : List ℕ) (fault : FileFault) → IfSome bytes (λ all. text ≡ all) → IsOfBytes fault → (fault ≡ file.Document → IsUtf8 text → parse_document text ≡ None) → IsUnread bytes (fault_of_file fault)
+document-unread None text file.Document whole only none = tt
+document-unread (Some all) text file.Document whole only none = subst (λ xs. IsUtf8 xs → parse_document xs ≡ None) whole (none refl)
+document-unread bytes text file.Memory whole only none = tt
+document-unread bytes text (file.Value place) whole only none = absurd only
+document-unread bytes text (file.Text place) whole only none = absurd only

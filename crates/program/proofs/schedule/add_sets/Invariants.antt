@@ -1,0 +1,7 @@
+use Rattle.std.proofs.Common.{◌≡◌, ◌++◌, take}
+use Rattle.program.specs.Said.{names_said}
+use Rattle.program.proofs.schedule.add_sets.Given as goal
+
+-- the names so far after the others
+abbrev pub invariant-loop-name : goal.invariant-loop-name
+invariant-loop-name l = l.item ≡ record l.fn.item { inside = l.fn.item.inside ++ names_said (take l.name-index l.name-items) }

@@ -1,0 +1,40 @@
+use Rattle.std.proofs.Common.{◌≡◌, Some, Err, inl, inr, refl, sym, subst, ◌∙◌, ap, rules}
+use Rattle.std.proofs.lemmas.List.{length-map}
+use denote.Param.Send.{sendable}
+use Rattle.engine.proofs.Beginning.{no_first_lacks}
+use Rattle.program.specs.Refused.{IsStoppedRun}
+use Rattle.program.specs.declared.fault.Fault.{Fault}
+use Rattle.program.specs.declared.fault.Fault.TheVariants.{Memory}
+use Rattle.program.proofs.Serving.{no-misfit, of-given}
+use Rattle.program.proofs.serve.run.Goals as goal
+
+-- there is a script and a memory for each system, and a memory for each condition
+pub unreachable-requires : goal.unreachable-requires
+unreachable-requires g c =
+    elim (c.in-Err-Count.ensures.count.0 (ap Err c.in-Err-Count.field-0-is)) [
+      | inl few ↦ few (length-map c.args.bodies.items (λ x. Some x) ∙ c.requires.scripts.count)
+      | inr lacks ↦ no_first_lacks c.args.built c.in_ok-state.state c.args.world.state c.in_ok-state.ensures lacks
+    ]
+
+-- every script fits its system
+pub unreachable-requires-in-Err-Misfit : goal.unreachable-requires-in-Err-Misfit
+unreachable-requires-in-Err-Misfit g c =
+    no-misfit c.args.built c.args.bodies.items c.in_ok-state.state c.in-Err-Misfit.field-0-0 c.requires.scripts
+    ((c.in-Err-Misfit.ensures.misfit c.in-Err-Misfit.field-0-0).0 (ap Err c.in-Err-Misfit.field-0-is))
+
+-- the engine is not spoiled, and its mode may send what it sends
+pub run_times-requires : goal.run_times-requires
+run_times-requires g c = λ lifetimes.
+    (search sendable depth 40, (search sendable depth 40, (search sendable depth 40, ((refl, tt), search rules))))
+
+-- what stops the runs
+pub returns-in_err-traces-clause-stopped : goal.returns-in_err-traces-clause-stopped
+returns-in_err-traces-clause-stopped g c =
+    of-given (λ (told : Fault). told ≡ c.in_err-traces.field-0.0) (IsStoppedRun c.args.recorded) c.from_residual-in_err-traces.result c.from_residual-in_err-traces.ensures.1
+    (λ e same. subst (IsStoppedRun c.args.recorded) (sym same) c.in_err-traces.ensures.stopped)
+
+-- want of memory for the text
+pub returns-in_err-text_of_world-clause-stopped : goal.returns-in_err-text_of_world-clause-stopped
+returns-in_err-text_of_world-clause-stopped g c =
+    of-given (λ (told : Fault). told ≡ Memory) (IsStoppedRun c.args.recorded) c.from_residual-in_err-text_of_world.result c.from_residual-in_err-text_of_world.ensures.1
+    (λ e same. subst (IsStoppedRun c.args.recorded) (sym same) tt)

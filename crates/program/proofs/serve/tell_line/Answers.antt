@@ -1,0 +1,5 @@
+use Rattle.program.proofs.Serving.{told-line}
+use Rattle.program.proofs.serve.tell_line.Goals as goal
+
+pub returns : goal.returns
+returns g c = told-line _ _ c.write_line.result c.args.text.now c.write_line.ensures

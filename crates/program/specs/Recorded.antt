@@ -1,0 +1,39 @@
+-- Runs of a schedule, what they leave, and their record.
+use Rattle.std.specs.Prelude.{ℕ, ◌≡◌, ◌≤◌, Bool, true, List, length, map, reverse}
+use Rattle.model.specs.declared.steps.Step.{Step}
+use Rattle.model.specs.shown.Outcome.{BodyMeaning}
+use Rattle.model.specs.runs.Runs.{AreSingleRuns, AreSoundRuns}
+use Rattle.model.specs.runs.WideRuns.{AreWideRuns}
+use Rattle.model.specs.steps.Schedule.{Schedule}
+use Rattle.model.specs.state.State.{State}
+use Rattle.trace_checker.specs.Grammar.{trace_text}
+use Rattle.printing.specs.WorldText.{world_text}
+
+-- complete runs of a schedule with room for so many running systems, one after the other, lead from one state to another. With room for
+-- one they are those of one thread
+pub record HaveRun (width : ℕ) (s : Schedule) (bodies : List BodyMeaning) (start : State) (histories : List (List Step)) (final : State) : Type 0 where
+  pub ran : AreWideRuns width s bodies start histories final
+  pub sound : AreSoundRuns s bodies start histories final
+  pub single : width ≡ 1 → AreSingleRuns s bodies start histories final
+
+-- the text of the traces of runs
+abbrev pub record_text : List (List Step) → List ℕ
+record_text histories = trace_text (map reverse histories)
+
+-- it is the record of runs, and may be written
+pub record IsRecordOf (histories : List (List Step)) (noted : List ℕ) : Type 0 where
+  pub same : noted ≡ record_text histories
+  pub within : length noted ≤ 67108864
+
+-- so many complete runs lead from one state to another, and this is their record where they are recorded
+pub record HaveNoted (width : ℕ) (s : Schedule) (bodies : List BodyMeaning) (start : State) (times : ℕ) (recorded : Bool) (final : State) (noted : List ℕ) : Type 0 where
+  pub histories : List (List Step)
+  pub many : length histories ≡ times
+  pub runs : HaveRun width s bodies start histories final
+  pub kept : recorded ≡ true → IsRecordOf histories noted
+
+-- the text of a state that so many complete runs of a schedule leave, with their record where they are recorded
+pub record IsTextOfRuns (width : ℕ) (s : Schedule) (bodies : List BodyMeaning) (start : State) (times : ℕ) (recorded : Bool) (text noted : List ℕ) : Type 0 where
+  pub final : State
+  pub runs : HaveNoted width s bodies start times recorded final noted
+  pub same : text ≡ world_text times final

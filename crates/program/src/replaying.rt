@@ -1,0 +1,109 @@
+// The recorded runs of a trace, taken again.
+
+ghost use Rattle.std.specs.Prelude.{◌≡◌, ◌⊎◌, map, length, reverse, string_bytes, IfOk, IfErr, Some};
+ghost use Rattle.model.specs.state.Loaded.{loaded};
+ghost use Rattle.archetype_store.specs.Layout.{AreAllHome};
+ghost use Rattle.engine.specs.Meanings.{Suits};
+ghost use Rattle.trace_checker.specs.Grammar.{steps_of};
+ghost use Rattle.model.specs.runs.Replays.{IsReplayed};
+ghost use Rattle.program.specs.Load.{entity_given};
+ghost use Rattle.program.specs.Refused.{IsUnreplayed, IsUngiven};
+ghost use Rattle.program.specs.Replayed.{AreReplayed, IsRefusedAmong, IsRefusedRun, IsTextOfReplay};
+ghost use Rattle.program.specs.Setup.{AreScriptsOf, meanings_of_scripts, script_suits};
+
+use crate::answer::Answer;
+use crate::checking::traces_of;
+use crate::fault::Fault;
+use crate::world::world_of;
+use body::state::State;
+use engine::RunFault;
+use engine::first_state::first_state;
+use executor_core::Trace;
+use kinds::value::Value;
+use printing::world::text_of_world;
+use schedule_builder::built::Built;
+use script::script_body::ScriptBody;
+use std::alloc::Global;
+use std::io::Read;
+use trace_checker::replay::{ReplayFault, replay};
+
+/// The world that the recorded runs of a trace leave. Each is taken again on one thread, from the state that the run before it leaves, the
+/// first from that of these entities and resources as loaded; the first that is refused ends it. The trace is read before the world is made.
+pub fn replay_trace<T: Read>(
+    alloc: Global,
+    built: &Built,
+    mut bodies: Vec<ScriptBody>,
+    entities: &[Vec<Value>],
+    resources: &[i64; 8],
+    trace: &mut T,
+) -> Result<Answer, Fault>
+    requires { AreScriptsOf built.now bodies.items }
+    ensures text { IfOk result (λ answer. IsTextOfReplay built.now (meanings_of_scripts built.now bodies.items) (loaded built.now (map entity_given entities.now) resources.now) (T.remaining trace.old) (string_bytes answer.text)) }
+    ensures status { IfOk result (λ answer. answer.status ≡ 0) }
+    ensures stopped { IfErr result (IsUnreplayed built.now (meanings_of_scripts built.now bodies.items) (loaded built.now (map entity_given entities.now) resources.now) (T.remaining trace.old)) }
+{
+    let traces = traces_of(alloc, trace)?;
+    let world = world_of(alloc, entities, resources)?;
+    let first = first_state(alloc, built, world)?;
+    let last = replay_runs(
+        alloc,
+        built,
+        bodies.as_mut_slice(),
+        first,
+        traces.as_slice(),
+    )?;
+    Ok(Answer {
+        text: text_of_world(alloc, traces.len() as u32, last.world(), last.passed_over())?,
+        traces: String::new(alloc),
+        status: 0,
+    })
+}
+
+// Takes recorded runs again, each from the state that the run before it leaves.
+fn replay_runs(
+    alloc: Global,
+    built: &Built,
+    bodies: &mut [ScriptBody],
+    mut state: State,
+    traces: &[Trace],
+) -> Result<State, Fault>
+    requires { Suits script_suits built.now (map Some bodies.old) state }
+    ensures replayed { IfOk result (λ left. AreReplayed built.now (meanings_of_scripts built.now bodies.old) state (steps_of traces.now) left) }
+    ensures refused { IfErr result (IsRefusedAmong built.now (meanings_of_scripts built.now bodies.old) state (steps_of traces.now)) }
+{
+    let mut number = 0;
+    for trace in traces {
+        number += 1;
+        state = replay_run(alloc, built, bodies, state, trace, number)?;
+    }
+    Ok(state)
+}
+
+// Takes the recorded run of this number again.
+fn replay_run(
+    alloc: Global,
+    built: &Built,
+    bodies: &mut [ScriptBody],
+    state: State,
+    trace: &Trace,
+    run: usize,
+) -> Result<State, Fault>
+    requires { Suits script_suits built.now (map Some bodies.old) state }
+    ensures replayed { IfOk result (IsReplayed built.now (meanings_of_scripts built.now bodies.old) state (reverse trace.now.steps.items)) }
+    ensures refused { IfErr result (IsRefusedRun built.now (meanings_of_scripts built.now bodies.old) state trace.now.steps.items run) }
+    ensures suits { IfOk result (λ left. Suits script_suits built.now (map Some bodies.new) left) }
+    ensures meanings { meanings_of_scripts built.now bodies.new ≡ meanings_of_scripts built.now bodies.old }
+{
+    match replay(alloc, built, bodies, state, trace) {
+        Ok(left) => Ok(left),
+        Err(ReplayFault::Bad(step, fault)) => Err(Fault::BadStep { run, step, fault }),
+        Err(ReplayFault::Unfinished) => Err(Fault::UnfinishedRun { run }),
+        Err(ReplayFault::WrongAnswer(step)) => Err(Fault::WrongAnswer { run, step }),
+        Err(ReplayFault::Run(RunFault::Memory)) => Err(Fault::Memory),
+        Err(ReplayFault::Run(RunFault::ClockSpent)) => Err(Fault::ClockSpent),
+        Err(ReplayFault::Run(RunFault::IdsSpent)) => Err(Fault::IdsSpent),
+        Err(ReplayFault::Run(RunFault::BodyFault(_))) => Err(Fault::BodyRefused),
+        Err(ReplayFault::Run(RunFault::NoWorker)) => unreachable!(),
+        Err(ReplayFault::Run(RunFault::Spoiled)) => unreachable!(),
+    }
+}

@@ -1,0 +1,250 @@
+// The work of a command line, on readers and writers.
+
+ghost use Rattle.std.specs.Prelude.{◌≡◌, ◌∷◌, [], Bool, map, length, string_bytes, IfOk, IfErr, IfSome, Some, OnOk, IsFalse};
+ghost use Rattle.archetype_store.specs.Layout.{AreAllHome};
+ghost use Rattle.engine.specs.History.{history_of};
+ghost use Rattle.engine.specs.Meanings.{meanings};
+ghost use Rattle.program.specs.Fault.{status_of};
+ghost use Rattle.program.specs.Recorded.{HaveNoted, HaveRun, IsTextOfRuns};
+ghost use Rattle.program.specs.Refused.{IsRefusedBy, IsStoppedRun, IsUnread};
+ghost use Rattle.program.specs.Served.{HasGainedFront, IsAnswerTo, IsServed, IsTextOfReport, Tells, WritesRecord};
+ghost use Rattle.toml.specs.Parse.{parse_document};
+ghost use Rattle.toml.specs.View.{table_view};
+ghost use Rattle.engine.specs.FirstState.{first_state};
+ghost use Rattle.program.specs.Setup.{AreScriptsOf, meanings_of_scripts, script_means};
+ghost use Rattle.streams.specs.Writing.{line_of};
+
+use crate::answer::Answer;
+use crate::checking::check_trace;
+use crate::fault::Fault;
+use crate::file::bytes_of;
+use crate::recording::note;
+use crate::replaying::replay_trace;
+use crate::schedule::{bodies_of, declare, names_of};
+use crate::world::world_of;
+use ambiguity_report::report::{is_settled, report};
+use archetype_store::store::World;
+use command_line::args::{Args, Work};
+use engine::first_state::first_state;
+use engine::{Engine, NewFault, RunFault};
+use executor_core::Trace;
+use printing::report::text_of_report;
+use printing::world::text_of_world;
+use program_file::{ProgramFile, document_of};
+use schedule_builder::builder::build;
+use schedule_builder::built::Built;
+use script::script_body::ScriptBody;
+use std::alloc::Global;
+use std::io::{Read, Write};
+use streams::writing::{WriteFault, write_line, write_whole};
+use toml::Table;
+use worker_pool::Mode;
+
+/// Does the work of a command line: reads the program file, and the trace where one is checked or replayed, and writes to `out` the world
+/// that so many runs of its schedule in the mode leave, the report of which of its systems race, what it says of the trace, or the world
+/// that the runs of the trace leave. Runs that are recorded are written to `traces` first. What goes wrong is told to `faults` in one line,
+/// and nothing else is. Gives the exit status: 0 where the work is done, 1 where the content is refused or a run of the trace is not
+/// complete, 3 where input, output, memory or a thread fail.
+pub fn serve<'s, M: Mode<'s>, F: Read, T: Read, R: Write, O: Write, E: Write>(
+    alloc: Global,
+    args: &Args<'_>,
+    mode: &M,
+    file: &mut F,
+    trace: &mut T,
+    traces: &mut R,
+    out: &mut O,
+    faults: &mut E,
+) -> u8
+    ensures { IsServed (M.width mode.now) args.now.work (F.remaining file.old) (T.remaining trace.old) result (O.contents out.old, O.contents out.new) (R.contents traces.old, R.contents traces.new) (E.contents faults.old, E.contents faults.new) }
+{
+    let answer = match answer(alloc, args.work, mode, file, trace) {
+        Ok(answer) => answer,
+        Err(fault) => return tell(alloc, faults, &fault),
+    };
+    if let Err(error) = write_record(traces, args.work, answer.traces.as_str()) {
+        return tell(alloc, faults, &Fault::from(error));
+    }
+    match write_whole(out, answer.text.as_str()) {
+        Ok(()) => answer.status,
+        Err(error) => tell(alloc, faults, &Fault::from(error)),
+    }
+}
+
+// What is answered to some work on a program file. What was read of the file is dropped before the first run.
+fn answer<'s, M: Mode<'s>, F: Read, T: Read>(
+    alloc: Global,
+    work: Work,
+    mode: &M,
+    file: &mut F,
+    trace: &mut T,
+) -> Result<Answer, Fault>
+    ensures done { IfOk result (λ answer. IsAnswerTo (M.width mode.now) work (F.remaining file.old) (T.remaining trace.old) answer) }
+    ensures refused { IfErr result (IsRefusedBy (F.remaining file.old) (T.remaining trace.old) work) }
+{
+    let document = document_in(alloc, file)?;
+    let ProgramFile {
+        resources,
+        entities,
+        sets,
+        systems,
+        chains,
+    } = ProgramFile::read(alloc, &document)?;
+    let (desc, codes) = declare(alloc, sets, systems, chains.as_slice())?;
+    drop(chains);
+    let built = build(alloc, desc)?;
+    let names = names_of(alloc, codes.as_slice())?;
+    let bodies = bodies_of(alloc, &built, codes)?;
+    let (times, recorded) = match work {
+        Work::Ambiguities => return report_of(alloc, &built, names.as_slice()),
+        Work::Check => return check_trace(alloc, &built, trace),
+        Work::Replay => {
+            return replay_trace(alloc, &built, bodies, &entities, &resources, trace);
+        }
+        Work::Run {
+            times,
+            recorded,
+            ..
+        } => (times, recorded),
+    };
+    drop(names);
+    drop(document);
+    let world = world_of(alloc, entities.as_slice(), &resources)?;
+    drop(entities);
+    run(alloc, times, recorded, mode, built, bodies, world)
+}
+
+// The document that a file is.
+fn document_in<F: Read>(alloc: Global, file: &mut F) -> Result<Table, Fault>
+    ensures read { IfOk result (λ table. IfSome (F.remaining file.old) (λ text. parse_document text ≡ Some (table_view table))) }
+    ensures refused { IfErr result (IsUnread (F.remaining file.old)) }
+{
+    let bytes = bytes_of(alloc, file)?;
+    Ok(document_of(alloc, bytes.as_slice())?)
+}
+
+// The report of a schedule whose systems have these names.
+fn report_of(alloc: Global, built: &Built, names: &[&str]) -> Result<Answer, Fault>
+    ensures report { IfOk result (λ answer. IsTextOfReport (map (λ name. name.now) names.now) built.now (string_bytes answer.text)) }
+    ensures status { IfOk result (λ answer. answer.status ≡ 0) }
+    ensures memory { IfErr result (λ fault. fault ≡ Fault.Memory) }
+{
+    let pairs = report(alloc, built)?;
+    let settled = is_settled(built);
+    Ok(Answer {
+        text: text_of_report(alloc, names, pairs.as_slice(), settled)?,
+        traces: String::new(alloc),
+        status: 0,
+    })
+}
+
+// The world that so many runs of a schedule leave, and their record.
+fn run<'s, M: Mode<'s>>(
+    alloc: Global,
+    times: u32,
+    recorded: bool,
+    mode: &M,
+    built: Built,
+    bodies: Vec<ScriptBody>,
+    world: World,
+) -> Result<Answer, Fault>
+    requires scripts { AreScriptsOf built bodies.items }
+    requires home { AreAllHome world.layout }
+    ensures runs { IfOk result (λ answer. IsTextOfRuns (M.width mode.now) built (meanings_of_scripts built bodies.items) (first_state built world.state) times recorded (string_bytes answer.text) (string_bytes answer.traces)) }
+    ensures status { IfOk result (λ answer. answer.status ≡ 0) }
+    ensures stopped { IfErr result (IsStoppedRun recorded) }
+{
+    let state = first_state(alloc, &built, world)?;
+    let mut engine = match Engine::new(alloc, built, bodies, state) {
+        Ok(engine) => engine,
+        Err(NewFault::Memory) => return Err(Fault::Memory),
+        Err(NewFault::Count) => unreachable!(),
+        Err(NewFault::Misfit(_)) => unreachable!(),
+    };
+    let traces = run_times(alloc, &mut engine, times, recorded, mode)?;
+    let state = engine.state();
+    Ok(Answer {
+        text: text_of_world(alloc, times, state.world(), state.passed_over())?,
+        traces,
+        status: 0,
+    })
+}
+
+// Runs a schedule so many times, one run after the other, and gives their record. The steps of a run are dropped before the next one
+// begins.
+fn run_times<'s, M: Mode<'s>>(
+    alloc: Global,
+    engine: &mut Engine<ScriptBody>,
+    times: u32,
+    recorded: bool,
+    mode: &M,
+) -> Result<String, Fault>
+    requires { IsFalse engine.old.spoiled }
+    ensures noted { IfOk result (λ text. HaveNoted (M.width mode.now) engine.old.schedule (meanings script_means engine.old.schedule engine.old.bodies) engine.old.state times recorded engine.new.state (string_bytes text)) }
+    ensures stopped { IfErr result (IsStoppedRun recorded) }
+{
+    let mut text = String::new(alloc);
+    for run in 0..times {
+        let trace = run_once(alloc, engine, mode)?;
+        if recorded {
+            note(&mut text, run + 1, &trace)?;
+        }
+    }
+    Ok(text)
+}
+
+// Runs a schedule once.
+fn run_once<'s, M: Mode<'s>>(
+    alloc: Global,
+    engine: &mut Engine<ScriptBody>,
+    mode: &M,
+) -> Result<Trace, Fault>
+    requires { IsFalse engine.old.spoiled }
+    ensures ran { IfOk result (λ trace. HaveRun (M.width mode.now) engine.old.schedule (meanings script_means engine.old.schedule engine.old.bodies) engine.old.state (history_of trace ∷ []) engine.new.state) }
+    ensures schedule { engine.new.schedule ≡ engine.old.schedule }
+    ensures meant { OnOk result (meanings script_means engine.old.schedule engine.new.bodies ≡ meanings script_means engine.old.schedule engine.old.bodies) }
+    ensures sound { OnOk result (IsFalse engine.new.spoiled) }
+    ensures stopped { (recorded : Bool) → IfErr result (IsStoppedRun recorded) }
+{
+    match engine.run(alloc, 1, mode) {
+        Ok(mut traces) => match traces.pop() {
+            Some(trace) => Ok(trace),
+            None => unreachable!(),
+        },
+        Err(RunFault::Memory) => Err(Fault::Memory),
+        Err(RunFault::ClockSpent) => Err(Fault::ClockSpent),
+        Err(RunFault::IdsSpent) => Err(Fault::IdsSpent),
+        Err(RunFault::NoWorker) => Err(Fault::NoWorker),
+        Err(RunFault::BodyFault(_)) => Err(Fault::BodyRefused),
+        Err(RunFault::Spoiled) => unreachable!(),
+    }
+}
+
+// Writes the record of runs that are recorded, and of other work nothing.
+fn write_record<R: Write>(traces: &mut R, work: Work, text: &str) -> Result<(), WriteFault>
+    ensures { WritesRecord work (R.contents traces.old, R.contents traces.new) result text.now }
+{
+    if work.is_recorded() {
+        return write_whole(traces, text);
+    }
+    Ok(())
+}
+
+/// Tells of a fault in one line, and gives the exit status. The status stays where the line can't be written.
+pub fn tell<E: Write>(alloc: Global, faults: &mut E, fault: &Fault) -> u8
+    ensures status { result ≡ status_of fault.now }
+    ensures line { Tells fault.now (E.contents faults.old, E.contents faults.new) }
+{
+    let Ok(line) = fault.to_string(alloc) else {
+        tell_line(faults, "error memory");
+        return fault.status();
+    };
+    tell_line(faults, line.as_str());
+    fault.status()
+}
+
+// Writes the first line of a text, as far as the writer takes it.
+fn tell_line<E: Write>(faults: &mut E, text: &str)
+    ensures { HasGainedFront (E.contents faults.old, E.contents faults.new) (line_of text.now) }
+{
+    let _ = write_line(faults, text);
+}

@@ -1,5 +1,0 @@
-use Rattle.serving.proofs.Serving.{told-line}
-use Rattle.serving.proofs.serve.tell_line.Goals as goal
-
-pub returns : goal.returns
-returns g c = told-line _ _ c.write_line.result c.args.text.now c.write_line.ensures
