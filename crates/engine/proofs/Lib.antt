@@ -1,5 +1,4 @@
-mod AtHome
-pub mod Stops
+mod Bodies
 pub mod InHand
 pub mod GrantedIds
 pub mod Syncing

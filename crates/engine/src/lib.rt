@@ -1,17 +1,15 @@
 // The engine: runs of a built schedule over a state, with a body for each system.
 #![tactic(auto)]
 
-mod bodies;
 mod coordinator;
-pub mod deferred;
+mod effects;
 pub mod engine;
 pub mod faults;
 pub mod first_state;
 pub mod fitting;
 pub mod granting;
-mod jobs;
-pub mod run_state;
-pub mod stop;
+pub mod left;
+pub mod showing;
 pub mod turn;
 
 pub use engine::Engine;
