@@ -13,4 +13,3 @@ pub mod Changes
 pub mod RowMoves
 pub mod Gathering
 pub mod Arrivals
-pub mod TableIndex

@@ -1,3 +1,4 @@
+pub mod RowPlaces
 pub mod Puts
 pub mod Targets
 pub mod Inserted
