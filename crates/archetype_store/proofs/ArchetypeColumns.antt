@@ -378,7 +378,7 @@ entities_filled ks k cells [] = refl
 entities_filled ks k [] (r ∷ rows) = refl
 entities_filled ks k (c ∷ cells) (r ∷ rows) = ap (λ es. r.entity ∷ es) (entities_filled ks k cells rows)
 
-there_filled : (ks : List ℕ) (k : ℕ) (cells : List Cell) (rows : List TableRow) → is_there (filled_rows ks k cells rows) ≡ is_there rows
+pub there_filled : (ks : List ℕ) (k : ℕ) (cells : List Cell) (rows : List TableRow) → is_there (filled_rows ks k cells rows) ≡ is_there rows
 there_filled ks k cells [] = refl
 there_filled ks k [] (r ∷ rows) = refl
 there_filled ks k (c ∷ cells) (r ∷ rows) = refl

@@ -1,6 +1,6 @@
--- Tables by their kinds, and kinds in order.
-use Rattle.std.proofs.Common.{◌≡◌, ◌≢◌, ℕ, zero, suc, ◌+◌, ◌<◌, ◌≤◌, Bool, true, false, cond, ◌==◌, ◌&&◌, ◌||◌, List, [], ◌∷◌, ◌++◌, map, filter, position, Some, None, refl, sym, ap, ap₂, subst, ◌∙◌, arith}
-use Rattle.std.proofs.lemmas.Bool.{eqb-true, eq-eqb, and_parts}
+-- Kinds in order, and tables that are made.
+use Rattle.std.proofs.Common.{◌≡◌, ◌≢◌, ℕ, zero, suc, ◌+◌, ◌<◌, ◌≤◌, Bool, true, false, cond, ◌==◌, ◌||◌, List, [], ◌∷◌, ◌++◌, map, filter, refl, sym, ap, ap₂, subst, ◌∙◌, arith, Result, Ok, Err, OnOk, OnErr}
+use Rattle.std.proofs.lemmas.Bool.{eqb-true, eq-eqb}
 use Rattle.std.proofs.lemmas.Bool.Decides.{nat_tests}
 use Rattle.std.specs.List.{AllByRecursion}
 use Rattle.std.proofs.lemmas.List.{length-map}
@@ -12,38 +12,9 @@ use Rattle.model.specs.Lists.{has}
 use Rattle.column_store.specs.declared.stamped.StampedValue.{StampedValue}
 use Rattle.column_store.specs.Cells.{stamped_number}
 use Rattle.column_store.specs.Kinds.{in_order, AreBelow}
-use Rattle.column_store.specs.Places.{IsPlace, IsNowhere}
 use Rattle.column_store.specs.Table.{TableValue, empty_table}
-use Rattle.column_store.proofs.Rows.{place_from_position, nowhere_from_position}
-use Rattle.archetype_store.specs.Tables.{kinds_at, are_same, AreShaped, AreUnlike, IsGrown}
+use Rattle.archetype_store.specs.Tables.{AreShaped, AreUnlike, IsGrown}
 use Rattle.archetype_store.proofs.Held.{grown_more}
-
--- ---- two lists of kinds
-
-same_kinds : (ns ms : List ℕ) → are_same ns ms ≡ true → ns ≡ ms
-same_kinds [] [] h = refl
-same_kinds [] (m ∷ ms) h = absurd (cc)
-same_kinds (n ∷ ns) [] h = absurd (cc)
-same_kinds (n ∷ ns) (m ∷ ms) h = let p = and_parts (n == m) (are_same ns ms) h in ap₂ ◌∷◌ (eqb-true n m p.0) (same_kinds ns ms p.1)
-
-kinds_same : (ns : List ℕ) → are_same ns ns ≡ true
-kinds_same [] = refl
-kinds_same (n ∷ ns) = ap (λ b. b && are_same ns ns) (eq-eqb n n refl) ∙ kinds_same ns
-
--- ---- the table of a list of kinds
-
-kinds_of_place : (ns : List ℕ) (tables : List TableValue) (i : ℕ) → IsPlace (λ ks. are_same ks ns) (map (λ (t : TableValue). t.kinds) tables) i → kinds_at tables i ≡ ns
-kinds_of_place ns [] i h = absurd h
-kinds_of_place ns (t ∷ ts) zero h = same_kinds t.kinds ns h
-kinds_of_place ns (t ∷ ts) (suc i) h = kinds_of_place ns ts i h.1
-
--- one that was found
-pub kinds_found : (ns : List ℕ) (tables : List TableValue) (i : ℕ) → position (λ (t : TableValue). are_same t.kinds ns) tables ≡ Some i → kinds_at tables i ≡ ns
-kinds_found ns tables i h = kinds_of_place ns tables i (place_from_position (λ (t : TableValue). t.kinds) (λ ks. are_same ks ns) tables i h)
-
-others : (ns : List ℕ) (tables : List TableValue) → IsNowhere (λ ks. are_same ks ns) (map (λ (t : TableValue). t.kinds) tables) → AllByRecursion (λ t. t.kinds ≢ ns) tables
-others ns [] h = tt
-others ns (t ∷ ts) h = (λ same. (let both : are_same ns ns ≡ false = ap (λ ks. are_same ks ns) (sym same) ∙ h.0 in let self = kinds_same ns in absurd (let e : true ≡ false = sym self ∙ both in cc)), others ns ts h.1)
 
 -- ---- kinds in order
 
@@ -71,7 +42,7 @@ not_equal n m l = grind (arith, nat_tests)
 not_equal_from : (n m : ℕ) → n < m → (m == n) ≡ false
 not_equal_from n m l = grind (arith, nat_tests)
 
-above_has : (n : ℕ) (ns : List ℕ) → AllByRecursion (λ m. n < m) ns → has n ns ≡ false
+pub above_has : (n : ℕ) (ns : List ℕ) → AllByRecursion (λ m. n < m) ns → has n ns ≡ false
 above_has n [] h = refl
 above_has n (m ∷ ms) h = ap (λ b. b || has n ms) (not_equal_from n m h.0) ∙ above_has n ms h.1
 
@@ -86,7 +57,7 @@ lower : (n first : ℕ) → first ≤ n → (ns : List ℕ) → AllByRecursion (
 lower n first l [] h = tt
 lower n first l (k ∷ ks) h = ((let e : n < k = h.0 in let f : 1 + first ≤ k = omega arith in f), lower n first l ks h.1)
 
-above_each : (n first : ℕ) → first ≤ n → (ns : List ℕ) → AllByRecursion (λ k. n < k) ns → AllByRecursion (λ k. first < k) ns
+pub above_each : (n first : ℕ) → first ≤ n → (ns : List ℕ) → AllByRecursion (λ k. n < k) ns → AllByRecursion (λ k. first < k) ns
 above_each n first l [] h = tt
 above_each n first l (k ∷ ks) h = ((let e : n < k = h.0 in let f : first < k = omega arith in f), above_each n first l ks h.1)
 
@@ -143,12 +114,17 @@ pub made_is : (made : TableValue) (ks : List Kind) (ns : List ℕ) → map kind_
 made_is made ks ns kinds below is = is ∙ ap empty_table (in_order_kinds ks (subst AreBelow (sym kinds) below) ∙ kinds)
 
 module _ (tables new : List TableValue) (ns : List ℕ) where
-  pub grown_by_made : AreBelow ns → ns ≢ [] → position (λ (t : TableValue). are_same t.kinds ns) tables ≡ None → new ≡ tables ++ empty_table ns ∷ [] →
+  pub grown_by_made : AreBelow ns → ns ≢ [] → AllByRecursion (λ t. t.kinds ≢ ns) tables → new ≡ tables ++ empty_table ns ∷ [] →
       AreShaped tables → AreUnlike tables → IsGrown tables new
-  grown_by_made below some none pushed shaped unlike =
-      subst (IsGrown tables) (sym pushed)
-      (grown_more tables ns (record { below = below; some = some; each = length-map ns (λ _. Owned) })
-      (others ns tables (nowhere_from_position (λ (t : TableValue). t.kinds) (λ ks. are_same ks ns) tables none)) shaped unlike)
+  grown_by_made below some others pushed shaped unlike =
+      subst (IsGrown tables) (sym pushed) (grown_more tables ns (record { below = below; some = some; each = length-map ns (λ _. Owned) }) others shaped unlike)
+
+  -- the same where it may be refused
+  pub grown_if : AreBelow ns → ns ≢ [] → AllByRecursion (λ t. t.kinds ≢ ns) tables → AreShaped tables → AreUnlike tables → {A E : Type 0} → (r : Result A E) →
+      OnOk r (new ≡ tables ++ empty_table ns ∷ []) → OnErr r (new ≡ tables) → IsGrown tables new
+  grown_if below some others shaped unlike (Ok x) made same = grown_by_made below some others made shaped unlike
+  grown_if below some others shaped unlike (Err x) made same = subst (IsGrown tables) (sym same)
+      (record { held = λ t x. refl; kinds = λ t l. refl; longer = omega arith; shaped = shaped; unlike = unlike; owned = λ h. h; layout = refl })
 
 -- components have kinds
 pub some_numbers : (ss : List StampedValue) → ss ≢ [] → map stamped_number ss ≢ []

@@ -1,7 +1,9 @@
 pub mod Rows
+pub mod RowPlaces
 pub mod RowEdits
 pub mod Held
 pub mod KindSets
+pub mod TableIndex
 pub mod Laid
 pub mod Moves
 pub mod RowMoves

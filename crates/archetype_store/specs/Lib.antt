@@ -13,3 +13,4 @@ pub mod Changes
 pub mod RowMoves
 pub mod Gathering
 pub mod Arrivals
+pub mod TableIndex

@@ -39,13 +39,6 @@ abbrev pub row_or_none : Option (List Component) → List Component
 row_or_none None = []
 row_or_none (Some row) = row
 
--- whether two lists of kinds are one
-abbrev pub are_same : List ℕ → List ℕ → Bool
-are_same [] [] = true
-are_same [] (m ∷ ms) = false
-are_same (n ∷ ns) [] = false
-are_same (n ∷ ns) (m ∷ ms) = (n == m) && are_same ns ms
-
 -- ---- what holds of the tables
 
 -- each table is of this shape

@@ -18,12 +18,11 @@ ghost use Rattle.archetype_store.specs.Archetypes.{row_of, holder_of, row_cells,
 
 use crate::change::EntityChange;
 use crate::lay::{clear_in, insert_in, remove_in};
-use crate::lending::{
-    column_at, home_at, lend_at, share_at, share_entities_at, table_of_archetype,
-};
+use crate::lending::{column_at, home_at, lend_at, share_at, share_entities_at};
 use crate::locations::{EntityLocation, place_at, reach};
 use crate::owning::own_all;
 use crate::row_moves::change_in;
+use crate::table_index::TableIndex;
 use crate::tables::{ArchetypeView, components_at, find_at, has_at, views_of};
 use change_ticks::clock::Tick;
 use column_store::stamped::{StampedColumn, StampedValue};
@@ -41,19 +40,20 @@ use std::sync::Arc;
 #[derive(Drop)]
 pub struct Archetypes {
     tables: Vec<Table>,
+    index: TableIndex,
     places: Vec<Option<EntityLocation>>,
     // Whether some columns may be read elsewhere too.
     shared: bool,
 }
 
 impl Model for Archetypes {
-    ghost use Rattle.archetype_store.specs.Archetypes.{ArchetypesValue, archetypes_of, IsStored};
+    ghost use Rattle.archetype_store.specs.Archetypes.{ArchetypesValue, archetypes_of, IsWhole};
 
     ghost Value = { ArchetypesValue };
 
     ghost view = { λ a. archetypes_of a.tables.items a.places.items };
 
-    ghost invariant = { λ a. IsStored a.tables.items a.places.items a.shared };
+    ghost invariant = { λ a. IsWhole a.tables.items a.index a.places.items a.shared };
 }
 
 impl Archetypes {
@@ -63,6 +63,7 @@ impl Archetypes {
     {
         Archetypes {
             tables: Vec::new(alloc),
+            index: TableIndex::new(alloc),
             places: Vec::new(alloc),
             shared: false,
         }
@@ -134,7 +135,7 @@ impl Archetypes {
         ensures kind { result.now.kind ≡ kind_number kind }
         ensures cells { map (λ cell. Some cell) result.now.cells ≡ row_cells self.now.rows (archetype_at self.now.layout archetype).entities (kind_number kind) }
     {
-        let Some(table) = table_of_archetype(&self.tables, archetype) else {
+        let Some(table) = self.index.table_of(archetype) else {
             unreachable!();
         };
         column_at(&self.tables, table, kind)
@@ -153,7 +154,7 @@ impl Archetypes {
         ensures away { OnOk result (self.new ≡ record self.old { layout = with_home false archetype (kind_number kind) self.old.layout }) }
         ensures err { OnErr result (self.new ≡ self.old) }
     {
-        let Some(table) = table_of_archetype(&self.tables, archetype) else {
+        let Some(table) = self.index.table_of(archetype) else {
             unreachable!();
         };
         lend_at(&mut self.tables, table, alloc, kind)
@@ -171,7 +172,7 @@ impl Archetypes {
         ensures cells { IfOk result (λ column. map (λ cell. Some cell) (arc_value column).cells ≡ row_cells self.old.rows (archetype_at self.old.layout archetype).entities (kind_number kind)) }
         ensures same { self.new ≡ self.old }
     {
-        let Some(table) = table_of_archetype(&self.tables, archetype) else {
+        let Some(table) = self.index.table_of(archetype) else {
             unreachable!();
         };
         self.shared = true;
@@ -188,7 +189,7 @@ impl Archetypes {
         ensures entities { IfOk result (λ list. (arc_value list).items ≡ (archetype_at self.old.layout archetype).entities) }
         ensures same { self.new ≡ self.old }
     {
-        let Some(table) = table_of_archetype(&self.tables, archetype) else {
+        let Some(table) = self.index.table_of(archetype) else {
             unreachable!();
         };
         share_entities_at(&mut self.tables, table, alloc)
@@ -200,7 +201,7 @@ impl Archetypes {
         requires same_length { length column.cells ≡ length (archetype_at self.old.layout archetype).entities }
         ensures { IsFilled self.old archetype column.kind column.cells self.new }
     {
-        let Some(table) = table_of_archetype(&self.tables, archetype) else {
+        let Some(table) = self.index.table_of(archetype) else {
             unreachable!();
         };
         home_at(&mut self.tables, table, column);
@@ -217,7 +218,16 @@ impl Archetypes {
     {
         reach(&mut self.places, e.index)?;
         own_all(&mut self.tables, &mut self.shared)?;
-        insert_in(&mut self.tables, &mut self.places, e, value, tick)
+        let inserted = insert_in(
+            &mut self.tables,
+            &mut self.index,
+            &mut self.places,
+            e,
+            value,
+            tick,
+        );
+        self.index.note_rows(&self.tables);
+        inserted
     }
 
     /// Removes the component of the kind with this number of an entity, where it has one: where it has none no memory is asked for. Where
@@ -234,7 +244,15 @@ impl Archetypes {
             return Ok(());
         }
         own_all(&mut self.tables, &mut self.shared)?;
-        remove_in(&mut self.tables, &mut self.places, e, number)
+        let removed = remove_in(
+            &mut self.tables,
+            &mut self.index,
+            &mut self.places,
+            e,
+            number,
+        );
+        self.index.note_rows(&self.tables);
+        removed
     }
 
     /// Makes these changes, no two of one index: each entity is left with just the components that are told. Where an allocation fails all rows stay
@@ -252,7 +270,9 @@ impl Archetypes {
             return Ok(());
         }
         own_all(&mut self.tables, &mut self.shared)?;
-        change_in(&mut self.tables, &mut self.places, changes)
+        let changed = change_in(&mut self.tables, &mut self.index, &mut self.places, changes);
+        self.index.note_rows(&self.tables);
+        changed
     }
 
     /// Takes all components of an entity away. Memory can be wanting only where columns were read elsewhere too; then all rows stay as
@@ -265,7 +285,8 @@ impl Archetypes {
         ensures home { AreAllHome self.new.layout }
     {
         own_all(&mut self.tables, &mut self.shared)?;
-        clear_in(&mut self.tables, &mut self.places, e);
+        clear_in(&mut self.tables, &self.index, &mut self.places, e);
+        self.index.note_rows(&self.tables);
         Ok(())
     }
 }

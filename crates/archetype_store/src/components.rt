@@ -69,3 +69,44 @@ pub(crate) fn take_out(components: &mut Vec<StampedValue>, number: u32)
         }
     }
 }
+
+/// Inserts a component at a tick into those of a row: one of its kind is replaced and keeps its added stamp.
+pub fn put_component(
+    components: &mut Vec<StampedValue>,
+    value: Value,
+    tick: Tick,
+) -> Result<(), AllocError>
+    ensures { OnOk result (map component_of components.new.items
+        ≡ insert_component tick (value_number value) (value_words value) (map component_of components.old.items)) }
+{
+    match place_of(components, value.number()) {
+        None => components.push(added(value, tick))?,
+        Some(place) => {
+            let there = components[place];
+            if there.value.number() == value.number() {
+                components[place] = StampedValue {
+                    value,
+                    stamp: Stamp {
+                        added: there.stamp.added,
+                        changed: tick,
+                    },
+                };
+            } else {
+                components.insert(place, added(value, tick))?;
+            }
+        }
+    }
+    Ok(())
+}
+
+/// Removes the component of the kind with this number from those of a row, where it has one.
+pub fn take_component(components: &mut Vec<StampedValue>, number: u32)
+    ensures { map component_of components.new.items ≡ remove_component number (map component_of components.old.items) }
+{
+    match index_of(components, number) {
+        None => {}
+        Some(place) => {
+            components.remove(place);
+        }
+    }
+}

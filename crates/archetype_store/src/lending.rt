@@ -6,7 +6,6 @@ ghost use Rattle.kinds.specs.Kind.{kind_number};
 ghost use Rattle.column_store.specs.Order.{AreRising};
 ghost use Rattle.column_store.specs.Table.{standing_of, lent, homed, IsHome};
 ghost use Rattle.column_store.specs.Table.Standing.{Away};
-ghost use Rattle.archetype_store.specs.Layout.{layout_of};
 ghost use Rattle.archetype_store.specs.Tables.{table_at, cells_at, AreAllAlike, IsTableOf};
 
 use column_store::stamped::StampedColumn;
@@ -15,23 +14,6 @@ use entity_table::Entity;
 use kinds::kind::Kind;
 use std::alloc::{AllocError, Global};
 use std::sync::Arc;
-
-// The table of an archetype: only tables with rows are numbered.
-pub(crate) fn table_of_archetype(tables: &[Table], archetype: usize) -> Option<usize>
-    ensures { MatchOption result (length (layout_of tables.now) ≤ archetype) (IsTableOf tables.now archetype) }
-{
-    let mut left = archetype;
-    for t in 0..tables.len() {
-        if tables[t].entities().is_empty() {
-            continue;
-        }
-        if left == 0 {
-            return Some(t);
-        }
-        left -= 1;
-    }
-    None
-}
 
 // The column of a kind, which is at home.
 pub(crate) fn column_at(tables: &[Table], table: usize, kind: Kind) -> &StampedColumn

@@ -4,7 +4,7 @@
 mod archetypes;
 pub mod change;
 mod columns;
-mod components;
+pub mod components;
 pub mod fault;
 mod gathering;
 pub mod laws;
@@ -18,4 +18,5 @@ mod settling;
 pub mod slot;
 mod slots;
 pub mod store;
+mod table_index;
 mod tables;

@@ -6,7 +6,8 @@ ghost use Rattle.std.specs.List.{AllByRecursion};
 ghost use Rattle.column_store.specs.Cells.{stamped_number};
 ghost use Rattle.column_store.specs.Kinds.{AreBelow};
 ghost use Rattle.archetype_store.specs.Changes.{row_left, AreOfOtherIndices};
-ghost use Rattle.archetype_store.specs.Tables.{held_at, is_in, AreShaped, AreUnlike, AreOwned, IsGrown};
+ghost use Rattle.archetype_store.specs.TableIndex.{IsFound};
+ghost use Rattle.archetype_store.specs.Tables.{held_at, is_in, shape_of, AreShaped, AreUnlike, AreOwned, IsGrown};
 ghost use Rattle.archetype_store.specs.Archetypes.{archetypes_of, holder_in, place_of, AreAlike, AreArchetypes, HaveRows, IsHolder};
 ghost use Rattle.column_store.specs.Order.{AreRising};
 ghost use Rattle.archetype_store.specs.Arrivals.{AreArriving};
@@ -16,6 +17,7 @@ ghost use Rattle.archetype_store.specs.RowMoves.{placing_of, change_of, arrives_
 use crate::change::EntityChange;
 use crate::gathering::{arriving_all, leaving_all};
 use crate::locations::{EntityLocation, place_at, reach};
+use crate::table_index::TableIndex;
 use crate::tables::{clear_at, put_all_at, remove_all_at, renew_at, table_for};
 use column_store::arrivals::Arrival;
 use column_store::table::Table;
@@ -210,10 +212,16 @@ fn place_all(places: &mut Vec<Option<EntityLocation>>, rows: &[RowMove<'_>])
 }
 
 // The table of a row that is left, none where there is no row.
-fn table_left(tables: &mut Vec<Table>, change: &EntityChange) -> Result<Option<usize>, AllocError>
+fn table_left(
+    tables: &mut Vec<Table>,
+    index: &mut TableIndex,
+    change: &EntityChange,
+) -> Result<Option<usize>, AllocError>
+    requires found { IsFound tables.old.items index.old }
     requires shaped { AreShaped tables.old.items }
     requires unlike { AreUnlike tables.old.items }
     requires below { AreBelow (map stamped_number (row_left change.now.fate)) }
+    ensures found { IsFound tables.new.items index.new }
     ensures grown { IsGrown tables.old.items tables.new.items }
     ensures to { IfOk result (λ to. (t : ℕ) → to ≡ Some t → IsTarget tables.new.items (row_left change.now.fate) t) }
     ensures none { IfOk result (λ to. to ≡ None → row_left change.now.fate ≡ []) }
@@ -222,30 +230,32 @@ fn table_left(tables: &mut Vec<Table>, change: &EntityChange) -> Result<Option<u
     if components.is_empty() {
         return Ok(None);
     }
-    let table = table_for(tables, components)?;
+    let table = table_for(tables, index, components)?;
     Ok(Some(table))
 }
 
 // What becomes of a row.
 fn planned<'a>(
     tables: &mut Vec<Table>,
+    index: &mut TableIndex,
     places: &mut Vec<Option<EntityLocation>>,
     change: &'a EntityChange,
 ) -> Result<RowMove<'a>, AllocError>
+    requires found { IsFound tables.old.items index.old }
     requires shaped { AreShaped tables.old.items }
     requires unlike { AreUnlike tables.old.items }
     requires below { AreBelow (map stamped_number (row_left change.now.fate)) }
     requires holder { IsHolder change.now.entity.generation (holder_in (place_of places.old.items change.now.entity.index)) }
+    ensures found { IsFound tables.new.items index.new }
     ensures grown { IsGrown tables.old.items tables.new.items }
     ensures same { (i : ℕ) → place_of places.new.items i ≡ place_of places.old.items i }
     ensures longer { length places.old.items ≤ length places.new.items }
     ensures change { IfOk result (λ row. row.change.now ≡ change.now) }
     ensures planned { IfOk result (λ row. IsPlanned tables.new.items places.new.items (placing_of row)) }
 {
-    let index = change.entity.index;
-    let to = table_left(tables, change)?;
-    reach(places, index)?;
-    let from = place_at(places, index);
+    let to = table_left(tables, index, change)?;
+    reach(places, change.entity.index)?;
+    let from = place_at(places, change.entity.index);
     Ok(RowMove { change, from, to })
 }
 
@@ -253,13 +263,16 @@ fn planned<'a>(
 fn planned_all<'a>(
     alloc: Global,
     tables: &mut Vec<Table>,
+    index: &mut TableIndex,
     places: &mut Vec<Option<EntityLocation>>,
     changes: &'a [EntityChange],
 ) -> Result<Vec<RowMove<'a>>, AllocError>
+    requires found { IsFound tables.old.items index.old }
     requires shaped { AreShaped tables.old.items }
     requires unlike { AreUnlike tables.old.items }
     requires below { AllByRecursion (λ c. AreBelow (map stamped_number (row_left c.fate))) changes.now }
     requires holders { AllByRecursion (λ c. IsHolder c.entity.generation (holder_in (place_of places.old.items c.entity.index))) changes.now }
+    ensures found { IsFound tables.new.items index.new }
     ensures grown { IsGrown tables.old.items tables.new.items }
     ensures same { (i : ℕ) → place_of places.new.items i ≡ place_of places.old.items i }
     ensures changes { IfOk result (λ rows. map change_of rows.items ≡ changes.now) }
@@ -267,7 +280,7 @@ fn planned_all<'a>(
 {
     let mut rows = Vec::new(alloc);
     for change in changes {
-        rows.push(planned(tables, places, change)?)?;
+        rows.push(planned(tables, index, places, change)?)?;
     }
     Ok(rows)
 }
@@ -286,6 +299,7 @@ fn move_all(
     requires planned { AllByRecursion (λ m. IsPlanned tables.old.items places.old.items (placing_of m)) rows.now }
     requires arriving { AreArriving (map placing_of rows.now) arriving.now (length tables.old.items) }
     requires leaving { AreLeaving (map placing_of rows.now) leaving.now (length tables.old.items) }
+    ensures shapes { map shape_of tables.new.items ≡ map shape_of tables.old.items }
     ensures whole { AreArchetypes tables.new.items places.new.items }
     ensures owned { AreOwned tables.new.items }
     ensures ok { OnOk result (HaveRows (archetypes_of tables.old.items places.old.items) (map change_of rows.now) (archetypes_of tables.new.items places.new.items)) }
@@ -300,21 +314,24 @@ fn move_all(
 // Makes these changes. Where an allocation fails all rows stay as they were.
 pub(crate) fn change_in(
     tables: &mut Vec<Table>,
+    index: &mut TableIndex,
     places: &mut Vec<Option<EntityLocation>>,
     changes: &[EntityChange],
 ) -> Result<(), AllocError>
+    requires found { IsFound tables.old.items index.old }
     requires whole { AreArchetypes tables.old.items places.old.items }
     requires owned { AreOwned tables.old.items }
     requires apart { AreOfOtherIndices changes.now }
     requires below { AllByRecursion (λ c. AreBelow (map stamped_number (row_left c.fate))) changes.now }
     requires holders { AllByRecursion (λ c. IsHolder c.entity.generation (holder_in (place_of places.old.items c.entity.index))) changes.now }
+    ensures found { IsFound tables.new.items index.new }
     ensures whole { AreArchetypes tables.new.items places.new.items }
     ensures owned { AreOwned tables.new.items }
     ensures ok { OnOk result (HaveRows (archetypes_of tables.old.items places.old.items) changes.now (archetypes_of tables.new.items places.new.items)) }
     ensures err { OnErr result (AreAlike (archetypes_of tables.old.items places.old.items) (archetypes_of tables.new.items places.new.items)) }
 {
     let alloc = *tables.allocator();
-    let rows = planned_all(alloc, tables, places, changes)?;
+    let rows = planned_all(alloc, tables, index, places, changes)?;
     let arriving = arriving_all(alloc, tables.len(), &rows)?;
     let leaving = leaving_all(alloc, tables.len(), &rows)?;
     move_all(tables, places, &rows, &arriving, &leaving)

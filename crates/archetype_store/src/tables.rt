@@ -17,8 +17,10 @@ ghost use Rattle.archetype_store.specs.Arrivals.{HaveCome};
 ghost use Rattle.archetype_store.specs.Row.{component_of, only};
 ghost use Rattle.archetype_store.specs.Layout.{layout_of};
 ghost use Rattle.archetype_store.specs.View.{kinds_seen, entities_seen};
-ghost use Rattle.archetype_store.specs.Tables.{table_at, kinds_at, held_at, row_or_none, are_same, AreShaped, AreUnlike, AreGone, AreHome, AreOwned, IsHeldNow, IsGrown};
+ghost use Rattle.archetype_store.specs.TableIndex.{IsFound};
+ghost use Rattle.archetype_store.specs.Tables.{table_at, kinds_at, held_at, row_or_none, AreShaped, AreUnlike, AreGone, AreHome, AreOwned, IsHeldNow, IsGrown};
 
+use crate::table_index::{TableIndex, word_of};
 use change_ticks::clock::Tick;
 use column_store::arrivals::Arrival;
 use column_store::stamped::StampedValue;
@@ -60,28 +62,6 @@ pub(crate) fn views_of(
     Ok(views)
 }
 
-// Whether these are the kinds of the components, one for each.
-fn are_kinds(kinds: &[Kind], components: &[StampedValue]) -> bool
-    ensures { result ≡ are_same (map kind_number kinds.now) (map stamped_number components.now) }
-{
-    let Some((kind, other_kinds)) = kinds.split_first() else {
-        return components.is_empty();
-    };
-    let Some((component, other_components)) = components.split_first() else {
-        return false;
-    };
-    kind.number() == component.value.number() && are_kinds(other_kinds, other_components)
-}
-
-// The table of the kinds of these components.
-fn table_of(tables: &[Table], components: &[StampedValue]) -> Option<usize>
-    ensures { result ≡ position (λ t. are_same t.kinds (map stamped_number components.now)) tables.now }
-{
-    tables
-        .iter()
-        .position(|table| are_kinds(table.kinds(), components))
-}
-
 // The kinds of components.
 fn kinds_of(alloc: Global, components: &[StampedValue]) -> Result<Vec<Kind>, AllocError>
     ensures { IfOk result (λ kinds. map kind_number kinds.items ≡ map stamped_number components.now) }
@@ -106,8 +86,10 @@ fn made_for(alloc: Global, components: &[StampedValue]) -> Result<Table, AllocEr
 // The table of the kinds of these components. Where there was none, it is made.
 pub(crate) fn table_for(
     tables: &mut Vec<Table>,
+    index: &mut TableIndex,
     components: &[StampedValue],
 ) -> Result<usize, AllocError>
+    requires found { IsFound tables.old.items index.old }
     requires shaped { AreShaped tables.old.items }
     requires unlike { AreUnlike tables.old.items }
     requires below { AreBelow (map stamped_number components.now) }
@@ -115,14 +97,14 @@ pub(crate) fn table_for(
     ensures within { IfOk result (λ table. table < length tables.new.items) }
     ensures kinds { IfOk result (λ table. kinds_at tables.new.items table ≡ map stamped_number components.now) }
     ensures grown { IsGrown tables.old.items tables.new.items }
+    ensures found { IsFound tables.new.items index.new }
 {
-    match table_of(tables, components) {
+    let word = word_of(components);
+    match index.find(word) {
         Some(table) => Ok(table),
         None => {
             let made = made_for(*tables.allocator(), components)?;
-            let table = tables.len();
-            tables.push(made)?;
-            Ok(table)
+            index.add(tables, word, made)
         }
     }
 }

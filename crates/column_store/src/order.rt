@@ -18,11 +18,18 @@ pub(crate) fn is_before(one: Entity, other: Entity) -> bool
     one.index < other.index || (one.index == other.index && one.generation < other.generation)
 }
 
-// How many of the entities come before this one. Found by halving.
+// How many of the entities come before this one. Found at once where all do, else by halving.
 pub(crate) fn gap_in(entities: &[Entity], e: Entity) -> usize
     requires { AreRising entities.now }
     ensures { IsGap e entities.now result }
 {
+    let count = entities.len();
+    if count == 0 {
+        return 0;
+    }
+    if is_before(entities[count - 1], e) {
+        return count;
+    }
     entities.partition_point(|x| is_before(*x, e))
 }
 

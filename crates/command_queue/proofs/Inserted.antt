@@ -1,9 +1,8 @@
 -- Components that are inserted or removed among those that an entity is left with stay those of a world.
-use Rattle.std.proofs.Common.{◌≡◌, ℕ, ◌≤◌, true, List, length, get_or, set, refl, ap, subst, sym, ◌∙◌}
+use Rattle.std.proofs.Common.{◌≡◌, ℕ, ◌≤◌, true, List, get_or, set, ap, subst, sym, ◌∙◌}
 use Rattle.std.specs.List.{AllByRecursion}
 use Rattle.std.proofs.lemmas.List.{get_or_default}
 use Rattle.kinds.specs.declared.value.Value.{Value}
-use Rattle.kinds.specs.declared.value.Value.TheVariants as value
 use Rattle.kinds.specs.Value.{value_number, value_words}
 use Rattle.kinds.specs.Components.{widths}
 use Rattle.model.specs.declared.entities.Entity.{Entity}
@@ -15,24 +14,10 @@ use Rattle.model.specs.state.Shape.{IsComponent}
 use Rattle.model.proofs.shape.Rows.{each-insert, each-remove, rising-insert, rising-remove, component-new, component-changed}
 use Rattle.archetype_store.specs.declared.change.EntityChange.{EntityChange}
 use Rattle.archetype_store.specs.Changes.{components_left, changed}
+use Rattle.archetype_store.proofs.RowPlaces.{value_width}
 use Rattle.command_queue.specs.Pending.{is_left_alive, AreChanges, IsKept}
 use Rattle.command_queue.proofs.Puts.{at_place}
 use Rattle.command_queue.proofs.Targets.{can_at, changes_again, slots_again, row_again}
-
--- a component has as many words as its kind tells
-pub value_width : (v : Value) → length (value_words v) ≡ widths (value_number v)
-value_width (value.Position x) = refl
-value_width (value.Velocity x) = refl
-value_width (value.Health x) = refl
-value_width (value.Damage x) = refl
-value_width (value.Team x) = refl
-value_width (value.Timer x) = refl
-value_width (value.Score x) = refl
-value_width (value.Energy x) = refl
-value_width (value.Charge x) = refl
-value_width (value.Target x) = refl
-value_width (value.Frozen x) = refl
-value_width (value.Hidden x) = refl
 
 module _ (w : World) (cs : List EntityChange) (valid : AreChanges w cs) (e : Entity) (p : ℕ) (kept : IsKept cs e p) (x c : EntityChange) (is : x ≡ get_or cs p x) (its : c.entity ≡ x.entity) where
   rising : IsRising (components_left x.fate)

@@ -1,4 +1,3 @@
-pub mod RowPlaces
 pub mod Puts
 pub mod Targets
 pub mod Inserted

@@ -1,7 +1,9 @@
 -- A change is put among changes: where changes are, and what they make of a slot.
-use Rattle.std.proofs.Common.{◌≡◌, ℕ, suc, ◌<◌, Bool, true, false, cond, ◌==◌, ◌⊎◌, inl, inr, List, [], ◌∷◌, ◌++◌, length, get_or, set, Option, Some, None, option_map, refl, sym, ap, subst, ◌∙◌, arith, eqb-true}
+use Rattle.std.proofs.Common.{◌≡◌, ℕ, zero, suc, arith, ◌<◌, Bool, true, false, cond, ◌==◌, ◌⊎◌, inl, inr, List, [], ◌∷◌, ◌++◌, length, get_or, set, Option, Some, None, option_map, refl, sym, ap, subst, ◌∙◌, eqb-true}
 use Rattle.std.specs.List.{AllByRecursion}
+use Rattle.std.proofs.lemmas.Bool.{both_ways, eq-eqb, ne_eqb}
 use Rattle.std.proofs.lemmas.Bool.Decides.{nat_tests}
+use Rattle.model.proofs.lists.Each.{each-at}
 use Rattle.model.specs.state.State.{Slot}
 use Rattle.archetype_store.specs.declared.change.EntityChange.{EntityChange}
 use Rattle.archetype_store.specs.Changes.{slot_left, change_at, AreOfOtherIndices}
@@ -145,3 +147,18 @@ change_some i slot (c ∷ cs) p d h = go (there (c.entity.index == i) (place_of 
         ((q : ℕ) → place_of i cs ≡ Some q → change_at cs i slot ≡ slot_left (get_or cs q d).fate slot) → change_at (c ∷ cs) i slot ≡ slot_left (get_or (c ∷ cs) p d).fate slot
     go (inl h) more = ap (λ b. cond b (slot_left c.fate slot) (change_at cs i slot)) (turned_same c.entity.index i h.0) ∙ sym (ap (λ n. slot_left (get_or (c ∷ cs) n d).fate slot) h.1)
     go (inr h) more = ap (λ b. cond b (slot_left c.fate slot) (change_at cs i slot)) (turned c.entity.index i h.0) ∙ more h.1.0 h.1.2 ∙ sym (ap (λ n. slot_left (get_or (c ∷ cs) n d).fate slot) h.1.1)
+
+-- where the last change is of an index, no other is
+pub place_last : (index : ℕ) (cs : List EntityChange) (n : ℕ) (d : EntityChange) → AreOfOtherIndices cs → length cs ≡ suc n → (get_or cs n d).entity.index ≡ index → place_of index cs ≡ Some n
+place_last index [] n d apart many h = absurd (cc)
+place_last index (c ∷ []) zero d apart many h = ap (λ (b : Bool). cond b (Some 0) None) (eq-eqb c.entity.index index h)
+place_last index (c ∷ []) (suc n) d apart many h = absurd (omega arith)
+place_last index (c ∷ e ∷ es) zero d apart many h = absurd (omega arith)
+place_last index (c ∷ e ∷ es) (suc n) d apart many h =
+    let other : ((get_or (e ∷ es) n d).entity.index == c.entity.index) ≡ false = each-at (λ (x : EntityChange). (x.entity.index == c.entity.index) ≡ false) (e ∷ es) n d (omega arith) apart.0 in
+    let passed : (c.entity.index == index) ≡ false = ne_eqb c.entity.index index (λ same. both_ways ((get_or (e ∷ es) n d).entity.index == c.entity.index) other (eq-eqb (get_or (e ∷ es) n d).entity.index c.entity.index (h ∙ sym same))) in
+    ap (λ (b : Bool). cond b (Some 0) (option_map suc (place_of index (e ∷ es)))) passed ∙ ap (option_map suc) (place_last index (e ∷ es) n d apart.1 (omega arith) h)
+
+pub place_none : (index : ℕ) (cs : List EntityChange) → length cs ≡ 0 → place_of index cs ≡ None
+place_none index [] h = refl
+place_none index (c ∷ cs) h = absurd (cc)

@@ -8,6 +8,7 @@ ghost use Rattle.model.specs.state.Commands.{apply_command, apply_buffer};
 ghost use Rattle.model.specs.shown.Outcome.{spawned_by};
 ghost use Rattle.model.specs.shown.Outcome.Command.{Insert, Remove, Despawn};
 ghost use Rattle.archetype_store.specs.Layout.{AreAllHome};
+ghost use Rattle.archetype_store.specs.Changes.{AreOfOtherIndices};
 ghost use Rattle.command_queue.specs.Commands.{command_of};
 ghost use Rattle.command_queue.specs.Pending.{place_of, put_change, ArePlaced, IsPending, target_of, Stands, IsOpen, CanSpawn};
 
@@ -84,12 +85,28 @@ impl Pending {
         }
     }
 
+    // The place of the change of an index. The change that came last is looked at first, since the commands of an entity mostly follow one another.
+    fn place(&self, index: u32) -> Option<usize>
+        requires apart { AreOfOtherIndices self.now.changes.items }
+        requires placed { ArePlaced self.now.places self.now.changes.items }
+        ensures { result ≡ place_of index self.now.changes.items }
+    {
+        let count = self.changes.len();
+        if count == 0 {
+            return None;
+        }
+        if self.changes[count - 1].entity.index == index {
+            return Some(count - 1);
+        }
+        self.places.get(&index).copied()
+    }
+
     // How an entity stands.
     fn find(&self, world: &World, e: Entity) -> Found
         requires { IsPending world.now.state self.now }
         ensures { Stands world.now.state.slots self.now.changes.items e result }
     {
-        match self.places.get(&e.index) {
+        match self.place(e.index) {
             None => {
                 if world.lives(e) {
                     Found::Unchanged
@@ -98,8 +115,8 @@ impl Pending {
                 }
             }
             Some(place) => {
-                if keeps(&self.changes[*place], e.generation) {
-                    Found::Changed(*place)
+                if keeps(&self.changes[place], e.generation) {
+                    Found::Changed(place)
                 } else {
                     Found::Dead
                 }

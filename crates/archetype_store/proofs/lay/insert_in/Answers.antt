@@ -10,6 +10,7 @@ use Rattle.archetype_store.specs.Archetypes.{archetypes_of, HasRow}
 use Rattle.archetype_store.proofs.Steps.{written, inserted_there, row_read, below_inserted, some_seen}
 use Rattle.archetype_store.specs.Tables.{AreHome}
 use Rattle.archetype_store.proofs.Standings.{owned_kept, owned_are_home}
+use Rattle.archetype_store.proofs.TableIndex.{found_shapes}
 use Rattle.archetype_store.proofs.lay.insert_in.Goals as goal
 
 pub find_at-requires-clause-home : goal.find_at-requires-clause-home
@@ -62,3 +63,6 @@ returns-clause-ok c =
     subst (λ r. OnOk c.lay-2.result (HasRow (archetypes_of tables places) c.args.e r (archetypes_of c.lay-2.new.tables.items c.lay-2.new.places.items)))
     (ap (map component_of) c.deref-4.ensures.value ∙ c.in_ok-insert_new.ensures.row ∙ ap (insert_component c.args.tick kind words) (sym row))
     c.lay-2.ensures.ok
+
+pub returns-then-is_some-clause-found : goal.returns-then-is_some-clause-found
+returns-then-is_some-clause-found c = found_shapes c.args.tables.now.items c.write_at.new.tables.items c.args.index.now c.write_at.ensures.shapes c.requires.found

@@ -4,6 +4,7 @@ use Rattle.archetype_store.specs.Archetypes.{place_of}
 use Rattle.archetype_store.proofs.Laid.{shaped_kept}
 use Rattle.archetype_store.proofs.Steps.{laid}
 use Rattle.archetype_store.proofs.Standings.{owned_kept}
+use Rattle.archetype_store.proofs.TableIndex.{found_shapes}
 use Rattle.archetype_store.proofs.lay.lay.Goals as goal
 
 pub leave-requires-clause-owned : goal.leave-requires-clause-owned
@@ -33,3 +34,8 @@ returns-clause-ok c =
     (c.place_at-from.ensures ∙ ap (λ ps. place_of ps c.args.e.index) c.deref.ensures.value) c.leave.ensures in
     (laid c.args.tables.now.items c.table_for.new.tables.items c.put_at.new.tables.items c.leave.new.tables.items places c.args.e c.in_ok-table.table c.args.components.now
     c.requires.whole c.requires.within c.requires.holder c.requires.some c.requires.other c.in_ok-table.ensures.grown c.in_ok-table.ensures.kinds c.in_ok-put_at.ensures.ok left).1
+
+pub returns-clause-found : goal.returns-clause-found
+returns-clause-found c =
+    found_shapes c.put_at.new.tables.items c.leave.new.tables.items c.table_for.new.index c.leave.ensures.shapes
+    (found_shapes c.table_for.new.tables.items c.put_at.new.tables.items c.table_for.new.index c.in_ok-put_at.ensures.ok.shapes c.in_ok-table.ensures.found)

@@ -10,6 +10,7 @@ use Rattle.archetype_store.specs.RowMoves.{placing_of, change_of, IsPlanned}
 use Rattle.archetype_store.proofs.Changed.{placings_apart, planned_alike, rows_from_alike}
 use Rattle.archetype_store.proofs.Moves.{alike_trans, on_err_from}
 use Rattle.archetype_store.proofs.Origins.{arrives_within, from_within}
+use Rattle.archetype_store.proofs.TableIndex.{found_shapes}
 use Rattle.archetype_store.proofs.row_moves.change_in.Goals as goal
 
 pub returns-in_err-rows-clause-err : goal.returns-in_err-rows-clause-err
@@ -71,3 +72,6 @@ returns-clause-err c =
     let B = archetypes_of c.planned_all.new.tables.items c.planned_all.new.places.items in
     let C = archetypes_of c.move_all.new.tables.items c.move_all.new.places.items in
     on_err_weaker c.move_all.result (alike_trans A B C (planned_alike T c.planned_all.new.tables.items P c.planned_all.new.places.items c.planned_all.ensures.grown c.planned_all.ensures.same)) c.move_all.ensures.err
+
+pub returns-clause-found : goal.returns-clause-found
+returns-clause-found c = found_shapes c.planned_all.new.tables.items c.move_all.new.tables.items c.planned_all.new.index c.move_all.ensures.shapes c.planned_all.ensures.found

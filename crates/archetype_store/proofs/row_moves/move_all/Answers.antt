@@ -1,4 +1,4 @@
-use Rattle.std.proofs.Common.{◌≡◌, ℕ, Some}
+use Rattle.std.proofs.Common.{◌≡◌, ℕ, Some, ◌∙◌}
 use Rattle.model.proofs.lists.Each.{each-weaker}
 use Rattle.archetype_store.specs.declared.row_moves.RowMove.{RowMove}
 use Rattle.archetype_store.specs.RowMoves.{placing_of, arrives_in, CanArrive, IsPlanned}
@@ -60,3 +60,6 @@ pub returns-clause-ok : goal.returns-clause-ok
 returns-clause-ok c =
     have_rows c.args.tables.now.items c.arrive_all.new.tables.items c.depart_all.new.tables.items c.args.places.now.items c.place_all.new.places.items c.args.rows.now c.requires.whole
     (placings_apart c.args.rows.now c.requires.apart) c.requires.planned c.in_ok-arrive_all.ensures.ok c.depart_all.ensures c.place_all.ensures
+
+pub returns-clause-shapes : goal.returns-clause-shapes
+returns-clause-shapes c = c.depart_all.ensures.shapes ∙ c.in_ok-arrive_all.ensures.ok.shapes

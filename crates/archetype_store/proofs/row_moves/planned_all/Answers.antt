@@ -15,6 +15,7 @@ loop-change-preserved c =
     let P' = c.planned.new.places.items in
     let i = c.loop-change.invariant in
     record {
+      found = c.planned.ensures.found;
       grown = grown_trans c.args.tables.now.items T T' i.grown c.planned.ensures.grown;
       same = λ k. c.planned.ensures.same k ∙ i.same k;
       changes = ap (map change_of) c.in_ok-push.ensures.items ∙ map-append change_of c.loop-change.rows.items _

@@ -1,5 +1,6 @@
 use Rattle.std.proofs.Common.{◌≡◌, ℕ, map, take}
 use Rattle.std.specs.List.{AllByRecursion}
+use Rattle.archetype_store.specs.TableIndex.{IsFound}
 use Rattle.archetype_store.specs.Tables.{IsGrown}
 use Rattle.archetype_store.specs.Archetypes.{place_of}
 use Rattle.archetype_store.specs.RowMoves.{placing_of, change_of, IsPlanned}
@@ -8,6 +9,7 @@ use Rattle.archetype_store.proofs.row_moves.planned_all.Given as goal
 -- the changes so far are planned
 abbrev pub invariant-loop-change : goal.invariant-loop-change
 invariant-loop-change l = record {
+  found : IsFound l.tables.items l.index;
   grown : IsGrown l.fn.tables.items l.tables.items;
   same : (i : ℕ) → place_of l.places.items i ≡ place_of l.fn.places.items i;
   changes : map change_of l.rows.items ≡ take l.change-index l.changes;

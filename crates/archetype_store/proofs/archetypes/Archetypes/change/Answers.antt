@@ -9,16 +9,20 @@ use Rattle.archetype_store.proofs.Laid.{holder_seen}
 use Rattle.archetype_store.proofs.Moves.{alike_trans, on_err_from}
 use Rattle.archetype_store.proofs.Changed.{rows_from_alike}
 use Rattle.archetype_store.proofs.Standings.{home_tables, alike_value, value_alike, alike_whole, alike_stored, alike_all_home, owned_stored, owned_layout}
+use Rattle.archetype_store.specs.TableIndex.{IsFound, IsIndexed}
+use Rattle.archetype_store.proofs.TableIndex.{alike_found, alike_indexed}
 use Rattle.archetype_store.proofs.archetypes.Archetypes.change.Goals as goal
 
 pub own_all-requires-clause-home : goal.own_all-requires-clause-home
 own_all-requires-clause-home c =
-    home_tables c.self.inside.tables.items c.self.invariant.bare (subst (λ (v : ArchetypesValue). AreAllHome v.layout) (sym c.self.view_is) c.requires.home)
+    home_tables c.self.inside.tables.items c.self.invariant.stored.bare (subst (λ (v : ArchetypesValue). AreAllHome v.layout) (sym c.self.view_is) c.requires.home)
 
 pub invariant_of-self : goal.invariant_of-self
 invariant_of-self c =
-    alike_stored c.self.inside.tables.items c.own_all.new.tables.items c.self.inside.places.items c.self.inside.shared c.own_all.new.shared c.own_all.ensures.alike c.self.invariant.whole c.self.invariant.bare
-    c.own_all.ensures.unshared
+    record {
+      stored = alike_stored c.self.inside.tables.items c.own_all.new.tables.items c.self.inside.places.items c.self.inside.shared c.own_all.new.shared c.own_all.ensures.alike c.self.invariant.stored.whole c.self.invariant.stored.bare c.own_all.ensures.unshared;
+      indexed = alike_indexed c.self.inside.tables.items c.own_all.new.tables.items c.self.inside.index c.own_all.ensures.alike c.self.invariant.indexed;
+    }
 
 pub returns-in_err-own_all-clause-err : goal.returns-in_err-own_all-clause-err
 returns-in_err-own_all-clause-err c =
@@ -32,14 +36,20 @@ pub returns-in_err-own_all-clause-home : goal.returns-in_err-own_all-clause-home
 returns-in_err-own_all-clause-home c =
     let T = c.self.inside.tables.items in
     alike_all_home T c.own_all.new.tables.items c.self.inside.places.items c.self.inside.shared c.own_all.new.shared c.own_all.ensures.alike
-    (home_tables T c.self.invariant.bare (subst (λ (v : ArchetypesValue). AreAllHome v.layout) (sym c.self.view_is) c.requires.home))
+    (home_tables T c.self.invariant.stored.bare (subst (λ (v : ArchetypesValue). AreAllHome v.layout) (sym c.self.view_is) c.requires.home))
 
-pub change_in-requires-clause-whole : goal.change_in-requires-clause-whole
-change_in-requires-clause-whole c =
-    alike_whole c.self.inside.tables.items c.own_all.new.tables.items c.self.inside.places.items c.self.inside.shared c.own_all.new.shared c.own_all.ensures.alike c.self.invariant.whole
+pub change_in-changed-requires-clause-found : goal.change_in-changed-requires-clause-found
+change_in-changed-requires-clause-found c = alike_found c.self.inside.tables.items c.own_all.new.tables.items c.self.inside.index c.own_all.ensures.alike c.self.invariant.indexed.found
 
-pub change_in-requires-clause-holders : goal.change_in-requires-clause-holders
-change_in-requires-clause-holders c =
+pub note_rows-requires : goal.note_rows-requires
+note_rows-requires c = subst (λ ts. IsFound ts c.change_in-changed.new.index) (sym c.deref.ensures.value) c.change_in-changed.ensures.found
+
+pub change_in-changed-requires-clause-whole : goal.change_in-changed-requires-clause-whole
+change_in-changed-requires-clause-whole c =
+    alike_whole c.self.inside.tables.items c.own_all.new.tables.items c.self.inside.places.items c.self.inside.shared c.own_all.new.shared c.own_all.ensures.alike c.self.invariant.stored.whole
+
+pub change_in-changed-requires-clause-holders : goal.change_in-changed-requires-clause-holders
+change_in-changed-requires-clause-holders c =
     let T = c.self.inside.tables.items in
     let P = c.self.inside.places.items in
     let known = subst (λ (v : ArchetypesValue). AllByRecursion (λ (x : EntityChange). IsHolder x.entity.generation (holder_of v.holders x.entity.index)) c.args.changes.now) (sym c.self.view_is) c.requires.holders in
@@ -47,25 +57,28 @@ change_in-requires-clause-holders c =
     (λ x h. subst (IsHolder x.entity.generation) (holder_seen T P x.entity.index) h) c.args.changes.now known
 
 pub invariant_of-self-2 : goal.invariant_of-self-2
-invariant_of-self-2 c = owned_stored c.change_in.new.tables.items c.change_in.new.places.items c.own_all.new.shared c.change_in.ensures.whole c.change_in.ensures.owned
+invariant_of-self-2 c = record {
+  stored = owned_stored c.change_in-changed.new.tables.items c.change_in-changed.new.places.items c.own_all.new.shared c.change_in-changed.ensures.whole c.change_in-changed.ensures.owned;
+  indexed = subst (λ ts. IsIndexed ts c.note_rows.new.self) c.deref.ensures.value c.note_rows.ensures;
+}
 
 pub returns-clause-ok : goal.returns-clause-ok
 returns-clause-ok c =
     let T = c.self.inside.tables.items in
     let P = c.self.inside.places.items in
     let T1 = c.own_all.new.tables.items in
-    let new = archetypes_of c.change_in.new.tables.items c.change_in.new.places.items in
-    subst (λ (v : ArchetypesValue). OnOk c.change_in.result (HaveRows v c.args.changes.now new)) c.self.view_is
-    (on_ok_weaker c.change_in.result (rows_from_alike (archetypes_of T P) (archetypes_of T1 P) new c.args.changes.now (value_alike (archetypes_of T P) (archetypes_of T1 P) (alike_value T T1 P c.own_all.ensures.alike))) c.change_in.ensures.ok)
+    let new = archetypes_of c.change_in-changed.new.tables.items c.change_in-changed.new.places.items in
+    subst (λ (v : ArchetypesValue). OnOk c.change_in-changed.result (HaveRows v c.args.changes.now new)) c.self.view_is
+    (on_ok_weaker c.change_in-changed.result (rows_from_alike (archetypes_of T P) (archetypes_of T1 P) new c.args.changes.now (value_alike (archetypes_of T P) (archetypes_of T1 P) (alike_value T T1 P c.own_all.ensures.alike))) c.change_in-changed.ensures.ok)
 
 pub returns-clause-err : goal.returns-clause-err
 returns-clause-err c =
     let T = c.self.inside.tables.items in
     let P = c.self.inside.places.items in
     let T1 = c.own_all.new.tables.items in
-    let new = archetypes_of c.change_in.new.tables.items c.change_in.new.places.items in
-    subst (λ (v : ArchetypesValue). OnErr c.change_in.result (AreAlike v new)) c.self.view_is
-    (on_err_weaker c.change_in.result (alike_trans (archetypes_of T P) (archetypes_of T1 P) new (value_alike (archetypes_of T P) (archetypes_of T1 P) (alike_value T T1 P c.own_all.ensures.alike))) c.change_in.ensures.err)
+    let new = archetypes_of c.change_in-changed.new.tables.items c.change_in-changed.new.places.items in
+    subst (λ (v : ArchetypesValue). OnErr c.change_in-changed.result (AreAlike v new)) c.self.view_is
+    (on_err_weaker c.change_in-changed.result (alike_trans (archetypes_of T P) (archetypes_of T1 P) new (value_alike (archetypes_of T P) (archetypes_of T1 P) (alike_value T T1 P c.own_all.ensures.alike))) c.change_in-changed.ensures.err)
 
 pub returns-clause-home : goal.returns-clause-home
-returns-clause-home c = owned_layout c.change_in.new.tables.items c.change_in.new.places.items c.own_all.new.shared c.change_in.ensures.owned
+returns-clause-home c = owned_layout c.change_in-changed.new.tables.items c.change_in-changed.new.places.items c.own_all.new.shared c.change_in-changed.ensures.owned

@@ -5,11 +5,13 @@ use Rattle.archetype_store.specs.Archetypes.{ArchetypesValue, archetypes_of, row
 use Rattle.archetype_store.proofs.Laid.{row_seen}
 use Rattle.archetype_store.proofs.Moves.{on_err_from}
 use Rattle.archetype_store.proofs.Standings.{home_tables, alike_value, value_alike, alike_whole, alike_stored, alike_all_home, owned_stored, owned_layout, moved_from}
+use Rattle.archetype_store.specs.TableIndex.{IsFound, IsIndexed}
+use Rattle.archetype_store.proofs.TableIndex.{alike_found, alike_indexed}
 use Rattle.archetype_store.proofs.archetypes.Archetypes.clear.Goals as goal
 
 pub own_all-requires-clause-home : goal.own_all-requires-clause-home
 own_all-requires-clause-home c =
-    home_tables c.self.inside.tables.items c.self.invariant.bare (subst (λ (v : ArchetypesValue). AreAllHome v.layout) (sym c.self.view_is) c.requires.home)
+    home_tables c.self.inside.tables.items c.self.invariant.stored.bare (subst (λ (v : ArchetypesValue). AreAllHome v.layout) (sym c.self.view_is) c.requires.home)
 
 pub invariant_of-self : goal.invariant_of-self
 invariant_of-self c =
@@ -17,7 +19,10 @@ invariant_of-self c =
     let P = c.self.inside.places.items in
     let Q = c.self.inside.places.items in
     let T1 = c.own_all.new.tables.items in
-    alike_stored T T1 Q c.self.inside.shared c.own_all.new.shared c.own_all.ensures.alike c.self.invariant.whole c.self.invariant.bare c.own_all.ensures.unshared
+    record {
+      stored = alike_stored T T1 Q c.self.inside.shared c.own_all.new.shared c.own_all.ensures.alike c.self.invariant.stored.whole c.self.invariant.stored.bare c.own_all.ensures.unshared;
+      indexed = alike_indexed T T1 c.self.inside.index c.own_all.ensures.alike c.self.invariant.indexed;
+    }
 
 pub returns-in_err-own_all-clause-err : goal.returns-in_err-own_all-clause-err
 returns-in_err-own_all-clause-err c =
@@ -36,7 +41,13 @@ returns-in_err-own_all-clause-home c =
     let Q = c.self.inside.places.items in
     let T1 = c.own_all.new.tables.items in
     alike_all_home T T1 Q c.self.inside.shared c.own_all.new.shared c.own_all.ensures.alike
-    (home_tables T c.self.invariant.bare (subst (λ (v : ArchetypesValue). AreAllHome v.layout) (sym c.self.view_is) c.requires.home))
+    (home_tables T c.self.invariant.stored.bare (subst (λ (v : ArchetypesValue). AreAllHome v.layout) (sym c.self.view_is) c.requires.home))
+
+pub clear_in-requires-clause-found : goal.clear_in-requires-clause-found
+clear_in-requires-clause-found c = alike_found c.self.inside.tables.items c.own_all.new.tables.items c.self.inside.index c.own_all.ensures.alike c.self.invariant.indexed.found
+
+pub note_rows-requires : goal.note_rows-requires
+note_rows-requires c = subst (λ ts. IsFound ts c.self.inside.index) (sym c.deref.ensures.value) c.clear_in.ensures.found
 
 pub clear_in-requires-clause-whole : goal.clear_in-requires-clause-whole
 clear_in-requires-clause-whole c =
@@ -44,7 +55,7 @@ clear_in-requires-clause-whole c =
     let P = c.self.inside.places.items in
     let Q = c.self.inside.places.items in
     let T1 = c.own_all.new.tables.items in
-    alike_whole T T1 Q c.self.inside.shared c.own_all.new.shared c.own_all.ensures.alike c.self.invariant.whole
+    alike_whole T T1 Q c.self.inside.shared c.own_all.new.shared c.own_all.ensures.alike c.self.invariant.stored.whole
 
 pub invariant_of-self-2 : goal.invariant_of-self-2
 invariant_of-self-2 c =
@@ -52,7 +63,10 @@ invariant_of-self-2 c =
     let P = c.self.inside.places.items in
     let Q = c.self.inside.places.items in
     let T1 = c.own_all.new.tables.items in
-    owned_stored c.clear_in.new.tables.items c.clear_in.new.places.items c.own_all.new.shared c.clear_in.ensures.whole c.clear_in.ensures.owned
+    record {
+      stored = owned_stored c.clear_in.new.tables.items c.clear_in.new.places.items c.own_all.new.shared c.clear_in.ensures.whole c.clear_in.ensures.owned;
+      indexed = subst (λ ts. IsIndexed ts c.note_rows.new.self) c.deref.ensures.value c.note_rows.ensures;
+    }
 
 pub returns-clause-home : goal.returns-clause-home
 returns-clause-home c =

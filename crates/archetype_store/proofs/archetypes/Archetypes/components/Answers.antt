@@ -13,7 +13,7 @@ use Rattle.archetype_store.proofs.archetypes.Archetypes.components.Goals as goal
 pub components_at-requires-clause-home : goal.components_at-requires-clause-home
 components_at-requires-clause-home c =
     subst AreHome (sym c.deref-in-Some.ensures.value)
-    (home_tables c.self.inside.tables.items c.self.invariant.bare (subst (λ (v : ArchetypesValue). AreAllHome v.layout) (sym c.self.view_is) c.requires))
+    (home_tables c.self.inside.tables.items c.self.invariant.stored.bare (subst (λ (v : ArchetypesValue). AreAllHome v.layout) (sym c.self.view_is) c.requires))
 
 pub returns-in-None : goal.returns-in-None
 returns-in-None c =

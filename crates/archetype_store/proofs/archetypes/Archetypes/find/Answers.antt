@@ -11,7 +11,7 @@ use Rattle.archetype_store.proofs.archetypes.Archetypes.find.Goals as goal
 pub find_at-requires-clause-home : goal.find_at-requires-clause-home
 find_at-requires-clause-home c =
     subst AreHome (sym c.deref-in-Some.ensures.value)
-    (home_tables c.self.inside.tables.items c.self.invariant.bare (subst (λ (v : ArchetypesValue). AreAllHome v.layout) (sym c.self.view_is) c.requires))
+    (home_tables c.self.inside.tables.items c.self.invariant.stored.bare (subst (λ (v : ArchetypesValue). AreAllHome v.layout) (sym c.self.view_is) c.requires))
 
 pub returns-in-None-clause-cell : goal.returns-in-None-clause-cell
 returns-in-None-clause-cell c =

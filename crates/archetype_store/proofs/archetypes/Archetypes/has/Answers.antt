@@ -23,7 +23,7 @@ has_at-requires c =
     let places = c.self.inside.places.items in
     let e : Entity = record { index = c.args.index; generation = c.in-Some.place.generation } in
     let at : place_of places c.args.index ≡ Some c.in-Some.place = rw c.deref.ensures.value at (sym c.place_at.ensures ∙ c.in-Some.is) in
-    let within = held_within tables c.in-Some.place.table e (somewhere tables places c.self.invariant.whole e c.in-Some.place at refl) in
+    let within = held_within tables c.in-Some.place.table e (somewhere tables places c.self.invariant.stored.whole e c.in-Some.place at refl) in
     rw c.deref-in-Some.ensures.value within
 
 pub returns-in-Some : goal.returns-in-Some
@@ -32,6 +32,6 @@ returns-in-Some c =
     let places = c.self.inside.places.items in
     let at : place_of places c.args.index ≡ Some c.in-Some.place = rw c.deref.ensures.value at (sym c.place_at.ensures ∙ c.in-Some.is) in
     let read = rw c.deref-in-Some.ensures.value at c.has_at.ensures in
-    read ∙ ap (has c.args.number) (sym (kinds_at_place tables places c.self.invariant.whole c.args.index c.in-Some.place at))
+    read ∙ ap (has c.args.number) (sym (kinds_at_place tables places c.self.invariant.stored.whole c.args.index c.in-Some.place at))
     ∙ kinds-among (row_in tables c.args.index (place_of places c.args.index)) c.args.number
     ∙ sym (ap (λ (v : ArchetypesValue). kinds_of (row_of v.rows c.args.index) c.args.number) (sym c.self.view_is) ∙ ap (λ r. kinds_of r c.args.number) (row_seen tables places c.args.index))

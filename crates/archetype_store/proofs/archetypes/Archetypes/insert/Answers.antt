@@ -8,6 +8,8 @@ use Rattle.archetype_store.specs.Archetypes.{ArchetypesValue, archetypes_of, row
 use Rattle.archetype_store.proofs.Laid.{row_seen}
 use Rattle.archetype_store.proofs.Moves.{alike_trans, reached_alike, on_err_from}
 use Rattle.archetype_store.proofs.Standings.{home_tables, alike_value, value_alike, alike_whole, alike_stored, alike_all_home, owned_stored, owned_layout, reached_whole, moved_from}
+use Rattle.archetype_store.specs.TableIndex.{IsFound, IsIndexed}
+use Rattle.archetype_store.proofs.TableIndex.{alike_found, alike_indexed}
 use Rattle.archetype_store.proofs.archetypes.Archetypes.insert.Goals as goal
 
 pub returns-in_err-reach-clause-err : goal.returns-in_err-reach-clause-err
@@ -19,7 +21,7 @@ returns-in_err-reach-clause-err c =
 
 pub own_all-requires-clause-home : goal.own_all-requires-clause-home
 own_all-requires-clause-home c =
-    home_tables c.self.inside.tables.items c.self.invariant.bare (subst (λ (v : ArchetypesValue). AreAllHome v.layout) (sym c.self.view_is) c.requires.home)
+    home_tables c.self.inside.tables.items c.self.invariant.stored.bare (subst (λ (v : ArchetypesValue). AreAllHome v.layout) (sym c.self.view_is) c.requires.home)
 
 pub invariant_of-self-in_err-own_all : goal.invariant_of-self-in_err-own_all
 invariant_of-self-in_err-own_all c =
@@ -27,7 +29,10 @@ invariant_of-self-in_err-own_all c =
     let P = c.self.inside.places.items in
     let Q = c.reach.new.places.items in
     let T1 = c.own_all.new.tables.items in
-    alike_stored T T1 Q c.self.inside.shared c.own_all.new.shared c.own_all.ensures.alike (reached_whole T P Q c.reach.ensures.same c.self.invariant.whole) c.self.invariant.bare c.own_all.ensures.unshared
+    record {
+      stored = alike_stored T T1 Q c.self.inside.shared c.own_all.new.shared c.own_all.ensures.alike (reached_whole T P Q c.reach.ensures.same c.self.invariant.stored.whole) c.self.invariant.stored.bare c.own_all.ensures.unshared;
+      indexed = alike_indexed T T1 c.self.inside.index c.own_all.ensures.alike c.self.invariant.indexed;
+    }
 
 pub returns-in_err-own_all-clause-err : goal.returns-in_err-own_all-clause-err
 returns-in_err-own_all-clause-err c =
@@ -46,15 +51,21 @@ returns-in_err-own_all-clause-home c =
     let Q = c.reach.new.places.items in
     let T1 = c.own_all.new.tables.items in
     alike_all_home T T1 Q c.self.inside.shared c.own_all.new.shared c.own_all.ensures.alike
-    (home_tables T c.self.invariant.bare (subst (λ (v : ArchetypesValue). AreAllHome v.layout) (sym c.self.view_is) c.requires.home))
+    (home_tables T c.self.invariant.stored.bare (subst (λ (v : ArchetypesValue). AreAllHome v.layout) (sym c.self.view_is) c.requires.home))
 
-pub insert_in-requires-clause-whole : goal.insert_in-requires-clause-whole
-insert_in-requires-clause-whole c =
+pub insert_in-inserted-requires-clause-found : goal.insert_in-inserted-requires-clause-found
+insert_in-inserted-requires-clause-found c = alike_found c.self.inside.tables.items c.own_all.new.tables.items c.self.inside.index c.own_all.ensures.alike c.self.invariant.indexed.found
+
+pub note_rows-requires : goal.note_rows-requires
+note_rows-requires c = subst (λ ts. IsFound ts c.insert_in-inserted.new.index) (sym c.deref.ensures.value) c.insert_in-inserted.ensures.found
+
+pub insert_in-inserted-requires-clause-whole : goal.insert_in-inserted-requires-clause-whole
+insert_in-inserted-requires-clause-whole c =
     let T = c.self.inside.tables.items in
     let P = c.self.inside.places.items in
     let Q = c.reach.new.places.items in
     let T1 = c.own_all.new.tables.items in
-    alike_whole T T1 Q c.self.inside.shared c.own_all.new.shared c.own_all.ensures.alike (reached_whole T P Q c.reach.ensures.same c.self.invariant.whole)
+    alike_whole T T1 Q c.self.inside.shared c.own_all.new.shared c.own_all.ensures.alike (reached_whole T P Q c.reach.ensures.same c.self.invariant.stored.whole)
 
 pub invariant_of-self-2 : goal.invariant_of-self-2
 invariant_of-self-2 c =
@@ -62,7 +73,10 @@ invariant_of-self-2 c =
     let P = c.self.inside.places.items in
     let Q = c.reach.new.places.items in
     let T1 = c.own_all.new.tables.items in
-    owned_stored c.insert_in.new.tables.items c.insert_in.new.places.items c.own_all.new.shared c.insert_in.ensures.whole c.insert_in.ensures.owned
+    record {
+      stored = owned_stored c.insert_in-inserted.new.tables.items c.insert_in-inserted.new.places.items c.own_all.new.shared c.insert_in-inserted.ensures.whole c.insert_in-inserted.ensures.owned;
+      indexed = subst (λ ts. IsIndexed ts c.note_rows.new.self) c.deref.ensures.value c.note_rows.ensures;
+    }
 
 pub returns-clause-home : goal.returns-clause-home
 returns-clause-home c =
@@ -70,7 +84,7 @@ returns-clause-home c =
     let P = c.self.inside.places.items in
     let Q = c.reach.new.places.items in
     let T1 = c.own_all.new.tables.items in
-    owned_layout c.insert_in.new.tables.items c.insert_in.new.places.items c.own_all.new.shared c.insert_in.ensures.owned
+    owned_layout c.insert_in-inserted.new.tables.items c.insert_in-inserted.new.places.items c.own_all.new.shared c.insert_in-inserted.ensures.owned
 
 pub returns-clause-ok : goal.returns-clause-ok
 returns-clause-ok c =
@@ -79,13 +93,13 @@ returns-clause-ok c =
     let Q = c.reach.new.places.items in
     let T1 = c.own_all.new.tables.items in
     let i = c.args.e.index in
-    let new = archetypes_of c.insert_in.new.tables.items c.insert_in.new.places.items in
+    let new = archetypes_of c.insert_in-inserted.new.tables.items c.insert_in-inserted.new.places.items in
     let f : List Component → List Component = insert_component c.args.tick (value_number c.args.value) (value_words c.args.value) in
     let alike = alike_trans (archetypes_of T P) (archetypes_of T Q) (archetypes_of T1 Q) (reached_alike T P Q c.reach.ensures.same) (value_alike (archetypes_of T Q) (archetypes_of T1 Q) (alike_value T T1 Q c.own_all.ensures.alike)) in
     let from : HasRow (archetypes_of T1 Q) c.args.e (f (row_in T1 i (place_of Q i))) new → HasRow (archetypes_of T P) c.args.e (f (row_of (archetypes_of T P).rows i)) new
     = moved_from (archetypes_of T P) (archetypes_of T1 Q) new c.args.e f (row_in T1 i (place_of Q i)) alike (sym (row_seen T1 Q i)) in
-    subst (λ (v : ArchetypesValue). OnOk c.insert_in.result (HasRow v c.args.e (f (row_of v.rows i)) new)) c.self.view_is
-    (on_ok_weaker c.insert_in.result from c.insert_in.ensures.ok)
+    subst (λ (v : ArchetypesValue). OnOk c.insert_in-inserted.result (HasRow v c.args.e (f (row_of v.rows i)) new)) c.self.view_is
+    (on_ok_weaker c.insert_in-inserted.result from c.insert_in-inserted.ensures.ok)
 
 pub returns-clause-err : goal.returns-clause-err
 returns-clause-err c =
@@ -93,7 +107,7 @@ returns-clause-err c =
     let P = c.self.inside.places.items in
     let Q = c.reach.new.places.items in
     let T1 = c.own_all.new.tables.items in
-    let new = archetypes_of c.insert_in.new.tables.items c.insert_in.new.places.items in
+    let new = archetypes_of c.insert_in-inserted.new.tables.items c.insert_in-inserted.new.places.items in
     let alike = alike_trans (archetypes_of T P) (archetypes_of T Q) (archetypes_of T1 Q) (reached_alike T P Q c.reach.ensures.same) (value_alike (archetypes_of T Q) (archetypes_of T1 Q) (alike_value T T1 Q c.own_all.ensures.alike)) in
-    subst (λ (v : ArchetypesValue). OnErr c.insert_in.result (AreAlike v new)) c.self.view_is
-    (on_err_weaker c.insert_in.result (alike_trans (archetypes_of T P) (archetypes_of T1 Q) new alike) c.insert_in.ensures.err)
+    subst (λ (v : ArchetypesValue). OnErr c.insert_in-inserted.result (AreAlike v new)) c.self.view_is
+    (on_err_weaker c.insert_in-inserted.result (alike_trans (archetypes_of T P) (archetypes_of T1 Q) new alike) c.insert_in-inserted.ensures.err)

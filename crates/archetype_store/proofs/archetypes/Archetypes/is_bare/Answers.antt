@@ -21,7 +21,7 @@ returns-in-Some c =
     let p = c.in-Some._place in
     let e : Entity = record { index = c.args.index; generation = p.generation } in
     let at : place_of places c.args.index ≡ Some p = rw c.deref.ensures.value at (sym c.place_at.ensures ∙ c.in-Some.is) in
-    let there = row_there tables places c.self.invariant.whole e p.table (row_in tables c.args.index (place_of places c.args.index))
-    (somewhere tables places c.self.invariant.whole e p at refl) (kinds_at_place tables places c.self.invariant.whole c.args.index p at) in
+    let there = row_there tables places c.self.invariant.stored.whole e p.table (row_in tables c.args.index (place_of places c.args.index))
+    (somewhere tables places c.self.invariant.stored.whole e p at refl) (kinds_at_place tables places c.self.invariant.stored.whole c.args.index p at) in
     sym (ap (λ (v : ArchetypesValue). not (is_there (row_of v.rows c.args.index))) (sym c.self.view_is)
     ∙ ap (λ row. not (is_there row)) (row_seen tables places c.args.index) ∙ ap not there)

@@ -4,4 +4,4 @@ use Rattle.archetype_store.proofs.Layouts.{laid_out}
 use Rattle.archetype_store.proofs.archetypes.Archetypes.laid.Goals as goal
 
 pub returns : goal.returns
-returns c = subst IsLaidOut c.self.view_is (laid_out c.self.inside.tables.items c.self.inside.places.items c.self.invariant.whole)
+returns c = subst IsLaidOut c.self.view_is (laid_out c.self.inside.tables.items c.self.inside.places.items c.self.invariant.stored.whole)

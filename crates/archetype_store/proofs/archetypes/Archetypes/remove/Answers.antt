@@ -8,6 +8,8 @@ use Rattle.archetype_store.proofs.Laid.{row_seen, holder_seen}
 use Rattle.archetype_store.proofs.Moves.{alike_trans, on_err_from, has_row_kept}
 use Rattle.archetype_store.proofs.RowEdits.{absent-removed}
 use Rattle.archetype_store.proofs.Standings.{home_tables, alike_value, value_alike, alike_whole, alike_stored, alike_all_home, owned_stored, owned_layout, moved_from}
+use Rattle.archetype_store.specs.TableIndex.{IsFound, IsIndexed}
+use Rattle.archetype_store.proofs.TableIndex.{alike_found, alike_indexed}
 use Rattle.archetype_store.proofs.archetypes.Archetypes.remove.Goals as goal
 
 -- what isn't there is none
@@ -22,14 +24,14 @@ returns-then-not-has-clause-ok c =
     let i = c.args.e.index in
     let A = archetypes_of T P in
     let fits = subst (IsHolder c.args.e.generation) (ap (λ (v : ArchetypesValue). holder_of v.holders i) (sym c.self.view_is) ∙ holder_seen T P i) c.requires.holder in
-    let kept = subst (λ r. HasRow A c.args.e r A) (sym (row_seen T P i)) (has_row_kept T P c.args.e c.self.invariant.whole fits) in
+    let kept = subst (λ r. HasRow A c.args.e r A) (sym (row_seen T P i)) (has_row_kept T P c.args.e c.self.invariant.stored.whole fits) in
     let lacks : c.has.result ≡ false = search rules in
     let none = none_is (cell_at (row_of A.rows i) c.args.number) (ap (λ (v : ArchetypesValue). is_some (cell_at (row_of v.rows i) c.args.number)) c.self.view_is ∙ sym c.has.ensures ∙ lacks) in
     subst (λ (v : ArchetypesValue). HasRow v c.args.e (remove_component c.args.number (row_of v.rows i)) v) c.self.view_is
     (subst (λ r. HasRow A c.args.e r A) (sym (absent-removed c.args.number (row_of A.rows i) none)) kept)
 
-pub remove_in-requires-clause-there : goal.remove_in-requires-clause-there
-remove_in-requires-clause-there c =
+pub remove_in-removed-requires-clause-there : goal.remove_in-removed-requires-clause-there
+remove_in-removed-requires-clause-there c =
     let T = c.self.inside.tables.items in
     let P = c.self.inside.places.items in
     let T1 = c.own_all.new.tables.items in
@@ -41,7 +43,7 @@ remove_in-requires-clause-there c =
 
 pub own_all-requires-clause-home : goal.own_all-requires-clause-home
 own_all-requires-clause-home c =
-    home_tables c.self.inside.tables.items c.self.invariant.bare (subst (λ (v : ArchetypesValue). AreAllHome v.layout) (sym c.self.view_is) c.requires.home)
+    home_tables c.self.inside.tables.items c.self.invariant.stored.bare (subst (λ (v : ArchetypesValue). AreAllHome v.layout) (sym c.self.view_is) c.requires.home)
 
 pub invariant_of-self : goal.invariant_of-self
 invariant_of-self c =
@@ -49,7 +51,10 @@ invariant_of-self c =
     let P = c.self.inside.places.items in
     let Q = c.self.inside.places.items in
     let T1 = c.own_all.new.tables.items in
-    alike_stored T T1 Q c.self.inside.shared c.own_all.new.shared c.own_all.ensures.alike c.self.invariant.whole c.self.invariant.bare c.own_all.ensures.unshared
+    record {
+      stored = alike_stored T T1 Q c.self.inside.shared c.own_all.new.shared c.own_all.ensures.alike c.self.invariant.stored.whole c.self.invariant.stored.bare c.own_all.ensures.unshared;
+      indexed = alike_indexed T T1 c.self.inside.index c.own_all.ensures.alike c.self.invariant.indexed;
+    }
 
 pub returns-in_err-own_all-clause-err : goal.returns-in_err-own_all-clause-err
 returns-in_err-own_all-clause-err c =
@@ -68,15 +73,21 @@ returns-in_err-own_all-clause-home c =
     let Q = c.self.inside.places.items in
     let T1 = c.own_all.new.tables.items in
     alike_all_home T T1 Q c.self.inside.shared c.own_all.new.shared c.own_all.ensures.alike
-    (home_tables T c.self.invariant.bare (subst (λ (v : ArchetypesValue). AreAllHome v.layout) (sym c.self.view_is) c.requires.home))
+    (home_tables T c.self.invariant.stored.bare (subst (λ (v : ArchetypesValue). AreAllHome v.layout) (sym c.self.view_is) c.requires.home))
 
-pub remove_in-requires-clause-whole : goal.remove_in-requires-clause-whole
-remove_in-requires-clause-whole c =
+pub remove_in-removed-requires-clause-found : goal.remove_in-removed-requires-clause-found
+remove_in-removed-requires-clause-found c = alike_found c.self.inside.tables.items c.own_all.new.tables.items c.self.inside.index c.own_all.ensures.alike c.self.invariant.indexed.found
+
+pub note_rows-requires : goal.note_rows-requires
+note_rows-requires c = subst (λ ts. IsFound ts c.remove_in-removed.new.index) (sym c.deref.ensures.value) c.remove_in-removed.ensures.found
+
+pub remove_in-removed-requires-clause-whole : goal.remove_in-removed-requires-clause-whole
+remove_in-removed-requires-clause-whole c =
     let T = c.self.inside.tables.items in
     let P = c.self.inside.places.items in
     let Q = c.self.inside.places.items in
     let T1 = c.own_all.new.tables.items in
-    alike_whole T T1 Q c.self.inside.shared c.own_all.new.shared c.own_all.ensures.alike c.self.invariant.whole
+    alike_whole T T1 Q c.self.inside.shared c.own_all.new.shared c.own_all.ensures.alike c.self.invariant.stored.whole
 
 pub invariant_of-self-2 : goal.invariant_of-self-2
 invariant_of-self-2 c =
@@ -84,7 +95,10 @@ invariant_of-self-2 c =
     let P = c.self.inside.places.items in
     let Q = c.self.inside.places.items in
     let T1 = c.own_all.new.tables.items in
-    owned_stored c.remove_in.new.tables.items c.remove_in.new.places.items c.own_all.new.shared c.remove_in.ensures.whole c.remove_in.ensures.owned
+    record {
+      stored = owned_stored c.remove_in-removed.new.tables.items c.remove_in-removed.new.places.items c.own_all.new.shared c.remove_in-removed.ensures.whole c.remove_in-removed.ensures.owned;
+      indexed = subst (λ ts. IsIndexed ts c.note_rows.new.self) c.deref.ensures.value c.note_rows.ensures;
+    }
 
 pub returns-clause-home : goal.returns-clause-home
 returns-clause-home c =
@@ -92,7 +106,7 @@ returns-clause-home c =
     let P = c.self.inside.places.items in
     let Q = c.self.inside.places.items in
     let T1 = c.own_all.new.tables.items in
-    owned_layout c.remove_in.new.tables.items c.remove_in.new.places.items c.own_all.new.shared c.remove_in.ensures.owned
+    owned_layout c.remove_in-removed.new.tables.items c.remove_in-removed.new.places.items c.own_all.new.shared c.remove_in-removed.ensures.owned
 
 pub returns-clause-ok : goal.returns-clause-ok
 returns-clause-ok c =
@@ -101,13 +115,13 @@ returns-clause-ok c =
     let Q = c.self.inside.places.items in
     let T1 = c.own_all.new.tables.items in
     let i = c.args.e.index in
-    let new = archetypes_of c.remove_in.new.tables.items c.remove_in.new.places.items in
+    let new = archetypes_of c.remove_in-removed.new.tables.items c.remove_in-removed.new.places.items in
     let f : List Component → List Component = remove_component c.args.number in
     let alike = value_alike (archetypes_of T P) (archetypes_of T1 P) (alike_value T T1 P c.own_all.ensures.alike) in
     let from : HasRow (archetypes_of T1 Q) c.args.e (f (row_in T1 i (place_of Q i))) new → HasRow (archetypes_of T P) c.args.e (f (row_of (archetypes_of T P).rows i)) new
     = moved_from (archetypes_of T P) (archetypes_of T1 Q) new c.args.e f (row_in T1 i (place_of Q i)) alike (sym (row_seen T1 Q i)) in
-    subst (λ (v : ArchetypesValue). OnOk c.remove_in.result (HasRow v c.args.e (f (row_of v.rows i)) new)) c.self.view_is
-    (on_ok_weaker c.remove_in.result from c.remove_in.ensures.ok)
+    subst (λ (v : ArchetypesValue). OnOk c.remove_in-removed.result (HasRow v c.args.e (f (row_of v.rows i)) new)) c.self.view_is
+    (on_ok_weaker c.remove_in-removed.result from c.remove_in-removed.ensures.ok)
 
 pub returns-clause-err : goal.returns-clause-err
 returns-clause-err c =
@@ -115,7 +129,7 @@ returns-clause-err c =
     let P = c.self.inside.places.items in
     let Q = c.self.inside.places.items in
     let T1 = c.own_all.new.tables.items in
-    let new = archetypes_of c.remove_in.new.tables.items c.remove_in.new.places.items in
+    let new = archetypes_of c.remove_in-removed.new.tables.items c.remove_in-removed.new.places.items in
     let alike = value_alike (archetypes_of T P) (archetypes_of T1 P) (alike_value T T1 P c.own_all.ensures.alike) in
-    subst (λ (v : ArchetypesValue). OnErr c.remove_in.result (AreAlike v new)) c.self.view_is
-    (on_err_weaker c.remove_in.result (alike_trans (archetypes_of T P) (archetypes_of T1 Q) new alike) c.remove_in.ensures.err)
+    subst (λ (v : ArchetypesValue). OnErr c.remove_in-removed.result (AreAlike v new)) c.self.view_is
+    (on_err_weaker c.remove_in-removed.result (alike_trans (archetypes_of T P) (archetypes_of T1 Q) new alike) c.remove_in-removed.ensures.err)

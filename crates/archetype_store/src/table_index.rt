@@ -1,0 +1,108 @@
+// Where tables are found: by the word of their kinds, and by the number of their archetype.
+
+ghost use Rattle.std.specs.Prelude.{◌≡◌, ◌≤◌, ◌++◌, ◌∷◌, ◌||◌, ◌==◌, ℕ, List, [], length, map, nat_eq, None, vec_capacity, IfOk, MatchOption, OnOk, OnErr};
+ghost use Rattle.std.specs.HashMap.{get};
+ghost use Rattle.kinds.specs.Kind.{kind_number};
+ghost use Rattle.column_store.specs.Cells.{stamped_number};
+ghost use Rattle.column_store.specs.Table.{TableValue};
+ghost use Rattle.archetype_store.specs.Layout.{layout_of};
+ghost use Rattle.archetype_store.specs.Tables.{IsTableOf};
+ghost use Rattle.archetype_store.specs.TableIndex.{has_bit, peopled_from, IsWord, IsFound, IsIndexed};
+
+use column_store::stamped::StampedValue;
+use column_store::table::Table;
+use kinds::kind::{Kind, kinds_are_apart};
+use std::alloc::{AllocError, Global};
+use std::collections::HashMap;
+
+/// The tables by the words of their kinds, and those that have rows, in order: the one at place n is that of archetype n.
+#[derive(Drop)]
+pub(crate) struct TableIndex {
+    by_word: HashMap<u32, usize>,
+    peopled: Vec<usize>,
+}
+
+// The word with the bit of a kind.
+fn with_kind(word: u32, kind: Kind) -> u32
+    ensures { (k : ℕ) → has_bit result k ≡ ((kind_number kind == k) || has_bit word k) }
+{
+    kinds_are_apart();
+    word | (1 << kind.number())
+}
+
+/// The kinds of components as the bits of a word.
+pub(crate) fn word_of(components: &[StampedValue]) -> u32
+    ensures { IsWord result (map stamped_number components.now) }
+{
+    let Some((component, others)) = components.split_first() else {
+        return 0;
+    };
+    with_kind(word_of(others), component.value.kind())
+}
+
+impl TableIndex {
+    /// There are no tables.
+    pub(crate) fn new(alloc: Global) -> Self
+        ensures { IsIndexed [] result }
+    {
+        TableIndex {
+            by_word: HashMap::new(alloc),
+            peopled: Vec::new(alloc),
+        }
+    }
+
+    /// The table of the kinds of a word.
+    pub(crate) fn find(&self, word: u32) -> Option<usize>
+        ensures { result ≡ get nat_eq self.now.by_word word }
+    {
+        self.by_word.get(&word).copied()
+    }
+
+    /// Adds a table of other kinds, whose word is told. Where an allocation fails there is none.
+    pub(crate) fn add(
+        &mut self,
+        tables: &mut Vec<Table>,
+        word: u32,
+        made: Table,
+    ) -> Result<usize, AllocError>
+        requires found { IsFound tables.old.items self.old }
+        requires other { get nat_eq self.old.by_word word ≡ None }
+        requires word { IsWord word made.kinds }
+        ensures number { IfOk result (λ table. table ≡ length tables.old.items) }
+        ensures made { OnOk result (tables.new.items ≡ tables.old.items ++ made ∷ []) }
+        ensures err { OnErr result (tables.new.items ≡ tables.old.items) }
+        ensures found { IsFound tables.new.items self.new }
+    {
+        let table = tables.len();
+        tables.reserve(1)?;
+        self.peopled.reserve(table + 1)?;
+        self.by_word.insert(word, table)?;
+        tables.push_reserved(made);
+        Ok(table)
+    }
+
+    /// Notes which tables have rows. It allocates nothing.
+    pub(crate) fn note_rows(&mut self, tables: &[Table])
+        requires { IsFound tables.now self.old }
+        ensures { IsIndexed tables.now self.new }
+    {
+        self.peopled.clear();
+        for (number, table) in tables.iter().enumerate() {
+            if table.entities().is_empty() {
+                continue;
+            }
+            self.peopled.push_reserved(number);
+        }
+    }
+
+    /// The table of an archetype: only tables with rows are numbered.
+    pub(crate) fn table_of(&self, archetype: usize) -> Option<usize>
+        ensures { (tables : List TableValue) → IsIndexed tables self.now → MatchOption result (length (layout_of tables) ≤ archetype) (IsTableOf tables archetype) }
+    {
+        if archetype < self.peopled.len() {
+            Some(self.peopled[archetype])
+        } else {
+            None
+        }
+    }
+}
