@@ -13,7 +13,7 @@ use Rattle.model.specs.runs.RunState.{next_tick, systems_of_level, after_sync}
 use Rattle.model.proofs.serial.Engine.{release-none, synced_state}
 use Rattle.command_queue.specs.Commands.{commands_of}
 use Rattle.body.specs.Steps.{StateValue, at_clock, target_in, with_slots_in, with_target}
-use Rattle.engine.specs.Left.{LeftValue, emptied, grants_of, run_with, IsLeftFor, AreInHand}
+use Rattle.engine.specs.Deferred.{DeferredValue, emptied, grants_of, run_with, IsDeferredFor, AreInHand}
 use Rattle.engine.proofs.Syncing.{release_joined, in_hand_synced, length-emptied, without_systems, run_synced}
 
 -- a state with ids freed
@@ -28,7 +28,7 @@ freed_more grants level i d ids s within e =
     ∙ ap (λ slots. let v : StateValue = record { state = with_slots_in slots s.state; layout = s.layout } in v) (sym (release_joined (get_or grants (get_or level i d) []) (grants_of grants (drop (i + 1) level)) s.state.world.slots))
     ∙ ap (λ ns. freed_in (grants_of grants ns) s) (sym (drop_more level i d within))
 
--- no system is left
+-- no system is deferred
 pub freed_none : (s : StateValue) → freed_in [] s ≡ s
 freed_none s = ap (λ slots. let v : StateValue = record { state = with_slots_in slots s.state; layout = s.layout } in v) (release-none s.state.world.slots)
 
@@ -53,24 +53,24 @@ state_synced ids commands before after h =
     ∙ ap (λ (tick : ℕ). with_target (apply_buffer tick (target_in before.state) commands) (at_clock (next_tick before.state) before.state)) h.tick_is)
 
 -- the run state after a sync point
-pub sync_is : (s : Schedule) (p : ℕ) (level : List ℕ) (left now : LeftValue) (before after : StateValue) → IsBuilt s → IsLeftFor s left → level ≡ systems_of_level s p →
-    Synced (grants_of left.grants level) (commands_of left.commands level) before after → now ≡ without_systems level left →
-    run_with after.state now ≡ after_sync s p (run_with before.state left)
-sync_is s p level left now before after built suits e h gone =
+pub sync_is : (s : Schedule) (p : ℕ) (level : List ℕ) (deferred now : DeferredValue) (before after : StateValue) → IsBuilt s → IsDeferredFor s deferred → level ≡ systems_of_level s p →
+    Synced (grants_of deferred.grants level) (commands_of deferred.commands level) before after → now ≡ without_systems level deferred →
+    run_with after.state now ≡ after_sync s p (run_with before.state deferred)
+sync_is s p level deferred now before after built suits e h gone =
     ap (run_with after.state) gone
-    ∙ ap (λ state. run_with state (without_systems level left)) (state_synced (grants_of left.grants level) (commands_of left.commands level) before after h)
-    ∙ ap (λ ns. run_with (synced_state (grants_of left.grants ns) (commands_of left.commands ns) before.state) (without_systems ns left)) e
-    ∙ run_synced s p left before.state built suits
+    ∙ ap (λ state. run_with state (without_systems level deferred)) (state_synced (grants_of deferred.grants level) (commands_of deferred.commands level) before after h)
+    ∙ ap (λ ns. run_with (synced_state (grants_of deferred.grants ns) (commands_of deferred.commands ns) before.state) (without_systems ns deferred)) e
+    ∙ run_synced s p deferred before.state built suits
 
 -- what is in hand then
-pub sync_in_hand : (level : List ℕ) (left now : LeftValue) (before after : StateValue) → AreInHand before.state.world.slots left →
-    Synced (grants_of left.grants level) (commands_of left.commands level) before after → now ≡ without_systems level left → AreInHand after.state.world.slots now
-sync_in_hand level left now before after held h gone =
-    subst (λ (l : LeftValue). AreInHand after.state.world.slots l) (sym gone)
-    (subst (λ (state : State). AreInHand state.world.slots (without_systems level left)) (sym (state_synced (grants_of left.grants level) (commands_of left.commands level) before after h))
-    (in_hand_synced (next_tick before.state) (target_in before.state) level left held))
+pub sync_in_hand : (level : List ℕ) (deferred now : DeferredValue) (before after : StateValue) → AreInHand before.state.world.slots deferred →
+    Synced (grants_of deferred.grants level) (commands_of deferred.commands level) before after → now ≡ without_systems level deferred → AreInHand after.state.world.slots now
+sync_in_hand level deferred now before after held h gone =
+    subst (λ (l : DeferredValue). AreInHand after.state.world.slots l) (sym gone)
+    (subst (λ (state : State). AreInHand state.world.slots (without_systems level deferred)) (sym (state_synced (grants_of deferred.grants level) (commands_of deferred.commands level) before after h))
+    (in_hand_synced (next_tick before.state) (target_in before.state) level deferred held))
 
--- ---- what is left is emptied
+-- ---- what is deferred is emptied
 
 pub emptied_items : {A : Type 0} (level : List ℕ) (v : Vec (List A)) (was now : List (List A)) → was ≡ v.items → now ≡ emptied level was → (with_items v now).items ≡ emptied level v.items
 emptied_items level v was now e f =

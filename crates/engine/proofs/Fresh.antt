@@ -1,4 +1,4 @@
--- What a system that has not begun has left: nothing.
+-- What a system that has not begun has deferred: nothing.
 use Rattle.std.proofs.Common.{ℕ, Bool, true, false, ◌≡◌, ◌==◌, ◌||◌, cond, List, [], ◌∷◌, ◌++◌, Some, Result, Ok, Err, refl, sym, ◌∙◌, ap, subst}
 use Rattle.std.proofs.lemmas.Bool.{eq-eqb, false≢true, false_from_ne_true, ne_eqb}
 use Rattle.model.specs.declared.steps.Step.{Step}

@@ -14,7 +14,7 @@ use Rattle.model.specs.runs.RunState.{between}
 use Rattle.model.proofs.lists.Lists.{get_or-map_index-view}
 use Rattle.entity_table.specs.Ids.{slot_at, IsGranted}
 use Rattle.entity_table.proofs.Grants.{granted-each}
-use Rattle.engine.specs.Left.{LeftValue, commands_at, grants_at, run_with, with_commands, with_grants, IsNothingLeft, AreInHand}
+use Rattle.engine.specs.Deferred.{DeferredValue, commands_at, grants_at, run_with, with_commands, with_grants, IsNothingDeferred, AreInHand}
 use Rattle.engine.proofs.GrantedIds.{granted-grant, ids-vacant}
 
 -- ---- lists with a place for each system
@@ -54,11 +54,11 @@ in-set xs n ys within m x h = go (with_at-cases n m ys (λ j. get_or xs j []))
 -- ---- a grant
 
 -- the ids in hand stay so, and those of the grant are in hand beside them
-pub in_hand_grant : (k n : ℕ) (slots : List Slot) (left : LeftValue) → AreInHand slots left → commands_at left n ≡ [] → n < length left.grants →
-    AreInHand (grant k slots) (with_grants n (granted_ids k slots) left)
-in_hand_grant k n slots left h none within = record {
-  granted = λ m e i. granted-case e (in-set left.grants n (granted_ids k slots) within m e i);
-  apart = λ m j e i l. apart-case e (in-set left.grants n (granted_ids k slots) within m e i) (in-set left.grants n (granted_ids k slots) within j e l);
+pub in_hand_grant : (k n : ℕ) (slots : List Slot) (deferred : DeferredValue) → AreInHand slots deferred → commands_at deferred n ≡ [] → n < length deferred.grants →
+    AreInHand (grant k slots) (with_grants n (granted_ids k slots) deferred)
+in_hand_grant k n slots deferred h none within = record {
+  granted = λ m e i. granted-case e (in-set deferred.grants n (granted_ids k slots) within m e i);
+  apart = λ m j e i l. apart-case e (in-set deferred.grants n (granted_ids k slots) within m e i) (in-set deferred.grants n (granted_ids k slots) within j e l);
   spawns = λ m. spawns-case m (cases_eq m n);
 }
   where
@@ -71,20 +71,20 @@ in_hand_grant k n slots left h none within = record {
     clash : {X : Type 0} (e : Entity) → IsIn e (granted_ids k slots) → IsGranted slots e → X
     clash e i g = absurd (false≢true (sym (ap is_vacant g.status) ∙ was-vacant e i))
 
-    granted-case : {m : ℕ} (e : Entity) → ((m ≡ n) × IsIn e (granted_ids k slots)) ⊎ ((m ≢ n) × IsIn e (grants_at left m)) → IsGranted (grant k slots) e
+    granted-case : {m : ℕ} (e : Entity) → ((m ≡ n) × IsIn e (granted_ids k slots)) ⊎ ((m ≢ n) × IsIn e (grants_at deferred m)) → IsGranted (grant k slots) e
     granted-case e (inl (same, i)) = new e i
     granted-case {m} e (inr (other, i)) = granted-grant k slots e (h.granted m e i)
 
-    apart-case : {m j : ℕ} (e : Entity) → ((m ≡ n) × IsIn e (granted_ids k slots)) ⊎ ((m ≢ n) × IsIn e (grants_at left m)) →
-        ((j ≡ n) × IsIn e (granted_ids k slots)) ⊎ ((j ≢ n) × IsIn e (grants_at left j)) → m ≡ j
+    apart-case : {m j : ℕ} (e : Entity) → ((m ≡ n) × IsIn e (granted_ids k slots)) ⊎ ((m ≢ n) × IsIn e (grants_at deferred m)) →
+        ((j ≡ n) × IsIn e (granted_ids k slots)) ⊎ ((j ≢ n) × IsIn e (grants_at deferred j)) → m ≡ j
     apart-case e (inl (same, i)) (inl (also, l)) = same ∙ sym also
     apart-case {m} {j} e (inl (same, i)) (inr (other, l)) = clash e i (h.granted j e l)
     apart-case {m} {j} e (inr (other, i)) (inl (same, l)) = clash e l (h.granted m e i)
     apart-case {m} {j} e (inr (other, i)) (inr (also, l)) = h.apart m j e i l
 
-    spawns-case : (m : ℕ) → (m ≡ n) ⊎ (m ≡ n → ⊥) → AreSpawns (get_or (set left.grants n (granted_ids k slots)) m []) (spawned_by (commands_at left m))
-    spawns-case m (inl same) = subst (λ cs. AreSpawns (get_or (set left.grants n (granted_ids k slots)) m []) (spawned_by cs)) (sym (ap (commands_at left) same ∙ none)) tt
-    spawns-case m (inr other) = subst (λ ids. AreSpawns ids (spawned_by (commands_at left m))) (sym (get_or-set_other left.grants n m (granted_ids k slots) [] other)) (h.spawns m)
+    spawns-case : (m : ℕ) → (m ≡ n) ⊎ (m ≡ n → ⊥) → AreSpawns (get_or (set deferred.grants n (granted_ids k slots)) m []) (spawned_by (commands_at deferred m))
+    spawns-case m (inl same) = subst (λ cs. AreSpawns (get_or (set deferred.grants n (granted_ids k slots)) m []) (spawned_by cs)) (sym (ap (commands_at deferred) same ∙ none)) tt
+    spawns-case m (inr other) = subst (λ ids. AreSpawns ids (spawned_by (commands_at deferred m))) (sym (get_or-set_other deferred.grants n m (granted_ids k slots) [] other)) (h.spawns m)
 
 -- ---- slots that are alike
 
@@ -93,8 +93,8 @@ pub record AreAlike (slots others : List Slot) : Type 0 where
   pub status : (i : ℕ) → (slot_at others i).status ≡ (slot_at slots i).status
   pub generation : (i : ℕ) → (slot_at others i).generation ≡ (slot_at slots i).generation
 
-pub in_hand_alike : (slots others : List Slot) (left : LeftValue) → AreAlike slots others → AreInHand slots left → AreInHand others left
-in_hand_alike slots others left same h = record {
+pub in_hand_alike : (slots others : List Slot) (deferred : DeferredValue) → AreAlike slots others → AreInHand slots deferred → AreInHand others deferred
+in_hand_alike slots others deferred same h = record {
   granted = λ n e i. let g = h.granted n e i in record { status = same.status e.index ∙ g.status; generation = same.generation e.index ∙ g.generation };
   apart = h.apart;
   spawns = h.spawns;
@@ -110,37 +110,37 @@ alike_after tick words slots = record {
 
 -- ---- a finish
 
-pub in_hand_put : (n : ℕ) (cs : List Command) (slots : List Slot) (left : LeftValue) → n < length left.commands → AreSpawns (grants_at left n) (spawned_by cs) →
-    AreInHand slots left → AreInHand slots (with_commands n cs left)
-in_hand_put n cs slots left within new h = record {
+pub in_hand_put : (n : ℕ) (cs : List Command) (slots : List Slot) (deferred : DeferredValue) → n < length deferred.commands → AreSpawns (grants_at deferred n) (spawned_by cs) →
+    AreInHand slots deferred → AreInHand slots (with_commands n cs deferred)
+in_hand_put n cs slots deferred within new h = record {
   granted = h.granted;
   apart = h.apart;
   spawns = λ m. spawns-case m (cases_eq m n);
 }
   where
-    spawns-case : (m : ℕ) → (m ≡ n) ⊎ (m ≡ n → ⊥) → AreSpawns (grants_at left m) (spawned_by (get_or (set left.commands n cs) m []))
-    spawns-case m (inl same) = subst (λ j. AreSpawns (grants_at left j) (spawned_by (get_or (set left.commands n cs) j []))) (sym same)
-        (subst (λ x. AreSpawns (grants_at left n) (spawned_by x)) (sym (get_or-set_same left.commands n cs [] within)) new)
-    spawns-case m (inr other) = subst (λ x. AreSpawns (grants_at left m) (spawned_by x)) (sym (get_or-set_other left.commands n m cs [] other)) (h.spawns m)
+    spawns-case : (m : ℕ) → (m ≡ n) ⊎ (m ≡ n → ⊥) → AreSpawns (grants_at deferred m) (spawned_by (get_or (set deferred.commands n cs) m []))
+    spawns-case m (inl same) = subst (λ j. AreSpawns (grants_at deferred j) (spawned_by (get_or (set deferred.commands n cs) j []))) (sym same)
+        (subst (λ x. AreSpawns (grants_at deferred n) (spawned_by x)) (sym (get_or-set_same deferred.commands n cs [] within)) new)
+    spawns-case m (inr other) = subst (λ x. AreSpawns (grants_at deferred m) (spawned_by x)) (sym (get_or-set_other deferred.commands n m cs [] other)) (h.spawns m)
 
 -- ---- nothing
 
-pub in_hand_nothing : (slots : List Slot) (left : LeftValue) → IsNothingLeft left → AreInHand slots left
-in_hand_nothing slots left h = record {
+pub in_hand_nothing : (slots : List Slot) (deferred : DeferredValue) → IsNothingDeferred deferred → AreInHand slots deferred
+in_hand_nothing slots deferred h = record {
   granted = λ n e i. absurd (subst (IsIn e) (h.no_grants n) i);
   apart = λ n m e i j. absurd (subst (IsIn e) (h.no_grants n) i);
-  spawns = λ n. subst (λ cs. AreSpawns (grants_at left n) (spawned_by cs)) (sym (h.no_commands n)) tt;
+  spawns = λ n. subst (λ cs. AreSpawns (grants_at deferred n) (spawned_by cs)) (sym (h.no_commands n)) tt;
 }
 
 -- ---- run states
 
-pub run_with_grants : (n : ℕ) (ids : List Entity) (state : State) (left : LeftValue) → n < length left.grants →
-    run_with state (with_grants n ids left) ≡ record { state = state; buffers = commands_at left; grants = with_at n ids (grants_at left) }
-run_with_grants n ids state left within = λ i. record { state = state; buffers = commands_at left; grants = λ m. set-at left.grants n ids within m i }
+pub run_with_grants : (n : ℕ) (ids : List Entity) (state : State) (deferred : DeferredValue) → n < length deferred.grants →
+    run_with state (with_grants n ids deferred) ≡ record { state = state; buffers = commands_at deferred; grants = with_at n ids (grants_at deferred) }
+run_with_grants n ids state deferred within = λ i. record { state = state; buffers = commands_at deferred; grants = λ m. set-at deferred.grants n ids within m i }
 
-pub run_with_commands : (n : ℕ) (cs : List Command) (state : State) (left : LeftValue) → n < length left.commands →
-    run_with state (with_commands n cs left) ≡ record { state = state; buffers = with_at n cs (commands_at left); grants = grants_at left }
-run_with_commands n cs state left within = λ i. record { state = state; buffers = λ m. set-at left.commands n cs within m i; grants = grants_at left }
+pub run_with_commands : (n : ℕ) (cs : List Command) (state : State) (deferred : DeferredValue) → n < length deferred.commands →
+    run_with state (with_commands n cs deferred) ≡ record { state = state; buffers = with_at n cs (commands_at deferred); grants = grants_at deferred }
+run_with_commands n cs state deferred within = λ i. record { state = state; buffers = λ m. set-at deferred.commands n cs within m i; grants = grants_at deferred }
 
-pub run_with_nothing : (state : State) (left : LeftValue) → IsNothingLeft left → run_with state left ≡ between state
-run_with_nothing state left h = λ i. record { state = state; buffers = λ m. h.no_commands m i; grants = λ m. h.no_grants m i }
+pub run_with_nothing : (state : State) (deferred : DeferredValue) → IsNothingDeferred deferred → run_with state deferred ≡ between state
+run_with_nothing state deferred h = λ i. record { state = state; buffers = λ m. h.no_commands m i; grants = λ m. h.no_grants m i }

@@ -12,7 +12,7 @@ use Rattle.model.specs.runs.RunState.{body_of, memory_of_system, spawns_of}
 use Rattle.kinds.specs.Components.{widths}
 use Rattle.body.specs.Keeps.{KeepsWithin}
 use Rattle.engine.specs.Meanings.{meaning_of, meanings, AllKeepWithin}
-use Rattle.engine.proofs.Bodies.{at_body}
+use Rattle.engine.proofs.AtHome.{at_body}
 use Rattle.engine.proofs.Placing.{meaning-there}
 use Rattle.engine.proofs.Starting.{can_be_shown}
 

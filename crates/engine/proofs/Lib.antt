@@ -1,4 +1,5 @@
-mod Bodies
+mod AtHome
+pub mod Stops
 pub mod InHand
 pub mod GrantedIds
 pub mod Syncing

@@ -34,9 +34,9 @@ use Rattle.body.proofs.Lendings.{lent_in-append}
 use Rattle.body.proofs.Outs.{written-away, written-back, lent-part, none-out}
 use Rattle.body.proofs.Gets.{same-by-get, each-in, each-from}
 use Rattle.worker_pool.specs.JobOut.{JobOut}
-use Rattle.engine.specs.Left.{LeftValue, run_with, with_commands, with_grants}
+use Rattle.engine.specs.Deferred.{DeferredValue, run_with, with_commands, with_grants}
 use Rattle.engine.specs.Meanings.{meaning_of, meanings_of, meanings, body_at, body_fits, HasMemories, Suits}
-use Rattle.engine.specs.Jobs.{running_of, systems_of, held_by, woven, IsJob, IsPlaced, AreDistinct, Placed}
+use Rattle.engine.specs.Jobs.{running_of, systems_of, held_by, woven, AreDistinct, AreKept, HasBody, IsJob, IsPlaced, Placed}
 use Rattle.engine.proofs.Remembering.{memories_at, memories_noted, memories_laid, memories_slots}
 use Rattle.engine.specs.Starts.{granted_at_start, has_ids_at_start, ids_at_start}
 use Rattle.engine.proofs.Weaving.{IsAnswered, numbers_of, start_woven, finish_woven, unsent_woven}
@@ -48,14 +48,14 @@ pub record IsAround {A : Type 0} (xs : List A) (i : ℕ) (x : A) : Type 0 where
   pub front : List A
   pub rest : List A
   pub whole : xs ≡ front ++ (x ∷ rest)
-  pub left : remove xs i ≡ front ++ rest
+  pub remaining : remove xs i ≡ front ++ rest
 
 pub around : {A : Type 0} (xs : List A) (i : ℕ) (x : A) → slice_get xs i ≡ Some x → IsAround xs i x
 around [] i x h = absurd (cc)
-around (y ∷ ys) zero x h = record { front = []; rest = ys; whole = ap (λ z. z ∷ ys) (let same : y ≡ x = cc in same); left = refl }
+around (y ∷ ys) zero x h = record { front = []; rest = ys; whole = ap (λ z. z ∷ ys) (let same : y ≡ x = cc in same); remaining = refl }
 around (y ∷ ys) (suc i) x h =
     let more = around ys i x h in
-    record { front = y ∷ more.front; rest = more.rest; whole = ap (λ zs. y ∷ zs) more.whole; left = ap (λ zs. y ∷ zs) more.left }
+    record { front = y ∷ more.front; rest = more.rest; whole = ap (λ zs. y ∷ zs) more.whole; remaining = ap (λ zs. y ∷ zs) more.remaining }
 
 has-append : (n : ℕ) (xs ys : List ℕ) → has n (xs ++ ys) ≡ (has n xs || has n ys)
 has-append n [] ys = refl
@@ -66,7 +66,7 @@ has-append n (x ∷ xs) ys = ap (λ b. (x == n) || b) (has-append n xs ys) ∙ t
     three false b c = refl
 
 -- of distinct numbers one stands neither before nor after itself
-record IsOnceIn (xs ys : List ℕ) (n : ℕ) : Type 0 where
+pub record IsOnceIn (xs ys : List ℕ) (n : ℕ) : Type 0 where
   pub before : has n xs ≡ false
   pub after : has n ys ≡ false
   pub others : AreDistinct (xs ++ ys)
@@ -153,13 +153,13 @@ pub record IsHanded {B : Type 0} (s : Schedule) (n : ℕ) (w : StateValue) (late
 
 module _ {B : Type 0} (meaning : B → Params → BodyMeaning) (fits : B → Params → Bool) (there : Bool) (s : Schedule) where
   -- the interleaved step
-  pub start_there : (bodies : List BodyMeaning) (n : ℕ) (w later : StateValue) (left : LeftValue) (out : List (JobOut B)) (job : JobOut B) → n < length left.grants → has_tick w.state ≡ true → has_ids_at_start s n w.state ≡ true →
-      IsHanded s n w later job → interleaved_step s bodies (Start n) (woven w.state left out) ≡ Some (woven later.state (with_grants n (ids_at_start s n w.state) left) (out ++ job ∷ []))
-  start_there bodies n w later left out job known tick ids handed =
+  pub start_there : (bodies : List BodyMeaning) (n : ℕ) (w later : StateValue) (deferred : DeferredValue) (out : List (JobOut B)) (job : JobOut B) → n < length deferred.grants → has_tick w.state ≡ true → has_ids_at_start s n w.state ≡ true →
+      IsHanded s n w later job → interleaved_step s bodies (Start n) (woven w.state deferred out) ≡ Some (woven later.state (with_grants n (ids_at_start s n w.state) deferred) (out ++ job ∷ []))
+  start_there bodies n w later deferred out job known tick ids handed =
       let granted = ids_at_start s n w.state in
-      let left_later = with_grants n granted left in
-      start_woven s bodies n w.state left (map running_of out) known tick ids
-      ∙ ap₂ (λ state running. Some (record { run = run_with state left_later; running_systems = running }))
+      let deferred_later = with_grants n granted deferred in
+      start_woven s bodies n w.state deferred (map running_of out) known tick ids
+      ∙ ap₂ (λ state running. Some (record { run = run_with state deferred_later; running_systems = running }))
       (sym (ap (λ (x : StateValue). x.state) handed.is_later))
       (ap (λ (p : RunningSystem). map running_of out ++ p ∷ []) (λ i. record { system = sym handed.system i; tick = sym handed.tick i; shown = sym handed.shown_there i })
       ∙ sym (map-append running_of out (job ∷ [])))
@@ -250,14 +250,14 @@ module _ {B : Type 0} (meaning : B → Params → BodyMeaning) (fits : B → Par
 -- ---- who may start, and what may be asked
 
 module _ {B : Type 0} (meaning : B → Params → BodyMeaning) (fits : B → Params → Bool) (there : Bool) (s : Schedule) (bodies : List BodyMeaning) (slots : List (Option B)) (out : List (JobOut B)) (w : StateValue) (placed : Placed meaning fits there s bodies slots out w)
-    (left : LeftValue) (h : List Step) (holds : Holds s h (woven w.state left out)) where
+    (deferred : DeferredValue) (h : List Step) (holds : Holds s h (woven w.state deferred out)) where
   -- a system that may start isn't out
   pub start-free : (n : ℕ) → MayStart s h n → has n (systems_of out) ≡ false
   start-free n may = false_from_ne_true (has n (systems_of out)) (λ e. none out (λ j i. i) (IsIn_from_has n (systems_of out) e))
     where
       none : (jobs : List (JobOut B)) → ((j : JobOut B) → IsIn j jobs → IsIn j out) → IsIn n (systems_of jobs) → ⊥
       none [] within i = i
-      none (j ∷ jobs) within (inl same) = (apart_start s h n (woven w.state left out) may holds (running_of j) (in-map running_of out j (within j (inl refl)))).0 (sym same)
+      none (j ∷ jobs) within (inl same) = (apart_start s h n (woven w.state deferred out) may holds (running_of j) (in-map running_of out j (within j (inl refl)))).0 (sym same)
       none (j ∷ jobs) within (inr i) = none jobs (λ k m. within k (inr m)) i
 
   -- where no running system meets an access, none that is out and holds columns conflicts with it
@@ -277,6 +277,69 @@ module _ {B : Type 0} (meaning : B → Params → BodyMeaning) (fits : B → Par
           go (inr others) later = later others
 
 -- ---- a finish
+
+-- where a run stands no body is lost
+pub placed_kept : {B : Type 0} (meaning : B → Params → BodyMeaning) (fits : B → Params → Bool) (there : Bool) (s : Schedule) (bodies : List BodyMeaning) (slots : List (Option B)) (out : List (JobOut B)) (w : StateValue) →
+    Placed meaning fits there s bodies slots out w → AreKept meaning fits there s bodies slots out
+placed_kept meaning fits there s bodies slots out w placed = record {
+  body_count = placed.body_count;
+  home = placed.home;
+  jobs = λ job i. (let h = placed.jobs job i in record { known = h.known; means = h.means; fit = h.fit; where_is = h.where_is });
+  distinct = placed.distinct;
+}
+
+-- nor once a body came back to its place
+module _ {B : Type 0} (meaning : B → Params → BodyMeaning) (fits : B → Params → Bool) (there : Bool) (s : Schedule) (bodies : List BodyMeaning) (slots : List (Option B)) (front rest : List (JobOut B)) (job : JobOut B)
+    (kept : AreKept meaning fits there s bodies slots (front ++ (job ∷ rest))) where
+  has-body : HasBody meaning fits there s bodies job
+  has-body = kept.jobs job (IsIn_right job front (job ∷ rest) (inl refl))
+
+  systems-around : systems_of (front ++ (job ∷ rest)) ≡ systems_of front ++ (job.system ∷ systems_of rest)
+  systems-around = map-append (λ (j : JobOut B). j.system) front (job ∷ rest)
+
+  systems-left : systems_of (front ++ rest) ≡ systems_of front ++ systems_of rest
+  systems-left = map-append (λ (j : JobOut B). j.system) front rest
+
+  pub once : IsOnceIn (systems_of front) (systems_of rest) job.system
+  once = once-in (systems_of front) (systems_of rest) job.system (subst AreDistinct systems-around kept.distinct)
+
+  module _ (body : B) (same_meaning : meaning body ≡ meaning job.body) (same_fit : fits body ≡ fits job.body) where
+    home-back : (m : ℕ) → m < length s.systems → IsPlaced meaning fits (params_of s m) (body_of bodies m) (has m (systems_of (front ++ rest))) (body_at (set slots job.system (Some body)) m)
+    home-back m within = go (job.system == m) refl
+      where
+        go : (b : Bool) → (job.system == m) ≡ b → IsPlaced meaning fits (params_of s m) (body_of bodies m) (has m (systems_of (front ++ rest))) (body_at (set slots job.system (Some body)) m)
+        go true e =
+            let same = eqb-true job.system m e in
+            subst (IsPlaced meaning fits (params_of s m) (body_of bodies m) (has m (systems_of (front ++ rest))))
+            (sym (ap (λ k. body_at (set slots k (Some body)) m) same ∙ get_or-set_same slots m (Some body) None (let a = kept.body_count in omega arith))) (
+              ap (has m) systems-left ∙ has-append m (systems_of front) (systems_of rest) ∙ ap (λ k. has k (systems_of front) || has k (systems_of rest)) (sym same) ∙ ap₂ ◌||◌ once.before once.after,
+              ap (λ (g : Params → BodyMeaning). g (params_of s m)) same_meaning ∙ subst (λ k. meaning job.body (params_of s k) ≡ body_of bodies k) same has-body.means,
+              ap (λ (g : Params → Bool). g (params_of s m)) same_fit ∙ subst (λ k. fits job.body (params_of s k) ≡ true) same has-body.fit,
+            )
+        go false e =
+            subst (λ b. IsPlaced meaning fits (params_of s m) (body_of bodies m) b (body_at (set slots job.system (Some body)) m))
+            (ap (has m) systems-around ∙ has-append m (systems_of front) (job.system ∷ systems_of rest) ∙ ap (λ b. has m (systems_of front) || (b || has m (systems_of rest))) e
+            ∙ sym (has-append m (systems_of front) (systems_of rest)) ∙ ap (has m) (sym systems-left))
+            (subst (IsPlaced meaning fits (params_of s m) (body_of bodies m) (has m (systems_of (front ++ (job ∷ rest)))))
+            (sym (get_or-set_other slots job.system m (Some body) None (λ same. false≢true (sym e ∙ eq-eqb job.system m (sym same))))) (kept.home m within))
+
+    pub kept_finish : AreKept meaning fits there s bodies (set slots job.system (Some body)) (front ++ rest)
+    kept_finish = record {
+      body_count = length-set slots job.system (Some body) ∙ kept.body_count;
+      home = home-back;
+      jobs = λ j i. kept.jobs j (within j (IsIn-append j front rest i));
+      distinct = subst AreDistinct (sym systems-left) once.others;
+    }
+      where
+        within : (j : JobOut B) → IsIn j front ⊎ IsIn j rest → IsIn j (front ++ (job ∷ rest))
+        within j (inl i) = IsIn_left j front (job ∷ rest) i
+        within j (inr i) = IsIn_right j front (job ∷ rest) (inr i)
+
+-- a body that was taken from its place and put back is at home as before
+pub put_again : {B : Type 0} (slots : List (Option B)) (n : ℕ) (body : B) → body_at slots n ≡ Some body → set (set slots n None) n (Some body) ≡ slots
+put_again [] n body e = refl
+put_again (x ∷ slots) zero body e = ap (λ o. o ∷ slots) (sym e)
+put_again (x ∷ slots) (suc n) body e = ap (λ xs. x ∷ xs) (put_again slots n body e)
 
 -- a job that came back with the outcome that its body means
 pub record IsOutcomeOf {B : Type 0} (meaning : B → Params → BodyMeaning) (job : JobOut B) (seen : Seen) : Type 0 where
@@ -299,24 +362,18 @@ module _ {B : Type 0} (meaning : B → Params → BodyMeaning) (fits : B → Par
   is-job : IsJob meaning fits there s bodies w job
   is-job = placed.jobs job (IsIn_right job front (job ∷ rest) (inl refl))
 
-  systems-around : systems_of (front ++ (job ∷ rest)) ≡ systems_of front ++ (job.system ∷ systems_of rest)
-  systems-around = map-append (λ (j : JobOut B). j.system) front (job ∷ rest)
-
-  systems-left : systems_of (front ++ rest) ≡ systems_of front ++ systems_of rest
-  systems-left = map-append (λ (j : JobOut B). j.system) front rest
-
-  once : IsOnceIn (systems_of front) (systems_of rest) job.system
-  once = once-in (systems_of front) (systems_of rest) job.system (subst AreDistinct systems-around placed.distinct)
+  once-there : IsOnceIn (systems_of front) (systems_of rest) job.system
+  once-there = once meaning fits there s bodies slots front rest job (placed_kept meaning fits there s bodies slots (front ++ (job ∷ rest)) w placed)
 
   -- what the world lends to it
   pub lent-there : AreLent (store_of w) job.view.opening.taken
   lent-there = lent-part (store_of w) (held_by front) job.view.opening.taken (held_by rest) (subst (AreOut (store_of w)) (held-around front rest job) placed.held)
 
   -- where it is refused, so is the finish
-  pub refused_there : (left : LeftValue) (k : ℕ) → meaning job.body job.view.params job.view.shown ≡ Err k → interleaved_cause_of s bodies (Finish job.system) (woven w.state left (front ++ (job ∷ rest))) ≡ Some (Refused k)
-  refused_there left k e =
-      ap (λ o. cause_of_running s bodies o (run_with w.state left)) (running-found job.system front rest job refl once.before)
-      ∙ ap (λ answer. cause_of_answer s (running_of job) answer (run_with w.state left))
+  pub refused_there : (deferred : DeferredValue) (k : ℕ) → meaning job.body job.view.params job.view.shown ≡ Err k → interleaved_cause_of s bodies (Finish job.system) (woven w.state deferred (front ++ (job ∷ rest))) ≡ Some (Refused k)
+  refused_there deferred k e =
+      ap (λ o. cause_of_running s bodies o (run_with w.state deferred)) (running-found job.system front rest job refl once-there.before)
+      ∙ ap (λ answer. cause_of_answer s (running_of job) answer (run_with w.state deferred))
       (ap (λ (m : BodyMeaning). m job.view.shown) (sym is-job.means) ∙ ap (λ p. meaning job.body p job.view.shown) (sym is-job.params) ∙ e)
 
   module _ (seen : Seen) (is : IsOutcomeOf meaning job seen) where
@@ -329,20 +386,20 @@ module _ {B : Type 0} (meaning : B → Params → BodyMeaning) (fits : B → Par
     -- it runs
     found-there : running_system job.system (map running_of (front ++ (job ∷ rest))) ≡ Some (record { system = job.system; tick = seen.opening.tick; shown = seen.shown })
     found-there =
-        running-found job.system front rest job refl once.before
+        running-found job.system front rest job refl once-there.before
         ∙ ap₂ (λ tick x. Some (record { system = job.system; tick = tick; shown = x })) (ap (λ (o : Opening). o.tick) (sym is.opening)) (sym is.shown_is)
 
     -- where an event of its gets no number, the finish stops
-    pub unsent_there : (left : LeftValue) → numbers_of seen w.state ≡ false → interleaved_cause_of s bodies (Finish job.system) (woven w.state left (front ++ (job ∷ rest))) ≡ Some NoEventNumber
-    unsent_there left none = unsent_woven s bodies job.system seen.opening.tick w.state left (map running_of (front ++ (job ∷ rest))) seen answered-there none found-there
+    pub unsent_there : (deferred : DeferredValue) → numbers_of seen w.state ≡ false → interleaved_cause_of s bodies (Finish job.system) (woven w.state deferred (front ++ (job ∷ rest))) ≡ Some NoEventNumber
+    unsent_there deferred none = unsent_woven s bodies job.system seen.opening.tick w.state deferred (map running_of (front ++ (job ∷ rest))) seen answered-there none found-there
 
   module _ (later : StateValue) (body : B) (seen : Seen) (is : IsReturned meaning fits w later job body seen) where
     -- the interleaved step
-    pub finish_there : (left : LeftValue) → job.system < length left.commands → interleaved_step s bodies (Finish job.system) (woven w.state left (front ++ (job ∷ rest)))
-        ≡ Some (woven later.state (with_commands job.system seen.outcome.commands left) (front ++ rest))
-    finish_there left known =
-        finish_woven s bodies job.system seen.opening.tick w.state left (map running_of (front ++ (job ∷ rest))) seen known (answered-there seen is.outcome_is) is.numbers (found-there seen is.outcome_is)
-        ∙ ap₂ (λ (state : State) running. Some (record { run = run_with state (with_commands job.system seen.outcome.commands left); running_systems = running })) (sym (ap (λ (x : StateValue). x.state) is.is_later)) (running-left job.system front rest job refl once.before)
+    pub finish_there : (deferred : DeferredValue) → job.system < length deferred.commands → interleaved_step s bodies (Finish job.system) (woven w.state deferred (front ++ (job ∷ rest)))
+        ≡ Some (woven later.state (with_commands job.system seen.outcome.commands deferred) (front ++ rest))
+    finish_there deferred known =
+        finish_woven s bodies job.system seen.opening.tick w.state deferred (map running_of (front ++ (job ∷ rest))) seen known (answered-there seen is.outcome_is) is.numbers (found-there seen is.outcome_is)
+        ∙ ap₂ (λ (state : State) running. Some (record { run = run_with state (with_commands job.system seen.outcome.commands deferred); running_systems = running })) (sym (ap (λ (x : StateValue). x.state) is.is_later)) (running-left job.system front rest job refl once-there.before)
 
     kept-job : (j : JobOut B) → IsJob meaning fits there s bodies w j → IsJob meaning fits there s bodies later j
     kept-job j h = record {
@@ -357,36 +414,20 @@ module _ {B : Type 0} (meaning : B → Params → BodyMeaning) (fits : B → Par
           (lent_in j.view.opening.taken) h.written;
     }
 
-    home-back : (m : ℕ) → m < length s.systems → IsPlaced meaning fits (params_of s m) (body_of bodies m) (has m (systems_of (front ++ rest))) (body_at (set slots job.system (Some body)) m)
-    home-back m within = go (job.system == m) refl
-      where
-        go : (b : Bool) → (job.system == m) ≡ b → IsPlaced meaning fits (params_of s m) (body_of bodies m) (has m (systems_of (front ++ rest))) (body_at (set slots job.system (Some body)) m)
-        go true e =
-            let same = eqb-true job.system m e in
-            subst (IsPlaced meaning fits (params_of s m) (body_of bodies m) (has m (systems_of (front ++ rest))))
-            (sym (ap (λ k. body_at (set slots k (Some body)) m) same ∙ get_or-set_same slots m (Some body) None (let a = placed.body_count in omega arith))) (
-              ap (has m) systems-left ∙ has-append m (systems_of front) (systems_of rest) ∙ ap (λ k. has k (systems_of front) || has k (systems_of rest)) (sym same) ∙ ap₂ ◌||◌ once.before once.after,
-              ap (λ (g : Params → BodyMeaning). g (params_of s m)) is.same_meaning ∙ subst (λ k. meaning job.body (params_of s k) ≡ body_of bodies k) same is-job.means,
-              ap (λ (g : Params → Bool). g (params_of s m)) is.same_fit ∙ subst (λ k. fits job.body (params_of s k) ≡ true) same is-job.fit,
-            )
-        go false e =
-            subst (λ b. IsPlaced meaning fits (params_of s m) (body_of bodies m) b (body_at (set slots job.system (Some body)) m))
-            (ap (has m) systems-around ∙ has-append m (systems_of front) (job.system ∷ systems_of rest) ∙ ap (λ b. has m (systems_of front) || (b || has m (systems_of rest))) e
-            ∙ sym (has-append m (systems_of front) (systems_of rest)) ∙ ap (has m) (sym systems-left))
-            (subst (IsPlaced meaning fits (params_of s m) (body_of bodies m) (has m (systems_of (front ++ (job ∷ rest)))))
-            (sym (get_or-set_other slots job.system m (Some body) None (λ same. false≢true (sym e ∙ eq-eqb job.system m (sym same))))) (placed.home m within))
-
     pub placed_finish : Placed meaning fits there s bodies (set slots job.system (Some body)) (front ++ rest) later
     placed_finish = record {
-      body_count = length-set slots job.system (Some body) ∙ placed.body_count;
+      body_count = kept.body_count;
       memories = subst (λ (x : StateValue). HasMemories s x.state) (sym is.is_later) (memories_laid s w.state placed.memories job.system seen.opening.tick seen);
-      home = home-back;
+      home = kept.home;
       jobs = λ j i. kept-job j (placed.jobs j (within j (IsIn-append j front rest i)));
-      distinct = subst AreDistinct (sym systems-left) once.others;
+      distinct = kept.distinct;
       held = subst (AreOut (store_of later)) (sym (held-left front rest))
           (is.held (held_by front) (held_by rest) (subst (λ taken. AreOut (store_of w) (held_by front ++ (taken ++ held_by rest))) (ap (λ (o : Opening). o.taken) (sym is.outcome_is.opening)) (subst (AreOut (store_of w)) (held-around front rest job) placed.held)));
     }
       where
+        kept : AreKept meaning fits there s bodies (set slots job.system (Some body)) (front ++ rest)
+        kept = kept_finish meaning fits there s bodies slots front rest job (placed_kept meaning fits there s bodies slots (front ++ (job ∷ rest)) w placed) body is.same_meaning is.same_fit
+
         within : (j : JobOut B) → IsIn j front ⊎ IsIn j rest → IsIn j (front ++ (job ∷ rest))
         within j (inl i) = IsIn_left j front (job ∷ rest) i
         within j (inr i) = IsIn_right j front (job ∷ rest) (inr i)
@@ -442,9 +483,10 @@ module _ {B : Type 0} (meaning : B → Params → BodyMeaning) (fits : B → Par
         one n None h = h
         one n (Some body) h = h.2
 
-    -- and means what it meant
-    pub means_last : length bodies ≡ length s.systems → meanings meaning s slots ≡ bodies
-    means_last count = same-by-get (meanings meaning s slots) bodies (λ n. at n (le_total n))
+  -- where no body is lost, each means what it meant
+  module _ (bodies : List BodyMeaning) (slots : List (Option B)) (kept : AreKept meaning fits there s bodies slots []) where
+    pub kept_last : length bodies ≡ length s.systems → meanings meaning s slots ≡ bodies
+    kept_last count = same-by-get (meanings meaning s slots) bodies (λ n. at n (le_total n))
       where
         le_total : (n : ℕ) → (n < length s.systems) ⊎ (length s.systems ≤ n)
         le_total n = go (nat_lt n (length s.systems)) refl
@@ -459,8 +501,11 @@ module _ {B : Type 0} (meaning : B → Params → BodyMeaning) (fits : B → Par
 
         at : (n : ℕ) → (n < length s.systems) ⊎ (length s.systems ≤ n) → slice_get (meanings meaning s slots) n ≡ slice_get bodies n
         at n (inl known) =
-            slice_get-get_or (meanings meaning s slots) n (λ shown. Err 0) (let c = meanings_count slots placed.body_count in omega arith)
-            ∙ ap (λ m. Some m) (meaning-there slots n placed.body_count known ∙ one n (body_at slots n) (placed.home n known))
+            slice_get-get_or (meanings meaning s slots) n (λ shown. Err 0) (let c = meanings_count slots kept.body_count in omega arith)
+            ∙ ap (λ m. Some m) (meaning-there slots n kept.body_count known ∙ one n (body_at slots n) (kept.home n known))
             ∙ sym (slice_get-get_or bodies n (λ shown. Err 0) (omega arith))
         at n (inr past) =
-            slice_get_past (meanings meaning s slots) n (let c = meanings_count slots placed.body_count in omega arith) ∙ sym (slice_get_past bodies n (omega arith))
+            slice_get_past (meanings meaning s slots) n (let c = meanings_count slots kept.body_count in omega arith) ∙ sym (slice_get_past bodies n (omega arith))
+
+  pub means_last : (bodies : List BodyMeaning) (slots : List (Option B)) (w : StateValue) → Placed meaning fits there s bodies slots [] w → length bodies ≡ length s.systems → meanings meaning s slots ≡ bodies
+  means_last bodies slots w placed count = kept_last bodies slots (placed_kept meaning fits there s bodies slots [] w placed) count

@@ -11,7 +11,7 @@ use Rattle.model.specs.runs.RunState.{RunState, after_sync, memory_after_run, op
 use Rattle.model.proofs.lists.Lists.{length-update_at, get_or-update_at_other, get_or-update_at-view}
 use Rattle.body.specs.Seen.{Seen}
 use Rattle.body.specs.Steps.{asked_at, at_clock, laid, noted, with_slots_in}
-use Rattle.engine.specs.Left.{LeftValue, run_with}
+use Rattle.engine.specs.Deferred.{DeferredValue, run_with}
 use Rattle.engine.specs.Meanings.{HasMemories}
 
 -- there is a cursor for each reader after a run was noted, whose readers these are
@@ -71,9 +71,9 @@ module _ (s : Schedule) (state : State) (has : HasMemories s state) where
   }
 
   -- after a sync point
-  pub memories_synced : (k : ℕ) (left left_later : LeftValue) (later : State) → run_with later left_later ≡ after_sync s k (run_with state left) → HasMemories s later
+  pub memories_synced : (k : ℕ) (deferred deferred_later : DeferredValue) (later : State) → run_with later deferred_later ≡ after_sync s k (run_with state deferred) → HasMemories s later
   unfolding after_sync
-  memories_synced k left left_later later synced = subst (HasMemories s) (sym (ap (λ (run : RunState). run.state) synced)) (record {
+  memories_synced k deferred deferred_later later synced = subst (HasMemories s) (sym (ap (λ (run : RunState). run.state) synced)) (record {
     systems = has.systems;
     conditions = has.conditions;
     system_readers = has.system_readers;

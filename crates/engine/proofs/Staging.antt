@@ -9,14 +9,13 @@ use Rattle.model.specs.declared.steps.Ready.TheVariants as ready
 use Rattle.model.specs.Lists.{has, first_some, IsIn}
 use Rattle.model.specs.state.State.{State}
 use Rattle.model.specs.shown.Outcome.{BodyMeaning}
-use Rattle.model.specs.steps.Schedule.{Schedule}
-use Rattle.model.specs.steps.Lawful.{IsLawful, IsComplete, May, MayStart, MaySync, NoneRuns, runs}
+use Rattle.model.specs.steps.Schedule.{Schedule, access_of}
+use Rattle.model.specs.steps.Lawful.{IsLawful, IsComplete, May, MaySync, NoneRuns, runs}
 use Rattle.model.specs.steps.Ready.{IsReady}
 use Rattle.model.specs.steps.Widths.{IsNextWide, without, running_after}
-use Rattle.model.specs.runs.RunState.{RunState, between, begin_run, has_tick, after_sync, answer_of}
+use Rattle.model.specs.runs.RunState.{RunState, between, begin_run, has_tick, next_tick, after_sync, answer_of}
 use Rattle.model.specs.runs.Meaning.{with_running_systems, interleaved, interleaved_step, IsTrueAnswer}
-use Rattle.model.specs.runs.Causes.{Cause, unless, interleaved_cause, interleaved_cause_of, interleaved_cause_at}
-use Rattle.model.specs.runs.Causes.Cause.{NoTick, NoIds}
+use Rattle.model.specs.runs.Causes.{Cause, interleaved_cause, interleaved_cause_of, interleaved_cause_at}
 use Rattle.model.specs.runs.WideRuns.{IsWideRun, AreWideRuns, WideStops, IsWideStopped}
 use Rattle.model.proofs.lists.Members.{in-map}
 use Rattle.model.proofs.order.Histories.{idle}
@@ -28,15 +27,12 @@ use Rattle.model.proofs.serial.Holding.{Holds, holds}
 use Rattle.executor_core.specs.Stands.{Stand, Stands, room}
 use Rattle.worker_pool.specs.JobOut.{JobOut}
 use Rattle.engine.specs.Jobs.{running_of, woven}
-use Rattle.engine.specs.Left.{LeftValue, IsNothingLeft, run_with}
-use Rattle.engine.specs.declared.turn.Quiet.{Quiet}
-use Rattle.engine.specs.declared.turn.Quiet.TheVariants as quiet
-use Rattle.engine.specs.declared.turn.Turn.TheVariants as turn
-use Rattle.engine.specs.Quiets.{IsStepOf, TakesTick, after_quiet}
-use Rattle.engine.specs.Stage.{Stage, IsTurn}
+use Rattle.engine.specs.Deferred.{DeferredValue, IsNothingDeferred, run_with}
+use Rattle.body.specs.Steps.{asked_at, ticked}
+use Rattle.engine.specs.Stage.{Stage, IsTake}
+use Rattle.engine.specs.Stops.{LacksTick}
 use Rattle.engine.proofs.InHand.{run_with_nothing}
-use Rattle.engine.specs.Starts.{has_ids_at_start}
-use Rattle.engine.proofs.Weaving.{answer_alike, ask_woven, sync_woven, unticked_woven, ungranted_woven}
+use Rattle.engine.proofs.Weaving.{ask_woven, sync_woven}
 
 -- ---- numbers that run
 
@@ -52,17 +48,17 @@ length-without n (x ∷ xs) h = go (x == n) h (length-without n xs)
 
 module _ {B : Type 0} (width : ℕ) (s : Schedule) (bodies : List BodyMeaning) (start : State) where
   -- after the opening
-  pub stage_open : (state : State) (left : LeftValue) (out : List (JobOut B)) → begin_run start ≡ Some (between state) → IsNothingLeft left → out ≡ [] → Stage width s bodies start [] state left out
-  stage_open state left out e nothing none = subst (Stage width s bodies start [] state left) (sym none)
-      (record { wide = tt; running = refl; room = omega arith; answers = tt; meaning = ap (with_running_systems []) (e ∙ ap (λ (run : RunState). Some run) (sym (run_with_nothing state left nothing))) })
+  pub stage_open : (state : State) (deferred : DeferredValue) (out : List (JobOut B)) → begin_run start ≡ Some (between state) → IsNothingDeferred deferred → out ≡ [] → Stage width s bodies start [] state deferred out
+  stage_open state deferred out e nothing none = subst (Stage width s bodies start [] state deferred) (sym none)
+      (record { wide = tt; running = refl; room = omega arith; answers = tt; meaning = ap (with_running_systems []) (e ∙ ap (λ (run : RunState). Some run) (sym (run_with_nothing state deferred nothing))) })
 
-  module _ (h : List Step) (state : State) (left : LeftValue) (out : List (JobOut B)) (stage : Stage width s bodies start h state left out) where
+  module _ (h : List Step) (state : State) (deferred : DeferredValue) (out : List (JobOut B)) (stage : Stage width s bodies start h state deferred out) where
     lawful-there : IsLawful s h
     lawful-there = wide_lawful width s h stage.wide
 
     -- what is known of the systems that run
-    pub holds_there : Holds s h (woven state left out)
-    holds_there = holds s bodies start h (woven state left out) lawful-there stage.meaning
+    pub holds_there : Holds s h (woven state deferred out)
+    holds_there = holds s bodies start h (woven state deferred out) lawful-there stage.meaning
 
     -- a job that is out may come back
     pub running_there : (job : JobOut B) → IsIn job out → runs h job.system ≡ true
@@ -93,45 +89,46 @@ module _ {B : Type 0} (width : ℕ) (s : Schedule) (bodies : List BodyMeaning) (
     next-finish n (inr is) = inr is
 
     -- after a start
-    pub stage_start : (n : ℕ) (state' : State) (left' : LeftValue) (out' : List (JobOut B)) → length out < width → IsReady s h (Some (ready.Start n)) → MayStart s h n →
-        interleaved_step s bodies (Start n) (woven state left out) ≡ Some (woven state' left' out') → length out' ≡ length out + 1 → Stage width s bodies start (Start n ∷ h) state' left' out'
-    stage_start n state' left' out' free is may e more = record {
-      wide = (may, next-start n free is, stage.wide);
+    pub stage_start : (n : ℕ) (state' : State) (deferred' : DeferredValue) (out' : List (JobOut B)) → IsTake s h (length out) width (ready.Start n) →
+        interleaved_step s bodies (Start n) (woven state deferred out) ≡ Some (woven state' deferred' out') → length out' ≡ length out + 1 → Stage width s bodies start (Start n ∷ h) state' deferred' out'
+    stage_start n state' deferred' out' next e more = record {
+      wide = (next.allowed false, next-start n next.room next.is, stage.wide);
       running = let r = stage.running in omega arith;
-      room = omega arith;
+      room = let r = next.room in omega arith;
       answers = (tt, stage.answers);
       meaning = ap (option_and_then (interleaved_step s bodies (Start n))) stage.meaning ∙ e;
     }
 
-    -- after what needs no body
-    pub stage_quiet : (q : Quiet) (running : ℕ) (taken : Step) → running ≡ length out → IsTurn s h running width (Some (turn.Quiet q)) → IsStepOf s q state taken →
-        (TakesTick q → has_tick state ≡ true) → Stage width s bodies start (taken ∷ h) (after_quiet s q state) left out
-    stage_quiet (quiet.Ask c) running taken many next is ticks =
-        subst (λ x. Stage width s bodies start (x ∷ h) (after_quiet s (quiet.Ask c) state) left out) (sym is.1) (record {
-          wide = (next.allowed, next-ask c is.0 (let r = next.room in omega arith) next.is, stage.wide);
-          running = stage.running;
-          room = stage.room;
-          answers = (subst (IsTrueAnswer s (Cond c is.0)) (sym stage.meaning) (is.2 ∙ sym (answer_alike s c state left)), stage.answers);
-          meaning = ap (option_and_then (interleaved_step s bodies (Cond c is.0))) stage.meaning ∙ ask_woven s bodies c is.0 state left (map running_of out) (ticks tt);
-        })
-    stage_quiet (quiet.Skip n) running taken many next is ticks =
-        subst (λ x. Stage width s bodies start (x ∷ h) state left out) (sym is) (record {
-          wide = (next.allowed, next-skip n (let r = next.room in omega arith) next.is, stage.wide);
-          running = stage.running;
-          room = stage.room;
-          answers = (tt, stage.answers);
-          meaning = ap (option_and_then (interleaved_step s bodies (Skip n))) stage.meaning;
-        })
+    -- after a condition was asked
+    pub stage_ask : (c : ℕ) (answer : Bool) (state' : State) → IsTake s h (length out) width (ready.Ask c) → answer ≡ answer_of s c (run_with state deferred) → has_tick state ≡ true →
+        state' ≡ asked_at c (access_of s c).reads (next_tick state) (ticked state) → Stage width s bodies start (Cond c answer ∷ h) state' deferred out
+    stage_ask c answer state' next told tick asked = subst (λ x. Stage width s bodies start (Cond c answer ∷ h) x deferred out) (sym asked) (record {
+      wide = (next.allowed answer, next-ask c answer next.room next.is, stage.wide);
+      running = stage.running;
+      room = stage.room;
+      answers = (subst (IsTrueAnswer s (Cond c answer)) (sym stage.meaning) told, stage.answers);
+      meaning = ap (option_and_then (interleaved_step s bodies (Cond c answer))) stage.meaning ∙ ask_woven s bodies c answer state deferred (map running_of out) tick;
+    })
 
-    -- after a sync point
-    pub stage_sync : (k : ℕ) (state' : State) (left' : LeftValue) → length out < width → IsReady s h (Some (ready.Sync k)) → MaySync s h k → has_tick state ≡ true →
-        run_with state' left' ≡ after_sync s k (run_with state left) → Stage width s bodies start (Sync k ∷ h) state' left' out
-    stage_sync k state' left' free is may tick synced = record {
-      wide = (may, next-sync k free is, stage.wide);
+    -- after a skip
+    pub stage_skip : (n : ℕ) → IsTake s h (length out) width (ready.Skip n) → Stage width s bodies start (Skip n ∷ h) state deferred out
+    stage_skip n next = record {
+      wide = (next.allowed false, next-skip n next.room next.is, stage.wide);
       running = stage.running;
       room = stage.room;
       answers = (tt, stage.answers);
-      meaning = ap (option_and_then (interleaved_step s bodies (Sync k))) stage.meaning ∙ sync_woven s bodies k state state' left left' (map running_of out) tick synced;
+      meaning = ap (option_and_then (interleaved_step s bodies (Skip n))) stage.meaning;
+    }
+
+    -- after a sync point
+    pub stage_sync : (k : ℕ) (state' : State) (deferred' : DeferredValue) → IsTake s h (length out) width (ready.Sync k) → has_tick state ≡ true →
+        run_with state' deferred' ≡ after_sync s k (run_with state deferred) → Stage width s bodies start (Sync k ∷ h) state' deferred' out
+    stage_sync k state' deferred' next tick synced = record {
+      wide = (next.allowed false, next-sync k next.room next.is, stage.wide);
+      running = stage.running;
+      room = stage.room;
+      answers = (tt, stage.answers);
+      meaning = ap (option_and_then (interleaved_step s bodies (Sync k))) stage.meaning ∙ sync_woven s bodies k state state' deferred deferred' (map running_of out) tick synced;
     }
 
     -- where a sync point may come no job is out
@@ -145,15 +142,10 @@ module _ {B : Type 0} (width : ℕ) (s : Schedule) (bodies : List BodyMeaning) (
         go [] e = refl
         go (x ∷ xs) e = absurd (false≢true (sym (e x) ∙ or_left (x == x) (has x xs) (eq-eqb x x refl)))
 
-    -- its step may come
-    pub may_quiet : (q : Quiet) (running : ℕ) (taken : Step) → IsTurn s h running width (Some (turn.Quiet q)) → IsStepOf s q state taken → May s h taken
-    may_quiet (quiet.Ask c) running taken next is = subst (May s h) (sym is.1) next.allowed
-    may_quiet (quiet.Skip n) running taken next is = subst (May s h) (sym is) next.allowed
-
     -- after a finish
-    pub stage_finish : (n : ℕ) (state' : State) (left' : LeftValue) (out' : List (JobOut B)) → (length out ≡ width) ⊎ IsReady s h None → runs h n ≡ true →
-        interleaved_step s bodies (Finish n) (woven state left out) ≡ Some (woven state' left' out') → length out' + 1 ≡ length out → Stage width s bodies start (Finish n ∷ h) state' left' out'
-    stage_finish n state' left' out' waits runs-now e fewer = record {
+    pub stage_finish : (n : ℕ) (state' : State) (deferred' : DeferredValue) (out' : List (JobOut B)) → (length out ≡ width) ⊎ IsReady s h None → runs h n ≡ true →
+        interleaved_step s bodies (Finish n) (woven state deferred out) ≡ Some (woven state' deferred' out') → length out' + 1 ≡ length out → Stage width s bodies start (Finish n ∷ h) state' deferred' out'
+    stage_finish n state' deferred' out' waits runs-now e fewer = record {
       wide = (record { running = runs-now }, next-finish n waits, stage.wide);
       running = let l = length-without n (running_after h) ((running_is s h lawful-there).same n ∙ runs-now) in let r = stage.running in omega arith;
       room = let r = stage.room in omega arith;
@@ -167,20 +159,20 @@ module _ {B : Type 0} (width : ℕ) (s : Schedule) (bodies : List BodyMeaning) (
       wide = stage.wide;
       complete = complete;
       answers = stage.answers;
-      end = woven state left out;
+      end = woven state deferred out;
       meaning = stage.meaning;
       leaves = refl;
     }
 
     -- ---- where a run stops
 
-    stops-at : (step : Step) (cause : Cause) → May s h step → IsNextWide width s h step → IsTrueAnswer s step (interleaved s bodies start h) → interleaved_cause_of s bodies step (woven state left out) ≡ Some cause → WideStops width s bodies start cause
+    stops-at : (step : Step) (cause : Cause) → May s h step → IsNextWide width s h step → IsTrueAnswer s step (interleaved s bodies start h) → interleaved_cause_of s bodies step (woven state deferred out) ≡ Some cause → WideStops width s bodies start cause
     stops-at step cause may next answer e = record {
       front = step ∷ h;
       wide = (may, next, stage.wide);
       answers = (answer, stage.answers);
       stops = ap (λ c. first_some c (interleaved_cause_at s bodies step (interleaved s bodies start h)))
-          (no-cause (interleaved s bodies start h) (woven state left out) (interleaved_cause s bodies start h) (lacks-interleaved s bodies start h lawful-there) stage.meaning)
+          (no-cause (interleaved s bodies start h) (woven state deferred out) (interleaved_cause s bodies start h) (lacks-interleaved s bodies start h lawful-there) stage.meaning)
           ∙ ap (interleaved_cause_at s bodies step) stage.meaning ∙ e;
     }
       where
@@ -189,31 +181,25 @@ module _ {B : Type 0} (width : ℕ) (s : Schedule) (bodies : List BodyMeaning) (
         no-cause o x None lacks e = refl
         no-cause o x (Some c) lacks e = absurd (let none : o ≡ None = lacks.1 refl in cc)
 
-    -- at a start without a tick, and at one without its ids
-    pub stops_start : (n : ℕ) → length out < width → IsReady s h (Some (ready.Start n)) → MayStart s h n → has_tick state ≡ false → WideStops width s bodies start NoTick
-    stops_start n free is may spent = stops-at (Start n) NoTick may (next-start n free is) tt (unticked_woven s bodies n state left (map running_of out) spent)
+    -- at what is ready, for the cause that it meets
+    pub stops_start : (n : ℕ) (cause : Cause) → IsTake s h (length out) width (ready.Start n) → interleaved_cause_of s bodies (Start n) (woven state deferred out) ≡ Some cause → WideStops width s bodies start cause
+    stops_start n cause next e = stops-at (Start n) cause (next.allowed false) (next-start n next.room next.is) tt e
 
-    pub stops_ids : (n : ℕ) → length out < width → IsReady s h (Some (ready.Start n)) → MayStart s h n → has_tick state ≡ true → has_ids_at_start s n state ≡ false → WideStops width s bodies start NoIds
-    stops_ids n free is may tick spent = stops-at (Start n) NoIds may (next-start n free is) tt (ungranted_woven s bodies n state left (map running_of out) tick spent)
+    pub stops_ask : (c : ℕ) (cause : Cause) → IsTake s h (length out) width (ready.Ask c) → LacksTick state cause → WideStops width s bodies start cause
+    stops_ask c cause next e =
+        let answer = answer_of s c (run_with state deferred) in
+        stops-at (Cond c answer) cause (next.allowed answer) (next-ask c answer next.room next.is) (subst (IsTrueAnswer s (Cond c answer)) (sym stage.meaning) refl) e
 
-    -- at a sync point without a tick
-    pub stops_sync : (k : ℕ) → length out < width → IsReady s h (Some (ready.Sync k)) → MaySync s h k → has_tick state ≡ false → WideStops width s bodies start NoTick
-    stops_sync k free is may spent = stops-at (Sync k) NoTick may (next-sync k free is) tt (ap (λ t. unless t NoTick) spent)
+    pub stops_sync : (k : ℕ) (cause : Cause) → IsTake s h (length out) width (ready.Sync k) → LacksTick state cause → WideStops width s bodies start cause
+    stops_sync k cause next e = stops-at (Sync k) cause (next.allowed false) (next-sync k next.room next.is) tt e
 
-    -- at what needs no body, without a tick
-    pub stops_quiet : (q : Quiet) (running : ℕ) → running ≡ length out → IsTurn s h running width (Some (turn.Quiet q)) → TakesTick q → has_tick state ≡ false → WideStops width s bodies start NoTick
-    stops_quiet (quiet.Ask c) running many next ticks spent = stops-at (Cond c (answer_of s c (run_with state left))) NoTick next.allowed
-        (next-ask c (answer_of s c (run_with state left)) (let r = next.room in omega arith) next.is)
-        (subst (IsTrueAnswer s (Cond c (answer_of s c (run_with state left)))) (sym stage.meaning) refl) (ap (λ t. unless t NoTick) spent)
-    stops_quiet (quiet.Skip n) running many next ticks spent = absurd ticks
-
-    -- at the finish of a system that refuses
-    pub stops_finish : (n : ℕ) (cause : Cause) → (length out ≡ width) ⊎ IsReady s h None → runs h n ≡ true → interleaved_cause_of s bodies (Finish n) (woven state left out) ≡ Some cause → WideStops width s bodies start cause
+    -- at a finish
+    pub stops_finish : (n : ℕ) (cause : Cause) → (length out ≡ width) ⊎ IsReady s h None → runs h n ≡ true → interleaved_cause_of s bodies (Finish n) (woven state deferred out) ≡ Some cause → WideStops width s bodies start cause
     stops_finish n cause waits runs-now e = stops-at (Finish n) cause (record { running = runs-now }) (next-finish n waits) tt e
 
--- at an opening without a tick
-pub stops_open : (width : ℕ) (s : Schedule) (bodies : List BodyMeaning) (start : State) → has_tick start ≡ false → WideStops width s bodies start NoTick
-stops_open width s bodies start spent = record { front = []; wide = tt; answers = tt; stops = ap (λ t. unless t NoTick) spent }
+-- at the opening
+pub stops_open : (width : ℕ) (s : Schedule) (bodies : List BodyMeaning) (start : State) (cause : Cause) → LacksTick start cause → WideStops width s bodies start cause
+stops_open width s bodies start cause e = record { front = []; wide = tt; answers = tt; stops = e }
 
 -- ---- several runs
 

@@ -1,5 +1,5 @@
 -- What is in hand as a system starts.
-use Rattle.std.proofs.Common.{ℕ, zero, suc, ◌<◌, ◌≡◌, ◌⊎◌, inl, inr, false, List, [], ◌∷◌, ◌++◌, ◌+◌, length, length-append, get_or, refl, sym, ◌∙◌, ap, subst, arith}
+use Rattle.std.proofs.Common.{ℕ, zero, suc, ◌<◌, ◌≡◌, ◌⊎◌, inl, inr, false, List, [], ◌∷◌, ◌++◌, length, length-append, get_or, refl, sym, ◌∙◌, ap, subst, arith}
 use Rattle.std.proofs.lemmas.Bool.{false≢true}
 use Rattle.std.proofs.lemmas.List.{get_or-set_other, get_or-set_same, length-map, length-set}
 use Rattle.std.specs.Option.{unwrap_or}
@@ -18,7 +18,7 @@ use Rattle.body.specs.Keeps.{CanBeShown}
 use Rattle.body.specs.Steps.{StateValue, AreInTime, IsInTime}
 use Rattle.worker_pool.specs.JobOut.{JobOut}
 use Rattle.engine.specs.Jobs.{InHand, systems_of}
-use Rattle.engine.specs.Left.{LeftValue, AreInHand, commands_at, grants_at, with_grants}
+use Rattle.engine.specs.Deferred.{DeferredValue, AreInHand, commands_at, grants_at, with_grants}
 use Rattle.engine.specs.Meanings.{HasMemories}
 use Rattle.engine.specs.Starts.{ids_at_start}
 use Rattle.engine.proofs.InHand.{in_hand_grant}
@@ -60,19 +60,19 @@ shown-granted : (params : Params) (memory : Memory) (w : State) (ids : List Enti
 unfolding shown
 shown-granted params memory w ids = refl
 
-module _ {B : Type 0} (s : Schedule) (n : ℕ) (w later : StateValue) (left : LeftValue) (out : List (JobOut B)) (job : JobOut B) (known : n < length s.systems) (memories : HasMemories s w.state)
-    (in_time : AreInTime w.state.world.clock w.state.systems w.state.conditions) (hand : InHand s left out w) (fresh : commands_at left n ≡ []) (handed : IsHanded s n w later job) (home : has n (systems_of out) ≡ false) where
-  place : n < length left.grants
+module _ {B : Type 0} (s : Schedule) (n : ℕ) (w later : StateValue) (deferred : DeferredValue) (out : List (JobOut B)) (job : JobOut B) (known : n < length s.systems) (memories : HasMemories s w.state)
+    (in_time : AreInTime w.state.world.clock w.state.systems w.state.conditions) (hand : InHand s deferred out w) (fresh : commands_at deferred n ≡ []) (handed : IsHanded s n w later job) (home : has n (systems_of out) ≡ false) where
+  place : n < length deferred.grants
   place = let e = hand.suits.grant_count in omega (arith, e, known)
 
-  granted-one : (j : JobOut B) → IsIn j out ⊎ IsIn j (job ∷ []) → j.view.shown.granted ≡ grants_at (with_grants n (ids_at_start s n w.state) left) j.system
+  granted-one : (j : JobOut B) → IsIn j out ⊎ IsIn j (job ∷ []) → j.view.shown.granted ≡ grants_at (with_grants n (ids_at_start s n w.state) deferred) j.system
   granted-one j (inl i) =
       hand.granted j i
-      ∙ sym (get_or-set_other left.grants n j.system (ids_at_start s n w.state) [] (λ same. false≢true (sym home ∙ has-IsIn n (systems_of out) (subst (λ m. IsIn m (systems_of out)) same (in-map (λ (x : JobOut B). x.system) out j i)))))
+      ∙ sym (get_or-set_other deferred.grants n j.system (ids_at_start s n w.state) [] (λ same. false≢true (sym home ∙ has-IsIn n (systems_of out) (subst (λ m. IsIn m (systems_of out)) same (in-map (λ (x : JobOut B). x.system) out j i)))))
   granted-one j (inr (inl same)) =
       ap (λ (x : JobOut B). x.view.shown.granted) same ∙ ap (λ (x : Shown). x.granted) handed.shown_there ∙ shown-granted (params_of s n) (memory_of_system w.state n) w.state (ids_at_start s n w.state)
-      ∙ sym (get_or-set_same left.grants n (ids_at_start s n w.state) [] place)
-      ∙ ap (grants_at (with_grants n (ids_at_start s n w.state) left)) (sym handed.system ∙ ap (λ (x : JobOut B). x.system) (sym same))
+      ∙ sym (get_or-set_same deferred.grants n (ids_at_start s n w.state) [] place)
+      ∙ ap (grants_at (with_grants n (ids_at_start s n w.state) deferred)) (sym handed.system ∙ ap (λ (x : JobOut B). x.system) (sym same))
   granted-one j (inr (inr none)) = absurd none
 
   shown-one : (j : JobOut B) → IsIn j out ⊎ IsIn j (job ∷ []) → CanBeShown (params_of s j.system) j.view.shown
@@ -84,16 +84,16 @@ module _ {B : Type 0} (s : Schedule) (n : ℕ) (w later : StateValue) (left : Le
       (can_be_shown (params_of s n) (memory_of_system w.state n) w.state (registers_at w.state.world.clock w.state.systems n (let e = memories.systems in omega (arith, e, known)) in_time.systems_in))))
   shown-one j (inr (inr none)) = absurd none
 
-  pub in_hand_start : InHand s (with_grants n (ids_at_start s n w.state) left) (out ++ job ∷ []) later
+  pub in_hand_start : InHand s (with_grants n (ids_at_start s n w.state) deferred) (out ++ job ∷ []) later
   in_hand_start = record {
     suits = record {
       command_count = hand.suits.command_count;
-      grant_count = length-set left.grants n (ids_at_start s n w.state) ∙ hand.suits.grant_count;
+      grant_count = length-set deferred.grants n (ids_at_start s n w.state) ∙ hand.suits.grant_count;
       level_count = hand.suits.level_count;
       levels_are = hand.suits.levels_are;
     };
-    ids = subst (λ (x : StateValue). AreInHand x.state.world.slots (with_grants n (ids_at_start s n w.state) left)) (sym handed.is_later)
-        (in_hand_grant (spawns_of s n) n w.state.world.slots left hand.ids fresh place);
+    ids = subst (λ (x : StateValue). AreInHand x.state.world.slots (with_grants n (ids_at_start s n w.state) deferred)) (sym handed.is_later)
+        (in_hand_grant (spawns_of s n) n w.state.world.slots deferred hand.ids fresh place);
     granted = λ j i. granted-one j (IsIn-append j out (job ∷ []) i);
     showing = λ j i. shown-one j (IsIn-append j out (job ∷ []) i);
   }

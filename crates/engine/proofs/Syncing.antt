@@ -24,7 +24,7 @@ use Rattle.model.proofs.serial.Engine.{synced_state, after_sync-form}
 use Rattle.entity_table.proofs.Edits.{update_at-id}
 use Rattle.entity_table.specs.Ids.{slot_at, IsGranted, AreApart}
 use Rattle.entity_table.proofs.Releases.{granted-other, granted-lives}
-use Rattle.engine.specs.Left.{LeftValue, commands_at, grants_at, run_with, emptied, IsLeftFor, AreInHand}
+use Rattle.engine.specs.Deferred.{DeferredValue, commands_at, grants_at, run_with, emptied, IsDeferredFor, AreInHand}
 
 -- ---- what is in joined lists
 
@@ -118,25 +118,25 @@ once-level s p built = once-filter (λ n. level_of s n == p) s.order (once-from 
 
 -- ---- what the commands of a level spawn
 
-module _ (slots : List Slot) (left : LeftValue) (h : AreInHand slots left) where
+module _ (slots : List Slot) (deferred : DeferredValue) (h : AreInHand slots deferred) where
   -- is granted to a system
-  pub spawned-to : (n : ℕ) (e : Entity) → IsIn e (spawned_by (commands_at left n)) → IsIn e (grants_at left n)
-  spawned-to n e i = spawn-in (grants_at left n) (spawned_by (commands_at left n)) e (h.spawns n) i
+  pub spawned-to : (n : ℕ) (e : Entity) → IsIn e (spawned_by (commands_at deferred n)) → IsIn e (grants_at deferred n)
+  spawned-to n e i = spawn-in (grants_at deferred n) (spawned_by (commands_at deferred n)) e (h.spawns n) i
 
   each-from : (P : Entity → Type 0) (es : List Entity) → ((e : Entity) → IsIn e es → P e) → AllByRecursion P es
   each-from P [] k = tt
   each-from P (e ∷ es) k = (k e (inl refl), each-from P es (λ d i. k d (inr i)))
 
   -- is granted still
-  pub level_granted : (ns : List ℕ) → All (IsGranted slots) (spawned_by (flat_map (commands_at left) ns))
-  level_granted ns = All-from_recursion (IsGranted slots) (spawned_by (flat_map (commands_at left) ns)) (each-from (IsGranted slots) (spawned_by (flat_map (commands_at left) ns)) (λ e i.
-      let r = from-flat_map (λ n. spawned_by (commands_at left n)) ns e (subst (IsIn e) (spawned_by-each (commands_at left) ns) i) in
+  pub level_granted : (ns : List ℕ) → All (IsGranted slots) (spawned_by (flat_map (commands_at deferred) ns))
+  level_granted ns = All-from_recursion (IsGranted slots) (spawned_by (flat_map (commands_at deferred) ns)) (each-from (IsGranted slots) (spawned_by (flat_map (commands_at deferred) ns)) (λ e i.
+      let r = from-flat_map (λ n. spawned_by (commands_at deferred n)) ns e (subst (IsIn e) (spawned_by-each (commands_at deferred) ns) i) in
       h.granted r.0 e (spawned-to r.0 e r.2)))
 
   -- no id twice
-  pub level_apart : (ns : List ℕ) → AreOnce ns → AreApart (spawned_by (flat_map (commands_at left) ns))
-  level_apart ns once = apart-once (spawned_by (flat_map (commands_at left) ns)) (subst AreOnce (sym (spawned_by-each (commands_at left) ns))
-      (once-flat_map (λ n. spawned_by (commands_at left n)) ns once (λ n. once-spawns (grants_at left n) (spawned_by (commands_at left n)) (h.spawns n))
+  pub level_apart : (ns : List ℕ) → AreOnce ns → AreApart (spawned_by (flat_map (commands_at deferred) ns))
+  level_apart ns once = apart-once (spawned_by (flat_map (commands_at deferred) ns)) (subst AreOnce (sym (spawned_by-each (commands_at deferred) ns))
+      (once-flat_map (λ n. spawned_by (commands_at deferred n)) ns once (λ n. once-spawns (grants_at deferred n) (spawned_by (commands_at deferred n)) (h.spawns n))
       (λ n m e i j. h.apart n m e (spawned-to n e i) (spawned-to m e j))))
 
 -- ---- releases
@@ -184,8 +184,8 @@ granted-spawned slots d e differ h = go (cases_eq d.index e.index) (cases_eq e.g
     go (inr other) more = granted-other (spawned d.generation) d.index slots e other h
     go (inl same) (inl generations) = absurd (differ (λ i. record { index = sym same i; generation = generations i }))
     go (inl same) (inr other) =
-        let left : spawned d.generation (slot_at slots d.index) ≡ slot_at slots d.index = unspawned (slot_at slots d.index) (λ e2. other (sym h.generation ∙ ap (λ k. (slot_at slots k).generation) (sym same) ∙ e2)) in
-        subst (λ xs. IsGranted xs e) (sym (update_at-id (spawned d.generation) slots d.index fresh_slot (λ l. left))) h
+        let deferred : spawned d.generation (slot_at slots d.index) ≡ slot_at slots d.index = unspawned (slot_at slots d.index) (λ e2. other (sym h.generation ∙ ap (λ k. (slot_at slots k).generation) (sym same) ∙ e2)) in
+        subst (λ xs. IsGranted xs e) (sym (update_at-id (spawned d.generation) slots d.index fresh_slot (λ l. deferred))) h
       where
         unspawned : (slot : Slot) → (slot.generation ≡ d.generation → ⊥) → spawned d.generation slot ≡ slot
         unspawned slot differs = ap (λ b. cond b (let c : Slot = record { generation = slot.generation; status = Living; row = [] } in c) slot)
@@ -227,7 +227,7 @@ granted-release ids slots e other h =
     ∙ ap (λ b. cond b (freed (slot_at slots e.index)) (slot_at slots e.index)) (and_right (is_granted (slot_at slots e.index).status) (names_index e.index ids) other) in
     record { status = ap (λ (s : Slot). s.status) same ∙ h.status; generation = ap (λ (s : Slot). s.generation) same ∙ h.generation }
 
--- ---- what is left without a level
+-- ---- what is deferred without a level
 
 set-nothing : {A : Type 0} (xs : List (List A)) (n m : ℕ) → get_or (set xs n []) m [] ≡ cond (n == m) [] (get_or xs m [])
 set-nothing xs n m = go (cases_eq m n) (cases_lt n (length xs))
@@ -251,63 +251,63 @@ pub length-emptied : {A : Type 0} (ns : List ℕ) (xs : List (List A)) → lengt
 length-emptied [] xs = refl
 length-emptied (n ∷ ns) xs = length-emptied ns (set xs n []) ∙ length-set xs n []
 
--- with nothing left of these systems
-abbrev pub without_systems : List ℕ → LeftValue → LeftValue
-without_systems ns left = record { levels = left.levels; commands = emptied ns left.commands; grants = emptied ns left.grants }
+-- with nothing deferred of these systems
+abbrev pub without_systems : List ℕ → DeferredValue → DeferredValue
+without_systems ns deferred = record { levels = deferred.levels; commands = emptied ns deferred.commands; grants = emptied ns deferred.grants }
 
--- what is left is for the schedule still
-pub left_for_without : (s : Schedule) (ns : List ℕ) (left : LeftValue) → IsLeftFor s left → IsLeftFor s (without_systems ns left)
-left_for_without s ns left h = record {
-  command_count = length-emptied ns left.commands ∙ h.command_count;
-  grant_count = length-emptied ns left.grants ∙ h.grant_count;
+-- what is deferred is for the schedule still
+pub left_for_without : (s : Schedule) (ns : List ℕ) (deferred : DeferredValue) → IsDeferredFor s deferred → IsDeferredFor s (without_systems ns deferred)
+left_for_without s ns deferred h = record {
+  command_count = length-emptied ns deferred.commands ∙ h.command_count;
+  grant_count = length-emptied ns deferred.grants ∙ h.grant_count;
   level_count = h.level_count;
   levels_are = h.levels_are;
 }
 
 -- ---- a sync point
 
--- what is left of the others is in hand still
-pub in_hand_synced : (tick : ℕ) (target : CommandTarget) (ns : List ℕ) (left : LeftValue) → AreInHand target.slots left →
-    AreInHand (release (flat_map (grants_at left) ns) (apply_buffer tick target (flat_map (commands_at left) ns)).slots) (without_systems ns left)
-in_hand_synced tick target ns left h = record {
+-- what is deferred of the others is in hand still
+pub in_hand_synced : (tick : ℕ) (target : CommandTarget) (ns : List ℕ) (deferred : DeferredValue) → AreInHand target.slots deferred →
+    AreInHand (release (flat_map (grants_at deferred) ns) (apply_buffer tick target (flat_map (commands_at deferred) ns)).slots) (without_systems ns deferred)
+in_hand_synced tick target ns deferred h = record {
   granted = λ n e i. let r = kept n e i in
-      granted-release (flat_map (grants_at left) ns) (apply_buffer tick target (flat_map (commands_at left) ns)).slots e (not-named n e r.0 r.1)
-      (granted-buffer tick target (flat_map (commands_at left) ns) e (not-spawned n e r.0 r.1) (h.granted n e r.1));
+      granted-release (flat_map (grants_at deferred) ns) (apply_buffer tick target (flat_map (commands_at deferred) ns)).slots e (not-named n e r.0 r.1)
+      (granted-buffer tick target (flat_map (commands_at deferred) ns) e (not-spawned n e r.0 r.1) (h.granted n e r.1));
   apart = λ n m e i j. h.apart n m e (kept n e i).1 (kept m e j).1;
   spawns = λ n. spawns-case n (has n ns) refl;
 }
   where
-    kept : (n : ℕ) (e : Entity) → IsIn e (grants_at (without_systems ns left) n) → (has n ns ≡ false) × IsIn e (grants_at left n)
-    kept n e i = go (has n ns) refl (subst (IsIn e) (emptied-at ns left.grants n) i)
+    kept : (n : ℕ) (e : Entity) → IsIn e (grants_at (without_systems ns deferred) n) → (has n ns ≡ false) × IsIn e (grants_at deferred n)
+    kept n e i = go (has n ns) refl (subst (IsIn e) (emptied-at ns deferred.grants n) i)
       where
-        go : (b : Bool) → has n ns ≡ b → IsIn e (cond b [] (grants_at left n)) → (has n ns ≡ false) × IsIn e (grants_at left n)
+        go : (b : Bool) → has n ns ≡ b → IsIn e (cond b [] (grants_at deferred n)) → (has n ns ≡ false) × IsIn e (grants_at deferred n)
         go true f j = absurd j
         go false f j = (f, j)
 
     -- an id of a system of these isn't of another
-    elsewhere : (n m : ℕ) (e : Entity) → has n ns ≡ false → IsIn e (grants_at left n) → IsIn m ns → IsIn e (grants_at left m) → ⊥
+    elsewhere : (n m : ℕ) (e : Entity) → has n ns ≡ false → IsIn e (grants_at deferred n) → IsIn m ns → IsIn e (grants_at deferred m) → ⊥
     elsewhere n m e out i among j = false≢true (sym out ∙ has-IsIn n ns (subst (λ k. IsIn k ns) (h.apart m n e j i) among))
 
-    not-spawned : (n : ℕ) (e : Entity) → has n ns ≡ false → IsIn e (grants_at left n) → IsIn e (spawned_by (flat_map (commands_at left) ns)) → ⊥
+    not-spawned : (n : ℕ) (e : Entity) → has n ns ≡ false → IsIn e (grants_at deferred n) → IsIn e (spawned_by (flat_map (commands_at deferred) ns)) → ⊥
     not-spawned n e out i j =
-        let r = from-flat_map (λ m. spawned_by (commands_at left m)) ns e (subst (IsIn e) (spawned_by-each (commands_at left) ns) j) in
-        elsewhere n r.0 e out i r.1 (spawned-to target.slots left h r.0 e r.2)
+        let r = from-flat_map (λ m. spawned_by (commands_at deferred m)) ns e (subst (IsIn e) (spawned_by-each (commands_at deferred) ns) j) in
+        elsewhere n r.0 e out i r.1 (spawned-to target.slots deferred h r.0 e r.2)
 
-    not-named : (n : ℕ) (e : Entity) → has n ns ≡ false → IsIn e (grants_at left n) → names_index e.index (flat_map (grants_at left) ns) ≡ false
-    not-named n e out i = go (names_index e.index (flat_map (grants_at left) ns)) refl
+    not-named : (n : ℕ) (e : Entity) → has n ns ≡ false → IsIn e (grants_at deferred n) → names_index e.index (flat_map (grants_at deferred) ns) ≡ false
+    not-named n e out i = go (names_index e.index (flat_map (grants_at deferred) ns)) refl
       where
-        go : (b : Bool) → names_index e.index (flat_map (grants_at left) ns) ≡ b → b ≡ false
+        go : (b : Bool) → names_index e.index (flat_map (grants_at deferred) ns) ≡ b → b ≡ false
         go false f = refl
         go true f =
-            let found = IsIn_from_any (λ (d : Entity). d.index == e.index) (flat_map (grants_at left) ns) f in
-            let r = from-flat_map (grants_at left) ns found.0 found.1 in
+            let found = IsIn_from_any (λ (d : Entity). d.index == e.index) (flat_map (grants_at deferred) ns) f in
+            let r = from-flat_map (grants_at deferred) ns found.0 found.1 in
             let same : found.0 ≡ e = same-granted target.slots found.0 e (h.granted r.0 found.0 r.2) (h.granted n e i) (eqb-true found.0.index e.index found.2) in
-            absurd (elsewhere n r.0 e out i r.1 (subst (λ d. IsIn d (grants_at left r.0)) same r.2))
+            absurd (elsewhere n r.0 e out i r.1 (subst (λ d. IsIn d (grants_at deferred r.0)) same r.2))
 
-    spawns-case : (n : ℕ) (b : Bool) → has n ns ≡ b → AreSpawns (grants_at (without_systems ns left) n) (spawned_by (commands_at (without_systems ns left) n))
-    spawns-case n true f = subst (λ cs. AreSpawns (grants_at (without_systems ns left) n) (spawned_by cs)) (sym (emptied-at ns left.commands n ∙ ap (λ b. cond b [] (commands_at left n)) f)) tt
-    spawns-case n false f = subst (λ cs. AreSpawns (grants_at (without_systems ns left) n) (spawned_by cs)) (sym (emptied-at ns left.commands n ∙ ap (λ b. cond b [] (commands_at left n)) f))
-        (subst (λ ids. AreSpawns ids (spawned_by (commands_at left n))) (sym (emptied-at ns left.grants n ∙ ap (λ b. cond b [] (grants_at left n)) f)) (h.spawns n))
+    spawns-case : (n : ℕ) (b : Bool) → has n ns ≡ b → AreSpawns (grants_at (without_systems ns deferred) n) (spawned_by (commands_at (without_systems ns deferred) n))
+    spawns-case n true f = subst (λ cs. AreSpawns (grants_at (without_systems ns deferred) n) (spawned_by cs)) (sym (emptied-at ns deferred.commands n ∙ ap (λ b. cond b [] (commands_at deferred n)) f)) tt
+    spawns-case n false f = subst (λ cs. AreSpawns (grants_at (without_systems ns deferred) n) (spawned_by cs)) (sym (emptied-at ns deferred.commands n ∙ ap (λ b. cond b [] (commands_at deferred n)) f))
+        (subst (λ ids. AreSpawns ids (spawned_by (commands_at deferred n))) (sym (emptied-at ns deferred.grants n ∙ ap (λ b. cond b [] (grants_at deferred n)) f)) (h.spawns n))
 
 -- a system is among those of a level where it has the level
 level-has : (s : Schedule) (p n : ℕ) → IsBuilt s → n < length s.systems → has n (systems_of_level s p) ≡ (level_of s n == p)
@@ -331,18 +331,18 @@ level-nothing {A} s p built xs count n = go (cases_lt n (length s.systems))
     go (inr past) = nothing (has n (systems_of_level s p)) (level_of s n == p) (get_or xs n []) (get_or_past xs n [] (omega arith))
 
 -- the whole step
-pub run_synced : (s : Schedule) (p : ℕ) (left : LeftValue) (state : State) → IsBuilt s → IsLeftFor s left →
-    run_with (synced_state (flat_map (grants_at left) (systems_of_level s p)) (flat_map (commands_at left) (systems_of_level s p)) state) (without_systems (systems_of_level s p) left)
-    ≡ after_sync s p (run_with state left)
-run_synced s p left state built suits = (λ i. record {
-  state = synced_state (flat_map (grants_at left) (systems_of_level s p)) (flat_map (commands_at left) (systems_of_level s p)) state;
-  buffers = λ n. (emptied-at (systems_of_level s p) left.commands n ∙ level-nothing s p built left.commands suits.command_count n) i;
-  grants = λ n. (emptied-at (systems_of_level s p) left.grants n ∙ level-nothing s p built left.grants suits.grant_count n) i;
-}) ∙ sym (after_sync-form s p (run_with state left))
+pub run_synced : (s : Schedule) (p : ℕ) (deferred : DeferredValue) (state : State) → IsBuilt s → IsDeferredFor s deferred →
+    run_with (synced_state (flat_map (grants_at deferred) (systems_of_level s p)) (flat_map (commands_at deferred) (systems_of_level s p)) state) (without_systems (systems_of_level s p) deferred)
+    ≡ after_sync s p (run_with state deferred)
+run_synced s p deferred state built suits = (λ i. record {
+  state = synced_state (flat_map (grants_at deferred) (systems_of_level s p)) (flat_map (commands_at deferred) (systems_of_level s p)) state;
+  buffers = λ n. (emptied-at (systems_of_level s p) deferred.commands n ∙ level-nothing s p built deferred.commands suits.command_count n) i;
+  grants = λ n. (emptied-at (systems_of_level s p) deferred.grants n ∙ level-nothing s p built deferred.grants suits.grant_count n) i;
+}) ∙ sym (after_sync-form s p (run_with state deferred))
 
 -- ---- the systems of a level
 
-module _ (s : Schedule) (p : ℕ) (left : LeftValue) (built : IsBuilt s) (suits : IsLeftFor s left) (within : p < s.syncs) (level : List ℕ) (e : level ≡ get_or left.levels p []) where
+module _ (s : Schedule) (p : ℕ) (deferred : DeferredValue) (built : IsBuilt s) (suits : IsDeferredFor s deferred) (within : p < s.syncs) (level : List ℕ) (e : level ≡ get_or deferred.levels p []) where
   -- as they are noted
   pub level_is : level ≡ systems_of_level s p
   level_is = e ∙ suits.levels_are p within

@@ -1,32 +1,28 @@
 -- A turn of the loop: what is next, and what is known once it is done.
-use Rattle.std.proofs.Common.{ℕ, ◌<◌, ◌≤◌, Bool, ◌≡◌, ◌⊎◌, inl, inr, List, [], ◌∷◌, length, Option, Some, None, refl, sym, ◌∙◌, ap, subst, arith}
+use Rattle.std.proofs.Common.{ℕ, ◌<◌, ◌≤◌, Bool, ◌≡◌, List, [], ◌∷◌, length, Option, Some, refl, sym, ap, subst, arith}
 use Rattle.std.specs.List.{AllByRecursion}
 use Rattle.model.specs.declared.steps.Step.{Step}
-use Rattle.model.specs.declared.steps.Ready.TheVariants as ready
 use Rattle.model.specs.Lists.{has}
 use Rattle.model.specs.access.Access.{Params}
 use Rattle.model.specs.state.State.{State}
 use Rattle.model.specs.shown.Outcome.{BodyMeaning}
 use Rattle.model.specs.steps.Schedule.{Schedule, params_of, access_of}
-use Rattle.model.specs.steps.Lawful.{MayStart, MaySync}
-use Rattle.model.specs.steps.Ready.{IsReady}
+use Rattle.model.specs.steps.Lawful.{MayAsk, MayStart}
 use Rattle.model.specs.runs.RunState.{body_of, next_tick, opening}
 use Rattle.archetype_store.specs.Layout.{Archetype, AreAllHome, IsLayoutOf}
 use Rattle.body.specs.Lent.{lent_in}
 use Rattle.body.specs.Out.{IsWrittenBy}
-use Rattle.body.specs.Steps.{StateValue, store_of, ticked}
+use Rattle.query_plan.specs.Standing.{ArePickedHome}
+use Rattle.body.specs.Steps.{StateValue, asked_at, store_of, ticked}
 use Rattle.body.proofs.Outs.{out-same, all-home, home-apart, none-out}
 use Rattle.executor_core.specs.Stands.{Stand, Stands}
 use Rattle.worker_pool.specs.JobOut.{JobOut}
 use Rattle.engine.specs.declared.turn.Turn.{Turn}
-use Rattle.engine.specs.declared.turn.Turn.TheVariants as turn
-use Rattle.engine.specs.declared.turn.Quiet.{Quiet}
-use Rattle.engine.specs.declared.turn.Quiet.TheVariants as quiet
-use Rattle.engine.specs.Quiets.{IsAllowed as IsAllowedQuiet, after_quiet}
 use Rattle.engine.specs.Jobs.{systems_of, held_by, woven, CanBegin, InHand, IsPlaced, Placed}
-use Rattle.engine.specs.Left.{LeftValue, AreInHand, IsLeftFor}
-use Rattle.engine.specs.Meanings.{body_at, meanings, HasMemories, Suits}
-use Rattle.engine.specs.Stage.{Stage, IsTake, IsTurn}
+use Rattle.engine.specs.Deferred.{DeferredValue, AreInHand, IsDeferredFor}
+use Rattle.engine.specs.Meanings.{body_at, meanings, AllKeepWithin, HasMemories, Suits}
+use Rattle.engine.specs.Next.{IsAtRest}
+use Rattle.engine.specs.Stage.{Stage, IsTurn}
 use Rattle.model.proofs.progress.Single.{wide_lawful}
 use Rattle.engine.proofs.Fresh.{interleaved_fresh}
 use Rattle.engine.proofs.Placing.{start-free, apart-held, placed_first, suits_last, means_last}
@@ -50,25 +46,22 @@ no_elements (x ∷ xs) e = absurd (omega (arith, e))
 -- ---- what a start asks
 
 module _ {B : Type 0} (meaning : B → Params → BodyMeaning) (fits : B → Params → Bool) (where_is : Bool) (s : Schedule) (bodies : List BodyMeaning) (slots : List (Option B)) (out : List (JobOut B)) (w : StateValue) (placed : Placed meaning fits where_is s bodies slots out w) where
-  pub start_allowed : (width : ℕ) (start : State) (h : List Step) (left : LeftValue) (n : ℕ) → Stage width s bodies start h w.state left out → MayStart s h n → CanBegin s n left out w
-  start_allowed width start h left n stage may =
-      let holds = holds_there width s bodies start h w.state left out stage in
+  pub start_allowed : (width : ℕ) (start : State) (h : List Step) (deferred : DeferredValue) (n : ℕ) → Stage width s bodies start h w.state deferred out → MayStart s h n → CanBegin s n deferred out w
+  start_allowed width start h deferred n stage may =
+      let holds = holds_there width s bodies start h w.state deferred out stage in
       record {
         known = may.free.known;
-        fresh = interleaved_fresh s bodies start h (woven w.state left out) (wide_lawful width s h stage.wide) stage.meaning n may.free.waits;
-        home = start-free meaning fits where_is s bodies slots out w placed left h holds n may;
-        apart = apart-held meaning fits where_is s bodies slots out w placed left h holds (params_of s n) may.apart;
+        fresh = interleaved_fresh s bodies start h (woven w.state deferred out) (wide_lawful width s h stage.wide) stage.meaning n may.free.waits;
+        home = start-free meaning fits where_is s bodies slots out w placed deferred h holds n may;
+        apart = apart-held meaning fits where_is s bodies slots out w placed deferred h holds (params_of s n) may.apart;
       }
 
-  -- what needs no body may be done
-  pub quiet_allowed : (q : Quiet) (width running : ℕ) (start : State) (h : List Step) (left : LeftValue) → Stage width s bodies start h w.state left out → IsLayoutOf w.state.world.slots w.layout →
-      IsTurn s h running width (Some (turn.Quiet q)) → IsAllowedQuiet s w q
-  quiet_allowed (quiet.Ask c) width running start h left stage laid next = record {
-    known = next.allowed.known;
-    home = home-apart (store_of w) (held_by out) (access_of s c) laid placed.held
-        (apart-held meaning fits where_is s bodies slots out w placed left h (holds_there width s bodies start h w.state left out stage) (access_of s c) next.allowed.apart);
-  }
-  quiet_allowed (quiet.Skip n) width running start h left stage laid next = tt
+  -- a condition may be asked
+  pub ask_allowed : (c : ℕ) (width : ℕ) (start : State) (h : List Step) (deferred : DeferredValue) → Stage width s bodies start h w.state deferred out → IsLayoutOf w.state.world.slots w.layout → MayAsk s h c →
+      AllByRecursion (λ query. ArePickedHome query w.layout) (access_of s c).queries
+  ask_allowed c width start h deferred stage laid may =
+      home-apart (store_of w) (held_by out) (access_of s c) laid placed.held
+      (apart-held meaning fits where_is s bodies slots out w placed deferred h (holds_there width s bodies start h w.state deferred out stage) (access_of s c) may.apart)
 
   -- at a later tick, with other memories, which are those of the schedule too
   pub placed_moved : (later : StateValue) → HasMemories s later.state → w.state.world.clock ≤ later.state.world.clock → later.state.world.slots ≡ w.state.world.slots → later.layout ≡ w.layout →
@@ -91,27 +84,21 @@ module _ {B : Type 0} (meaning : B → Params → BodyMeaning) (fits : B → Par
   }
 
   -- the jobs stay what they are where the slots stay
-  pub in_hand_moved : (left : LeftValue) (later : StateValue) → later.state.world.slots ≡ w.state.world.slots → InHand s left out w → InHand s left out later
-  in_hand_moved left later same hand = record {
+  pub in_hand_moved : (deferred : DeferredValue) (later : StateValue) → later.state.world.slots ≡ w.state.world.slots → InHand s deferred out w → InHand s deferred out later
+  in_hand_moved deferred later same hand = record {
     suits = hand.suits;
-    ids = subst (λ xs. AreInHand xs left) (sym same) hand.ids;
+    ids = subst (λ xs. AreInHand xs deferred) (sym same) hand.ids;
     granted = hand.granted;
     showing = hand.showing;
   }
 
-  -- after what needs no body
-  pub in_hand_quiet : (left : LeftValue) (q : Quiet) (later : StateValue) → later ≡ record { state = after_quiet s q w.state; layout = w.layout } → InHand s left out w → InHand s left out later
-  in_hand_quiet left (quiet.Ask c) later is hand = in_hand_moved left later (ap (λ (x : StateValue). x.state.world.slots) is) hand
-  in_hand_quiet left (quiet.Skip n) later is hand = in_hand_moved left later (ap (λ (x : StateValue). x.state.world.slots) is) hand
+  -- after a condition was asked
+  pub in_hand_asked : (deferred : DeferredValue) (c : ℕ) (later : StateValue) → later ≡ record { state = asked_at c (access_of s c).reads (next_tick w.state) (ticked w.state); layout = w.layout } → InHand s deferred out w → InHand s deferred out later
+  in_hand_asked deferred c later is hand = in_hand_moved deferred later (ap (λ (x : StateValue). x.state.world.slots) is) hand
 
-  -- after what needs no body
-  pub placed_quiet : (q : Quiet) (later : StateValue) → later ≡ record { state = after_quiet s q w.state; layout = w.layout } → Placed meaning fits where_is s bodies slots out later
-  placed_quiet (quiet.Ask c) later is = placed_moved later
+  pub placed_asked : (c : ℕ) (later : StateValue) → later ≡ record { state = asked_at c (access_of s c).reads (next_tick w.state) (ticked w.state); layout = w.layout } → Placed meaning fits where_is s bodies slots out later
+  placed_asked c later is = placed_moved later
       (subst (λ (x : StateValue). HasMemories s x.state) (sym is) (memories_asked s (ticked w.state) (memories_at s w.state placed.memories (next_tick w.state)) c (next_tick w.state)))
-      (let e = ap (λ (x : StateValue). x.state.world.clock) is in omega arith)
-      (ap (λ (x : StateValue). x.state.world.slots) is) (ap (λ (x : StateValue). x.layout) is)
-  placed_quiet (quiet.Skip n) later is = placed_moved later
-      (subst (λ (x : StateValue). HasMemories s x.state) (sym is) placed.memories)
       (let e = ap (λ (x : StateValue). x.state.world.clock) is in omega arith)
       (ap (λ (x : StateValue). x.state.world.slots) is) (ap (λ (x : StateValue). x.layout) is)
 
@@ -146,6 +133,15 @@ module _ {B : Type 0} (meaning : B → Params → BodyMeaning) (fits : B → Par
   pub home_end : length out ≡ 0 → IsLayoutOf w.state.world.slots w.layout → AreAllHome w.layout
   home_end none laid = all-home (store_of w) laid (placed-none none).held
 
+  -- so nothing is on
+  pub rest_end : (deferred : DeferredValue) → length out ≡ 0 → length bodies ≡ length s.systems → IsLayoutOf w.state.world.slots w.layout → AllKeepWithin s bodies → InHand s deferred out w → IsAtRest meaning fits s slots deferred w
+  rest_end deferred none count laid keeps hand = record {
+    suits = suits_end none;
+    keeps = subst (AllKeepWithin s) (sym (means_end none count)) keeps;
+    home = home_end none laid;
+    deferred_for = hand.suits;
+  }
+
 -- at the opening
 pub placed_open : {B : Type 0} (meaning : B → Params → BodyMeaning) (fits : B → Params → Bool) (where_is : Bool) (s : Schedule) (slots : List (Option B)) (out : List (JobOut B)) (w later : StateValue) → out ≡ [] →
     later ≡ record { state = opening w.state; layout = w.layout } → Suits fits s slots w.state → AreAllHome w.layout → Placed meaning fits where_is s (meanings meaning s slots) slots out later
@@ -154,8 +150,8 @@ placed_open meaning fits where_is s slots out w later none is suits home =
     (placed_opened meaning fits where_is s (meanings meaning s slots) slots [] w (placed_first meaning fits where_is s slots w suits home) later is)
 
 -- what is in hand where none is out
-pub in_hand_none : {B : Type 0} (s : Schedule) (left : LeftValue) (out : List (JobOut B)) (w : StateValue) → length out ≡ 0 → IsLeftFor s left → AreInHand w.state.world.slots left → InHand s left out w
-in_hand_none {B} s left out w none suits ids = subst (λ (xs : List (JobOut B)). InHand s left xs w) (sym (no_elements out none)) (record {
+pub in_hand_none : {B : Type 0} (s : Schedule) (deferred : DeferredValue) (out : List (JobOut B)) (w : StateValue) → length out ≡ 0 → IsDeferredFor s deferred → AreInHand w.state.world.slots deferred → InHand s deferred out w
+in_hand_none {B} s deferred out w none suits ids = subst (λ (xs : List (JobOut B)). InHand s deferred xs w) (sym (no_elements out none)) (record {
   suits = suits;
   ids = ids;
   granted = λ job i. absurd i;

@@ -14,7 +14,7 @@ use Rattle.body.specs.Lent.{lent_in}
 use Rattle.body.specs.Out.{AreOut, IsApartFrom, IsWrittenBy}
 use Rattle.body.specs.Steps.{StateValue, store_of}
 use Rattle.worker_pool.specs.JobOut.{JobOut}
-use Rattle.engine.specs.Left.{LeftValue, AreInHand, IsLeftFor, commands_at, grants_at, run_with}
+use Rattle.engine.specs.Deferred.{DeferredValue, AreInHand, IsDeferredFor, commands_at, grants_at, run_with}
 use Rattle.engine.specs.Meanings.{body_at, HasMemories}
 
 -- the running system of a job, the systems of jobs, and the columns that they hold
@@ -27,9 +27,9 @@ systems_of out = map (λ job. job.system) out
 abbrev pub held_by : {B : Type 0} → List (JobOut B) → List (List Column)
 held_by out = flat_map (λ job. job.view.opening.taken) out
 
--- the interleaved run of a state, with what systems have left, and with these jobs out
-abbrev pub woven : {B : Type 0} → State → LeftValue → List (JobOut B) → Interleaved
-woven state left out = record { run = run_with state left; running_systems = map running_of out }
+-- the interleaved run of a state, with what systems have deferred, and with these jobs out
+abbrev pub woven : {B : Type 0} → State → DeferredValue → List (JobOut B) → Interleaved
+woven state deferred out = record { run = run_with state deferred; running_systems = map running_of out }
 
 -- a job of a system of the schedule, with the parameters and the body of this, in a thread or not, started not after the clock: it holds
 -- columns that the system writes
@@ -52,6 +52,20 @@ abbrev pub AreDistinct : List ℕ → Type 0
 AreDistinct [] = Unit {0}
 AreDistinct (n ∷ ns) = (has n ns ≡ false) × AreDistinct ns
 
+-- a job has a body of the schedule, in a thread or not
+pub record HasBody {B : Type 0} (meaning : B → Params → BodyMeaning) (fits : B → Params → Bool) (there : Bool) (s : Schedule) (bodies : List BodyMeaning) (job : JobOut B) : Type 0 where
+  pub known : job.system < length s.systems
+  pub means : meaning job.body (params_of s job.system) ≡ body_of bodies job.system
+  pub fit : fits job.body (params_of s job.system) ≡ true
+  pub where_is : job.there ≡ there
+
+-- no body is lost: that of each system is at home or out, and no system is out twice
+pub record AreKept {B : Type 0} (meaning : B → Params → BodyMeaning) (fits : B → Params → Bool) (there : Bool) (s : Schedule) (bodies : List BodyMeaning) (slots : List (Option B)) (out : List (JobOut B)) : Type 0 where
+  pub body_count : length slots ≡ length s.systems
+  pub home : (n : ℕ) → n < length s.systems → IsPlaced meaning fits (params_of s n) (body_of bodies n) (has n (systems_of out)) (body_at slots n)
+  pub jobs : (job : JobOut B) → IsIn job out → HasBody meaning fits there s bodies job
+  pub distinct : AreDistinct (systems_of out)
+
 -- of each system the body is at home or out, each job is one of the schedule, no system is out twice, and what is away of the world is held
 -- by the jobs
 pub record Placed {B : Type 0} (meaning : B → Params → BodyMeaning) (fits : B → Params → Bool) (there : Bool) (s : Schedule) (bodies : List BodyMeaning) (slots : List (Option B)) (out : List (JobOut B)) (w : StateValue) : Type 0 where
@@ -62,18 +76,18 @@ pub record Placed {B : Type 0} (meaning : B → Params → BodyMeaning) (fits : 
   pub distinct : AreDistinct (systems_of out)
   pub held : AreOut (store_of w) (held_by out)
 
--- what systems have left is for the schedule, the ids are in hand, and each job was shown what its system can be shown, with the ids that this was
+-- what systems have deferred is for the schedule, the ids are in hand, and each job was shown what its system can be shown, with the ids that this was
 -- granted
-pub record InHand {B : Type 0} (s : Schedule) (left : LeftValue) (out : List (JobOut B)) (w : StateValue) : Type 0 where
-  pub suits : IsLeftFor s left
-  pub ids : AreInHand w.state.world.slots left
-  pub granted : (job : JobOut B) → IsIn job out → job.view.shown.granted ≡ grants_at left job.system
+pub record InHand {B : Type 0} (s : Schedule) (deferred : DeferredValue) (out : List (JobOut B)) (w : StateValue) : Type 0 where
+  pub suits : IsDeferredFor s deferred
+  pub ids : AreInHand w.state.world.slots deferred
+  pub granted : (job : JobOut B) → IsIn job out → job.view.shown.granted ≡ grants_at deferred job.system
   pub showing : (job : JobOut B) → IsIn job out → CanBeShown (params_of s job.system) job.view.shown
 
--- a system that may be started: it is one of the schedule, it isn't out and has left no commands, and none that is out holds a column that it
+-- a system that may be started: it is one of the schedule, it isn't out and has deferred no commands, and none that is out holds a column that it
 -- writes, or writes one that it reads
-pub record CanBegin {B : Type 0} (s : Schedule) (n : ℕ) (left : LeftValue) (out : List (JobOut B)) (w : StateValue) : Type 0 where
+pub record CanBegin {B : Type 0} (s : Schedule) (n : ℕ) (deferred : DeferredValue) (out : List (JobOut B)) (w : StateValue) : Type 0 where
   pub known : n < length s.systems
   pub home : has n (systems_of out) ≡ false
-  pub fresh : commands_at left n ≡ []
+  pub fresh : commands_at deferred n ≡ []
   pub apart : AllByRecursion (IsApartFrom (params_of s n) w.layout) (lent_in (held_by out))

@@ -1,11 +1,11 @@
 pub mod History
-pub mod Faults
+pub mod Stops
+pub mod RunsAs
 pub mod Meanings
 pub mod EngineValue
-pub mod Left
+pub mod Deferred
 pub mod Starts
 pub mod Jobs
 pub mod Stage
 pub mod Next
 pub mod FirstState
-pub mod Quiets

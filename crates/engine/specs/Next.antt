@@ -1,32 +1,55 @@
--- A turn of a run: what is known before it, and after it.
-use Rattle.std.specs.Prelude.{ℕ, Bool, List, ◌∷◌, length, Option, Some}
+-- A run between two turns, and before and after it: what is known there.
+use Rattle.std.specs.Prelude.{ℕ, ◌≡◌, Bool, List, ◌∷◌, length, Option, Some}
 use Rattle.model.specs.declared.steps.Step.{Step}
 use Rattle.model.specs.access.Access.{Params}
 use Rattle.model.specs.state.State.{State}
 use Rattle.model.specs.shown.Outcome.{BodyMeaning}
 use Rattle.model.specs.steps.Schedule.{Schedule}
 use Rattle.model.specs.steps.Lawful.{May}
+use Rattle.model.specs.runs.WideRuns.{WideStops}
+use Rattle.archetype_store.specs.Layout.{AreAllHome}
 use Rattle.body.specs.Steps.{StateValue}
 use Rattle.worker_pool.specs.JobOut.{JobOut}
-use Rattle.engine.specs.Jobs.{InHand, Placed}
-use Rattle.engine.specs.Left.{LeftValue}
-use Rattle.engine.specs.Meanings.{AllKeepWithin}
+use Rattle.engine.specs.Jobs.{AreKept, InHand, Placed}
+use Rattle.engine.specs.Deferred.{DeferredValue, IsDeferredFor}
+use Rattle.engine.specs.Meanings.{meanings, AllKeepWithin, Suits}
 use Rattle.engine.specs.Stage.{Stage, IsTurn}
+use Rattle.engine.specs.Stops.{StopsBy}
+use Rattle.engine.specs.declared.stop.Stop.{Stop}
+use Rattle.engine.specs.declared.stop.Stop.TheVariants as stop
 use Rattle.engine.specs.declared.turn.Turn.{Turn}
 
+-- no run is on: there is a body and there are memories for each system, the bodies keep within their parameters, all columns are at home, and what
+-- is deferred is for the schedule
+pub record IsAtRest {B : Type 0} (meaning : B → Params → BodyMeaning) (fits : B → Params → Bool) (s : Schedule) (slots : List (Option B)) (deferred : DeferredValue) (w : StateValue) : Type 0 where
+  pub suits : Suits fits s slots w.state
+  pub keeps : AllKeepWithin s (meanings meaning s slots)
+  pub home : AreAllHome w.layout
+  pub deferred_for : IsDeferredFor s deferred
+
 -- where a run stands after this history: what the meaning of it is, where bodies and columns are, and what is granted
-pub record IsBetween {B : Type 0} (meaning : B → Params → BodyMeaning) (fits : B → Params → Bool) (there : Bool) (width : ℕ) (s : Schedule) (bodies : List BodyMeaning) (start : State) (h : List Step) (slots : List (Option B)) (left : LeftValue) (out : List (JobOut B)) (w : StateValue) : Type 0 where
-  pub stage : Stage width s bodies start h w.state left out
+pub record IsBetween {B : Type 0} (meaning : B → Params → BodyMeaning) (fits : B → Params → Bool) (there : Bool) (width : ℕ) (s : Schedule) (bodies : List BodyMeaning) (start : State) (h : List Step) (slots : List (Option B)) (deferred : DeferredValue) (out : List (JobOut B)) (w : StateValue) : Type 0 where
+  pub stage : Stage width s bodies start h w.state deferred out
   pub placed : Placed meaning fits there s bodies slots out w
-  pub hand : InHand s left out w
+  pub hand : InHand s deferred out w
 
 -- a run stands so, its bodies keep within their parameters, and this turn is next
-pub record IsNext {B : Type 0} (meaning : B → Params → BodyMeaning) (fits : B → Params → Bool) (there : Bool) (width : ℕ) (s : Schedule) (bodies : List BodyMeaning) (start : State) (h : List Step) (slots : List (Option B)) (left : LeftValue) (out : List (JobOut B)) (w : StateValue) (turn : Turn) : Type 0 where
-  pub between : IsBetween meaning fits there width s bodies start h slots left out w
+pub record IsNext {B : Type 0} (meaning : B → Params → BodyMeaning) (fits : B → Params → Bool) (there : Bool) (width : ℕ) (s : Schedule) (bodies : List BodyMeaning) (start : State) (h : List Step) (slots : List (Option B)) (deferred : DeferredValue) (out : List (JobOut B)) (w : StateValue) (turn : Turn) : Type 0 where
+  pub between : IsBetween meaning fits there width s bodies start h slots deferred out w
   pub keeps : AllKeepWithin s bodies
   pub following : IsTurn s h (length out) width (Some turn)
 
 -- the step of a turn might come, and the run stands so after it
-pub record IsTaken {B : Type 0} (meaning : B → Params → BodyMeaning) (fits : B → Params → Bool) (there : Bool) (width : ℕ) (s : Schedule) (bodies : List BodyMeaning) (start : State) (h : List Step) (slots : List (Option B)) (left : LeftValue) (out : List (JobOut B)) (w : StateValue) (step : Step) : Type 0 where
+pub record IsTaken {B : Type 0} (meaning : B → Params → BodyMeaning) (fits : B → Params → Bool) (there : Bool) (width : ℕ) (s : Schedule) (bodies : List BodyMeaning) (start : State) (h : List Step) (slots : List (Option B)) (deferred : DeferredValue) (out : List (JobOut B)) (w : StateValue) (step : Step) : Type 0 where
   pub may : May s h step
-  pub between : IsBetween meaning fits there width s bodies start (step ∷ h) slots left out w
+  pub between : IsBetween meaning fits there width s bodies start (step ∷ h) slots deferred out w
+
+-- what a stop at a turn means, wherever this may be next
+abbrev pub StopsNext : {B : Type 0} → (B → Params → BodyMeaning) → (B → Params → Bool) → Bool → ℕ → Schedule → List (Option B) → DeferredValue → List (JobOut B) → StateValue → Turn → Stop → Type 0
+StopsNext meaning fits there width s slots deferred out w turn told =
+    (bodies : List BodyMeaning) (start : State) (h : List Step) → IsNext meaning fits there width s bodies start h slots deferred out w turn → StopsBy there (WideStops width s bodies start) told
+
+-- no body is lost by a turn, wherever this may be next, but where a worker was wanting
+abbrev pub KeepsNext : {B : Type 0} → (B → Params → BodyMeaning) → (B → Params → Bool) → Bool → ℕ → Schedule → List (Option B) → DeferredValue → List (JobOut B) → StateValue → Turn → List (Option B) → List (JobOut B) → Stop → Type 0
+KeepsNext meaning fits there width s slots deferred out w turn slots_later out_later told = (told ≡ stop.NoWorker → ⊥) →
+    (bodies : List BodyMeaning) (start : State) (h : List Step) → IsNext meaning fits there width s bodies start h slots deferred out w turn → AreKept meaning fits there s bodies slots_later out_later

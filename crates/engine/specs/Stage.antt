@@ -1,41 +1,36 @@
 -- Where a run stands between two turns.
-use Rattle.std.specs.Prelude.{ℕ, ◌<◌, ◌≤◌, ◌≡◌, ◌⊎◌, List, length, Option, Some, None}
+use Rattle.std.specs.Prelude.{ℕ, Bool, ◌<◌, ◌≤◌, ◌≡◌, ◌⊎◌, List, length, Option, Some, None}
 use Rattle.model.specs.declared.steps.Step.{Step}
 use Rattle.model.specs.declared.steps.Ready.{Ready}
-use Rattle.model.specs.declared.steps.Ready.TheVariants as ready
 use Rattle.model.specs.state.State.{State}
 use Rattle.model.specs.shown.Outcome.{BodyMeaning}
 use Rattle.model.specs.steps.Schedule.{Schedule}
-use Rattle.model.specs.steps.Lawful.{MayAsk, MaySkip, MayStart, MaySync, NoneRuns, IsComplete}
-use Rattle.model.specs.steps.Ready.{IsReady}
+use Rattle.model.specs.steps.Lawful.{May, NoneRuns, IsComplete}
+use Rattle.model.specs.steps.Ready.{IsReady, step_of}
 use Rattle.model.specs.steps.Widths.{IsWide, running_after}
 use Rattle.model.specs.runs.Meaning.{interleaved, HasTrueAnswers}
 use Rattle.worker_pool.specs.JobOut.{JobOut}
 use Rattle.engine.specs.Jobs.{woven}
-use Rattle.engine.specs.Left.{LeftValue}
+use Rattle.engine.specs.Deferred.{DeferredValue}
 use Rattle.engine.specs.declared.turn.Turn.{Turn}
 use Rattle.engine.specs.declared.turn.Turn.TheVariants as turn
-use Rattle.engine.specs.declared.turn.Quiet.TheVariants as quiet
 
--- after this history as many systems run as jobs are out, and the interleaved meaning is this state with what is left and these jobs out
-pub record Stage {B : Type 0} (width : ℕ) (s : Schedule) (bodies : List BodyMeaning) (start : State) (h : List Step) (state : State) (left : LeftValue) (out : List (JobOut B)) : Type 0 where
+-- after this history as many systems run as jobs are out, and the interleaved meaning is this state with what is deferred and these jobs out
+pub record Stage {B : Type 0} (width : ℕ) (s : Schedule) (bodies : List BodyMeaning) (start : State) (h : List Step) (state : State) (deferred : DeferredValue) (out : List (JobOut B)) : Type 0 where
   pub wide : IsWide width s h
   pub running : length (running_after h) ≡ length out
   pub room : length out ≤ width
   pub answers : HasTrueAnswers s bodies start h
-  pub meaning : interleaved s bodies start h ≡ Some (woven state left out)
+  pub meaning : interleaved s bodies start h ≡ Some (woven state deferred out)
 
--- there is room for one more running system, and this is what is ready
-pub record IsTake (s : Schedule) (h : List Step) (running width : ℕ) (offer : Ready) (may : Type 0) : Type 0 where
+-- there is room for one more running system, and this is what is ready, and may come whatever a condition answers
+pub record IsTake (s : Schedule) (h : List Step) (running width : ℕ) (offer : Ready) : Type 0 where
   pub room : running < width
   pub is : IsReady s h (Some offer)
-  pub allowed : may
+  pub allowed : (answer : Bool) → May s h (step_of offer answer)
 
 -- what is next: what is ready where there is room, else a job that comes back, and none where nothing is ready and nothing runs
 abbrev pub IsTurn : Schedule → List Step → ℕ → ℕ → Option Turn → Type 0
 IsTurn s h running width None = (running ≡ 0) × (NoneRuns h → IsComplete s h)
-IsTurn s h running width (Some (turn.Start n)) = IsTake s h running width (ready.Start n) (MayStart s h n)
-IsTurn s h running width (Some (turn.Quiet (quiet.Ask c))) = IsTake s h running width (ready.Ask c) (MayAsk s h c)
-IsTurn s h running width (Some (turn.Quiet (quiet.Skip n))) = IsTake s h running width (ready.Skip n) (MaySkip s h n)
-IsTurn s h running width (Some (turn.Sync k)) = IsTake s h running width (ready.Sync k) (MaySync s h k)
+IsTurn s h running width (Some (turn.Take offer)) = IsTake s h running width offer
 IsTurn s h running width (Some turn.Collect) = (0 < running) × ((running ≡ width) ⊎ IsReady s h None)

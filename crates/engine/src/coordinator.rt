@@ -1,185 +1,122 @@
 // The turns of a run: what is ready is done while there is room for one more running system, else a job is waited for.
 
-ghost use Rattle.std.specs.Prelude.{◌≡◌, ◌<◌, ◌⊎◌, ◌∷◌, [], ℕ, List, length, reverse, map, true, Some, Err, OnOk, IfOk};
+ghost use Rattle.std.specs.Prelude.{◌≡◌, ◌<◌, ◌∷◌, [], ℕ, List, length, reverse, map, true, Some, Err, OnOk, IfErr, IfOk};
 ghost use Rattle.model.specs.declared.steps.Step.{Step as Action};
 ghost use Rattle.model.specs.state.State.{State};
 ghost use Rattle.model.specs.shown.Outcome.{BodyMeaning};
 ghost use Rattle.model.specs.steps.Lawful.{May};
-ghost use Rattle.model.specs.runs.Causes.{Cause};
 ghost use Rattle.model.specs.runs.WideRuns.{IsWideRun, AreWideRuns, WideStops, IsWideStopped};
-ghost use Rattle.archetype_store.specs.Layout.{AreAllHome};
 ghost use Rattle.executor_core.specs.Stands.{Stands};
-ghost use Rattle.engine.specs.Left.{IsLeftFor, IsNothingLeft};
-ghost use Rattle.engine.specs.Meanings.{meanings, AllKeepWithin, Suits};
+ghost use Rattle.engine.specs.Jobs.{AreKept};
+ghost use Rattle.engine.specs.Meanings.{meanings};
 ghost use Rattle.engine.specs.History.{history_of};
-ghost use Rattle.engine.specs.Next.{IsNext, IsTaken};
+ghost use Rattle.engine.specs.Next.{IsAtRest, IsNext, IsTaken, KeepsNext, StopsNext};
+ghost use Rattle.engine.specs.Stops.{StopsBy};
+ghost use Rattle.engine.specs.declared.stop.Stop.TheVariants as stop;
 
-use crate::effects::{do_quiet, finish, open, start};
-use crate::faults::RunFault;
-use crate::left::Left;
+use crate::jobs::{Jobs, bring_home, finish, start};
+use crate::run_state::RunState;
+use crate::stop::Stop;
 use crate::turn::{Turn, next_turn};
-use body::open_state::OpenState;
 use body::system_body::Body;
-use executor_core::{Core, Step, Trace};
+use executor_core::{Core, Ready, Step, Trace};
 use schedule_builder::built::Built;
-use std::alloc::{AllocError, Global};
-use worker_pool::{Mode, Pool, drain};
+use std::alloc::AllocError;
+use worker_pool::Mode;
 
-/// The runs of a schedule, one after the other.
+/// The runs of a schedule, one after the other. After a stop all jobs have come back, and their bodies are in their places.
 pub(crate) fn run_times<'s, M: Mode<'s>, B: Body + 's>(
-    alloc: Global,
     built: &Built,
-    slots: &mut [Option<B>],
-    state: &mut OpenState,
-    left: &mut Left,
+    run: &mut RunState,
+    jobs: &mut Jobs<B>,
     times: u32,
     mode: &M,
-) -> Result<Vec<Trace>, RunFault>
-    requires suits { Suits B.fits built.now slots.old state.old.state }
-    requires keeps { AllKeepWithin built.now (meanings B.meaning built.now slots.old) }
-    requires home { AreAllHome state.old.layout }
-    requires left { IsLeftFor built.now left.old }
+) -> Result<Vec<Trace>, Stop>
+    requires rest { IsAtRest B.meaning B.fits built.now jobs.old.bodies run.old.deferred run.old.state }
+    requires empty { jobs.old.pool ≡ [] }
     ensures count { IfOk result (λ traces. length traces.items ≡ times) }
-    ensures ran { IfOk result (λ traces. AreWideRuns (M.width mode.now) built.now (meanings B.meaning built.now slots.old) state.old.state (map history_of traces.items) state.new.state) }
-    ensures clock { result ≡ Err RunFault.ClockSpent → IsWideStopped (M.width mode.now) built.now (meanings B.meaning built.now slots.old) times state.old.state Cause.NoTick ⊎ IsWideStopped (M.width mode.now) built.now (meanings B.meaning built.now slots.old) times state.old.state Cause.NoEventNumber }
-    ensures ids { result ≡ Err RunFault.IdsSpent → IsWideStopped (M.width mode.now) built.now (meanings B.meaning built.now slots.old) times state.old.state Cause.NoIds }
-    ensures refusal { (k : ℕ) → result ≡ Err (RunFault.BodyFault k) → IsWideStopped (M.width mode.now) built.now (meanings B.meaning built.now slots.old) times state.old.state (Cause.Refused k) }
-    ensures worker { result ≡ Err RunFault.NoWorker → M.has_scope mode.now ≡ true }
-    ensures unspoiled { result ≡ Err RunFault.Spoiled → ⊥ }
-    ensures suits { OnOk result (Suits B.fits built.now slots.new state.new.state) }
-    ensures meanings { OnOk result (meanings B.meaning built.now slots.new ≡ meanings B.meaning built.now slots.old) }
-    ensures home { OnOk result (AreAllHome state.new.layout) }
-    ensures left { OnOk result (IsLeftFor built.now left.new) }
+    ensures ran { IfOk result (λ traces. AreWideRuns (M.width mode.now) built.now (meanings B.meaning built.now jobs.old.bodies) run.old.state.state (map history_of traces.items) run.new.state.state) }
+    ensures rest { OnOk result (IsAtRest B.meaning B.fits built.now jobs.new.bodies run.new.deferred run.new.state) }
+    ensures stopped { IfErr result (StopsBy (M.has_scope mode.now) (IsWideStopped (M.width mode.now) built.now (meanings B.meaning built.now jobs.old.bodies) times run.old.state.state)) }
+    ensures meanings { (result ≡ Err stop.NoWorker → ⊥) → meanings B.meaning built.now jobs.new.bodies ≡ meanings B.meaning built.now jobs.old.bodies }
 {
-    let mut traces = Vec::new(alloc);
+    let mut traces = Vec::new(run.alloc);
     for _run in 0..times {
-        let trace = run_once(alloc, built, slots, state, left, mode)?;
-        traces.push(trace)?;
+        match run_turns(built, run, jobs, mode) {
+            Ok(trace) => traces.push(trace)?,
+            Err(stop) => {
+                bring_home(jobs, mode)?;
+                return Err(stop);
+            }
+        }
     }
     Ok(traces)
 }
 
-// One run.
-fn run_once<'s, M: Mode<'s>, B: Body + 's>(
-    alloc: Global,
-    built: &Built,
-    slots: &mut [Option<B>],
-    state: &mut OpenState,
-    left: &mut Left,
-    mode: &M,
-) -> Result<Trace, RunFault>
-    requires suits { Suits B.fits built.now slots.old state.old.state }
-    requires keeps { AllKeepWithin built.now (meanings B.meaning built.now slots.old) }
-    requires home { AreAllHome state.old.layout }
-    requires left { IsLeftFor built.now left.old }
-    ensures ran { IfOk result (λ trace. IsWideRun (M.width mode.now) built.now (meanings B.meaning built.now slots.old) state.old.state (history_of trace) state.new.state) }
-    ensures clock { result ≡ Err RunFault.ClockSpent → WideStops (M.width mode.now) built.now (meanings B.meaning built.now slots.old) state.old.state Cause.NoTick ⊎ WideStops (M.width mode.now) built.now (meanings B.meaning built.now slots.old) state.old.state Cause.NoEventNumber }
-    ensures ids { result ≡ Err RunFault.IdsSpent → WideStops (M.width mode.now) built.now (meanings B.meaning built.now slots.old) state.old.state Cause.NoIds }
-    ensures refusal { (k : ℕ) → result ≡ Err (RunFault.BodyFault k) → WideStops (M.width mode.now) built.now (meanings B.meaning built.now slots.old) state.old.state (Cause.Refused k) }
-    ensures worker { result ≡ Err RunFault.NoWorker → M.has_scope mode.now ≡ true }
-    ensures unspoiled { result ≡ Err RunFault.Spoiled → ⊥ }
-    ensures suits { OnOk result (Suits B.fits built.now slots.new state.new.state) }
-    ensures meanings { OnOk result (meanings B.meaning built.now slots.new ≡ meanings B.meaning built.now slots.old) }
-    ensures home { OnOk result (AreAllHome state.new.layout) }
-    ensures left { OnOk result (IsLeftFor built.now left.new) }
-{
-    let mut pool = Pool::new(alloc);
-    left.clear();
-    let trace = run_turns(alloc, built, slots, state, left, &mut pool, mode);
-    drain(&mut pool, mode);
-    trace
-}
-
-// The turns of a run. After an error jobs may still be out.
+// The turns of a run. After a stop jobs may still be out.
 fn run_turns<'s, M: Mode<'s>, B: Body + 's>(
-    alloc: Global,
     built: &Built,
-    slots: &mut [Option<B>],
-    state: &mut OpenState,
-    left: &mut Left,
-    pool: &mut Pool<B>,
+    run: &mut RunState,
+    jobs: &mut Jobs<B>,
     mode: &M,
-) -> Result<Trace, RunFault>
-    requires suits { Suits B.fits built.now slots.old state.old.state }
-    requires keeps { AllKeepWithin built.now (meanings B.meaning built.now slots.old) }
-    requires home { AreAllHome state.old.layout }
-    requires left { IsLeftFor built.now left.old }
-    requires empty { pool.old ≡ [] }
-    requires nothing { IsNothingLeft left.old }
-    ensures ran { IfOk result (λ trace. IsWideRun (M.width mode.now) built.now (meanings B.meaning built.now slots.old) state.old.state (history_of trace) state.new.state) }
-    ensures clock { result ≡ Err RunFault.ClockSpent → WideStops (M.width mode.now) built.now (meanings B.meaning built.now slots.old) state.old.state Cause.NoTick ⊎ WideStops (M.width mode.now) built.now (meanings B.meaning built.now slots.old) state.old.state Cause.NoEventNumber }
-    ensures ids { result ≡ Err RunFault.IdsSpent → WideStops (M.width mode.now) built.now (meanings B.meaning built.now slots.old) state.old.state Cause.NoIds }
-    ensures refusal { (k : ℕ) → result ≡ Err (RunFault.BodyFault k) → WideStops (M.width mode.now) built.now (meanings B.meaning built.now slots.old) state.old.state (Cause.Refused k) }
-    ensures worker { result ≡ Err RunFault.NoWorker → M.has_scope mode.now ≡ true }
-    ensures unspoiled { result ≡ Err RunFault.Spoiled → ⊥ }
-    ensures suits { OnOk result (Suits B.fits built.now slots.new state.new.state) }
-    ensures meanings { OnOk result (meanings B.meaning built.now slots.new ≡ meanings B.meaning built.now slots.old) }
-    ensures home { OnOk result (AreAllHome state.new.layout) }
-    ensures left { OnOk result (IsLeftFor built.now left.new) }
+) -> Result<Trace, Stop>
+    requires rest { IsAtRest B.meaning B.fits built.now jobs.old.bodies run.old.deferred run.old.state }
+    requires empty { jobs.old.pool ≡ [] }
+    ensures ran { IfOk result (λ trace. IsWideRun (M.width mode.now) built.now (meanings B.meaning built.now jobs.old.bodies) run.old.state.state (history_of trace) run.new.state.state) }
+    ensures rest { OnOk result (IsAtRest B.meaning B.fits built.now jobs.new.bodies run.new.deferred run.new.state) }
+    ensures empty { OnOk result (jobs.new.pool ≡ []) }
+    ensures stopped { IfErr result (StopsBy (M.has_scope mode.now) (WideStops (M.width mode.now) built.now (meanings B.meaning built.now jobs.old.bodies) run.old.state.state)) }
+    ensures kept { (result ≡ Err stop.NoWorker → ⊥) → AreKept B.meaning B.fits (M.has_scope mode.now) built.now (meanings B.meaning built.now jobs.old.bodies) jobs.new.bodies jobs.new.pool }
 {
     let width = mode.width();
-    let mut core = Core::new(alloc, built)?;
-    let mut steps = Vec::new(alloc);
-    let mut started: u64 = 0;
-    open(state)?;
-    while let Some(turn) = next_turn(&core, pool.count(), width) {
-        let step = do_turn(
-            alloc,
-            built,
-            slots,
-            state,
-            left,
-            pool,
-            mode,
-            &mut started,
-            turn,
-        )?;
+    let mut core = Core::new(run.alloc, built)?;
+    let mut steps = Vec::new(run.alloc);
+    jobs.started = 0;
+    run.deferred.clear();
+    run.open()?;
+    while let Some(turn) = next_turn(&core, jobs.pool.count(), width) {
+        let step = do_turn(built, run, jobs, mode, turn)?;
         take(&mut core, &mut steps, step)?;
     }
-    state.law();
+    run.state.law();
     Ok(Trace { steps })
 }
 
-// Does what is next, and gives the step that it is. So many jobs were started in this run.
+// Does what is next, and gives the step that it is.
 fn do_turn<'s, M: Mode<'s>, B: Body + 's>(
-    alloc: Global,
     built: &Built,
-    slots: &mut [Option<B>],
-    state: &mut OpenState,
-    left: &mut Left,
-    pool: &mut Pool<B>,
+    run: &mut RunState,
+    jobs: &mut Jobs<B>,
     mode: &M,
-    started: &mut u64,
     turn: Turn,
-) -> Result<Step, RunFault>
-    requires next { (bodies : List BodyMeaning) × (start : State) × (h : List Action) × IsNext B.meaning B.fits (M.has_scope mode.now) (M.width mode.now) built.now bodies start h slots.old left.old pool.old state.old turn }
-    ensures taken { IfOk result (λ step. (bodies : List BodyMeaning) → (start : State) → (h : List Action) → IsNext B.meaning B.fits (M.has_scope mode.now) (M.width mode.now) built.now bodies start h slots.old left.old pool.old state.old turn → IsTaken B.meaning B.fits (M.has_scope mode.now) (M.width mode.now) built.now bodies start h slots.new left.new pool.new state.new step) }
-    ensures clock { result ≡ Err RunFault.ClockSpent → (bodies : List BodyMeaning) → (start : State) → (h : List Action) → IsNext B.meaning B.fits (M.has_scope mode.now) (M.width mode.now) built.now bodies start h slots.old left.old pool.old state.old turn → WideStops (M.width mode.now) built.now bodies start Cause.NoTick ⊎ WideStops (M.width mode.now) built.now bodies start Cause.NoEventNumber }
-    ensures ids { result ≡ Err RunFault.IdsSpent → (bodies : List BodyMeaning) → (start : State) → (h : List Action) → IsNext B.meaning B.fits (M.has_scope mode.now) (M.width mode.now) built.now bodies start h slots.old left.old pool.old state.old turn → WideStops (M.width mode.now) built.now bodies start Cause.NoIds }
-    ensures refusal { (k : ℕ) → result ≡ Err (RunFault.BodyFault k) → (bodies : List BodyMeaning) → (start : State) → (h : List Action) → IsNext B.meaning B.fits (M.has_scope mode.now) (M.width mode.now) built.now bodies start h slots.old left.old pool.old state.old turn → WideStops (M.width mode.now) built.now bodies start (Cause.Refused k) }
-    ensures worker { result ≡ Err RunFault.NoWorker → M.has_scope mode.now ≡ true }
-    ensures unspoiled { result ≡ Err RunFault.Spoiled → ⊥ }
+) -> Result<Step, Stop>
+    requires next { (bodies : List BodyMeaning) × (start : State) × (h : List Action) × IsNext B.meaning B.fits (M.has_scope mode.now) (M.width mode.now) built.now bodies start h jobs.old.bodies run.old.deferred jobs.old.pool run.old.state turn }
+    ensures taken { IfOk result (λ step. (bodies : List BodyMeaning) → (start : State) → (h : List Action) → IsNext B.meaning B.fits (M.has_scope mode.now) (M.width mode.now) built.now bodies start h jobs.old.bodies run.old.deferred jobs.old.pool run.old.state turn → IsTaken B.meaning B.fits (M.has_scope mode.now) (M.width mode.now) built.now bodies start h jobs.new.bodies run.new.deferred jobs.new.pool run.new.state step) }
+    ensures stopped { IfErr result (StopsNext B.meaning B.fits (M.has_scope mode.now) (M.width mode.now) built.now jobs.old.bodies run.old.deferred jobs.old.pool run.old.state turn) }
+    ensures kept { IfErr result (KeepsNext B.meaning B.fits (M.has_scope mode.now) (M.width mode.now) built.now jobs.old.bodies run.old.deferred jobs.old.pool run.old.state turn jobs.new.bodies jobs.new.pool) }
 {
     match turn {
-        Turn::Start(system) => {
-            *started = started.saturating_add(1);
-            start(
-                alloc, built, slots, state, left, pool, mode, system, *started,
-            )?;
-            Ok(Step::Start(system))
-        }
-        Turn::Quiet(quiet) => {
-            state.law();
-            do_quiet(alloc, built, state, quiet)
-        }
-        Turn::Sync(point) => {
-            state.law();
-            left.sync(alloc, built, state, point)?;
-            Ok(Step::Sync(point))
-        }
         Turn::Collect => {
-            let system = finish(built, slots, state, left, pool, mode)?;
+            let system = finish(built, run, jobs, mode)?;
             Ok(Step::Finish(system))
+        }
+        Turn::Take(ready) => {
+            run.state.law();
+            match ready {
+                Ready::Start(system) => {
+                    start(built, run, jobs, mode, system)?;
+                    Ok(Step::Start(system))
+                }
+                Ready::Ask(condition) => {
+                    let answer = run.ask(built, condition)?;
+                    Ok(Step::Cond(condition, answer))
+                }
+                Ready::Skip(system) => Ok(Step::Skip(system)),
+                Ready::Sync(point) => {
+                    run.sync(built, point)?;
+                    Ok(Step::Sync(point))
+                }
+            }
         }
     }
 }

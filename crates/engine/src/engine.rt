@@ -1,18 +1,17 @@
 // The engine: a built schedule with a body for each system, over a state.
 
-ghost use Rattle.std.specs.Prelude.{◌≡◌, ◌↔◌, ◌⊎◌, ℕ, length, map, false, true, Some, Err, IfOk, OnOk, IsOk, IsErr, IsErrOf, IsTrue};
-ghost use Rattle.model.specs.runs.Runs.{AreSingleRuns, AreSoundRuns, HasRuns, IsStopped};
-ghost use Rattle.model.specs.runs.WideRuns.{AreWideRuns, IsWideStopped};
-ghost use Rattle.model.specs.runs.Causes.{Cause};
-ghost use Rattle.model.specs.state.Agreement.{AgreesWithAll};
-ghost use Rattle.kinds.specs.Components.{widths};
+ghost use Rattle.std.specs.Prelude.{◌≡◌, ◌↔◌, ℕ, map, false, Some, Err, IfErr, IfOk, IsErr, IsErrOf, IsTrue};
 ghost use Rattle.engine.specs.Meanings.{meanings, Miscounts, IsFirstMisfit};
-ghost use Rattle.engine.specs.History.{history_of};
+ghost use Rattle.engine.specs.RunsAs.{RunsAs};
+ghost use Rattle.engine.specs.Stops.{StopsAs};
 
+use crate::bodies::Bodies;
 use crate::coordinator::run_times;
+use crate::deferred::Deferred;
 use crate::faults::{NewFault, RunFault};
-use crate::fitting::{check_parts, placed};
-use crate::left::Left;
+use crate::fitting::check_parts;
+use crate::jobs::Jobs;
+use crate::run_state::RunState;
 use body::state::State;
 use body::system_body::Body;
 use executor_core::Trace;
@@ -21,32 +20,32 @@ use schedule_builder::built::Built;
 use std::alloc::Global;
 use std::marker::Model;
 use std::mem;
-use worker_pool::Mode;
+use worker_pool::{Mode, Pool};
 
 /// A built schedule with a body for each system, and the state. Contracts see the schedule, the bodies, the state, and whether
-/// the engine is spoiled, as it is once a run stopped by a fault. A body that was lost with a fault is none.
+/// the engine is spoiled, as it is once a run stopped by a fault. A body that was lost with a thread is none.
 #[derive(Drop)]
 pub struct Engine<B: Body> {
     built: Built,
-    bodies: Vec<Option<B>>,
+    bodies: Bodies<B>,
     state: State,
-    left: Left,
+    deferred: Deferred,
     spoiled: bool,
 }
 
 impl<B: Body> Model for Engine<B> {
     ghost use Rattle.std.specs.Prelude.{◌≡◌, false};
     ghost use Rattle.engine.specs.EngineValue.{EngineValue, engine_code};
-    ghost use Rattle.engine.specs.Left.{IsLeftFor};
+    ghost use Rattle.engine.specs.Deferred.{IsDeferredFor};
     ghost use Rattle.engine.specs.Meanings.{meanings, AllKeepWithin, Suits};
 
     ghost Value = { EngineValue B };
 
     ghost coded = { engine_code B.code };
 
-    ghost view = { λ e. record { schedule = e.built; bodies = e.bodies.items; state = e.state; spoiled = e.spoiled } };
+    ghost view = { λ e. record { schedule = e.built; bodies = e.bodies; state = e.state; spoiled = e.spoiled } };
 
-    ghost invariant = { λ e. e.spoiled ≡ false → Suits B.fits e.built e.bodies.items e.state × AllKeepWithin e.built (meanings B.meaning e.built e.bodies.items) × IsLeftFor e.built e.left };
+    ghost invariant = { λ e. e.spoiled ≡ false → Suits B.fits e.built e.bodies e.state × AllKeepWithin e.built (meanings B.meaning e.built e.bodies) × IsDeferredFor e.built e.deferred };
 }
 
 impl<B: Body> Engine<B> {
@@ -60,21 +59,22 @@ impl<B: Body> Engine<B> {
         if let Err(fault) = check_parts(&built, &bodies, &state) {
             return Err(fault);
         }
-        let bodies = placed(alloc, bodies)?;
-        let left = Left::new(alloc, &built)?;
+        let bodies = Bodies::all(alloc, bodies)?;
+        let deferred = Deferred::new(alloc, &built)?;
         Ok(Engine {
             built,
             bodies,
             state,
-            left,
+            deferred,
             spoiled: false,
         })
     }
 
     /// Runs the schedule so many times, in the mode: each run opens, does what is ready while fewer systems run than the mode has room for,
     /// waits for one that ends else, and answers its trace once all have ended. `Memory` where an allocation fails, `ClockSpent` where a step
-    /// has no next tick or an event no number, `IdsSpent` where a start lacks its ids, `BodyFault` where a body refuses, `NoWorker` where a thread couldn't be started; each spoils the engine, and from
-    /// then on every run answers `Spoiled` and changes nothing. What the state is after a fault isn't said: that of the run is gone. Where the
+    /// has no next tick or an event no number, `IdsSpent` where a start lacks its ids, `BodyFault` where a body refuses, `NoWorker` where a
+    /// thread couldn't be started; each spoils the engine, and from then on every run answers `Spoiled` and changes nothing. What the state is
+    /// after a fault isn't said: that of the run is gone. The bodies come home, and mean what they meant, but where a thread was wanting. Where the
     /// schedule is settled, the state agrees with what any as many runs with true answers leave of any state that agrees with the one before.
     pub fn run<'s, M: Mode<'s>>(
         &mut self,
@@ -84,23 +84,13 @@ impl<B: Body> Engine<B> {
     ) -> Result<Vec<Trace>, RunFault>
     where
         B: 's,
-        ensures ran { IfOk result (λ traces. (length traces.items ≡ times) × AreWideRuns (M.width mode.now) self.old.schedule (meanings B.meaning self.old.schedule self.old.bodies) self.old.state (map history_of traces.items) self.new.state) }
-        ensures sound { IfOk result (λ traces. AreSoundRuns self.old.schedule (meanings B.meaning self.old.schedule self.old.bodies) self.old.state (map history_of traces.items) self.new.state) }
-        ensures single { IfOk result (λ traces. M.width mode.now ≡ 1 → AreSingleRuns self.old.schedule (meanings B.meaning self.old.schedule self.old.bodies) self.old.state (map history_of traces.items) self.new.state) }
-        ensures agreement { IfOk result (λ traces. AgreesWithAll widths self.old.schedule (meanings B.meaning self.old.schedule self.old.bodies) self.old.state times self.new.state) }
-        ensures clock { result ≡ Err RunFault.ClockSpent → IsWideStopped (M.width mode.now) self.old.schedule (meanings B.meaning self.old.schedule self.old.bodies) times self.old.state Cause.NoTick ⊎ IsWideStopped (M.width mode.now) self.old.schedule (meanings B.meaning self.old.schedule self.old.bodies) times self.old.state Cause.NoEventNumber }
-        ensures ids { result ≡ Err RunFault.IdsSpent → IsWideStopped (M.width mode.now) self.old.schedule (meanings B.meaning self.old.schedule self.old.bodies) times self.old.state Cause.NoIds }
-        ensures refusal { (k : ℕ) → result ≡ Err (RunFault.BodyFault k) → IsWideStopped (M.width mode.now) self.old.schedule (meanings B.meaning self.old.schedule self.old.bodies) times self.old.state (Cause.Refused k) }
-        ensures single_clock { result ≡ Err RunFault.ClockSpent → M.width mode.now ≡ 1 → IsStopped self.old.schedule (meanings B.meaning self.old.schedule self.old.bodies) times self.old.state Cause.NoTick ⊎ IsStopped self.old.schedule (meanings B.meaning self.old.schedule self.old.bodies) times self.old.state Cause.NoEventNumber }
-        ensures single_ids { result ≡ Err RunFault.IdsSpent → M.width mode.now ≡ 1 → IsStopped self.old.schedule (meanings B.meaning self.old.schedule self.old.bodies) times self.old.state Cause.NoIds }
-        ensures single_refusal { (k : ℕ) → result ≡ Err (RunFault.BodyFault k) → M.width mode.now ≡ 1 → IsStopped self.old.schedule (meanings B.meaning self.old.schedule self.old.bodies) times self.old.state (Cause.Refused k) }
-        ensures defined { M.width mode.now ≡ 1 → HasRuns self.old.schedule (meanings B.meaning self.old.schedule self.old.bodies) times self.old.state → IsOk result ⊎ IsErrOf result RunFault.Memory ⊎ IsErrOf result RunFault.NoWorker ⊎ IsErrOf result RunFault.Spoiled }
-        ensures worker { result ≡ Err RunFault.NoWorker → M.has_scope mode.now ≡ true }
+        ensures ran { IfOk result (λ traces. RunsAs (M.width mode.now) self.old.schedule (meanings B.meaning self.old.schedule self.old.bodies) times self.old.state self.new.state traces.items) }
+        ensures stopped { IfErr result (StopsAs (M.has_scope mode.now) (M.width mode.now) self.old.schedule (meanings B.meaning self.old.schedule self.old.bodies) times self.old.state) }
         ensures spoiled { IsErrOf result RunFault.Spoiled ↔ IsTrue self.old.spoiled }
         ensures spoils { IsTrue self.new.spoiled ↔ IsErr result }
         ensures unchanged { result ≡ Err RunFault.Spoiled → self.new ≡ self.old }
         ensures schedule { self.new.schedule ≡ self.old.schedule }
-        ensures meanings { OnOk result (meanings B.meaning self.old.schedule self.new.bodies ≡ meanings B.meaning self.old.schedule self.old.bodies) }
+        ensures meanings { (result ≡ Err RunFault.NoWorker → ⊥) → meanings B.meaning self.old.schedule self.new.bodies ≡ meanings B.meaning self.old.schedule self.old.bodies }
     {
         run_engine(self, alloc, times, mode)
     }
@@ -120,23 +110,13 @@ fn run_engine<'s, M: Mode<'s>, B: Body + 's>(
     times: u32,
     mode: &M,
 ) -> Result<Vec<Trace>, RunFault>
-    ensures ran { IfOk result (λ traces. (length traces.items ≡ times) × AreWideRuns (M.width mode.now) engine.old.schedule (meanings B.meaning engine.old.schedule engine.old.bodies) engine.old.state (map history_of traces.items) engine.new.state) }
-    ensures sound { IfOk result (λ traces. AreSoundRuns engine.old.schedule (meanings B.meaning engine.old.schedule engine.old.bodies) engine.old.state (map history_of traces.items) engine.new.state) }
-    ensures single { IfOk result (λ traces. M.width mode.now ≡ 1 → AreSingleRuns engine.old.schedule (meanings B.meaning engine.old.schedule engine.old.bodies) engine.old.state (map history_of traces.items) engine.new.state) }
-    ensures agreement { IfOk result (λ traces. AgreesWithAll widths engine.old.schedule (meanings B.meaning engine.old.schedule engine.old.bodies) engine.old.state times engine.new.state) }
-    ensures clock { result ≡ Err RunFault.ClockSpent → IsWideStopped (M.width mode.now) engine.old.schedule (meanings B.meaning engine.old.schedule engine.old.bodies) times engine.old.state Cause.NoTick ⊎ IsWideStopped (M.width mode.now) engine.old.schedule (meanings B.meaning engine.old.schedule engine.old.bodies) times engine.old.state Cause.NoEventNumber }
-    ensures ids { result ≡ Err RunFault.IdsSpent → IsWideStopped (M.width mode.now) engine.old.schedule (meanings B.meaning engine.old.schedule engine.old.bodies) times engine.old.state Cause.NoIds }
-    ensures refusal { (k : ℕ) → result ≡ Err (RunFault.BodyFault k) → IsWideStopped (M.width mode.now) engine.old.schedule (meanings B.meaning engine.old.schedule engine.old.bodies) times engine.old.state (Cause.Refused k) }
-    ensures single_clock { result ≡ Err RunFault.ClockSpent → M.width mode.now ≡ 1 → IsStopped engine.old.schedule (meanings B.meaning engine.old.schedule engine.old.bodies) times engine.old.state Cause.NoTick ⊎ IsStopped engine.old.schedule (meanings B.meaning engine.old.schedule engine.old.bodies) times engine.old.state Cause.NoEventNumber }
-    ensures single_ids { result ≡ Err RunFault.IdsSpent → M.width mode.now ≡ 1 → IsStopped engine.old.schedule (meanings B.meaning engine.old.schedule engine.old.bodies) times engine.old.state Cause.NoIds }
-    ensures single_refusal { (k : ℕ) → result ≡ Err (RunFault.BodyFault k) → M.width mode.now ≡ 1 → IsStopped engine.old.schedule (meanings B.meaning engine.old.schedule engine.old.bodies) times engine.old.state (Cause.Refused k) }
-    ensures defined { M.width mode.now ≡ 1 → HasRuns engine.old.schedule (meanings B.meaning engine.old.schedule engine.old.bodies) times engine.old.state → IsOk result ⊎ IsErrOf result RunFault.Memory ⊎ IsErrOf result RunFault.NoWorker ⊎ IsErrOf result RunFault.Spoiled }
-    ensures worker { result ≡ Err RunFault.NoWorker → M.has_scope mode.now ≡ true }
+    ensures ran { IfOk result (λ traces. RunsAs (M.width mode.now) engine.old.schedule (meanings B.meaning engine.old.schedule engine.old.bodies) times engine.old.state engine.new.state traces.items) }
+    ensures stopped { IfErr result (StopsAs (M.has_scope mode.now) (M.width mode.now) engine.old.schedule (meanings B.meaning engine.old.schedule engine.old.bodies) times engine.old.state) }
     ensures spoiled { IsErrOf result RunFault.Spoiled ↔ IsTrue engine.old.spoiled }
     ensures spoils { IsTrue engine.new.spoiled ↔ IsErr result }
     ensures unchanged { result ≡ Err RunFault.Spoiled → engine.new ≡ engine.old }
     ensures schedule { engine.new.schedule ≡ engine.old.schedule }
-    ensures meanings { OnOk result (meanings B.meaning engine.old.schedule engine.new.bodies ≡ meanings B.meaning engine.old.schedule engine.old.bodies) }
+    ensures meanings { (result ≡ Err RunFault.NoWorker → ⊥) → meanings B.meaning engine.old.schedule engine.new.bodies ≡ meanings B.meaning engine.old.schedule engine.old.bodies }
 {
     if engine.spoiled {
         return Err(RunFault::Spoiled);
@@ -144,21 +124,27 @@ fn run_engine<'s, M: Mode<'s>, B: Body + 's>(
     engine.built.law();
     engine.state.shape();
     engine.spoiled = true;
-    let mut state = mem::replace(&mut engine.state, State::empty(alloc)).into_open();
-    let traces = run_times(
+    let state = mem::replace(&mut engine.state, State::empty(alloc)).into_open();
+    let deferred = mem::replace(&mut engine.deferred, Deferred::none(alloc));
+    let bodies = mem::replace(&mut engine.bodies, Bodies::none(alloc));
+    let mut run = RunState {
         alloc,
-        &engine.built,
-        &mut engine.bodies,
-        &mut state,
-        &mut engine.left,
-        times,
-        mode,
-    );
+        state,
+        deferred,
+    };
+    let mut jobs = Jobs {
+        bodies,
+        pool: Pool::new(alloc),
+        started: 0,
+    };
+    let traces = run_times(&engine.built, &mut run, &mut jobs, times, mode);
     runs_are_sound();
     wide_of_one_is_single();
     single_runs_are_one();
+    engine.bodies = jobs.bodies;
     let traces = traces?;
-    engine.state = state.into_state();
+    engine.state = run.state.into_state();
+    engine.deferred = run.deferred;
     engine.spoiled = false;
     Ok(traces)
 }

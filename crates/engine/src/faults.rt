@@ -2,13 +2,10 @@
 
 ghost use Rattle.std.specs.Prelude.{◌≡◌};
 ghost use Rattle.engine.specs.declared.faults.NewFault.TheVariants as new_fault;
-ghost use Rattle.engine.specs.declared.faults.RunFault.TheVariants.{Memory, ClockSpent as Spent};
-ghost use Rattle.engine.specs.Faults.{fault_of_grant, fault_of_send};
+ghost use Rattle.engine.specs.Stops.{fault_of};
 
-use archetype_store::fault::GrantFault;
-use change_ticks::clock::ClockSpent;
-use event_buffers::queue::SendFault;
-use std::alloc::{AllocError, AllocFailed};
+use crate::stop::Stop;
+use std::alloc::AllocError;
 use thiserror::Error;
 
 /// Why an engine isn't made.
@@ -56,48 +53,16 @@ impl From<AllocError> for NewFault {
     }
 }
 
-impl From<AllocError> for RunFault {
-    ghost from_gives = { λ _ fault. fault ≡ Memory };
+impl From<Stop> for RunFault {
+    ghost from_gives = { λ error fault. fault ≡ fault_of error };
 
-    fn from(_error: AllocError) -> Self {
-        RunFault::Memory
-    }
-}
-
-impl<T: Drop> From<AllocFailed<T>> for RunFault {
-    ghost from_gives = { λ _ fault. fault ≡ Memory };
-
-    fn from(_error: AllocFailed<T>) -> Self {
-        RunFault::Memory
-    }
-}
-
-impl From<ClockSpent> for RunFault {
-    ghost from_gives = { λ _ fault. fault ≡ Spent };
-
-    fn from(_error: ClockSpent) -> Self {
-        RunFault::ClockSpent
-    }
-}
-
-impl From<SendFault> for RunFault {
-    ghost from_gives = { λ error fault. fault ≡ fault_of_send error };
-
-    fn from(error: SendFault) -> Self {
+    fn from(error: Stop) -> Self {
         match error {
-            SendFault::NumbersSpent => RunFault::ClockSpent,
-            SendFault::Memory => RunFault::Memory,
-        }
-    }
-}
-
-impl From<GrantFault> for RunFault {
-    ghost from_gives = { λ error fault. fault ≡ fault_of_grant error };
-
-    fn from(error: GrantFault) -> Self {
-        match error {
-            GrantFault::IdsSpent => RunFault::IdsSpent,
-            GrantFault::Memory => RunFault::Memory,
+            Stop::Memory => RunFault::Memory,
+            Stop::NoWorker => RunFault::NoWorker,
+            Stop::NoTick | Stop::NoEventNumber => RunFault::ClockSpent,
+            Stop::NoIds => RunFault::IdsSpent,
+            Stop::Refused(number) => RunFault::BodyFault(number),
         }
     }
 }

@@ -11,7 +11,6 @@ use crate::first_state::lacks_memories;
 use body::state::State;
 use body::system_body::Body;
 use schedule_builder::built::Built;
-use std::alloc::{AllocError, Global};
 
 /// Refuses bodies and a state that are not those of a schedule: `Count` where there isn't a body and a memory for each system and a memory for
 /// each condition, each memory with a cursor for each event reader, else `Misfit` for the least system whose body doesn't fit its parameters.
@@ -56,7 +55,7 @@ pub(crate) fn first_misfit<B: Body>(built: &Built, bodies: &[B]) -> Option<u32>
 }
 
 // Whether the body of a system fits its parameters. If so, it keeps within them.
-#[tactic(auto, using(crate::proofs::Bodies::at_body))]
+#[tactic(auto, using(crate::proofs::AtHome::at_body))]
 fn body_fits<B: Body>(built: &Built, bodies: &[B], system: u32) -> bool
     requires count { length bodies.now ≡ length built.now.systems }
     requires known { system < length built.now.systems }
@@ -76,11 +75,4 @@ pub fn fitting_keep<B: Body>(built: &Built, bodies: &[B])
         Some(_) => unreachable!(),
         None => {}
     }
-}
-
-// The places of bodies that are all at home.
-pub(crate) fn placed<B: Body>(alloc: Global, bodies: Vec<B>) -> Result<Vec<Option<B>>, AllocError>
-    ensures { IfOk result (λ slots. slots.items ≡ map Some bodies.items) }
-{
-    bodies.into_iter().map(Some).collect(alloc)
 }

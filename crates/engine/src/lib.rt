@@ -1,15 +1,17 @@
 // The engine: runs of a built schedule over a state, with a body for each system.
 #![tactic(auto)]
 
+mod bodies;
 mod coordinator;
-mod effects;
+pub mod deferred;
 pub mod engine;
 pub mod faults;
 pub mod first_state;
 pub mod fitting;
 pub mod granting;
-pub mod left;
-pub mod showing;
+mod jobs;
+pub mod run_state;
+pub mod stop;
 pub mod turn;
 
 pub use engine::Engine;

@@ -15,8 +15,8 @@ use Rattle.engine.specs.Meanings.{meanings, AllKeepWithin, HasMemories}
 use Rattle.engine.proofs.Agreeing.{state_of_schedule}
 use Rattle.engine.proofs.Keeping.{bodies_keep}
 
-pub replay_agrees : {B : Type 0} (meaning : B → Params → BodyMeaning) (s : Schedule) (bodies : List B) (w : State) (h : List Step) (left : State) → IsBuilt s → HasMemories s w → HasShape w →
-    AllKeepWithin s (meanings meaning s (map Some bodies)) → IsReplayed s (meanings meaning s (map Some bodies)) w h left → AgreesWithAll widths s (meanings meaning s (map Some bodies)) w 1 left
-replay_agrees meaning s bodies w h left built has shape keep is =
+pub replay_agrees : {B : Type 0} (meaning : B → Params → BodyMeaning) (s : Schedule) (bodies : List B) (w : State) (h : List Step) (deferred : State) → IsBuilt s → HasMemories s w → HasShape w →
+    AllKeepWithin s (meanings meaning s (map Some bodies)) → IsReplayed s (meanings meaning s (map Some bodies)) w h deferred → AgreesWithAll widths s (meanings meaning s (map Some bodies)) w 1 deferred
+replay_agrees meaning s bodies w h deferred built has shape keep is =
     let means = meanings meaning s (map Some bodies) in
-    replayed_run_agrees widths s means w h left built (bodies_keep s means keep) (state_of_schedule s w has shape) is
+    replayed_run_agrees widths s means w h deferred built (bodies_keep s means keep) (state_of_schedule s w has shape) is

@@ -76,7 +76,7 @@ none_without_end text none (line, rest) h =
       | inr f ↦ absurd (omega (arith, ltb-false _ _ f, e, n))
     ]
 
--- what is left behind a place
+-- what is deferred behind a place
 pub rest_behind : (text : List ℕ) (i : ℕ) → take (length text - (i + 1)) (drop (i + 1) text) ≡ drop (suc i) text
 rest_behind text i =
     let next : i + 1 ≡ suc i = omega arith in

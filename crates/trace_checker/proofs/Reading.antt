@@ -22,7 +22,7 @@ all_append : (a b : List Line) → AllByRecursion IsFitting a → AllByRecursion
 all_append [] b h k = k
 all_append (l ∷ a) b h k = (h.0, all_append a b h.1 k)
 
--- what is left and what is not
+-- what is deferred and what is not
 pub not_empty : (rest : List ℕ) (b : Bool) → b ≡ (length rest == 0) → b ≡ false → rest ≢ []
 not_empty [] b e f = λ g. false≢true (sym f ∙ e)
 not_empty (x ∷ rest) b e f = λ g. omega (arith, ap length g)
@@ -61,7 +61,7 @@ module _ (text rest : List ℕ) (runs : List (List Step)) (fits : AreFitting run
         let same : l ≡ line = same_line l line g.0 front.0 cut.0 in
         in_order others runs line more (d ∙ ap (λ x. lines_from 1 runs ++ x ∷ more) same) out
 
-  -- where nothing is left, it is that of the runs that were read
+  -- where nothing is deferred, it is that of the runs that were read
   pub these_runs : rest ≡ [] → (others : List (List Step)) → AreFitting others → text ≡ trace_text others → runs ≡ others
   these_runs over others theirs e = let k = behind_of others theirs e in same k.more k.lines k.text where
     same : (more : List Line) → lines_from 1 others ≡ lines_from 1 runs ++ more → rest ≡ lines_text more → runs ≡ others

@@ -15,7 +15,8 @@ use Rattle.trace_checker.specs.declared.replay.ReplayFault.{ReplayFault}
 use Rattle.trace_checker.specs.declared.replay.ReplayFault.TheVariants as replay
 use Rattle.trace_checker.specs.Verdicts.{IsVerdict, is_complete}
 use Rattle.model.specs.runs.Replays.{IsReplayed, IsWrongAnswer, IsReplayStopped}
-use Rattle.trace_checker.specs.ReplayFaults.{IsToldAs, IsReplay, IsReplayFault}
+use Rattle.engine.specs.Stops.{IsToldAs}
+use Rattle.trace_checker.specs.ReplayFaults.{IsReplay, IsReplayFault}
 use Rattle.trace_checker.proofs.Verdicts.{same_verdict}
 use Rattle.model.proofs.serial.Replaying.{replayed_stopped, replayed_wrong, replayed_replayed, stopped_stopped, wrong_stopped, wrong_wrong}
 

@@ -1,5 +1,6 @@
 -- The steps of a replay, one after the other.
-use Rattle.std.proofs.Common.{◌≡◌, ◌<◌, ◌≤◌, ◌+◌, ℕ, suc, true, false, List, [], ◌∷◌, ◌++◌, length, Some, drop, take, get_or, reverse, Result, Ok, Err, IfErr, IsErrAnd, sym, ap, subst, ◌∙◌, append-nil, arith}
+use Rattle.std.proofs.Common.{◌≡◌, ◌<◌, ◌≤◌, ◌+◌, ℕ, suc, true, false, refl, List, [], ◌∷◌, ◌++◌, length, Some, drop, take, get_or, reverse, sym, ap, subst, ◌∙◌, append-nil, arith}
+use Rattle.std.proofs.lemmas.Bool.{false≢true}
 use Rattle.std.proofs.lemmas.List.{length-reverse, length-take-le, take_all}
 use Rattle.model.specs.declared.steps.Step.{Step}
 use Rattle.model.specs.declared.steps.Step.TheVariants.{Cond, Start, Skip, Finish, Sync}
@@ -8,26 +9,39 @@ use Rattle.model.specs.state.State.{State}
 use Rattle.model.specs.shown.Outcome.{BodyMeaning}
 use Rattle.model.specs.steps.Schedule.{Schedule}
 use Rattle.model.specs.steps.Lawful.{IsLawful, IsComplete, May}
-use Rattle.model.specs.runs.RunState.{RunState, between, can_open, opening}
+use Rattle.model.specs.runs.RunState.{RunState, begin_run, between, can_open, opening}
+use Rattle.model.proofs.lists.Lists.{provided-Some}
 use Rattle.model.specs.runs.Causes.{Cause, serial_cause_of}
-use Rattle.model.specs.runs.Causes.Cause.{NoTick}
+use Rattle.model.specs.runs.Causes.{Cause as cause}
 use Rattle.engine.specs.declared.faults.RunFault.{RunFault}
 use Rattle.engine.specs.declared.faults.RunFault.TheVariants.{Memory, ClockSpent, IdsSpent, Spoiled, NoWorker, BodyFault as Refusal}
-use Rattle.engine.specs.Left.{LeftValue, IsNothingLeft, run_with}
+use Rattle.engine.specs.Deferred.{DeferredValue, IsNothingDeferred, run_with}
+use Rattle.engine.specs.Stops.{LacksTick, StopsBy, fault_of}
+use Rattle.engine.specs.declared.stop.Stop.{Stop}
+use Rattle.engine.specs.declared.stop.Stop.TheVariants as stop
 use Rattle.engine.proofs.Fresh.{serial_fresh}
 use Rattle.engine.proofs.InHand.{run_with_nothing}
 use Rattle.trace_checker.specs.declared.replay.ReplayFault.{ReplayFault}
 use Rattle.trace_checker.specs.declared.replay.ReplayFault.TheVariants as replay
 use Rattle.model.specs.runs.Replays.{IsReplayed, IsWrongAnswer, IsReplayStopped}
 use Rattle.model.specs.runs.Replays.{IsReached, IsStepTaken}
-use Rattle.trace_checker.specs.ReplayFaults.{IsKnown, IsReplayFault, IsStepFault}
+use Rattle.trace_checker.specs.ReplayFaults.{IsKnown, IsReplayFault, IsStepFault, IsStoppedHere}
 use Rattle.trace_checker.proofs.Verdicts.{history_at, history_more, cut_at, may_at}
-use Rattle.model.proofs.serial.Replaying.{reached_open, reached_more, reached_end, wrong_at, stopped_at, stopped_open}
+use Rattle.model.proofs.serial.Replaying.{reached_open, reached_more, reached_end, wrong_at, stopped_at}
 
--- an error that is handed on
-pub handed_on : {T F : Type 0} (P : F → Type 0) (r : Result T F) (fault : F) → IsErrAnd r (λ told. told ≡ fault) → P fault → IfErr r P
-handed_on P (Ok x) fault told is = tt
-handed_on P (Err other) fault told is = subst P (sym told) is
+-- what is told of a step that stops
+pub step_told : (s : Schedule) (bodies : List BodyMeaning) (run : RunState) (step : Step) (Meets : Cause → Type 0) (told : Stop) → ((met : Cause) → Meets met → serial_cause_of s bodies step run ≡ Some met) →
+    StopsBy false Meets told → IsStoppedHere s bodies run step (fault_of told)
+step_told s bodies run step Meets stop.Memory is h = tt
+step_told s bodies run step Meets stop.NoWorker is h = absurd (false≢true h)
+step_told s bodies run step Meets stop.NoTick is h = (cause.NoTick, tt, is cause.NoTick h)
+step_told s bodies run step Meets stop.NoIds is h = (cause.NoIds, tt, is cause.NoIds h)
+step_told s bodies run step Meets stop.NoEventNumber is h = (cause.NoEventNumber, tt, is cause.NoEventNumber h)
+step_told s bodies run step Meets (stop.Refused n) is h = (cause.Refused n, refl, is (cause.Refused n) h)
+
+-- a run that has begun could
+pub can_begin : (w later : State) → begin_run w ≡ Some (between later) → can_open w ≡ true
+can_begin w later e = (provided-Some (can_open w) (between (opening w)) (between later) e).0
 
 known-of : (s : Schedule) (h : List Step) (step : Step) → May s h step → IsKnown s step
 known-of s h (Cond c answer) may = may.known
@@ -82,10 +96,13 @@ module _ (s : Schedule) (bodies : List BodyMeaning) (start : State) (steps : Lis
     fault_at run number (replay.Bad n fault) count lawful complete is h = absurd h
     fault_at run number replay.Unfinished count lawful complete is h = absurd h
 
-  -- after the opening, where nothing is left
-  pub reached_begun : (left : LeftValue) → IsNothingLeft left → can_open start ≡ true → IsReached s bodies start [] (run_with (opening start) left)
-  reached_begun left none tick =
-      reached_open s bodies start (run_with (opening start) left) (ap (λ b. provided b (between (opening start))) tick ∙ ap Some (sym (run_with_nothing (opening start) left none)))
+  at-once : (met : Cause) → LacksTick start met → IsReplayStopped s bodies start (reverse steps) met
+  at-once met e = record { later = reverse steps; front = []; whole = sym (append-nil (reverse steps)); answers = tt; stops = e }
+
+  -- after the opening, where nothing is deferred
+  pub reached_begun : (deferred : DeferredValue) → IsNothingDeferred deferred → can_open start ≡ true → IsReached s bodies start [] (run_with (opening start) deferred)
+  reached_begun deferred none tick =
+      reached_open s bodies start (run_with (opening start) deferred) (ap (λ b. provided b (between (opening start))) tick ∙ ap Some (sym (run_with_nothing (opening start) deferred none)))
 
   -- all steps
   pub reached_all : (i : ℕ) (run : RunState) → length steps ≤ i → IsLawful s (reverse steps) → IsComplete s (reverse steps) → IsReached s bodies start (reverse (take i steps)) run → IsReplayed s bodies start (reverse steps) run.state
@@ -93,6 +110,10 @@ module _ (s : Schedule) (bodies : List BodyMeaning) (start : State) (steps : Lis
       reached_end s bodies start (reverse steps) run lawful complete (subst (λ x. IsReached s bodies start (reverse x) run) (take_all i steps over) is)
 
   -- what stops the opening
-  pub fault_open : IsLawful s (reverse steps) → IsComplete s (reverse steps) → can_open start ≡ false → IsReplayFault s bodies start steps (replay.Run ClockSpent)
-  fault_open lawful complete spent =
-      ((lawful, complete), (NoTick, tt, subst (λ x. IsReplayStopped s bodies start x NoTick) (append-nil (reverse steps)) (stopped_open s bodies start (reverse steps) spent)))
+  pub opening_told : (told : Stop) → IsLawful s (reverse steps) → IsComplete s (reverse steps) → StopsBy false (LacksTick start) told → IsReplayFault s bodies start steps (replay.Run (fault_of told))
+  opening_told stop.Memory lawful complete h = tt
+  opening_told stop.NoWorker lawful complete h = absurd (false≢true h)
+  opening_told stop.NoTick lawful complete h = ((lawful, complete), (cause.NoTick, tt, at-once cause.NoTick h))
+  opening_told stop.NoIds lawful complete h = ((lawful, complete), (cause.NoIds, tt, at-once cause.NoIds h))
+  opening_told stop.NoEventNumber lawful complete h = ((lawful, complete), (cause.NoEventNumber, tt, at-once cause.NoEventNumber h))
+  opening_told (stop.Refused n) lawful complete h = ((lawful, complete), (cause.Refused n, refl, at-once (cause.Refused n) h))

@@ -22,24 +22,20 @@ use Rattle.body.specs.Answers.{Answers}
 use Rattle.body.specs.Seen.{Seen}
 use Rattle.body.specs.Steps.{HasShape, asked_at, laid, noted, ticked}
 use Rattle.body.specs.declared.system_body.BodyFault.{BodyFault}
-use Rattle.body.specs.declared.system_body.BodyFault.TheVariants.{Refused as Refusing}
-use Rattle.event_buffers.specs.declared.queue.SendFault.{SendFault}
-use Rattle.event_buffers.specs.declared.queue.SendFault.TheVariants as send
-use Rattle.engine.specs.declared.faults.RunFault.{RunFault}
-use Rattle.engine.specs.declared.faults.RunFault.TheVariants.{Memory, ClockSpent, IdsSpent, Spoiled, NoWorker, BodyFault as Refusal}
-use Rattle.engine.specs.Faults.{fault_of_send}
+use Rattle.body.specs.declared.system_body.BodyFault.TheVariants.{Memory, Refused as Refusing}
 use Rattle.engine.specs.Jobs.{IsPlaced}
-use Rattle.engine.specs.Left.{LeftValue, AreInHand, IsLeftFor, commands_at, grants_at, run_with, with_commands, with_grants}
+use Rattle.engine.specs.Deferred.{DeferredValue, AreInHand, IsDeferredFor, commands_at, grants_at, run_with, with_commands, with_grants}
 use Rattle.engine.specs.Meanings.{meanings_of, meanings, body_at, body_fits, fits_at, AllKeepWithin, HasMemories, Suits}
 use Rattle.engine.specs.Starts.{granted_at_start, has_ids_at_start, ids_at_start}
+use Rattle.engine.specs.Stops.{IsNotLaid}
 use Rattle.engine.proofs.Agreeing.{state_of_schedule}
 use Rattle.engine.proofs.InHand.{AreAlike, alike_after, in_hand_alike, in_hand_grant, in_hand_put}
 use Rattle.engine.proofs.Keeping.{bodies_keep}
 use Rattle.engine.proofs.Placing.{placed_first}
 use Rattle.engine.proofs.Remembering.{memories_asked, memories_at, memories_laid, memories_noted, memories_slots, memories_synced}
-use Rattle.engine.proofs.Weaving.{over, IsAnswered, numbers_of, ask_woven, finish_woven, start_woven, ungranted_woven, unsent_woven, unticked_woven}
+use Rattle.engine.proofs.Weaving.{over, IsAnswered, numbers_of, ask_woven, finish_woven, start_woven, unsent_woven}
 use Rattle.model.specs.runs.Replays.{IsStepTaken}
-use Rattle.trace_checker.specs.ReplayFaults.{HasRun, IsStoppedHere}
+use Rattle.trace_checker.specs.ReplayFaults.{HasRun}
 
 -- ---- bodies in their places
 
@@ -49,25 +45,25 @@ place-of (b ∷ bodies) zero body e = e
 place-of (b ∷ bodies) (suc n) body e = place-of bodies n body e
 
 -- a body in the place of one that means the same changes no meaning
-same-meanings : {B : Type 0} (meaning : B → Params → BodyMeaning) (systems : List ScheduledSystem) (bodies : List B) (n : ℕ) (body left : B) → slice_get bodies n ≡ Some body → meaning left ≡ meaning body
-    → meanings_of meaning systems (map Some (set bodies n left)) ≡ meanings_of meaning systems (map Some bodies)
-same-meanings meaning [] bodies n body left there same = refl
-same-meanings meaning (x ∷ systems) [] n body left there same = refl
-same-meanings meaning (x ∷ systems) (b ∷ bodies) zero body left there same =
+same-meanings : {B : Type 0} (meaning : B → Params → BodyMeaning) (systems : List ScheduledSystem) (bodies : List B) (n : ℕ) (body ended : B) → slice_get bodies n ≡ Some body → meaning ended ≡ meaning body
+    → meanings_of meaning systems (map Some (set bodies n ended)) ≡ meanings_of meaning systems (map Some bodies)
+same-meanings meaning [] bodies n body ended there same = refl
+same-meanings meaning (x ∷ systems) [] n body ended there same = refl
+same-meanings meaning (x ∷ systems) (b ∷ bodies) zero body ended there same =
     let is : b ≡ body = cc in
     ap (λ (f : Params → BodyMeaning). f x.params ∷ meanings_of meaning systems (map Some bodies)) (same ∙ ap meaning (sym is))
-same-meanings meaning (x ∷ systems) (b ∷ bodies) (suc n) body left there same = ap (λ ms. meaning b x.params ∷ ms) (same-meanings meaning systems bodies n body left there same)
+same-meanings meaning (x ∷ systems) (b ∷ bodies) (suc n) body ended there same = ap (λ ms. meaning b x.params ∷ ms) (same-meanings meaning systems bodies n body ended there same)
 
 -- nor whether one fits
-same-fits : {B : Type 0} (fits : B → Params → Bool) (bodies : List B) (n : ℕ) (body left : B) (m : ℕ) (params : Params) → slice_get bodies n ≡ Some body → fits left ≡ fits body
-    → body_fits fits (body_at (map Some (set bodies n left)) m) params ≡ body_fits fits (body_at (map Some bodies) m) params
-same-fits fits [] n body left m params there same = refl
-same-fits fits (b ∷ bodies) zero body left zero params there same =
+same-fits : {B : Type 0} (fits : B → Params → Bool) (bodies : List B) (n : ℕ) (body ended : B) (m : ℕ) (params : Params) → slice_get bodies n ≡ Some body → fits ended ≡ fits body
+    → body_fits fits (body_at (map Some (set bodies n ended)) m) params ≡ body_fits fits (body_at (map Some bodies) m) params
+same-fits fits [] n body ended m params there same = refl
+same-fits fits (b ∷ bodies) zero body ended zero params there same =
     let is : b ≡ body = cc in
     ap (λ (f : Params → Bool). f params) (same ∙ ap fits (sym is))
-same-fits fits (b ∷ bodies) zero body left (suc m) params there same = refl
-same-fits fits (b ∷ bodies) (suc n) body left zero params there same = refl
-same-fits fits (b ∷ bodies) (suc n) body left (suc m) params there same = same-fits fits bodies n body left m params there same
+same-fits fits (b ∷ bodies) zero body ended (suc m) params there same = refl
+same-fits fits (b ∷ bodies) (suc n) body ended zero params there same = refl
+same-fits fits (b ∷ bodies) (suc n) body ended (suc m) params there same = same-fits fits bodies n body ended m params there same
 
 module _ {B : Type 0} (meaning : B → Params → BodyMeaning) (fits : B → Params → Bool) (s : Schedule) (bodies : List B) where
   -- a body for each system
@@ -91,14 +87,14 @@ module _ {B : Type 0} (meaning : B → Params → BodyMeaning) (fits : B → Par
   -- the bodies after one ran
   module _ (n : ℕ) (before after : Seen) (later : List B) (answer : Result (Unit {0}) BodyFault) (ran : HasRun meaning fits bodies n before later after answer) where
     pub meanings_after : meanings meaning s (map Some later) ≡ meanings meaning s (map Some bodies)
-    meanings_after = ap (λ (bs : List B). meanings meaning s (map Some bs)) ran.later_is ∙ same-meanings meaning s.systems bodies n ran.body ran.left ran.there ran.same_meaning
+    meanings_after = ap (λ (bs : List B). meanings meaning s (map Some bs)) ran.later_is ∙ same-meanings meaning s.systems bodies n ran.body ran.ended ran.there ran.same_meaning
 
     -- they suit any state that has the memories
     pub suits_after : (old new : State) → Suits fits s (map Some bodies) old → HasMemories s new → Suits fits s (map Some later) new
     suits_after old new suits memories = record {
-      body_count = length-map later (λ (b : B). Some b) ∙ ap length ran.later_is ∙ length-set bodies n ran.left ∙ sym (length-map bodies (λ (b : B). Some b)) ∙ suits.body_count;
+      body_count = length-map later (λ (b : B). Some b) ∙ ap length ran.later_is ∙ length-set bodies n ran.ended ∙ sym (length-map bodies (λ (b : B). Some b)) ∙ suits.body_count;
       memories = memories;
-      fit = λ m known. ap (λ (bs : List B). fits_at fits s (map Some bs) m) ran.later_is ∙ same-fits fits bodies n ran.body ran.left m (params_of s m) ran.there ran.same_fit ∙ suits.fit m known;
+      fit = λ m known. ap (λ (bs : List B). fits_at fits s (map Some bs) m) ran.later_is ∙ same-fits fits bodies n ran.body ran.ended m (params_of s m) ran.there ran.same_fit ∙ suits.fit m known;
     }
 
   -- what a body that ran answered, of the system
@@ -149,51 +145,43 @@ no-cause_of_start s n run e = go (has_tick run.state) (has_ids_to_start s n run)
     go true false h = absurd (false≢true h)
     go false c h = absurd (false≢true h)
 
-module _ (s : Schedule) (bodies : List BodyMeaning) (n : ℕ) (w : State) (left : LeftValue) where
-  -- the state in which the start is noted, what is left with the ids of the start, and the system as it runs
+module _ (s : Schedule) (bodies : List BodyMeaning) (n : ℕ) (w : State) (deferred : DeferredValue) where
+  -- the state in which the start is noted, what is deferred with the ids of the start, and the system as it runs
   abbrev mid : State
   mid = noted n (params_of s n).reads (next_tick w) (ticked (granted_at_start s n w))
 
-  abbrev held : LeftValue
-  held = with_grants n (ids_at_start s n w) left
+  abbrev held : DeferredValue
+  held = with_grants n (ids_at_start s n w) deferred
 
   abbrev runner : RunningSystem
   runner = record { system = n; tick = next_tick w; shown = shown (params_of s n) (memory_of_system w n) w (ids_at_start s n w) }
 
   -- what its finish meets comes after what stops it before its body
-  start-cause : (cause : Cause) → cause_of_start s n (run_with w left) ≡ Some cause → serial_cause_of s bodies (Start n) (run_with w left) ≡ Some cause
-  start-cause cause e = ap (λ o. first_some o (cause_of_finish s bodies (started_system s n (run_with w left)) (after_start s n (run_with w left)))) e
+  pub start_cause : (cause : Cause) → cause_of_start s n (run_with w deferred) ≡ Some cause → serial_cause_of s bodies (Start n) (run_with w deferred) ≡ Some cause
+  start_cause cause e = ap (λ o. first_some o (cause_of_finish s bodies (started_system s n (run_with w deferred)) (after_start s n (run_with w deferred)))) e
 
-  -- a start without a tick, or without its ids
-  pub start_stops : (fault : RunFault) → (fault ≡ ClockSpent) ⊎ ((fault ≡ IdsSpent) ⊎ (fault ≡ Memory)) → (fault ≡ ClockSpent → has_tick w ≡ false) →
-      (fault ≡ IdsSpent → (has_tick w ≡ true) × (has_ids_at_start s n w ≡ false)) → IsStoppedHere s bodies (run_with w left) (Start n) fault
-  start_stops fault (inl e) spent ids = subst (IsStoppedHere s bodies (run_with w left) (Start n)) (sym e) (NoTick, tt, start-cause NoTick (unticked_woven s bodies n w left [] (spent e)))
-  start_stops fault (inr (inl e)) spent ids =
-      subst (IsStoppedHere s bodies (run_with w left) (Start n)) (sym e) (NoIds, tt, start-cause NoIds (ungranted_woven s bodies n w left [] (ids e).0 (ids e).1))
-  start_stops fault (inr (inr e)) spent ids = subst (IsStoppedHere s bodies (run_with w left) (Start n)) (sym e) tt
-
-  module _ (place : n < length left.grants) (tick : has_tick w ≡ true) (ids : has_ids_at_start s n w ≡ true) where
-    woven-parts : (can_start s n (run_with w left) ≡ true) × ((after_start s n (run_with w left) ≡ run_with mid held) × (started_system s n (run_with w left) ≡ runner))
+  module _ (place : n < length deferred.grants) (tick : has_tick w ≡ true) (ids : has_ids_at_start s n w ≡ true) where
+    woven-parts : (can_start s n (run_with w deferred) ≡ true) × ((after_start s n (run_with w deferred) ≡ run_with mid held) × (started_system s n (run_with w deferred) ≡ runner))
     woven-parts =
-        let made : Interleaved = record { run = after_start s n (run_with w left); running_systems = started_system s n (run_with w left) ∷ [] } in
-        let p = provided-Some (can_start s n (run_with w left)) made (over held mid (runner ∷ [])) (start_woven s bodies n w left [] place tick ids) in
+        let made : Interleaved = record { run = after_start s n (run_with w deferred); running_systems = started_system s n (run_with w deferred) ∷ [] } in
+        let p = provided-Some (can_start s n (run_with w deferred)) made (over held mid (runner ∷ [])) (start_woven s bodies n w deferred [] place tick ids) in
         (p.0, (ap (λ (x : Interleaved). x.run) p.1, ap (λ (x : Interleaved). get_or x.running_systems 0 runner) p.1))
 
     -- the cause of its finish is its own
-    whole-cause : (cause : Cause) → cause_of_finish s bodies runner (run_with mid held) ≡ Some cause → serial_cause_of s bodies (Start n) (run_with w left) ≡ Some cause
+    whole-cause : (cause : Cause) → cause_of_finish s bodies runner (run_with mid held) ≡ Some cause → serial_cause_of s bodies (Start n) (run_with w deferred) ≡ Some cause
     whole-cause cause e =
-        ap (λ o. first_some o (cause_of_finish s bodies (started_system s n (run_with w left)) (after_start s n (run_with w left)))) (no-cause_of_start s n (run_with w left) woven-parts.0)
+        ap (λ o. first_some o (cause_of_finish s bodies (started_system s n (run_with w deferred)) (after_start s n (run_with w deferred)))) (no-cause_of_start s n (run_with w deferred) woven-parts.0)
         ∙ ap₂ (cause_of_finish s bodies) woven-parts.1.1 woven-parts.1.0
         ∙ e
 
     -- a body that refuses
-    pub refusal_stops : (seen : Seen) (k : ℕ) → seen.shown ≡ runner.shown → body_of bodies n seen.shown ≡ Err k → serial_cause_of s bodies (Start n) (run_with w left) ≡ Some (Refused k)
-    refusal_stops seen k same e =
+    refusal-stops : (seen : Seen) (k : ℕ) → seen.shown ≡ runner.shown → body_of bodies n seen.shown ≡ Err k → serial_cause_of s bodies (Start n) (run_with w deferred) ≡ Some (Refused k)
+    refusal-stops seen k same e =
         whole-cause (Refused k) (ap (λ answer. cause_of_answer s runner answer (run_with mid held)) (ap (body_of bodies n) (sym same) ∙ e))
 
     module _ (seen : Seen) (same : seen.shown ≡ runner.shown) (is : IsAnswered s bodies n seen) where
-      -- what is left with its commands
-      abbrev kept : LeftValue
+      -- what is deferred with its commands
+      abbrev kept : DeferredValue
       kept = with_commands n seen.outcome.commands held
 
       alone-found : running_system n (runner ∷ []) ≡ Some (record { system = n; tick = next_tick w; shown = seen.shown })
@@ -203,16 +191,16 @@ module _ (s : Schedule) (bodies : List BodyMeaning) (n : ℕ) (w : State) (left 
       found = ap (λ b. cond b (Some runner) None) (eq-eqb n n refl)
 
       -- an event without a number
-      pub unsent_stops : numbers_of seen mid ≡ false → serial_cause_of s bodies (Start n) (run_with w left) ≡ Some NoEventNumber
-      unsent_stops none =
+      unsent-stops : numbers_of seen mid ≡ false → serial_cause_of s bodies (Start n) (run_with w deferred) ≡ Some NoEventNumber
+      unsent-stops none =
           whole-cause NoEventNumber (sym (ap (λ o. cause_of_running s bodies o (run_with mid held)) found) ∙ unsent_woven s bodies n (next_tick w) mid held (runner ∷ []) seen is none alone-found)
 
       -- the whole start
-      pub start_taken : (later : State) → n < length left.commands → numbers_of seen mid ≡ true → later ≡ laid n (next_tick w) seen mid →
-          IsStepTaken s bodies (run_with w left) (Start n) (run_with later kept)
+      pub start_taken : (later : State) → n < length deferred.commands → numbers_of seen mid ≡ true → later ≡ laid n (next_tick w) seen mid →
+          IsStepTaken s bodies (run_with w deferred) (Start n) (run_with later kept)
       start_taken later known numbers e = record {
         meaning =
-            ap (λ b. option_and_then (finish s bodies (started_system s n (run_with w left))) (provided b (after_start s n (run_with w left)))) woven-parts.0
+            ap (λ b. option_and_then (finish s bodies (started_system s n (run_with w deferred))) (provided b (after_start s n (run_with w deferred)))) woven-parts.0
             ∙ ap₂ (finish s bodies) woven-parts.1.1 woven-parts.1.0
             ∙ finished ∙ ap (λ x. Some (run_with x kept)) (sym e);
         answer = tt;
@@ -231,21 +219,32 @@ module _ (s : Schedule) (bodies : List BodyMeaning) (n : ℕ) (w : State) (left 
       unfolding shown
       spawns-own known keep has shape =
           let within = bodies_keep s bodies keep n w seen.outcome known (state_of_schedule s w has shape) ids (ap (body_of bodies n) (sym same) ∙ is.answered) in
-          subst (λ granted. AreSpawns granted (spawned_by seen.outcome.commands)) (sym (get_or-set_same left.grants n (ids_at_start s n w) [] place)) within.spawns
+          subst (λ granted. AreSpawns granted (spawned_by seen.outcome.commands)) (sym (get_or-set_same deferred.grants n (ids_at_start s n w) [] place)) within.spawns
 
-      pub in_hand_kept : (later : State) (tick : ℕ) → n < length s.systems → n < length left.commands → AllKeepWithin s bodies → HasMemories s w → HasShape w → commands_at left n ≡ [] →
-          AreInHand w.world.slots left → later ≡ laid n tick seen mid → AreInHand later.world.slots kept
+      pub in_hand_kept : (later : State) (tick : ℕ) → n < length s.systems → n < length deferred.commands → AllKeepWithin s bodies → HasMemories s w → HasShape w → commands_at deferred n ≡ [] →
+          AreInHand w.world.slots deferred → later ≡ laid n tick seen mid → AreInHand later.world.slots kept
       in_hand_kept later tick known room keep has shape fresh hand e =
           let words = words_written seen.params.queries seen.shown.rows seen.outcome.cells in
-          let granted = in_hand_grant (spawns_of s n) n w.world.slots left hand fresh place in
+          let granted = in_hand_grant (spawns_of s n) n w.world.slots deferred hand fresh place in
           let alike = subst (λ (x : State). AreAlike mid.world.slots x.world.slots) (sym e) (alike_after tick words mid.world.slots) in
           in_hand_put n seen.outcome.commands later.world.slots held room (spawns-own known keep has shape) (in_hand_alike mid.world.slots later.world.slots held alike granted)
 
--- what is left after a start is for the schedule still
-pub left_for_start : (s : Schedule) (n : ℕ) (ids : List Entity) (commands : List Command) (left : LeftValue) → IsLeftFor s left → IsLeftFor s (with_commands n commands (with_grants n ids left))
-left_for_start s n ids commands left suits = record {
-  command_count = length-set left.commands n commands ∙ suits.command_count;
-  grant_count = length-set left.grants n ids ∙ suits.grant_count;
+    -- what isn't laid over the state
+    pub close_stops : (seen : Seen) (answer : Result (Unit {0}) BodyFault) → seen.shown ≡ runner.shown → (answer ≡ Ok tt → IsAnswered s bodies n seen) → ((k : ℕ) → answer ≡ Err (Refusing k) → body_of bodies n seen.shown ≡ Err k) →
+        (met : Cause) → IsNotLaid answer seen mid met → serial_cause_of s bodies (Start n) (run_with w deferred) ≡ Some met
+    close_stops seen (Ok done) same answered refused met e = go (numbers_of seen mid) refl e
+      where
+        go : (b : Bool) → numbers_of seen mid ≡ b → unless b NoEventNumber ≡ Some met → serial_cause_of s bodies (Start n) (run_with w deferred) ≡ Some met
+        go true is h = absurd (let clash = h in cc)
+        go false is h = unsent-stops seen same (answered refl) is ∙ h
+    close_stops seen (Err Memory) same answered refused met e = absurd e
+    close_stops seen (Err (Refusing k)) same answered refused met e = refusal-stops seen k same (refused k refl) ∙ ap (λ x. Some x) (sym e)
+
+-- what is deferred after a start is for the schedule still
+pub deferred_for_start : (s : Schedule) (n : ℕ) (ids : List Entity) (commands : List Command) (deferred : DeferredValue) → IsDeferredFor s deferred → IsDeferredFor s (with_commands n commands (with_grants n ids deferred))
+deferred_for_start s n ids commands deferred suits = record {
+  command_count = length-set deferred.commands n commands ∙ suits.command_count;
+  grant_count = length-set deferred.grants n ids ∙ suits.grant_count;
   level_count = suits.level_count;
   levels_are = suits.levels_are;
 }
@@ -260,24 +259,15 @@ same_bool true false e = e
 same_bool false true e = sym e
 
 -- a condition that is asked, whose recorded answer is its meaning
-pub ask_taken : (s : Schedule) (bodies : List BodyMeaning) (c : ℕ) (answer : Bool) (w later : State) (left : LeftValue) → has_tick w ≡ true → later ≡ asked_at c (access_of s c).reads (next_tick w) (ticked w) →
-    answer ≡ answer_of s c (run_with w left) → IsStepTaken s bodies (run_with w left) (Cond c answer) (run_with later left)
-ask_taken s bodies c answer w later left tick e told =
-    let asked : Interleaved = record { run = after_condition s c (run_with w left); running_systems = [] } in
-    let p = provided-Some (has_tick w) asked (over left (asked_at c (access_of s c).reads (next_tick w) (ticked w)) []) (ask_woven s bodies c answer w left [] tick) in
+pub ask_taken : (s : Schedule) (bodies : List BodyMeaning) (c : ℕ) (answer : Bool) (w later : State) (deferred : DeferredValue) → has_tick w ≡ true → later ≡ asked_at c (access_of s c).reads (next_tick w) (ticked w) →
+    answer ≡ answer_of s c (run_with w deferred) → IsStepTaken s bodies (run_with w deferred) (Cond c answer) (run_with later deferred)
+ask_taken s bodies c answer w later deferred tick e told =
+    let asked : Interleaved = record { run = after_condition s c (run_with w deferred); running_systems = [] } in
+    let p = provided-Some (has_tick w) asked (over deferred (asked_at c (access_of s c).reads (next_tick w) (ticked w)) []) (ask_woven s bodies c answer w deferred [] tick) in
     record {
-      meaning = ap (λ b. provided b (after_condition s c (run_with w left))) tick ∙ ap (λ (x : Interleaved). Some x.run) p.1 ∙ ap (λ x. Some (run_with x left)) (sym e);
+      meaning = ap (λ b. provided b (after_condition s c (run_with w deferred))) tick ∙ ap (λ (x : Interleaved). Some x.run) p.1 ∙ ap (λ x. Some (run_with x deferred)) (sym e);
       answer = λ can. told;
     }
-
--- what stops one, whatever bodies mean and whatever was recorded
-pub ask_stops : (s : Schedule) (bodies : List BodyMeaning) (c : ℕ) (answer : Bool) (run : RunState) (fault : RunFault) → IsStoppedHere s [] run (Cond c true) fault → IsStoppedHere s bodies run (Cond c answer) fault
-ask_stops s bodies c answer run Memory h = tt
-ask_stops s bodies c answer run ClockSpent h = h
-ask_stops s bodies c answer run IdsSpent h = h
-ask_stops s bodies c answer run Spoiled h = h
-ask_stops s bodies c answer run NoWorker h = h
-ask_stops s bodies c answer run (Refusal n) h = h
 
 -- the memories after a condition was asked, and after a sync point
 pub suits_asked : {B : Type 0} (fits : B → Params → Bool) (s : Schedule) (slots : List (Option B)) (c : ℕ) (w later : State) → Suits fits s slots w → later ≡ asked_at c (access_of s c).reads (next_tick w) (ticked w) → Suits fits s slots later
@@ -287,19 +277,10 @@ suits_asked fits s slots c w later suits e = record {
   fit = suits.fit;
 }
 
-pub suits_synced : {B : Type 0} (fits : B → Params → Bool) (s : Schedule) (slots : List (Option B)) (k : ℕ) (w later : State) (left left_later : LeftValue) → Suits fits s slots w →
-    run_with later left_later ≡ after_sync s k (run_with w left) → Suits fits s slots later
-suits_synced fits s slots k w later left left_later suits e = record {
+pub suits_synced : {B : Type 0} (fits : B → Params → Bool) (s : Schedule) (slots : List (Option B)) (k : ℕ) (w later : State) (deferred deferred_later : DeferredValue) → Suits fits s slots w →
+    run_with later deferred_later ≡ after_sync s k (run_with w deferred) → Suits fits s slots later
+suits_synced fits s slots k w later deferred deferred_later suits e = record {
   body_count = suits.body_count;
-  memories = memories_synced s w suits.memories k left left_later later e;
+  memories = memories_synced s w suits.memories k deferred deferred_later later e;
   fit = suits.fit;
 }
-
--- ---- what stops it, as it is told
-
--- where its events are not sent
-pub unsent_told : {T : Type 0} (s : Schedule) (bodies : List BodyMeaning) (n : ℕ) (run : RunState) (error : SendFault) (r : Result T RunFault) → IsErrAnd r (λ fault. fault ≡ fault_of_send error)
-    → (error ≡ send.NumbersSpent → serial_cause_of s bodies (Start n) run ≡ Some NoEventNumber) → IfErr r (IsStoppedHere s bodies run (Start n))
-unsent_told s bodies n run error (Ok x) told stops = tt
-unsent_told s bodies n run send.NumbersSpent (Err fault) told stops = subst (IsStoppedHere s bodies run (Start n)) (sym told) (NoEventNumber, tt, stops refl)
-unsent_told s bodies n run send.Memory (Err fault) told stops = subst (IsStoppedHere s bodies run (Start n)) (sym told) tt

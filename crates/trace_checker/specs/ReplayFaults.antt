@@ -8,26 +8,18 @@ use Rattle.model.specs.shown.Outcome.{BodyMeaning}
 use Rattle.model.specs.steps.Schedule.{Schedule}
 use Rattle.model.specs.runs.RunState.{RunState}
 use Rattle.model.specs.runs.Causes.{Cause, serial_cause_of}
-use Rattle.model.specs.runs.Causes.Cause.{NoTick, NoIds, Refused, NoEventNumber}
 use Rattle.body.specs.Answers.{Answers}
 use Rattle.body.specs.Seen.{Seen}
 use Rattle.body.specs.declared.system_body.BodyFault.{BodyFault}
 use Rattle.engine.specs.declared.faults.RunFault.{RunFault}
-use Rattle.engine.specs.declared.faults.RunFault.TheVariants.{Memory, ClockSpent, IdsSpent, BodyFault as Refusal}
+use Rattle.engine.specs.declared.faults.RunFault.TheVariants.{Memory}
+use Rattle.engine.specs.Stops.{IsToldAs}
 use Rattle.trace_checker.specs.declared.check.Verdict.TheVariants as verdict
 use Rattle.trace_checker.specs.declared.replay.ReplayFault.{ReplayFault}
 use Rattle.trace_checker.specs.declared.replay.ReplayFault.TheVariants as replay
 use Rattle.trace_checker.specs.Verdicts.{IsVerdict}
 use Rattle.model.specs.runs.Replays.{IsReplayed, IsWrongAnswer, IsReplayStopped}
 use Rattle.model.specs.runs.Replays.{IsWrongHere}
-
--- which fault tells of a cause
-abbrev pub IsToldAs : Cause → RunFault → Type 0
-IsToldAs NoTick ClockSpent = Unit {0}
-IsToldAs NoIds IdsSpent = Unit {0}
-IsToldAs NoEventNumber ClockSpent = Unit {0}
-IsToldAs (Refused n) (Refusal m) = n ≡ m
-IsToldAs cause fault = ⊥
 
 -- what stops a complete run: want of memory at any time, or the cause that the serial meaning meets first
 abbrev pub IsStoppedAs : Schedule → List BodyMeaning → State → List Step → RunFault → Type 0
@@ -73,11 +65,11 @@ IsStepFault s bodies run step number fault = ⊥
 pub record HasRun {B : Type 0} (meaning : B → Params → BodyMeaning) (fits : B → Params → Bool) (bodies : List B) (n : ℕ) (before : Seen) (later : List B) (after : Seen) (answer : Result (Unit {0}) BodyFault) : Type 0 where
   pub body : B
   pub there : slice_get bodies n ≡ Some body
-  pub left : B
-  pub later_is : later ≡ set bodies n left
+  pub ended : B
+  pub later_is : later ≡ set bodies n ended
   pub answered : Answers (meaning body before.params before.shown) after answer
   pub shown : after.shown ≡ before.shown
   pub params : after.params ≡ before.params
   pub opening : after.opening ≡ before.opening
-  pub same_meaning : meaning left ≡ meaning body
-  pub same_fit : fits left ≡ fits body
+  pub same_meaning : meaning ended ≡ meaning body
+  pub same_fit : fits ended ≡ fits body

@@ -7,9 +7,10 @@ use Rattle.body.specs.Answers.{Answers}
 use Rattle.body.specs.Seen.{Seen}
 use Rattle.body.specs.declared.system_body.BodyFault.{BodyFault}
 
--- a body ran for a system on a view: this body, view and answer come of it. The answer is that of its meaning by what it was shown, and all
--- but the outcome is as it was
-pub record Ran {B : Type 0} (meaning : B → Params → Shown → Result Outcome ℕ) (fits : B → Params → Bool) (system : ℕ) (body : B) (before : Seen) (system' : ℕ) (body' : B) (after : Seen) (answer : Result (Unit {0}) BodyFault) : Type 0 where
+-- a body ran for the start of a number, of a system, on a view: this number, system, body, view and answer come of it. The answer is that of its
+-- meaning by what it was shown, and all but the outcome is as it was
+pub record Ran {B : Type 0} (meaning : B → Params → Shown → Result Outcome ℕ) (fits : B → Params → Bool) (number system : ℕ) (body : B) (before : Seen) (number' system' : ℕ) (body' : B) (after : Seen) (answer : Result (Unit {0}) BodyFault) : Type 0 where
+  pub same_number : number' ≡ number
   pub same_system : system' ≡ system
   pub answered : Answers (meaning body before.params before.shown) after answer
   pub same_shown : after.shown ≡ before.shown

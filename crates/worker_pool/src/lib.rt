@@ -10,7 +10,7 @@ pub mod workers;
 
 pub use fault::HandFault;
 pub use mode::{Gate, Hosts, Joins, Line, Mode};
-pub use pool::{Pool, drain};
+pub use pool::Pool;
 pub use single::Single;
 pub use start::{Done, Start};
 pub use workers::Workers;

@@ -1,6 +1,6 @@
 // The jobs that are out, and how they are handed out and come back.
 
-ghost use Rattle.std.specs.Prelude.{◌≡◌, ℕ, ◌+◌, ◌<◌, true, Err, [], ◌∷◌, ◌++◌, length, is_some, slice_get, remove, IfOk, IfSome, IfNone, IsSome, IsTrue, IsSomeAnd, OnOk, OnErr};
+ghost use Rattle.std.specs.Prelude.{◌≡◌, ℕ, ◌+◌, ◌<◌, true, Err, [], ◌∷◌, ◌++◌, ◌⊎◌, length, is_some, slice_get, remove, IfOk, IfSome, IfNone, IsSome, IsTrue, IsSomeAnd, OnOk, OnErr};
 ghost use Rattle.worker_pool.specs.Ran.{Ran};
 
 use crate::fault::HandFault;
@@ -50,7 +50,7 @@ impl<B: Body> Out<B> {
 
     // What comes of the job.
     fn finish<J: Joins>(self, mode: &J) -> Option<Done<B>>
-        ensures ran { IfSome result (λ done. Ran B.meaning B.fits self.system self.body self.view done.system done.body done.view.value done.answer) }
+        ensures ran { IfSome result (λ done. Ran B.meaning B.fits self.number self.system self.body self.view done.number done.system done.body done.view.value done.answer) }
         ensures none { IfNone result (self.there ≡ true) }
         ensures joins { IsTrue (J.joins mode.now) → IsSome result }
     {
@@ -116,13 +116,17 @@ impl<B: Body> Pool<B> {
     }
 
     /// Hands a job out: to a thread where the mode has a scope, else it is kept to be run when it is brought back. After an error nothing
-    /// is handed out, and the job is dropped.
-    pub fn hand_out<'s, M: Mode<'s>>(&mut self, mode: &M, start: Start<B>) -> Result<(), HandFault>
+    /// is handed out: where an allocation fails the job comes back, and it is lost where no thread can be started.
+    pub fn hand_out<'s, M: Mode<'s>>(
+        &mut self,
+        mode: &M,
+        start: Start<B>,
+    ) -> Result<(), HandFault<B>>
     where
         B: 's,
         ensures ok { OnOk result (self.new ≡ self.old ++ record { number = start.number; system = start.system; body = start.body; view = start.view.value; there = M.has_scope mode.now } ∷ []) }
         ensures err { OnErr result (self.new ≡ self.old) }
-        ensures worker { result ≡ Err HandFault.NoWorker → M.has_scope mode.now ≡ true }
+        ensures only { OnErr result ((result ≡ Err (HandFault.Memory start)) ⊎ ((result ≡ Err HandFault.NoWorker) × (M.has_scope mode.now ≡ true))) }
     {
         self.give(mode.scope(), mode.line(), mode.gate(), start)
     }
@@ -149,19 +153,23 @@ impl<B: Body> Pool<B> {
         line: N,
         gate: &'s G,
         start: Start<B>,
-    ) -> Result<(), HandFault>
+    ) -> Result<(), HandFault<B>>
     where
         B: 's,
         ensures ok { OnOk result (self.new ≡ self.old ++ record { number = start.number; system = start.system; body = start.body; view = start.view.value; there = is_some scope.entry } ∷ []) }
         ensures err { OnErr result (self.new ≡ self.old) }
-        ensures worker { result ≡ Err HandFault.NoWorker → is_some scope.entry ≡ true }
+        ensures only { OnErr result ((result ≡ Err (HandFault.Memory start)) ⊎ ((result ≡ Err HandFault.NoWorker) × (is_some scope.entry ≡ true))) }
     {
-        self.out.reserve(1)?;
+        let Ok(()) = self.out.reserve(1) else {
+            return Err(HandFault::Memory(start));
+        };
         let number = start.number;
         let work = match scope {
             None => Work::Here(start),
             Some(scope) => {
-                let bell = bell_of(self.alloc, &mut self.notices)?;
+                let Ok(bell) = bell_of(self.alloc, &mut self.notices) else {
+                    return Err(HandFault::Memory(start));
+                };
                 let promise = DoneOf::of(&start);
                 let job = move || {
                     gate.enter(number);
@@ -182,26 +190,18 @@ impl<B: Body> Pool<B> {
         Ok(())
     }
 
-    /// Brings one job back, that of whichever thread is done, once it is. None only where the mode can't wait for a thread.
+    /// Brings one job back, that of whichever thread is done, once it is: what comes of it has the number of its start. None only where the
+    /// mode can't wait for a thread; that job is lost.
     pub fn bring_back<'s, M: Mode<'s>>(&mut self, mode: &M) -> Option<Done<B>>
     where
         B: 's,
         requires { 0 < length self.old }
-        ensures ran { IfSome result (λ done. (i : ℕ) × IsSomeAnd (slice_get self.old i) (λ job. Ran B.meaning B.fits job.system job.body job.view done.system done.body done.view.value done.answer) × (self.new ≡ remove self.old i)) }
+        ensures ran { IfSome result (λ done. (i : ℕ) × IsSomeAnd (slice_get self.old i) (λ job. Ran B.meaning B.fits job.number job.system job.body job.view done.number done.system done.body done.view.value done.answer) × (self.new ≡ remove self.old i)) }
         ensures none { IfNone result ((i : ℕ) × IsSomeAnd (slice_get self.old i) (λ job. job.there ≡ true)) }
         ensures joins { IsTrue (M.joins mode.now) → IsSome result }
         ensures shorter { length self.new + 1 ≡ length self.old }
     {
         let at = self.place_of_done(mode.line());
         self.out.remove(at).finish(mode)
-    }
-}
-
-/// Brings all jobs back and drops what comes of them.
-pub fn drain<'s, B: Body + 's, M: Mode<'s>>(pool: &mut Pool<B>, mode: &M)
-    ensures { pool.new ≡ [] }
-{
-    while pool.count() > 0 {
-        let _done = pool.bring_back(mode);
     }
 }

@@ -30,6 +30,8 @@ pub struct Start<B: Body> {
 /// A body that has run.
 #[derive(Drop)]
 pub struct Done<B> {
+    /// The number of its start.
+    pub number: u64,
     /// The system.
     pub system: u32,
     /// Its body.
@@ -42,16 +44,17 @@ pub struct Done<B> {
 
 /// Runs the body of a start.
 pub fn run_start<B: Body>(start: Start<B>) -> Done<B>
-    ensures { Ran B.meaning B.fits start.system start.body start.view.value result.system result.body result.view.value result.answer }
+    ensures { Ran B.meaning B.fits start.number start.system start.body start.view.value result.number result.system result.body result.view.value result.answer }
 {
     let Start {
-        number: _,
+        number,
         system,
         mut body,
         mut view,
     } = start;
     let answer = body.run(&mut view);
     Done {
+        number,
         system,
         body,
         view,
@@ -76,5 +79,5 @@ impl<B: Body> DoneOf<B> {
 }
 
 impl<B: Body> Promise<Done<B>> for DoneOf<B> {
-    ghost kept_by = { λ p d. Ran B.meaning B.fits p.start.value.system p.start.value.body p.start.value.view.value d.system d.body d.view.value d.answer };
+    ghost kept_by = { λ p d. Ran B.meaning B.fits p.start.value.number p.start.value.system p.start.value.body p.start.value.view.value d.number d.system d.body d.view.value d.answer };
 }

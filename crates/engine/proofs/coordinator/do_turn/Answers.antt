@@ -1,19 +1,25 @@
-use Rattle.std.proofs.Common.{◌≡◌, ◌∷◌, inl, inr, length, Result, Ok, Some, Err, IfOk, OnOk, refl, sym, ap, subst, true}
-use Rattle.engine.specs.declared.faults.RunFault.{RunFault}
-use Rattle.engine.specs.declared.turn.Turn.{Turn}
-use Rattle.model.specs.runs.Causes.Cause.{Refused, NoEventNumber}
+use Rattle.std.proofs.Common.{◌≡◌, ◌∷◌, List, true, false, length, Some, refl, sym, ap, subst}
+use Rattle.model.specs.declared.steps.Ready.{Ready}
+use Rattle.model.specs.declared.steps.Step.TheVariants.{Cond, Start as Begin, Finish}
+use Rattle.model.specs.Lists.{IsIn}
+use Rattle.model.specs.shown.Outcome.{BodyMeaning}
+use Rattle.model.specs.runs.Causes.{interleaved_cause_of}
+use Rattle.model.specs.runs.WideRuns.{WideStops}
 use Rattle.model.specs.steps.Lawful.{runs}
 use Rattle.body.specs.Steps.{StateValue}
-use Rattle.engine.specs.Stage.{Stage, IsTurn}
-use Rattle.engine.proofs.Staging.{stage_start, stage_quiet, stage_sync, may_quiet, stage_finish, running_there, none_out, stops_start, stops_ids, stops_quiet, stops_sync, stops_finish}
+use Rattle.worker_pool.specs.JobOut.{JobOut}
+use Rattle.engine.specs.declared.turn.Turn.{Turn}
+use Rattle.engine.specs.Deferred.{DeferredValue}
+use Rattle.engine.specs.Jobs.{woven, AreKept, InHand}
+use Rattle.engine.specs.Next.{KeepsNext, StopsNext}
+use Rattle.engine.specs.Stage.{Stage, IsTake, IsTurn}
+use Rattle.engine.specs.Stops.{LacksTick}
+use Rattle.engine.proofs.Placing.{placed_kept}
+use Rattle.engine.proofs.Staging.{stage_start, stage_ask, stage_skip, stage_sync, stage_finish, running_there, none_out, stops_start, stops_ask, stops_sync, stops_finish}
 use Rattle.engine.proofs.Remembering.{memories_synced}
-use Rattle.engine.proofs.Turns.{start_allowed, quiet_allowed, placed_quiet, placed_synced, in_hand_none, in_hand_quiet, home_end}
+use Rattle.engine.proofs.Stops.{handed_on, stops_among, stops_up}
+use Rattle.engine.proofs.Turns.{start_allowed, ask_allowed, placed_asked, placed_synced, in_hand_none, in_hand_asked, home_end}
 use Rattle.engine.proofs.coordinator.do_turn.Goals as goal
-
--- what holds of a value by three facts, where there is one
-by-three : {T E M N : Type 0} {P R : T → Type 0} (r : Result T E) → IfOk r P → OnOk r M → OnOk r N → ((x : T) → P x → M → N → R x) → IfOk r R
-by-three (Ok x) p m n f = f x p m n
-by-three (Err e) p m n f = tt
 
 pub start-requires : goal.start-requires
 start-requires g c = λ lifetimes.
@@ -22,185 +28,17 @@ start-requires g c = λ lifetimes.
     let there = g.M.Hosts.has_scope c.args.mode.now in
     let width = g.M.Mode.width c.args.mode.now in
     let s = c.args.built.now in
-    let slots = c.args.slots.now in
-    let w = c.args.state.now in
-    let left = c.args.left.now in
-    let out = c.args.pool.now in
+    let slots = c.args.jobs.now.bodies in
+    let deferred = c.args.run.now.deferred in
+    let out = c.args.jobs.now.pool in
+    let w = c.args.run.now.state in
     let bodies = c.requires.next.0 in
     let start = c.requires.next.1 in
     let h = c.requires.next.2 in
     let known = c.requires.next.3 in
-    let next = subst (λ (t : Turn). IsTurn s h (length out) width (Some t)) c.in-Start.is known.following in
-    let allowed = start_allowed meaning fits there s bodies slots out w known.between.placed width start h left c.in-Start.system known.between.stage next.allowed in
+    let next = subst (λ (r : Ready). IsTake s h (length out) width r) c.in-Start.is (subst (λ (t : Turn). IsTurn s h (length out) width (Some t)) c.in-Take.is known.following) in
+    let allowed = start_allowed meaning fits there s bodies slots out w known.between.placed width start h deferred c.in-Start.system known.between.stage (next.allowed false) in
     (c.type_bounds.send-B, (c.type_bounds.send-M-Line, (c.type_bounds.send-M-Gate, (c.type_bounds.sync-M-Gate, ((refl, tt), (allowed, ((bodies, known.between.placed), known.between.hand)))))))
-
-pub returns-in_err-start-in-Start-clause-clock : goal.returns-in_err-start-in-Start-clause-clock
-returns-in_err-start-in-Start-clause-clock g c = λ e bodies start h known.
-    let cause = c.in_err-start-in-Start.ensures.spent (let q = c.from_residual.ensures in let p = rw e at q.1 in ap (λ (f : RunFault). Err f) (sym p)) in
-    let meaning = g.B.Body.meaning in
-    let fits = g.B.Body.fits in
-    let there = g.M.Hosts.has_scope c.args.mode.now in
-    let width = g.M.Mode.width c.args.mode.now in
-    let s = c.args.built.now in
-    let slots = c.args.slots.now in
-    let w = c.args.state.now in
-    let left = c.args.left.now in
-    let out = c.args.pool.now in
-    let next = subst (λ (t : Turn). IsTurn s h (length out) width (Some t)) c.in-Start.is known.following in
-    inl (stops_start width s bodies start h w.state left out known.between.stage c.in-Start.system next.room next.is next.allowed cause)
-
-pub returns-in_err-start-in-Start-clause-ids : goal.returns-in_err-start-in-Start-clause-ids
-returns-in_err-start-in-Start-clause-ids g c = λ e bodies start h known.
-    let cause = c.in_err-start-in-Start.ensures.ids (let q = c.from_residual.ensures in let p = rw e at q.1 in ap (λ (f : RunFault). Err f) (sym p)) in
-    let meaning = g.B.Body.meaning in
-    let fits = g.B.Body.fits in
-    let there = g.M.Hosts.has_scope c.args.mode.now in
-    let width = g.M.Mode.width c.args.mode.now in
-    let s = c.args.built.now in
-    let slots = c.args.slots.now in
-    let w = c.args.state.now in
-    let left = c.args.left.now in
-    let out = c.args.pool.now in
-    let next = subst (λ (t : Turn). IsTurn s h (length out) width (Some t)) c.in-Start.is known.following in
-    stops_ids width s bodies start h w.state left out known.between.stage c.in-Start.system next.room next.is next.allowed cause.0 cause.1
-
-pub returns-in_ok-start-in-Start-clause-taken : goal.returns-in_ok-start-in-Start-clause-taken
-returns-in_ok-start-in-Start-clause-taken g c = λ bodies start h known.
-    let meaning = g.B.Body.meaning in
-    let fits = g.B.Body.fits in
-    let there = g.M.Hosts.has_scope c.args.mode.now in
-    let width = g.M.Mode.width c.args.mode.now in
-    let s = c.args.built.now in
-    let slots = c.args.slots.now in
-    let w = c.args.state.now in
-    let left = c.args.left.now in
-    let out = c.args.pool.now in
-    let next = subst (λ (t : Turn). IsTurn s h (length out) width (Some t)) c.in-Start.is known.following in
-    let started = c.in_ok-start-in-Start.ensures in
-    record {
-      may = next.allowed;
-      between = record {
-        stage = stage_start width s bodies start h w.state left out known.between.stage c.in-Start.system c.start.new.state.state c.start.new.left c.start.new.pool next.room next.is next.allowed (started.started bodies) started.longer;
-        placed = started.placed bodies known.between.placed;
-        hand = started.hand;
-      };
-    }
-
-pub do_quiet-requires-clause-allowed : goal.do_quiet-requires-clause-allowed
-do_quiet-requires-clause-allowed g c =
-    let meaning = g.B.Body.meaning in
-    let fits = g.B.Body.fits in
-    let there = g.M.Hosts.has_scope c.args.mode.now in
-    let width = g.M.Mode.width c.args.mode.now in
-    let s = c.args.built.now in
-    let slots = c.args.slots.now in
-    let w = c.args.state.now in
-    let left = c.args.left.now in
-    let out = c.args.pool.now in
-    let bodies = c.requires.next.0 in
-    let start = c.requires.next.1 in
-    let h = c.requires.next.2 in
-    let known = c.requires.next.3 in
-    let next = subst (λ (t : Turn). IsTurn s h (length out) width (Some t)) c.in-Quiet.is known.following in
-    quiet_allowed meaning fits there s bodies slots out w known.between.placed c.in-Quiet.quiet width (length out) start h left known.between.stage c.law.ensures.laid next
-
-pub returns-in-Quiet-clause-taken : goal.returns-in-Quiet-clause-taken
-returns-in-Quiet-clause-taken g c =
-    let meaning = g.B.Body.meaning in
-    let fits = g.B.Body.fits in
-    let there = g.M.Hosts.has_scope c.args.mode.now in
-    let width = g.M.Mode.width c.args.mode.now in
-    let s = c.args.built.now in
-    let slots = c.args.slots.now in
-    let w = c.args.state.now in
-    let left = c.args.left.now in
-    let out = c.args.pool.now in
-    let q = c.in-Quiet.quiet in
-    let later = c.do_quiet.new.state in
-    by-three c.do_quiet.result c.do_quiet.ensures.step c.do_quiet.ensures.moved c.do_quiet.ensures.ticked (λ taken step moved ticked. λ bodies start h known.
-    let next = subst (λ (t : Turn). IsTurn s h (length out) width (Some t)) c.in-Quiet.is known.following in
-    record {
-      may = may_quiet width s bodies start h w.state left out known.between.stage q (length out) taken next step;
-      between = record {
-        stage = subst (λ (x : StateValue). Stage width s bodies start (taken ∷ h) x.state left out) (sym moved)
-            (stage_quiet width s bodies start h w.state left out known.between.stage q (length out) taken refl next step ticked);
-        placed = placed_quiet meaning fits there s bodies slots out w known.between.placed q later moved;
-        hand = in_hand_quiet meaning fits there s bodies slots out w known.between.placed left q later moved known.between.hand;
-      };
-    })
-
-pub returns-in-Quiet-clause-clock : goal.returns-in-Quiet-clause-clock
-returns-in-Quiet-clause-clock g c = λ e bodies start h known.
-    let cause = c.do_quiet.ensures.spent e in
-    let meaning = g.B.Body.meaning in
-    let fits = g.B.Body.fits in
-    let there = g.M.Hosts.has_scope c.args.mode.now in
-    let width = g.M.Mode.width c.args.mode.now in
-    let s = c.args.built.now in
-    let slots = c.args.slots.now in
-    let w = c.args.state.now in
-    let left = c.args.left.now in
-    let out = c.args.pool.now in
-    let next = subst (λ (t : Turn). IsTurn s h (length out) width (Some t)) c.in-Quiet.is known.following in
-    inl (stops_quiet width s bodies start h w.state left out known.between.stage c.in-Quiet.quiet (length out) refl next cause.0 cause.1)
-
-pub sync-requires-clause-home : goal.sync-requires-clause-home
-sync-requires-clause-home g c =
-    let meaning = g.B.Body.meaning in
-    let fits = g.B.Body.fits in
-    let there = g.M.Hosts.has_scope c.args.mode.now in
-    let width = g.M.Mode.width c.args.mode.now in
-    let s = c.args.built.now in
-    let slots = c.args.slots.now in
-    let w = c.args.state.now in
-    let left = c.args.left.now in
-    let out = c.args.pool.now in
-    let bodies = c.requires.next.0 in
-    let start = c.requires.next.1 in
-    let h = c.requires.next.2 in
-    let known = c.requires.next.3 in
-    let next = subst (λ (t : Turn). IsTurn s h (length out) width (Some t)) c.in-Sync.is known.following in
-    let none = none_out width s bodies start h w.state left out known.between.stage c.in-Sync.point next.allowed in
-    home_end meaning fits there s bodies slots out w known.between.placed none c.law-in-Sync.ensures.laid
-
-pub returns-in_err-sync-in-Sync-clause-clock : goal.returns-in_err-sync-in-Sync-clause-clock
-returns-in_err-sync-in-Sync-clause-clock g c = λ e bodies start h known.
-    let meaning = g.B.Body.meaning in
-    let fits = g.B.Body.fits in
-    let there = g.M.Hosts.has_scope c.args.mode.now in
-    let width = g.M.Mode.width c.args.mode.now in
-    let s = c.args.built.now in
-    let slots = c.args.slots.now in
-    let w = c.args.state.now in
-    let left = c.args.left.now in
-    let out = c.args.pool.now in
-    let next = subst (λ (t : Turn). IsTurn s h (length out) width (Some t)) c.in-Sync.is known.following in
-    inl (stops_sync width s bodies start h w.state left out known.between.stage c.in-Sync.point next.room next.is next.allowed (c.in_err-sync-in-Sync.ensures.spent.0 (let q = c.from_residual-in_err-sync-in-Sync.ensures in let p = rw e at q.1 in ap (λ (f : RunFault). Err f) (sym p))))
-
-pub returns-in_ok-sync-in-Sync-clause-taken : goal.returns-in_ok-sync-in-Sync-clause-taken
-returns-in_ok-sync-in-Sync-clause-taken g c = λ bodies start h known.
-    let meaning = g.B.Body.meaning in
-    let fits = g.B.Body.fits in
-    let there = g.M.Hosts.has_scope c.args.mode.now in
-    let width = g.M.Mode.width c.args.mode.now in
-    let s = c.args.built.now in
-    let slots = c.args.slots.now in
-    let w = c.args.state.now in
-    let left = c.args.left.now in
-    let out = c.args.pool.now in
-    let next = subst (λ (t : Turn). IsTurn s h (length out) width (Some t)) c.in-Sync.is known.following in
-    let none = none_out width s bodies start h w.state left out known.between.stage c.in-Sync.point next.allowed in
-    let done = c.in_ok-sync-in-Sync.ensures in
-    let later = c.sync.new.state in
-    record {
-      may = next.allowed;
-      between = record {
-        stage = stage_sync width s bodies start h w.state left out known.between.stage c.in-Sync.point later.state c.sync.new.self next.room next.is next.allowed done.ticked done.synced;
-        placed = placed_synced meaning fits there s bodies slots out w known.between.placed later none
-            (memories_synced s w.state known.between.placed.memories c.in-Sync.point left c.sync.new.self later.state done.synced) done.home;
-        hand = in_hand_none s c.sync.new.self out later none done.suits done.in_hand;
-      };
-    }
 
 pub finish-requires : goal.finish-requires
 finish-requires g c = λ lifetimes.
@@ -209,10 +47,10 @@ finish-requires g c = λ lifetimes.
     let there = g.M.Hosts.has_scope c.args.mode.now in
     let width = g.M.Mode.width c.args.mode.now in
     let s = c.args.built.now in
-    let slots = c.args.slots.now in
-    let w = c.args.state.now in
-    let left = c.args.left.now in
-    let out = c.args.pool.now in
+    let slots = c.args.jobs.now.bodies in
+    let deferred = c.args.run.now.deferred in
+    let out = c.args.jobs.now.pool in
+    let w = c.args.run.now.state in
     let bodies = c.requires.next.0 in
     let start = c.requires.next.1 in
     let h = c.requires.next.2 in
@@ -220,37 +58,355 @@ finish-requires g c = λ lifetimes.
     let next = subst (λ (t : Turn). IsTurn s h (length out) width (Some t)) c.in-Collect.is known.following in
     (c.type_bounds.send-B, (c.type_bounds.send-M-Line, (c.type_bounds.send-M-Gate, (c.type_bounds.sync-M-Gate, ((refl, tt), (next.0, ((bodies, known.between.placed), known.between.hand.suits)))))))
 
-pub returns-in_err-system-in-Collect-clause-clock : goal.returns-in_err-system-in-Collect-clause-clock
-returns-in_err-system-in-Collect-clause-clock g c = λ e bodies start h known.
-    let cause = c.in_err-system-in-Collect.ensures.spent (let q = c.from_residual-in_err-system-in-Collect.ensures in let p = rw e at q.1 in ap (λ (f : RunFault). Err f) (sym p)) in
+pub ask-requires-clause-known : goal.ask-requires-clause-known
+ask-requires-clause-known g c =
     let meaning = g.B.Body.meaning in
     let fits = g.B.Body.fits in
     let there = g.M.Hosts.has_scope c.args.mode.now in
     let width = g.M.Mode.width c.args.mode.now in
     let s = c.args.built.now in
-    let slots = c.args.slots.now in
-    let w = c.args.state.now in
-    let left = c.args.left.now in
-    let out = c.args.pool.now in
-    let next = subst (λ (t : Turn). IsTurn s h (length out) width (Some t)) c.in-Collect.is known.following in
-    let told = cause bodies known.between.placed in
-    inr (stops_finish width s bodies start h w.state left out known.between.stage told.0.system NoEventNumber next.1 (running_there width s bodies start h w.state left out known.between.stage told.0 told.1) told.2)
+    let slots = c.args.jobs.now.bodies in
+    let deferred = c.args.run.now.deferred in
+    let out = c.args.jobs.now.pool in
+    let w = c.args.run.now.state in
+    let bodies = c.requires.next.0 in
+    let start = c.requires.next.1 in
+    let h = c.requires.next.2 in
+    let known = c.requires.next.3 in
+    let next = subst (λ (r : Ready). IsTake s h (length out) width r) c.in-Ask.is (subst (λ (t : Turn). IsTurn s h (length out) width (Some t)) c.in-Take.is known.following) in
+    (next.allowed false).known
 
-pub returns-in_err-system-in-Collect-clause-refusal : goal.returns-in_err-system-in-Collect-clause-refusal
-returns-in_err-system-in-Collect-clause-refusal g c = λ k e bodies start h known.
-    let cause = c.in_err-system-in-Collect.ensures.refused k (let q = c.from_residual-in_err-system-in-Collect.ensures in let p = rw e at q.1 in ap (λ (f : RunFault). Err f) (sym p)) in
+pub ask-requires-clause-memories : goal.ask-requires-clause-memories
+ask-requires-clause-memories g c =
     let meaning = g.B.Body.meaning in
     let fits = g.B.Body.fits in
     let there = g.M.Hosts.has_scope c.args.mode.now in
     let width = g.M.Mode.width c.args.mode.now in
     let s = c.args.built.now in
-    let slots = c.args.slots.now in
-    let w = c.args.state.now in
-    let left = c.args.left.now in
-    let out = c.args.pool.now in
+    let slots = c.args.jobs.now.bodies in
+    let deferred = c.args.run.now.deferred in
+    let out = c.args.jobs.now.pool in
+    let w = c.args.run.now.state in
+    let bodies = c.requires.next.0 in
+    let start = c.requires.next.1 in
+    let h = c.requires.next.2 in
+    let known = c.requires.next.3 in
+    known.between.placed.memories
+
+pub ask-requires-clause-home : goal.ask-requires-clause-home
+ask-requires-clause-home g c =
+    let meaning = g.B.Body.meaning in
+    let fits = g.B.Body.fits in
+    let there = g.M.Hosts.has_scope c.args.mode.now in
+    let width = g.M.Mode.width c.args.mode.now in
+    let s = c.args.built.now in
+    let slots = c.args.jobs.now.bodies in
+    let deferred = c.args.run.now.deferred in
+    let out = c.args.jobs.now.pool in
+    let w = c.args.run.now.state in
+    let bodies = c.requires.next.0 in
+    let start = c.requires.next.1 in
+    let h = c.requires.next.2 in
+    let known = c.requires.next.3 in
+    let next = subst (λ (r : Ready). IsTake s h (length out) width r) c.in-Ask.is (subst (λ (t : Turn). IsTurn s h (length out) width (Some t)) c.in-Take.is known.following) in
+    ask_allowed meaning fits there s bodies slots out w known.between.placed c.in-Ask.condition width start h deferred known.between.stage c.law.ensures.laid (next.allowed false)
+
+pub sync-requires-clause-known : goal.sync-requires-clause-known
+sync-requires-clause-known g c =
+    let meaning = g.B.Body.meaning in
+    let fits = g.B.Body.fits in
+    let there = g.M.Hosts.has_scope c.args.mode.now in
+    let width = g.M.Mode.width c.args.mode.now in
+    let s = c.args.built.now in
+    let slots = c.args.jobs.now.bodies in
+    let deferred = c.args.run.now.deferred in
+    let out = c.args.jobs.now.pool in
+    let w = c.args.run.now.state in
+    let bodies = c.requires.next.0 in
+    let start = c.requires.next.1 in
+    let h = c.requires.next.2 in
+    let known = c.requires.next.3 in
+    let next = subst (λ (r : Ready). IsTake s h (length out) width r) c.in-Sync.is (subst (λ (t : Turn). IsTurn s h (length out) width (Some t)) c.in-Take.is known.following) in
+    (next.allowed false).known
+
+pub sync-requires-clause-suits : goal.sync-requires-clause-suits
+sync-requires-clause-suits g c =
+    let meaning = g.B.Body.meaning in
+    let fits = g.B.Body.fits in
+    let there = g.M.Hosts.has_scope c.args.mode.now in
+    let width = g.M.Mode.width c.args.mode.now in
+    let s = c.args.built.now in
+    let slots = c.args.jobs.now.bodies in
+    let deferred = c.args.run.now.deferred in
+    let out = c.args.jobs.now.pool in
+    let w = c.args.run.now.state in
+    let bodies = c.requires.next.0 in
+    let start = c.requires.next.1 in
+    let h = c.requires.next.2 in
+    let known = c.requires.next.3 in
+    known.between.hand.suits
+
+pub sync-requires-clause-in_hand : goal.sync-requires-clause-in_hand
+sync-requires-clause-in_hand g c =
+    let meaning = g.B.Body.meaning in
+    let fits = g.B.Body.fits in
+    let there = g.M.Hosts.has_scope c.args.mode.now in
+    let width = g.M.Mode.width c.args.mode.now in
+    let s = c.args.built.now in
+    let slots = c.args.jobs.now.bodies in
+    let deferred = c.args.run.now.deferred in
+    let out = c.args.jobs.now.pool in
+    let w = c.args.run.now.state in
+    let bodies = c.requires.next.0 in
+    let start = c.requires.next.1 in
+    let h = c.requires.next.2 in
+    let known = c.requires.next.3 in
+    known.between.hand.ids
+
+pub sync-requires-clause-home : goal.sync-requires-clause-home
+sync-requires-clause-home g c =
+    let meaning = g.B.Body.meaning in
+    let fits = g.B.Body.fits in
+    let there = g.M.Hosts.has_scope c.args.mode.now in
+    let width = g.M.Mode.width c.args.mode.now in
+    let s = c.args.built.now in
+    let slots = c.args.jobs.now.bodies in
+    let deferred = c.args.run.now.deferred in
+    let out = c.args.jobs.now.pool in
+    let w = c.args.run.now.state in
+    let bodies = c.requires.next.0 in
+    let start = c.requires.next.1 in
+    let h = c.requires.next.2 in
+    let known = c.requires.next.3 in
+    let next = subst (λ (r : Ready). IsTake s h (length out) width r) c.in-Sync.is (subst (λ (t : Turn). IsTurn s h (length out) width (Some t)) c.in-Take.is known.following) in
+    let none = none_out width s bodies start h w.state deferred out known.between.stage c.in-Sync.point (next.allowed false) in
+    home_end meaning fits there s bodies slots out w known.between.placed none c.law.ensures.laid
+
+pub returns-in_err-start-in-Start-clause-stopped : goal.returns-in_err-start-in-Start-clause-stopped
+returns-in_err-start-in-Start-clause-stopped g c =
+    let meaning = g.B.Body.meaning in
+    let fits = g.B.Body.fits in
+    let there = g.M.Hosts.has_scope c.args.mode.now in
+    let width = g.M.Mode.width c.args.mode.now in
+    let s = c.args.built.now in
+    let slots = c.args.jobs.now.bodies in
+    let deferred = c.args.run.now.deferred in
+    let out = c.args.jobs.now.pool in
+    let w = c.args.run.now.state in
+    let told = c.in_err-start-in-Start.field-0.0 in
+    handed_on (StopsNext meaning fits there width s slots deferred out w c.args.turn) c.from_residual-in_err-start-in-Start.result told c.from_residual-in_err-start-in-Start.ensures.1
+    (λ bodies start h known.
+    let next = subst (λ (r : Ready). IsTake s h (length out) width r) c.in-Start.is (subst (λ (t : Turn). IsTurn s h (length out) width (Some t)) c.in-Take.is known.following) in
+    stops_up there (λ met. (bodies : List BodyMeaning) → interleaved_cause_of s bodies (Begin c.in-Start.system) (woven w.state deferred out) ≡ Some met) (WideStops width s bodies start) told (λ met e. stops_start width s bodies start h w.state deferred out known.between.stage c.in-Start.system met next (e bodies)) c.in_err-start-in-Start.ensures.stopped)
+
+pub returns-in_err-answer-in-Ask-clause-stopped : goal.returns-in_err-answer-in-Ask-clause-stopped
+returns-in_err-answer-in-Ask-clause-stopped g c =
+    let meaning = g.B.Body.meaning in
+    let fits = g.B.Body.fits in
+    let there = g.M.Hosts.has_scope c.args.mode.now in
+    let width = g.M.Mode.width c.args.mode.now in
+    let s = c.args.built.now in
+    let slots = c.args.jobs.now.bodies in
+    let deferred = c.args.run.now.deferred in
+    let out = c.args.jobs.now.pool in
+    let w = c.args.run.now.state in
+    let told = c.in_err-answer-in-Ask.field-0.0 in
+    handed_on (StopsNext meaning fits there width s slots deferred out w c.args.turn) c.from_residual-in_err-answer-in-Ask.result told c.from_residual-in_err-answer-in-Ask.ensures.1
+    (λ bodies start h known.
+    let next = subst (λ (r : Ready). IsTake s h (length out) width r) c.in-Ask.is (subst (λ (t : Turn). IsTurn s h (length out) width (Some t)) c.in-Take.is known.following) in
+    stops_among there (LacksTick w.state) (WideStops width s bodies start) told (λ met e. stops_ask width s bodies start h w.state deferred out known.between.stage c.in-Ask.condition met next e) c.in_err-answer-in-Ask.ensures.stopped)
+
+pub returns-in_err-sync-in-Sync-clause-stopped : goal.returns-in_err-sync-in-Sync-clause-stopped
+returns-in_err-sync-in-Sync-clause-stopped g c =
+    let meaning = g.B.Body.meaning in
+    let fits = g.B.Body.fits in
+    let there = g.M.Hosts.has_scope c.args.mode.now in
+    let width = g.M.Mode.width c.args.mode.now in
+    let s = c.args.built.now in
+    let slots = c.args.jobs.now.bodies in
+    let deferred = c.args.run.now.deferred in
+    let out = c.args.jobs.now.pool in
+    let w = c.args.run.now.state in
+    let told = c.in_err-sync-in-Sync.field-0.0 in
+    handed_on (StopsNext meaning fits there width s slots deferred out w c.args.turn) c.from_residual-in_err-sync-in-Sync.result told c.from_residual-in_err-sync-in-Sync.ensures.1
+    (λ bodies start h known.
+    let next = subst (λ (r : Ready). IsTake s h (length out) width r) c.in-Sync.is (subst (λ (t : Turn). IsTurn s h (length out) width (Some t)) c.in-Take.is known.following) in
+    stops_among there (LacksTick w.state) (WideStops width s bodies start) told (λ met e. stops_sync width s bodies start h w.state deferred out known.between.stage c.in-Sync.point met next e) c.in_err-sync-in-Sync.ensures.stopped)
+
+pub returns-in_err-system-in-Collect-clause-stopped : goal.returns-in_err-system-in-Collect-clause-stopped
+returns-in_err-system-in-Collect-clause-stopped g c =
+    let meaning = g.B.Body.meaning in
+    let fits = g.B.Body.fits in
+    let there = g.M.Hosts.has_scope c.args.mode.now in
+    let width = g.M.Mode.width c.args.mode.now in
+    let s = c.args.built.now in
+    let slots = c.args.jobs.now.bodies in
+    let deferred = c.args.run.now.deferred in
+    let out = c.args.jobs.now.pool in
+    let w = c.args.run.now.state in
+    let told = c.in_err-system-in-Collect.field-0.0 in
+    handed_on (StopsNext meaning fits there width s slots deferred out w c.args.turn) c.from_residual.result told c.from_residual.ensures.1
+    (λ bodies start h known.
     let next = subst (λ (t : Turn). IsTurn s h (length out) width (Some t)) c.in-Collect.is known.following in
-    let told = cause bodies known.between.placed in
-    stops_finish width s bodies start h w.state left out known.between.stage told.0.system (Refused k) next.1 (running_there width s bodies start h w.state left out known.between.stage told.0 told.1) told.2
+    stops_up there (λ met. (job : JobOut g.row.B.Denot) × IsIn job out × (interleaved_cause_of s bodies (Finish job.system) (woven w.state deferred out) ≡ Some met)) (WideStops width s bodies start) told
+    (λ met e. stops_finish width s bodies start h w.state deferred out known.between.stage e.0.system met next.1 (running_there width s bodies start h w.state deferred out known.between.stage e.0 e.1) e.2) (c.in_err-system-in-Collect.ensures.stopped bodies known.between.placed))
+
+pub returns-in_err-start-in-Start-clause-kept : goal.returns-in_err-start-in-Start-clause-kept
+returns-in_err-start-in-Start-clause-kept g c =
+    let meaning = g.B.Body.meaning in
+    let fits = g.B.Body.fits in
+    let there = g.M.Hosts.has_scope c.args.mode.now in
+    let width = g.M.Mode.width c.args.mode.now in
+    let s = c.args.built.now in
+    let slots = c.args.jobs.now.bodies in
+    let deferred = c.args.run.now.deferred in
+    let out = c.args.jobs.now.pool in
+    let w = c.args.run.now.state in
+    let told = c.in_err-start-in-Start.field-0.0 in
+    handed_on (KeepsNext meaning fits there width s slots deferred out w c.args.turn c.start.new.jobs.bodies c.start.new.jobs.pool) c.from_residual-in_err-start-in-Start.result told c.from_residual-in_err-start-in-Start.ensures.1
+    (λ lost bodies start h known.
+    (let same = c.in_err-start-in-Start.ensures.kept lost in
+    subst (λ xs. AreKept meaning fits there s bodies xs c.start.new.jobs.pool) (sym same.0) (subst (λ xs. AreKept meaning fits there s bodies slots xs) (sym same.1) (placed_kept meaning fits there s bodies slots out w known.between.placed))))
+
+pub returns-in_err-answer-in-Ask-clause-kept : goal.returns-in_err-answer-in-Ask-clause-kept
+returns-in_err-answer-in-Ask-clause-kept g c =
+    let meaning = g.B.Body.meaning in
+    let fits = g.B.Body.fits in
+    let there = g.M.Hosts.has_scope c.args.mode.now in
+    let width = g.M.Mode.width c.args.mode.now in
+    let s = c.args.built.now in
+    let slots = c.args.jobs.now.bodies in
+    let deferred = c.args.run.now.deferred in
+    let out = c.args.jobs.now.pool in
+    let w = c.args.run.now.state in
+    let told = c.in_err-answer-in-Ask.field-0.0 in
+    handed_on (KeepsNext meaning fits there width s slots deferred out w c.args.turn slots out) c.from_residual-in_err-answer-in-Ask.result told c.from_residual-in_err-answer-in-Ask.ensures.1
+    (λ lost bodies start h known. placed_kept meaning fits there s bodies slots out w known.between.placed)
+
+pub returns-in_err-sync-in-Sync-clause-kept : goal.returns-in_err-sync-in-Sync-clause-kept
+returns-in_err-sync-in-Sync-clause-kept g c =
+    let meaning = g.B.Body.meaning in
+    let fits = g.B.Body.fits in
+    let there = g.M.Hosts.has_scope c.args.mode.now in
+    let width = g.M.Mode.width c.args.mode.now in
+    let s = c.args.built.now in
+    let slots = c.args.jobs.now.bodies in
+    let deferred = c.args.run.now.deferred in
+    let out = c.args.jobs.now.pool in
+    let w = c.args.run.now.state in
+    let told = c.in_err-sync-in-Sync.field-0.0 in
+    handed_on (KeepsNext meaning fits there width s slots deferred out w c.args.turn slots out) c.from_residual-in_err-sync-in-Sync.result told c.from_residual-in_err-sync-in-Sync.ensures.1
+    (λ lost bodies start h known. placed_kept meaning fits there s bodies slots out w known.between.placed)
+
+pub returns-in_err-system-in-Collect-clause-kept : goal.returns-in_err-system-in-Collect-clause-kept
+returns-in_err-system-in-Collect-clause-kept g c =
+    let meaning = g.B.Body.meaning in
+    let fits = g.B.Body.fits in
+    let there = g.M.Hosts.has_scope c.args.mode.now in
+    let width = g.M.Mode.width c.args.mode.now in
+    let s = c.args.built.now in
+    let slots = c.args.jobs.now.bodies in
+    let deferred = c.args.run.now.deferred in
+    let out = c.args.jobs.now.pool in
+    let w = c.args.run.now.state in
+    let told = c.in_err-system-in-Collect.field-0.0 in
+    handed_on (KeepsNext meaning fits there width s slots deferred out w c.args.turn c.finish.new.jobs.bodies c.finish.new.jobs.pool) c.from_residual.result told c.from_residual.ensures.1
+    (λ lost bodies start h known. c.in_err-system-in-Collect.ensures.kept lost bodies known.between.placed)
+
+pub returns-in_ok-start-in-Start-clause-taken : goal.returns-in_ok-start-in-Start-clause-taken
+returns-in_ok-start-in-Start-clause-taken g c = λ bodies start h known.
+    let meaning = g.B.Body.meaning in
+    let fits = g.B.Body.fits in
+    let there = g.M.Hosts.has_scope c.args.mode.now in
+    let width = g.M.Mode.width c.args.mode.now in
+    let s = c.args.built.now in
+    let slots = c.args.jobs.now.bodies in
+    let deferred = c.args.run.now.deferred in
+    let out = c.args.jobs.now.pool in
+    let w = c.args.run.now.state in
+    let next = subst (λ (r : Ready). IsTake s h (length out) width r) c.in-Start.is (subst (λ (t : Turn). IsTurn s h (length out) width (Some t)) c.in-Take.is known.following) in
+    let started = c.in_ok-start-in-Start.ensures in
+    record {
+      may = next.allowed false;
+      between = record {
+        stage = stage_start width s bodies start h w.state deferred out known.between.stage c.in-Start.system c.start.new.run.state.state c.start.new.run.deferred c.start.new.jobs.pool next (started.started bodies) started.longer;
+        placed = started.placed bodies known.between.placed;
+        hand = started.hand;
+      };
+    }
+
+pub returns-in_ok-answer-in-Ask-clause-taken : goal.returns-in_ok-answer-in-Ask-clause-taken
+returns-in_ok-answer-in-Ask-clause-taken g c = λ bodies start h known.
+    let meaning = g.B.Body.meaning in
+    let fits = g.B.Body.fits in
+    let there = g.M.Hosts.has_scope c.args.mode.now in
+    let width = g.M.Mode.width c.args.mode.now in
+    let s = c.args.built.now in
+    let slots = c.args.jobs.now.bodies in
+    let deferred = c.args.run.now.deferred in
+    let out = c.args.jobs.now.pool in
+    let w = c.args.run.now.state in
+    let next = subst (λ (r : Ready). IsTake s h (length out) width r) c.in-Ask.is (subst (λ (t : Turn). IsTurn s h (length out) width (Some t)) c.in-Take.is known.following) in
+    let answer = c.in_ok-answer-in-Ask.answer in
+    let told = c.in_ok-answer-in-Ask.ensures in
+    let later = c.ask.new.self.state in
+    record {
+      may = next.allowed answer;
+      between = record {
+        stage = subst (λ (x : DeferredValue). Stage width s bodies start (Cond c.in-Ask.condition answer ∷ h) later.state x out) (sym c.ask.ensures.deferred)
+            (stage_ask width s bodies start h w.state deferred out known.between.stage c.in-Ask.condition answer later.state next told.answer told.ticked (ap (λ (x : StateValue). x.state) told.asked));
+        placed = placed_asked meaning fits there s bodies slots out w known.between.placed c.in-Ask.condition later told.asked;
+        hand = subst (λ (x : DeferredValue). InHand s x out later) (sym c.ask.ensures.deferred)
+            (in_hand_asked meaning fits there s bodies slots out w known.between.placed deferred c.in-Ask.condition later told.asked known.between.hand);
+      };
+    }
+
+pub returns-in-Skip-clause-taken : goal.returns-in-Skip-clause-taken
+returns-in-Skip-clause-taken g c = λ bodies start h known.
+    let meaning = g.B.Body.meaning in
+    let fits = g.B.Body.fits in
+    let there = g.M.Hosts.has_scope c.args.mode.now in
+    let width = g.M.Mode.width c.args.mode.now in
+    let s = c.args.built.now in
+    let slots = c.args.jobs.now.bodies in
+    let deferred = c.args.run.now.deferred in
+    let out = c.args.jobs.now.pool in
+    let w = c.args.run.now.state in
+    let next = subst (λ (r : Ready). IsTake s h (length out) width r) c.in-Skip.is (subst (λ (t : Turn). IsTurn s h (length out) width (Some t)) c.in-Take.is known.following) in
+    record {
+      may = next.allowed false;
+      between = record {
+        stage = stage_skip width s bodies start h w.state deferred out known.between.stage c.in-Skip.system next;
+        placed = known.between.placed;
+        hand = known.between.hand;
+      };
+    }
+
+pub returns-in_ok-sync-in-Sync-clause-taken : goal.returns-in_ok-sync-in-Sync-clause-taken
+returns-in_ok-sync-in-Sync-clause-taken g c = λ bodies start h known.
+    let meaning = g.B.Body.meaning in
+    let fits = g.B.Body.fits in
+    let there = g.M.Hosts.has_scope c.args.mode.now in
+    let width = g.M.Mode.width c.args.mode.now in
+    let s = c.args.built.now in
+    let slots = c.args.jobs.now.bodies in
+    let deferred = c.args.run.now.deferred in
+    let out = c.args.jobs.now.pool in
+    let w = c.args.run.now.state in
+    let next = subst (λ (r : Ready). IsTake s h (length out) width r) c.in-Sync.is (subst (λ (t : Turn). IsTurn s h (length out) width (Some t)) c.in-Take.is known.following) in
+    let none = none_out width s bodies start h w.state deferred out known.between.stage c.in-Sync.point (next.allowed false) in
+    let done = c.in_ok-sync-in-Sync.ensures in
+    let later = c.sync.new.self.state in
+    let left = c.sync.new.self.deferred in
+    record {
+      may = next.allowed false;
+      between = record {
+        stage = stage_sync width s bodies start h w.state deferred out known.between.stage c.in-Sync.point later.state left next done.ticked done.synced;
+        placed = placed_synced meaning fits there s bodies slots out w known.between.placed later none
+            (memories_synced s w.state known.between.placed.memories c.in-Sync.point deferred left later.state done.synced) done.home;
+        hand = in_hand_none s left out later none done.suits done.in_hand;
+      };
+    }
 
 pub returns-in_ok-system-in-Collect-clause-taken : goal.returns-in_ok-system-in-Collect-clause-taken
 returns-in_ok-system-in-Collect-clause-taken g c = λ bodies start h known.
@@ -259,17 +415,17 @@ returns-in_ok-system-in-Collect-clause-taken g c = λ bodies start h known.
     let there = g.M.Hosts.has_scope c.args.mode.now in
     let width = g.M.Mode.width c.args.mode.now in
     let s = c.args.built.now in
-    let slots = c.args.slots.now in
-    let w = c.args.state.now in
-    let left = c.args.left.now in
-    let out = c.args.pool.now in
+    let slots = c.args.jobs.now.bodies in
+    let deferred = c.args.run.now.deferred in
+    let out = c.args.jobs.now.pool in
+    let w = c.args.run.now.state in
     let next = subst (λ (t : Turn). IsTurn s h (length out) width (Some t)) c.in-Collect.is known.following in
     let ended = c.in_ok-system-in-Collect.ensures in
-    let running = subst (λ n. runs h n ≡ true) ended.running.2 (running_there width s bodies start h w.state left out known.between.stage ended.running.0 ended.running.1) in
+    let running = subst (λ n. runs h n ≡ true) ended.running.2 (running_there width s bodies start h w.state deferred out known.between.stage ended.running.0 ended.running.1) in
     record {
       may = record { running = running };
       between = record {
-        stage = stage_finish width s bodies start h w.state left out known.between.stage c.in_ok-system-in-Collect.system c.finish.new.state.state c.finish.new.left c.finish.new.pool next.1 running (ended.finished bodies known.between.placed) ended.shorter;
+        stage = stage_finish width s bodies start h w.state deferred out known.between.stage c.in_ok-system-in-Collect.system c.finish.new.run.state.state c.finish.new.run.deferred c.finish.new.jobs.pool next.1 running (ended.finished bodies known.between.placed) ended.shorter;
         placed = ended.placed bodies known.between.placed;
         hand = ended.hand bodies known.between.placed known.keeps known.between.hand;
       };

@@ -1,92 +1,129 @@
-use Rattle.std.proofs.Common.{◌<◌, ◌∷◌, [], List, length, map, length-append, ap, refl, sym, ◌∙◌, subst, arith}
-use Rattle.std.proofs.Math.Logic.{⊎_map}
+use Rattle.std.proofs.Common.{◌<◌, ◌∷◌, [], List, Err, length, map, length-append, refl, sym, ap, ◌∙◌, subst, arith}
 use Rattle.std.proofs.lemmas.List.{length-map, map-append}
 use Rattle.model.specs.declared.steps.Step.{Step}
 use Rattle.model.specs.shown.Outcome.{BodyMeaning}
-use Rattle.model.specs.runs.Causes.{Cause}
-use Rattle.model.specs.runs.Causes.Cause.{NoTick, NoIds, NoEventNumber, Refused}
-use Rattle.model.specs.runs.WideRuns.{IsWideRun, AreWideRuns, WideStops}
-use Rattle.engine.specs.Meanings.{meanings, AllKeepWithin}
+use Rattle.model.specs.runs.WideRuns.{IsWideRun, AreWideRuns, IsWideStopped, WideStops}
+use Rattle.worker_pool.specs.JobOut.{JobOut}
 use Rattle.engine.specs.History.{history_of}
+use Rattle.engine.specs.Jobs.{AreKept}
+use Rattle.engine.specs.Meanings.{meanings}
+use Rattle.engine.proofs.Placing.{kept_last, meanings_count}
 use Rattle.engine.proofs.Staging.{runs_more, stopped}
+use Rattle.engine.specs.Stops.{StopsBy}
+use Rattle.engine.proofs.Stops.{either_way, handed_on, lost_or_kept, one_stop, stops_up}
 use Rattle.engine.proofs.coordinator.run_times.Goals as goal
+
+pub run_turns-requires : goal.run_turns-requires
+run_turns-requires g c = λ lifetimes.
+    let inv = c.loop-run.invariant in
+    (c.type_bounds.send-B, (c.type_bounds.send-M-Line, (c.type_bounds.send-M-Gate, (c.type_bounds.sync-M-Gate, ((refl, tt), (inv.rest, inv.empty))))))
 
 pub loop-run-preserved : goal.loop-run-preserved
 loop-run-preserved g c =
-    let s = c.args.built.now in
+    let meaning = g.B.Body.meaning in
+    let fits = g.B.Body.fits in
+    let there = g.M.Hosts.has_scope c.args.mode.now in
     let width = g.M.Mode.width c.args.mode.now in
-    let bodies = meanings g.B.Body.meaning s c.args.slots.now in
-    let start = c.args.state.now.state in
+    let s = c.args.built.now in
+    let bodies = meanings meaning s c.args.jobs.now.bodies in
+    let start = c.args.run.now.state.state in
     let inv = c.loop-run.invariant in
+    let now = meanings meaning s c.loop-run.jobs.bodies in
+    let middle = c.loop-run.run.state.state in
     let traces = c.loop-run.traces.items in
-    let trace = c.in_ok-trace.trace in
-    let ok = c.in_ok-trace.ensures in
-    let items = c.in_ok-push.ensures.items in
-    let one : IsWideRun width s bodies c.loop-run.state.state (history_of trace) c.run_once.new.state.state
-    = subst (λ (bs : List BodyMeaning). IsWideRun width s bs c.loop-run.state.state (history_of trace) c.run_once.new.state.state) inv.meant ok.ran in
+    let later = c.run_turns.new in
+    let ok = c.in-Ok.ensures in
+    let kept = subst (λ (xs : List (JobOut g.row.B.Denot)). AreKept meaning fits there s now later.jobs.bodies xs) ok.empty (ok.kept (λ e. absurd (let clash = e in cc))) in
+    let meant = kept_last meaning fits there s now later.jobs.bodies kept (meanings_count meaning fits there s c.loop-run.jobs.bodies inv.rest.suits.body_count) ∙ inv.meant in
+    let trace = c.in-Ok.trace in
+    let items = c.in_ok-push-in-Ok.ensures.items in
+    let one : IsWideRun width s bodies middle (history_of trace) later.run.state.state
+    = subst (λ (bs : List BodyMeaning). IsWideRun width s bs middle (history_of trace) later.run.state.state) inv.meant ok.ran in
     record {
       count = let e = ap length items in let f = length-append traces (trace ∷ []) in let h = inv.count in omega arith;
-      ran = subst (λ (hs : List (List Step)). AreWideRuns width s bodies start hs c.run_once.new.state.state)
+      ran = subst (λ (hs : List (List Step)). AreWideRuns width s bodies start hs later.run.state.state)
           (sym (ap (map history_of) items ∙ map-append history_of traces (trace ∷ [])))
-          (runs_more width s bodies start (map history_of traces) c.loop-run.state.state (history_of trace) c.run_once.new.state.state inv.ran one);
-      suits = ok.suits;
-      meant = ok.meanings ∙ inv.meant;
-      home = ok.home;
-      left = ok.left;
+          (runs_more width s bodies start (map history_of traces) middle (history_of trace) later.run.state.state inv.ran one);
+      rest = ok.rest;
+      empty = ok.empty;
+      meant = meant;
     }
 
-pub returns-in_err-trace-clause-clock : goal.returns-in_err-trace-clause-clock
-returns-in_err-trace-clause-clock g c = λ e.
-    let s = c.args.built.now in
+pub returns-in_err-push-in-Ok-clause-meanings : goal.returns-in_err-push-in-Ok-clause-meanings
+returns-in_err-push-in-Ok-clause-meanings g c = λ lost.
+    let meaning = g.B.Body.meaning in
+    let fits = g.B.Body.fits in
+    let there = g.M.Hosts.has_scope c.args.mode.now in
     let width = g.M.Mode.width c.args.mode.now in
-    let bodies = meanings g.B.Body.meaning s c.args.slots.now in
-    let start = c.args.state.now.state in
-    let inv = c.loop-run.invariant in
-    let hs = map history_of c.loop-run.traces.items in
-    let fewer : length hs < c.args.times = let h = inv.count in let l = length-map c.loop-run.traces.items history_of in omega arith in
-    let stops = λ (cause : Cause) (h : WideStops width s (meanings g.B.Body.meaning s c.loop-run.slots) c.loop-run.state.state cause).
-    stopped width s bodies c.args.times start hs c.loop-run.state.state cause inv.ran fewer (subst (λ (bs : List BodyMeaning). WideStops width s bs c.loop-run.state.state cause) inv.meant h) in
-    ⊎_map (stops NoTick) (stops NoEventNumber) (c.in_err-trace.ensures.clock (let q = c.from_residual.ensures in let p = rw e at q.1 in cc))
-
-pub returns-in_err-trace-clause-ids : goal.returns-in_err-trace-clause-ids
-returns-in_err-trace-clause-ids g c = λ e.
     let s = c.args.built.now in
-    let width = g.M.Mode.width c.args.mode.now in
-    let bodies = meanings g.B.Body.meaning s c.args.slots.now in
-    let start = c.args.state.now.state in
+    let bodies = meanings meaning s c.args.jobs.now.bodies in
+    let start = c.args.run.now.state.state in
     let inv = c.loop-run.invariant in
-    let hs = map history_of c.loop-run.traces.items in
-    let fewer : length hs < c.args.times = let h = inv.count in let l = length-map c.loop-run.traces.items history_of in omega arith in
-    stopped width s bodies c.args.times start hs c.loop-run.state.state NoIds inv.ran fewer
-    (subst (λ (bs : List BodyMeaning). WideStops width s bs c.loop-run.state.state NoIds) inv.meant (c.in_err-trace.ensures.ids (let q = c.from_residual.ensures in let p = rw e at q.1 in cc)))
+    let now = meanings meaning s c.loop-run.jobs.bodies in
+    let middle = c.loop-run.run.state.state in
+    let traces = c.loop-run.traces.items in
+    let later = c.run_turns.new in
+    let ok = c.in-Ok.ensures in
+    let kept = subst (λ (xs : List (JobOut g.row.B.Denot)). AreKept meaning fits there s now later.jobs.bodies xs) ok.empty (ok.kept (λ e. absurd (let clash = e in cc))) in
+    let meant = kept_last meaning fits there s now later.jobs.bodies kept (meanings_count meaning fits there s c.loop-run.jobs.bodies inv.rest.suits.body_count) ∙ inv.meant in
+    meant
 
-pub returns-in_err-trace-clause-refusal : goal.returns-in_err-trace-clause-refusal
-returns-in_err-trace-clause-refusal g c = λ k e.
+pub returns-in_err-bring_home-in-Err-clause-stopped : goal.returns-in_err-bring_home-in-Err-clause-stopped
+returns-in_err-bring_home-in-Err-clause-stopped g c =
+    let meaning = g.B.Body.meaning in
+    let fits = g.B.Body.fits in
+    let there = g.M.Hosts.has_scope c.args.mode.now in
+    let width = g.M.Mode.width c.args.mode.now in
     let s = c.args.built.now in
-    let width = g.M.Mode.width c.args.mode.now in
-    let bodies = meanings g.B.Body.meaning s c.args.slots.now in
-    let start = c.args.state.now.state in
+    let bodies = meanings meaning s c.args.jobs.now.bodies in
+    let start = c.args.run.now.state.state in
     let inv = c.loop-run.invariant in
-    let hs = map history_of c.loop-run.traces.items in
-    let fewer : length hs < c.args.times = let h = inv.count in let l = length-map c.loop-run.traces.items history_of in omega arith in
-    stopped width s bodies c.args.times start hs c.loop-run.state.state (Refused k) inv.ran fewer
-    (subst (λ (bs : List BodyMeaning). WideStops width s bs c.loop-run.state.state (Refused k)) inv.meant (c.in_err-trace.ensures.refusal k (let q = c.from_residual.ensures in let p = rw e at q.1 in cc)))
+    let now = meanings meaning s c.loop-run.jobs.bodies in
+    let middle = c.loop-run.run.state.state in
+    let traces = c.loop-run.traces.items in
+    let told = c.in_err-bring_home-in-Err.field-0.0 in
+    let lost = c.in_err-bring_home-in-Err.ensures.lost in
+    let later = c.run_turns.new.jobs in
+    handed_on (StopsBy there (IsWideStopped width s bodies c.args.times start)) c.from_residual-in_err-bring_home-in-Err.result told c.from_residual-in_err-bring_home-in-Err.ensures.1
+    (subst (StopsBy there (IsWideStopped width s bodies c.args.times start)) (sym lost.0)
+    (either_way there (WideStops width s now middle) (AreKept meaning fits there s now later.bodies later.pool) c.in-Err.stop c.in-Err.ensures.stopped
+    (λ wanting. c.in-Err.ensures.kept (λ e. wanting (one_stop e))) (λ kept. lost.1 s now kept)))
 
-pub run_once-requires : goal.run_once-requires
-run_once-requires g c = λ lifetimes.
-    let inv = c.loop-run.invariant in (
-      c.type_bounds.send-B,
-      (
-        c.type_bounds.send-M-Line,
-        (
-          c.type_bounds.send-M-Gate,
-          (
-            c.type_bounds.sync-M-Gate,
-            (
-              (refl, tt),
-              (inv.suits, (subst (AllKeepWithin c.args.built.now) (sym inv.meant) c.requires.keeps, (inv.home, inv.left))),
-            ),
-          ),
-        ),
-      ),
-    )
+pub returns-in_err-bring_home-in-Err-clause-meanings : goal.returns-in_err-bring_home-in-Err-clause-meanings
+returns-in_err-bring_home-in-Err-clause-meanings g c =
+    lost_or_kept c.from_residual-in_err-bring_home-in-Err.result c.in_err-bring_home-in-Err.field-0.0 c.from_residual-in_err-bring_home-in-Err.ensures.1
+    (λ wanting. absurd (wanting c.in_err-bring_home-in-Err.ensures.lost.0))
+
+pub returns-in-Err-clause-stopped : goal.returns-in-Err-clause-stopped
+returns-in-Err-clause-stopped g c =
+    let meaning = g.B.Body.meaning in
+    let fits = g.B.Body.fits in
+    let there = g.M.Hosts.has_scope c.args.mode.now in
+    let width = g.M.Mode.width c.args.mode.now in
+    let s = c.args.built.now in
+    let bodies = meanings meaning s c.args.jobs.now.bodies in
+    let start = c.args.run.now.state.state in
+    let inv = c.loop-run.invariant in
+    let now = meanings meaning s c.loop-run.jobs.bodies in
+    let middle = c.loop-run.run.state.state in
+    let traces = c.loop-run.traces.items in
+    let hs = map history_of traces in
+    let fewer : length hs < c.args.times = let h = inv.count in let l = length-map traces history_of in omega arith in
+    stops_up there (WideStops width s now middle) (IsWideStopped width s bodies c.args.times start) c.in-Err.stop
+    (λ met h. stopped width s bodies c.args.times start hs middle met inv.ran fewer (subst (λ (bs : List BodyMeaning). WideStops width s bs middle met) inv.meant h)) c.in-Err.ensures.stopped
+
+pub returns-in-Err-clause-meanings : goal.returns-in-Err-clause-meanings
+returns-in-Err-clause-meanings g c = λ lost.
+    let meaning = g.B.Body.meaning in
+    let fits = g.B.Body.fits in
+    let there = g.M.Hosts.has_scope c.args.mode.now in
+    let width = g.M.Mode.width c.args.mode.now in
+    let s = c.args.built.now in
+    let bodies = meanings meaning s c.args.jobs.now.bodies in
+    let start = c.args.run.now.state.state in
+    let inv = c.loop-run.invariant in
+    let now = meanings meaning s c.loop-run.jobs.bodies in
+    let middle = c.loop-run.run.state.state in
+    let traces = c.loop-run.traces.items in
+    let kept = c.in-Err.ensures.kept (λ e. lost (ap (λ x. Err x) (one_stop e))) in
+    kept_last meaning fits there s now c.bring_home.new.jobs.bodies (c.in_ok-bring_home-in-Err.ensures.kept s now kept) (meanings_count meaning fits there s c.loop-run.jobs.bodies inv.rest.suits.body_count) ∙ inv.meant

@@ -1,17 +1,16 @@
+-- What a run knows between two turns: the core stands for the steps so far, and their meaning is the state with what is deferred and the jobs that
+-- are out.
 use Rattle.std.proofs.Common.{◌≡◌, ◌-◌, length, reverse}
 use Rattle.executor_core.specs.Stands.{Stands, room}
-use Rattle.engine.specs.Jobs.{InHand, Placed}
 use Rattle.engine.specs.Meanings.{meanings}
-use Rattle.engine.specs.Stage.{Stage}
+use Rattle.engine.specs.Next.{IsBetween}
 use Rattle.engine.proofs.coordinator.run_turns.Given as goal
 
 abbrev pub invariant-loop-turn : goal.invariant-loop-turn
 invariant-loop-turn g l = record {
   schedule : l.core.schedule ≡ l.built;
   stands : Stands l.core (reverse l.steps.items);
-  stage : Stage (g.M.Mode.width l.mode) l.built (meanings g.B.Body.meaning l.built l.fn.slots) l.fn.state.state (reverse l.steps.items) l.state.state l.left l.pool;
-  placed : Placed g.B.Body.meaning g.B.Body.fits (g.M.Hosts.has_scope l.mode) l.built (meanings g.B.Body.meaning l.built l.fn.slots) l.slots l.pool l.state;
-  hand : InHand l.built l.left l.pool l.state;
+  between : IsBetween g.B.Body.meaning g.B.Body.fits (g.M.Hosts.has_scope l.mode) (g.M.Mode.width l.mode) l.built (meanings g.B.Body.meaning l.built l.fn.jobs.bodies) l.fn.run.state.state (reverse l.steps.items) l.jobs.bodies l.run.deferred l.jobs.pool l.run.state;
 }
 
 abbrev pub decreases-loop-turn : goal.decreases-loop-turn

@@ -1,4 +1,4 @@
--- The text is that of the runs so far and what is left.
+-- The text is that of the runs so far and what is deferred.
 use Rattle.trace_checker.proofs.Reading.{no_line, no_order, these_runs, still_fits, still_whole, still_counted, still_bound, not_empty, empty}
 use Rattle.trace_checker.proofs.read.read_traces.Goals as goal
 

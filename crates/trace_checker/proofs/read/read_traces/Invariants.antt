@@ -2,7 +2,7 @@ use Rattle.std.proofs.Common.{◌≡◌, ◌++◌, ◌+◌, ◌≤◌, length}
 use Rattle.trace_checker.specs.Grammar.{trace_text, lines_from, steps_of, AreFitting}
 use Rattle.trace_checker.proofs.read.read_traces.Given as goal
 
--- the text is that of the runs so far and what is left
+-- the text is that of the runs so far and what is deferred
 abbrev pub invariant-loop-rest : goal.invariant-loop-rest
 invariant-loop-rest l = record {
   fitting : AreFitting (steps_of l.traces.items);

@@ -22,7 +22,7 @@ returns-in-Bad-clause-only g c = λ other h.
     (subst (IsVerdict c.args.built.now c.args.trace.now.steps.items) c.in-Bad.is c.in_ok-check.ensures.verdict) h
 
 pub take_steps-requires-clause-out : goal.take_steps-requires-clause-out
-take_steps-requires-clause-out g c κs within = none-out (store_of c.into_open-state.result) c.into_open-state.ensures.home
+take_steps-requires-clause-out g c κs within = none-out (store_of c.into_open.result) c.into_open.ensures.home
 
 pub returns-in_err-take_steps-clause-only : goal.returns-in_err-take_steps-clause-only
 returns-in_err-take_steps-clause-only g c =
@@ -30,23 +30,23 @@ returns-in_err-take_steps-clause-only g c =
     let ms = meanings g.B.Body.meaning s (map Some c.args.bodies.now) in
     let fault = c.in_err-take_steps.field-0.0 in
     one_fault s ms c.args.state c.args.trace.now.steps.items c.from_residual-in_err-take_steps.result fault c.from_residual-in_err-take_steps.ensures.1
-    (subst₂ (λ (start : State) (steps : List Step). IsReplayFault s ms start steps fault) c.into_open-state.ensures.state c.deref.ensures.value c.in_err-take_steps.ensures.stopped)
+    (subst₂ (λ (start : State) (steps : List Step). IsReplayFault s ms start steps fault) c.into_open.ensures.state c.deref.ensures.value c.in_err-take_steps.ensures.stopped)
 
 pub into_state-requires : goal.into_state-requires
-into_state-requires g c = all-home (store_of c.take_steps.new.state) c.law-2.ensures.laid c.in_ok-take_steps.ensures.out
+into_state-requires g c = all-home (store_of c.take_steps.new.run.state) c.law-2.ensures.laid c.in_ok-take_steps.ensures.out
 
 pub returns-clause-only : goal.returns-clause-only
 returns-clause-only g c = λ other h.
     let s = c.args.built.now in
     let ms = meanings g.B.Body.meaning s (map Some c.args.bodies.now) in
     one_replay s ms c.args.state c.args.trace.now.steps.items (Ok c.into_state.result) other
-    (subst₂ (λ (start : State) (steps : List Step). IsReplay s ms start steps (Ok c.into_state.result)) c.into_open-state.ensures.state c.deref.ensures.value
-    (subst (λ (w : State). IsReplay s ms c.into_open-state.result.state c.deref.result.now (Ok w)) (sym c.into_state.ensures) c.in_ok-take_steps.ensures.replayed)) h
+    (subst₂ (λ (start : State) (steps : List Step). IsReplay s ms start steps (Ok c.into_state.result)) c.into_open.ensures.state c.deref.ensures.value
+    (subst (λ (w : State). IsReplay s ms c.into_open.result.state c.deref.result.now (Ok w)) (sym c.into_state.ensures) c.in_ok-take_steps.ensures.replayed)) h
 
 pub returns-clause-agreement : goal.returns-clause-agreement
 returns-clause-agreement g c =
     let s = c.args.built.now in
     let ms = meanings g.B.Body.meaning s (map Some c.args.bodies.now) in
     replay_agrees g.B.Body.meaning s c.args.bodies.now c.args.state (reverse c.args.trace.now.steps.items) c.into_state.result c.law.ensures c.requires.memories c.shape.ensures c.fitting_keep.ensures
-    (subst₂ (λ (start : State) (steps : List Step). IsReplay s ms start steps (Ok c.into_state.result)) c.into_open-state.ensures.state c.deref.ensures.value
-    (subst (λ (w : State). IsReplay s ms c.into_open-state.result.state c.deref.result.now (Ok w)) (sym c.into_state.ensures) c.in_ok-take_steps.ensures.replayed))
+    (subst₂ (λ (start : State) (steps : List Step). IsReplay s ms start steps (Ok c.into_state.result)) c.into_open.ensures.state c.deref.ensures.value
+    (subst (λ (w : State). IsReplay s ms c.into_open.result.state c.deref.result.now (Ok w)) (sym c.into_state.ensures) c.in_ok-take_steps.ensures.replayed))

@@ -1,49 +1,78 @@
-use Rattle.std.proofs.Common.{◌≡◌, map, Some, sym, ap, ◌∙◌, subst}
+use Rattle.std.proofs.Common.{◌≡◌, [], map, Some, sym, ap, ◌∙◌, subst}
 use Rattle.model.specs.declared.steps.Step.{Step}
-use Rattle.engine.specs.Left.{run_with}
+use Rattle.model.specs.declared.steps.Step.TheVariants.{Cond, Start, Sync}
+use Rattle.model.specs.runs.Causes.{serial_cause_of}
+use Rattle.engine.specs.Deferred.{DeferredValue, run_with}
+use Rattle.engine.specs.Stops.{LacksTick, fault_of}
+use Rattle.engine.proofs.Stops.{handed_on}
 use Rattle.engine.specs.Meanings.{meanings}
 use Rattle.body.specs.Steps.{StateValue, store_of}
-use Rattle.body.proofs.Outs.{all-home, none-out}
+use Rattle.body.proofs.Outs.{all-home, home-apart, none-out}
+use Rattle.model.specs.steps.Schedule.{access_of}
 use Rattle.trace_checker.specs.declared.replay.ReplayFault.TheVariants as replay
 use Rattle.model.specs.runs.Replays.{IsStepTaken}
-use Rattle.trace_checker.specs.ReplayFaults.{IsStepFault}
-use Rattle.trace_checker.proofs.Taking.{handed_on}
-use Rattle.trace_checker.proofs.WholeStarts.{ask_stops, ask_taken, same_bool, suits_asked, suits_synced}
+use Rattle.trace_checker.specs.ReplayFaults.{IsStepFault, IsStoppedHere}
+use Rattle.trace_checker.proofs.Taking.{step_told}
+use Rattle.trace_checker.proofs.WholeStarts.{ask_taken, same_bool, suits_asked, suits_synced}
 use Rattle.trace_checker.proofs.replay.take.Goals as goal
 
 pub returns-in_err-answer-in-Cond-clause-stopped : goal.returns-in_err-answer-in-Cond-clause-stopped
 returns-in_err-answer-in-Cond-clause-stopped g c =
     let s = c.args.built.now in
     let ms = meanings g.B.Body.meaning s (map Some c.args.bodies.now) in
-    let run = run_with c.args.state.now.state c.args.left.now in
-    let fault = c.in_err-answer-in-Cond.field-0.0 in
-    handed_on (IsStepFault s ms run c.args.step c.args.number) c.from_residual.result (replay.Run fault) c.from_residual.ensures.1
-    (subst (λ (x : Step). IsStepFault s ms run x c.args.number (replay.Run fault)) (sym c.in-Cond.is)
-    (ask_stops s ms c.in-Cond.condition c.in-Cond.recorded run fault (c.in_err-answer-in-Cond.ensures.stopped c.args.left.now)))
+    let run = run_with c.args.run.now.state.state c.args.run.now.deferred in
+    let told = c.in_err-answer-in-Cond.field-0.0 in
+    handed_on (IsStepFault s ms run c.args.step c.args.number) c.from_residual.result (replay.Run (fault_of told)) c.from_residual.ensures.1
+    (subst (λ (x : Step). IsStoppedHere s ms run x (fault_of told)) (sym c.in-Cond.is)
+    (step_told s ms run (Cond c.in-Cond.condition c.in-Cond.recorded) (LacksTick c.args.run.now.state.state) told (λ met e. e) c.in_err-answer-in-Cond.ensures.stopped))
+
+pub returns-in_err-start-in-Start-clause-stopped : goal.returns-in_err-start-in-Start-clause-stopped
+returns-in_err-start-in-Start-clause-stopped g c =
+    let s = c.args.built.now in
+    let ms = meanings g.B.Body.meaning s (map Some c.args.bodies.now) in
+    let run = run_with c.args.run.now.state.state c.args.run.now.deferred in
+    let told = c.in_err-start-in-Start.field-0.0 in
+    handed_on (IsStepFault s ms run c.args.step c.args.number) c.from_residual-in_err-start-in-Start.result (replay.Run (fault_of told)) c.from_residual-in_err-start-in-Start.ensures.1
+    (subst (λ (x : Step). IsStoppedHere s ms run x (fault_of told)) (sym c.in-Start.is)
+    (step_told s ms run (Start c.in-Start.system) (λ met. serial_cause_of s ms (Start c.in-Start.system) run ≡ Some met) told (λ met e. e) c.in_err-start-in-Start.ensures.stopped))
+
+pub returns-in_err-sync-in-Sync-clause-stopped : goal.returns-in_err-sync-in-Sync-clause-stopped
+returns-in_err-sync-in-Sync-clause-stopped g c =
+    let s = c.args.built.now in
+    let ms = meanings g.B.Body.meaning s (map Some c.args.bodies.now) in
+    let run = run_with c.args.run.now.state.state c.args.run.now.deferred in
+    let told = c.in_err-sync-in-Sync.field-0.0 in
+    handed_on (IsStepFault s ms run c.args.step c.args.number) c.from_residual-in_err-sync-in-Sync.result (replay.Run (fault_of told)) c.from_residual-in_err-sync-in-Sync.ensures.1
+    (subst (λ (x : Step). IsStoppedHere s ms run x (fault_of told)) (sym c.in-Sync.is)
+    (step_told s ms run (Sync c.in-Sync.point) (LacksTick c.args.run.now.state.state) told (λ met e. e) c.in_err-sync-in-Sync.ensures.stopped))
 
 pub returns-else-answer-recorded-clause-taken : goal.returns-else-answer-recorded-clause-taken
 returns-else-answer-recorded-clause-taken g c =
     let s = c.args.built.now in
-    let w = c.args.state.now.state in
-    let left = c.args.left.now in
+    let w = c.args.run.now.state.state in
+    let deferred = c.args.run.now.deferred in
     let ms = meanings g.B.Body.meaning s (map Some c.args.bodies.now) in
     let ok = c.in_ok-answer-in-Cond.ensures in
     let same : c.in_ok-answer-in-Cond.answer ≡ c.in-Cond.recorded = same_bool c.in_ok-answer-in-Cond.answer c.in-Cond.recorded c.if-answer-recorded.false in
-    subst (λ (x : Step). IsStepTaken s ms (run_with w left) x (run_with c.ask.new.state.state left)) (sym c.in-Cond.is)
-    (ask_taken s ms c.in-Cond.condition c.in-Cond.recorded w c.ask.new.state.state left ok.ticked (ap (λ (x : StateValue). x.state) ok.asked) (sym same ∙ ok.answer left))
+    subst (λ (x : Step). IsStepTaken s ms (run_with w deferred) x (run_with c.ask.new.self.state.state c.ask.new.self.deferred)) (sym c.in-Cond.is)
+    (subst (λ (x : DeferredValue). IsStepTaken s ms (run_with w deferred) (Cond c.in-Cond.condition c.in-Cond.recorded) (run_with c.ask.new.self.state.state x)) (sym c.ask.ensures.deferred)
+    (ask_taken s ms c.in-Cond.condition c.in-Cond.recorded w c.ask.new.self.state.state deferred ok.ticked (ap (λ (x : StateValue). x.state) ok.asked) (sym same ∙ ok.answer)))
 
 pub returns-else-answer-recorded-clause-suits : goal.returns-else-answer-recorded-clause-suits
 returns-else-answer-recorded-clause-suits g c =
-    suits_asked g.B.Body.fits c.args.built.now (map Some c.args.bodies.now) c.in-Cond.condition c.args.state.now.state c.ask.new.state.state c.requires.suits
+    suits_asked g.B.Body.fits c.args.built.now (map Some c.args.bodies.now) c.in-Cond.condition c.args.run.now.state.state c.ask.new.self.state.state c.requires.suits
     (ap (λ (x : StateValue). x.state) c.in_ok-answer-in-Cond.ensures.asked)
 
 pub sync-requires-clause-home : goal.sync-requires-clause-home
-sync-requires-clause-home g c = all-home (store_of c.args.state.now) c.law.ensures.laid c.requires.out
+sync-requires-clause-home g c = all-home (store_of c.args.run.now.state) c.law.ensures.laid c.requires.out
 
 pub returns-in_ok-sync-in-Sync-clause-suits : goal.returns-in_ok-sync-in-Sync-clause-suits
 returns-in_ok-sync-in-Sync-clause-suits g c =
-    suits_synced g.B.Body.fits c.args.built.now (map Some c.args.bodies.now) c.in-Sync.point c.args.state.now.state c.sync.new.state.state c.args.left.now c.sync.new.self c.requires.suits
+    suits_synced g.B.Body.fits c.args.built.now (map Some c.args.bodies.now) c.in-Sync.point c.args.run.now.state.state c.sync.new.self.state.state c.args.run.now.deferred c.sync.new.self.deferred c.requires.suits
     c.in_ok-sync-in-Sync.ensures.synced
 
 pub returns-in_ok-sync-in-Sync-clause-out : goal.returns-in_ok-sync-in-Sync-clause-out
-returns-in_ok-sync-in-Sync-clause-out g c = none-out (store_of c.sync.new.state) c.in_ok-sync-in-Sync.ensures.home
+returns-in_ok-sync-in-Sync-clause-out g c = none-out (store_of c.sync.new.self.state) c.in_ok-sync-in-Sync.ensures.home
+
+pub ask-requires-clause-home : goal.ask-requires-clause-home
+ask-requires-clause-home g c = home-apart (store_of c.args.run.now.state) [] (access_of c.args.built.now c.in-Cond.condition) c.law.ensures.laid c.requires.out tt

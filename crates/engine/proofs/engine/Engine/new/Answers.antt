@@ -3,7 +3,7 @@ use Rattle.std.specs.Result.{IsErrOf}
 use Rattle.engine.specs.declared.faults.NewFault.{NewFault}
 use Rattle.engine.specs.declared.faults.NewFault.TheVariants.{Count, Misfit}
 use Rattle.engine.specs.Meanings.{meanings, AllKeepWithin, IsFirstMisfit, Miscounts, Suits}
-use Rattle.engine.proofs.Bodies.{suits_counts, suits_fits}
+use Rattle.engine.proofs.AtHome.{suits_counts, suits_fits}
 use Rattle.engine.proofs.engine.Engine.new.Goals as goal
 
 -- a fault is the same whatever else might have been answered
@@ -36,21 +36,21 @@ returns-in_err-bodies-clause-misfit g c = λ n.
       (λ h. absurd (suits_fits fits c.args.built slots c.args.state n suits h)),
     )
 
-pub returns-in_err-left-clause-count : goal.returns-in_err-left-clause-count
-returns-in_err-left-clause-count g c =
+pub returns-in_err-deferred-clause-count : goal.returns-in_err-deferred-clause-count
+returns-in_err-deferred-clause-count g c =
     let fits = g.B.Body.fits in
     let slots = map (λ x. Some x) c.args.bodies.items in
     let suits = subst (λ xs. Suits fits c.args.built (map (λ x. Some x) xs) c.args.state) c.deref.ensures.value c.in_default.ensures.suits in (
-      (λ e. absurd (let q = c.from_residual-in_err-left.ensures in let p = rw e at q.1 in cc)),
+      (λ e. absurd (let q = c.from_residual-in_err-deferred.ensures in let p = rw e at q.1 in cc)),
       (λ h. absurd (suits_counts fits c.args.built slots c.args.state suits h)),
     )
 
-pub returns-in_err-left-clause-misfit : goal.returns-in_err-left-clause-misfit
-returns-in_err-left-clause-misfit g c = λ n.
+pub returns-in_err-deferred-clause-misfit : goal.returns-in_err-deferred-clause-misfit
+returns-in_err-deferred-clause-misfit g c = λ n.
     let fits = g.B.Body.fits in
     let slots = map (λ x. Some x) c.args.bodies.items in
     let suits = subst (λ xs. Suits fits c.args.built (map (λ x. Some x) xs) c.args.state) c.deref.ensures.value c.in_default.ensures.suits in (
-      (λ e. absurd (let q = c.from_residual-in_err-left.ensures in let p = rw e at q.1 in cc)),
+      (λ e. absurd (let q = c.from_residual-in_err-deferred.ensures in let p = rw e at q.1 in cc)),
       (λ h. absurd (suits_fits fits c.args.built slots c.args.state n suits h)),
     )
 
@@ -59,7 +59,7 @@ invariant_of-result g c = λ e.
     let placed = ap (map (λ x. Some x)) c.deref.ensures.value ∙ sym c.in_ok-bodies.ensures in (
       subst (λ xs. Suits g.B.Body.fits c.args.built xs c.args.state) placed c.in_default.ensures.suits,
       subst (λ xs. AllKeepWithin c.args.built (meanings g.B.Body.meaning c.args.built xs)) placed c.in_default.ensures.keep,
-      c.in_ok-left.ensures.suits,
+      c.in_ok-deferred.ensures.suits,
     )
 
 pub returns-clause-count : goal.returns-clause-count

@@ -1,0 +1,13 @@
+use Rattle.std.proofs.Common.{[], ◌∙◌, ap, get_or, arith, length, length-append}
+use Rattle.engine.proofs.Emptying.{nothing_more}
+use Rattle.engine.proofs.deferred.Deferred.new.Goals as goal
+
+pub loop-system-preserved : goal.loop-system-preserved
+loop-system-preserved c =
+    let held = c.loop-system.invariant in
+    record {
+      command_count = ap length c.in_ok-push.ensures.items ∙ length-append c.loop-system.commands.items _ ∙ omega (arith, held.command_count);
+      grant_count = ap length c.in_ok-push-2.ensures.items ∙ length-append c.loop-system.grants.items _ ∙ omega (arith, held.grant_count);
+      no_commands = λ n. ap (λ lists. get_or lists n []) c.in_ok-push.ensures.items ∙ nothing_more c.loop-system.commands.items c.new.result c.new.ensures held.no_commands n;
+      no_grants = λ n. ap (λ lists. get_or lists n []) c.in_ok-push-2.ensures.items ∙ nothing_more c.loop-system.grants.items _ c.new-in-loop-system.ensures.items held.no_grants n;
+    }

@@ -1,0 +1,157 @@
+use Rattle.std.proofs.Common.{◌≡◌, ◌<◌, inl, inr, ◌∷◌, ◌++◌, [], Bool, List, true, false, Option, Some, None, Ok, Err, length, set, refl, sym, ap, ◌∙◌, subst, arith}
+use Rattle.std.proofs.lemmas.Bool.{false≢true}
+use Rattle.model.specs.declared.steps.Step.TheVariants.{Start as Begin}
+use Rattle.model.specs.runs.Meaning.{interleaved_step}
+use Rattle.model.specs.runs.Causes.{cause_of_start, interleaved_cause_of}
+use Rattle.model.specs.shown.Outcome.{BodyMeaning}
+use Rattle.model.specs.steps.Schedule.{params_of}
+use Rattle.body.specs.Seen.{Seen}
+use Rattle.body.specs.Steps.{store_of}
+use Rattle.body.proofs.Outs.{home-apart}
+use Rattle.worker_pool.specs.JobOut.{JobOut}
+use Rattle.engine.specs.Jobs.{held_by, woven, InHand, Placed}
+use Rattle.engine.specs.Deferred.{DeferredValue, run_with, with_grants}
+use Rattle.engine.specs.Starts.{ids_at_start}
+use Rattle.engine.specs.Stops.{StopsBy}
+use Rattle.worker_pool.specs.declared.fault.HandFault.TheVariants as hand
+use Rattle.engine.proofs.Placing.{IsHanded, body-there, put_again, start_there, placed_start}
+use Rattle.engine.proofs.Starting.{in_hand_start}
+use Rattle.engine.proofs.Stops.{handed_on, stops_among}
+use denote.Param.Send.{sendable}
+use Rattle.engine.proofs.jobs.start.Goals as goal
+
+one-body : {B : Type 0} {a b : B} → Some a ≡ Some b → a ≡ b
+one-body e = cc
+
+pub show-requires-clause-home : goal.show-requires-clause-home
+show-requires-clause-home g c =
+    let s = c.args.built.now in
+    let n = c.args.system in
+    let meaning = g.B.Body.meaning in
+    let fits = g.B.Body.fits in
+    let there = g.M.Hosts.has_scope c.args.mode.now in
+    let w = c.args.run.now.state in
+    let deferred = c.args.run.now.deferred in
+    let out = c.args.jobs.now.pool in
+    let slots = c.args.jobs.now.bodies in
+    home-apart (store_of w) (held_by out) (params_of s n) c.law.ensures.laid c.requires.placed.1.held c.requires.allowed.apart
+
+pub take-body-requires : goal.take-body-requires
+take-body-requires g c =
+    let s = c.args.built.now in
+    let n = c.args.system in
+    let meaning = g.B.Body.meaning in
+    let fits = g.B.Body.fits in
+    let there = g.M.Hosts.has_scope c.args.mode.now in
+    let w = c.args.run.now.state in
+    let deferred = c.args.run.now.deferred in
+    let out = c.args.jobs.now.pool in
+    let slots = c.args.jobs.now.bodies in
+    record { there = body-there meaning fits there s c.requires.placed.0 slots out w c.requires.placed.1 n c.requires.allowed.known c.requires.allowed.home }
+
+pub hand_out-requires : goal.hand_out-requires
+hand_out-requires g c = λ lifetimes.
+    (search sendable depth 40, (search sendable depth 40, (search sendable depth 40, (search sendable depth 40, (refl, tt)))))
+
+pub returns-in_err-shown-clause-stopped : goal.returns-in_err-shown-clause-stopped
+returns-in_err-shown-clause-stopped g c =
+    let s = c.args.built.now in
+    let n = c.args.system in
+    let meaning = g.B.Body.meaning in
+    let fits = g.B.Body.fits in
+    let there = g.M.Hosts.has_scope c.args.mode.now in
+    let w = c.args.run.now.state in
+    let deferred = c.args.run.now.deferred in
+    let out = c.args.jobs.now.pool in
+    let slots = c.args.jobs.now.bodies in
+    let told = c.in_err-shown.field-0.0 in
+    handed_on (StopsBy there (λ met. (bodies : List BodyMeaning) → interleaved_cause_of s bodies (Begin n) (woven w.state deferred out) ≡ Some met)) c.from_residual.result told c.from_residual.ensures.1
+    (stops_among there (λ met. cause_of_start s n (run_with w.state deferred) ≡ Some met) (λ met. (bodies : List BodyMeaning) → interleaved_cause_of s bodies (Begin n) (woven w.state deferred out) ≡ Some met) told
+    (λ met e bodies. e) c.in_err-shown.ensures.stopped)
+
+pub returns-in-Err-Memory-clause-kept : goal.returns-in-Err-Memory-clause-kept
+returns-in-Err-Memory-clause-kept g c = λ lost.
+    let s = c.args.built.now in
+    let n = c.args.system in
+    let meaning = g.B.Body.meaning in
+    let fits = g.B.Body.fits in
+    let there = g.M.Hosts.has_scope c.args.mode.now in
+    let w = c.args.run.now.state in
+    let deferred = c.args.run.now.deferred in
+    let out = c.args.jobs.now.pool in
+    let slots = c.args.jobs.now.bodies in
+    let told = c.in-Err-Memory.ensures in
+    let back : c.in-Err-Memory.start.body ≡ c.take-body.result = elim told.only [
+      | inl e ↦ one-body (sym (ap (λ f. elim f as (λ x. Option g.row.B.Denot) [ hand.Memory job ↦ Some job.body | hand.NoWorker ↦ None ]) c.in-Err-Memory.field-0-is) ∙ ap (λ r. elim r as (λ x. Option g.row.B.Denot) [ Ok x ↦ None | Err f ↦ elim f as (λ x. Option g.row.B.Denot) [ hand.Memory job ↦ Some job.body | hand.NoWorker ↦ None ] ]) e)
+      | inr e ↦ absurd (false≢true (sym (ap (λ r. elim r as (λ x. Bool) [ Ok x ↦ true | Err f ↦ elim f as (λ x. Bool) [ hand.Memory job ↦ true | hand.NoWorker ↦ false ] ]) e.0) ∙ ap (λ f. elim f as (λ x. Bool) [ hand.Memory job ↦ true | hand.NoWorker ↦ false ]) c.in-Err-Memory.field-0-is))
+    ] in
+    (c.put.ensures ∙ ap (λ b. set c.take-body.new.self n (Some b)) back ∙ ap (λ xs. set xs n (Some c.take-body.result)) c.take-body.ensures.taken ∙ put_again slots n c.take-body.result c.take-body.ensures.body, told.err)
+
+pub returns-in-Err-NoWorker-clause-stopped : goal.returns-in-Err-NoWorker-clause-stopped
+returns-in-Err-NoWorker-clause-stopped g c =
+    let there = g.M.Hosts.has_scope c.args.mode.now in
+    elim c.in-Err-NoWorker.ensures.only as (λ x. there ≡ true) [
+      | inl e ↦ absurd (false≢true (sym (ap (λ f. elim f as (λ x. Bool) [ hand.Memory job ↦ true | hand.NoWorker ↦ false ]) c.in-Err-NoWorker.field-0-is) ∙ ap (λ r. elim r as (λ x. Bool) [ Ok x ↦ true | Err f ↦ elim f as (λ x. Bool) [ hand.Memory job ↦ true | hand.NoWorker ↦ false ] ]) e))
+      | inr e ↦ e.1
+    ]
+
+pub returns-in-Ok-clause-started : goal.returns-in-Ok-clause-started
+returns-in-Ok-clause-started g c = λ bodies.
+    let s = c.args.built.now in
+    let n = c.args.system in
+    let meaning = g.B.Body.meaning in
+    let fits = g.B.Body.fits in
+    let there = g.M.Hosts.has_scope c.args.mode.now in
+    let w = c.args.run.now.state in
+    let deferred = c.args.run.now.deferred in
+    let out = c.args.jobs.now.pool in
+    let slots = c.args.jobs.now.bodies in
+    let later = c.show.new.self.state in
+    let job_of = λ (v : Seen). (let x : JobOut g.row.B.Denot = record { number = c.saturating_add-number.result; system = n; body = c.take-body.result; view = v; there = there } in x) in
+    let job = job_of c.in_ok-view.view.value in
+    let ok = c.in_ok-shown.ensures in
+    let handed : IsHanded s n w later job = subst (λ (v : Seen). IsHanded s n w later (job_of v)) (sym c.in_ok-view.ensures.ok) (record { system = refl; params = ok.params; shown_there = ok.shown; tick = ok.tick; written = ok.written; held = ok.held; is_later = ok.noted }) in
+    let place : n < length deferred.grants = let e = c.requires.hand.suits.grant_count in let k = c.requires.allowed.known in omega (arith, e, k) in
+    subst (λ (x : DeferredValue). interleaved_step s bodies (Begin n) (woven w.state deferred out) ≡ Some (woven later.state x c.hand_out.new.self)) (sym ok.deferred)
+    (subst (λ (xs : List (JobOut g.row.B.Denot)). interleaved_step s bodies (Begin n) (woven w.state deferred out) ≡ Some (woven later.state (with_grants n (ids_at_start s n w.state) deferred) xs)) (sym c.in-Ok.ensures.ok)
+    (start_there meaning fits job.there s bodies n w later deferred out job place ok.has.0 ok.has.1 handed))
+
+pub returns-in-Ok-clause-placed : goal.returns-in-Ok-clause-placed
+returns-in-Ok-clause-placed g c = λ bodies placed.
+    let s = c.args.built.now in
+    let n = c.args.system in
+    let meaning = g.B.Body.meaning in
+    let fits = g.B.Body.fits in
+    let there = g.M.Hosts.has_scope c.args.mode.now in
+    let w = c.args.run.now.state in
+    let deferred = c.args.run.now.deferred in
+    let out = c.args.jobs.now.pool in
+    let slots = c.args.jobs.now.bodies in
+    let later = c.show.new.self.state in
+    let job_of = λ (v : Seen). (let x : JobOut g.row.B.Denot = record { number = c.saturating_add-number.result; system = n; body = c.take-body.result; view = v; there = there } in x) in
+    let job = job_of c.in_ok-view.view.value in
+    let ok = c.in_ok-shown.ensures in
+    let handed : IsHanded s n w later job = subst (λ (v : Seen). IsHanded s n w later (job_of v)) (sym c.in_ok-view.ensures.ok) (record { system = refl; params = ok.params; shown_there = ok.shown; tick = ok.tick; written = ok.written; held = ok.held; is_later = ok.noted }) in
+    subst (λ (xs : List (JobOut g.row.B.Denot)). Placed meaning fits there s bodies c.take-body.new.self xs later) (sym c.in-Ok.ensures.ok)
+    (subst (λ xs. Placed meaning fits there s bodies xs (out ++ job ∷ []) later) (sym c.take-body.ensures.taken)
+    (placed_start meaning fits there s bodies slots out w placed n later job c.requires.allowed.known c.requires.allowed.home c.take-body.ensures.body handed refl))
+
+pub returns-in-Ok-clause-hand : goal.returns-in-Ok-clause-hand
+returns-in-Ok-clause-hand g c =
+    let s = c.args.built.now in
+    let n = c.args.system in
+    let meaning = g.B.Body.meaning in
+    let fits = g.B.Body.fits in
+    let there = g.M.Hosts.has_scope c.args.mode.now in
+    let w = c.args.run.now.state in
+    let deferred = c.args.run.now.deferred in
+    let out = c.args.jobs.now.pool in
+    let slots = c.args.jobs.now.bodies in
+    let later = c.show.new.self.state in
+    let job_of = λ (v : Seen). (let x : JobOut g.row.B.Denot = record { number = c.saturating_add-number.result; system = n; body = c.take-body.result; view = v; there = there } in x) in
+    let job = job_of c.in_ok-view.view.value in
+    let ok = c.in_ok-shown.ensures in
+    let handed : IsHanded s n w later job = subst (λ (v : Seen). IsHanded s n w later (job_of v)) (sym c.in_ok-view.ensures.ok) (record { system = refl; params = ok.params; shown_there = ok.shown; tick = ok.tick; written = ok.written; held = ok.held; is_later = ok.noted }) in
+    subst (λ (x : DeferredValue). InHand s x c.hand_out.new.self later) (sym ok.deferred)
+    (subst (λ (xs : List (JobOut g.row.B.Denot)). InHand s (with_grants n (ids_at_start s n w.state) deferred) xs later) (sym c.in-Ok.ensures.ok)
+    (in_hand_start s n w later deferred out job c.requires.allowed.known c.requires.placed.1.memories c.law.ensures.memories c.requires.hand c.requires.allowed.fresh handed c.requires.allowed.home))

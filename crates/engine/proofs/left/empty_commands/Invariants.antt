@@ -1,9 +1,0 @@
-use Rattle.std.proofs.Common.{◌≡◌, length}
-use Rattle.engine.proofs.Emptying.{AreEmptyTo}
-use Rattle.engine.proofs.left.empty_commands.Given as goal
-
-abbrev pub invariant-loop-buffer : goal.invariant-loop-buffer
-invariant-loop-buffer l = record {
-  count : length l.buffer-items ≡ length l.initial.buffer-items;
-  empty : AreEmptyTo l.buffer-index l.buffer-items;
-}

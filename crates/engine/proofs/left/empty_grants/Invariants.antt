@@ -1,9 +1,0 @@
-use Rattle.std.proofs.Common.{◌≡◌, length}
-use Rattle.engine.proofs.Emptying.{AreEmptyTo}
-use Rattle.engine.proofs.left.empty_grants.Given as goal
-
-abbrev pub invariant-loop-granted : goal.invariant-loop-granted
-invariant-loop-granted l = record {
-  count : length l.granted-items ≡ length l.initial.granted-items;
-  empty : AreEmptyTo l.granted-index l.granted-items;
-}

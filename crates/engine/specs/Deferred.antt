@@ -1,0 +1,60 @@
+-- What the systems of a schedule have deferred for the sync points of their levels: the commands of those that finished, and the ids granted to each.
+use Rattle.std.specs.Prelude.{ℕ, ◌<◌, ◌≡◌, List, [], ◌∷◌, length, set, get_or, flat_map}
+use Rattle.model.specs.Lists.{IsIn}
+use Rattle.model.specs.declared.entities.Entity.{Entity}
+use Rattle.model.specs.state.State.{Slot, State}
+use Rattle.model.specs.shown.Outcome.{Command, AreSpawns, spawned_by}
+use Rattle.model.specs.steps.Schedule.{Schedule}
+use Rattle.model.specs.runs.RunState.{RunState, systems_of_level}
+use Rattle.entity_table.specs.Ids.{IsGranted}
+
+-- the systems of each level in schedule order, and by system its commands and its ids
+pub record DeferredValue : Type 0 where
+  pub levels : List (List ℕ)
+  pub commands : List (List Command)
+  pub grants : List (List Entity)
+
+-- the commands of a system, and the ids granted to it
+abbrev pub commands_at : DeferredValue → ℕ → List Command
+commands_at deferred n = get_or deferred.commands n []
+
+abbrev pub grants_at : DeferredValue → ℕ → List Entity
+grants_at deferred n = get_or deferred.grants n []
+
+-- the run state of a state with what is deferred
+abbrev pub run_with : State → DeferredValue → RunState
+run_with state deferred = record { state = state; buffers = commands_at deferred; grants = grants_at deferred }
+
+-- with the commands of a system, or the ids granted to it, replaced
+abbrev pub with_commands : ℕ → List Command → DeferredValue → DeferredValue
+with_commands n commands deferred = record { levels = deferred.levels; commands = set deferred.commands n commands; grants = deferred.grants }
+
+abbrev pub with_grants : ℕ → List Entity → DeferredValue → DeferredValue
+with_grants n ids deferred = record { levels = deferred.levels; commands = deferred.commands; grants = set deferred.grants n ids }
+
+-- the lists by system with those of these systems emptied
+abbrev pub emptied : {A : Type 0} → List ℕ → List (List A) → List (List A)
+emptied [] lists = lists
+emptied (n ∷ ns) lists = emptied ns (set lists n [])
+
+-- the ids granted to these systems, one system after the other
+abbrev pub grants_of : List (List Entity) → List ℕ → List Entity
+grants_of grants ns = flat_map (λ n. get_or grants n []) ns
+
+-- it is for a schedule: there is a place for each system, and of each level its systems in schedule order
+pub record IsDeferredFor (s : Schedule) (deferred : DeferredValue) : Type 0 where
+  pub command_count : length deferred.commands ≡ length s.systems
+  pub grant_count : length deferred.grants ≡ length s.systems
+  pub level_count : length deferred.levels ≡ s.syncs
+  pub levels_are : (k : ℕ) → k < s.syncs → get_or deferred.levels k [] ≡ systems_of_level s k
+
+-- nothing is deferred
+pub record IsNothingDeferred (deferred : DeferredValue) : Type 0 where
+  pub no_commands : (n : ℕ) → commands_at deferred n ≡ []
+  pub no_grants : (n : ℕ) → grants_at deferred n ≡ []
+
+-- the ids in hand: each is granted still, none to two systems, and what the commands of a system spawn is of its own, none twice
+pub record AreInHand (slots : List Slot) (deferred : DeferredValue) : Type 0 where
+  pub granted : (n : ℕ) (e : Entity) → IsIn e (grants_at deferred n) → IsGranted slots e
+  pub apart : (n m : ℕ) (e : Entity) → IsIn e (grants_at deferred n) → IsIn e (grants_at deferred m) → n ≡ m
+  pub spawns : (n : ℕ) → AreSpawns (grants_at deferred n) (spawned_by (commands_at deferred n))

@@ -1,0 +1,60 @@
+// The bodies of the systems of a schedule, each in its place.
+
+ghost use Rattle.std.specs.Prelude.{◌≡◌, true, map, set, Some, None, is_some, IfOk};
+ghost use Rattle.engine.specs.Meanings.{body_at};
+
+use std::alloc::{AllocError, Global};
+use std::marker::Model;
+
+/// A place for the body of each system, empty while the body is out. Contracts see for each system its body where that is at home.
+#[derive(Drop)]
+pub(crate) struct Bodies<B> {
+    places: Vec<Option<B>>,
+}
+
+impl<B> Model for Bodies<B> {
+    ghost use Rattle.std.specs.Prelude.{List, Option};
+
+    ghost Value = { List (Option B) };
+
+    ghost view = { λ b. b.places.items };
+}
+
+impl<B: Drop> Bodies<B> {
+    /// No place at all.
+    pub(crate) fn none(alloc: Global) -> Self {
+        Bodies {
+            places: Vec::new(alloc),
+        }
+    }
+
+    /// Bodies that are all at home.
+    pub(crate) fn all(alloc: Global, bodies: Vec<B>) -> Result<Self, AllocError>
+        ensures { IfOk result (λ places. places ≡ map Some bodies.items) }
+    {
+        let places = bodies.into_iter().map(Some).collect(alloc)?;
+        Ok(Bodies { places })
+    }
+
+    /// Takes the body of a system from its place.
+    pub(crate) fn take(&mut self, system: usize) -> B
+        requires there { is_some (body_at self.old system) ≡ true }
+        ensures body { body_at self.old system ≡ Some result }
+        ensures taken { self.new ≡ set self.old system None }
+    {
+        let place = &mut self.places[system];
+        let Some(body) = place.take() else {
+            unreachable!()
+        };
+        body
+    }
+
+    /// Puts a body in the place of a system. Where there is none the body is dropped.
+    pub(crate) fn put(&mut self, system: usize, body: B)
+        ensures { self.new ≡ set self.old system (Some body) }
+    {
+        if let Some(place) = self.places.get_mut(system) {
+            *place = Some(body);
+        }
+    }
+}

@@ -1,0 +1,243 @@
+// What the systems of a schedule leave for the sync points of their levels: the commands of those that finished, and the ids that each was
+// granted.
+
+ghost use Rattle.std.specs.Prelude.{◌≡◌, ◌<◌, ℕ, [], true, false, length, get_or, All, IfErr, IfOk, OnOk};
+ghost use Rattle.model.specs.state.Commands.{release};
+ghost use Rattle.model.specs.steps.Schedule.{Schedule};
+ghost use Rattle.model.specs.runs.RunState.{after_sync, has_tick, systems_of_level};
+ghost use Rattle.archetype_store.specs.Layout.{AreAllHome};
+ghost use Rattle.body.specs.Steps.{with_slots_in};
+ghost use Rattle.engine.specs.Deferred.{AreInHand, IsDeferredFor, IsNothingDeferred, commands_at, emptied, grants_of, run_with, with_commands, with_grants};
+ghost use Rattle.engine.specs.Stops.{LacksTick, StopsBy};
+
+use crate::stop::Stop;
+use body::open_state::OpenState;
+use command_queue::buffer::CommandBuffer;
+use entity_table::Entity;
+use schedule_builder::built::Built;
+use std::alloc::{AllocError, Global};
+use std::marker::Model;
+use std::mem;
+
+// The systems of a level, in schedule order. Contracts see their numbers.
+#[derive(Drop)]
+struct Level {
+    systems: Vec<u32>,
+}
+
+impl Model for Level {
+    ghost use Rattle.std.specs.Prelude.{ℕ, List};
+
+    ghost Value = { List ℕ };
+
+    ghost view = { λ l. l.systems.items };
+}
+
+// The ids granted to a system. Contracts see them.
+#[derive(Drop)]
+struct Granted {
+    ids: Vec<Entity>,
+}
+
+impl Model for Granted {
+    ghost use Rattle.std.specs.Prelude.{List};
+    ghost use Rattle.model.specs.declared.entities.Entity.{Entity};
+
+    ghost Value = { List Entity };
+
+    ghost view = { λ g. g.ids.items };
+}
+
+/// What the systems of a schedule leave for the sync points of their levels. Contracts see the systems of each level in schedule order, and
+/// by system the commands and the ids granted. The room of a buffer is used again once its commands are done.
+#[derive(Drop)]
+pub struct Deferred {
+    levels: Vec<Level>,
+    commands: Vec<CommandBuffer>,
+    grants: Vec<Granted>,
+}
+
+impl Model for Deferred {
+    ghost use Rattle.engine.specs.Deferred.{DeferredValue};
+
+    ghost Value = { DeferredValue };
+
+    ghost view = { λ l. record { levels = l.levels.items; commands = l.commands.items; grants = l.grants.items } };
+}
+
+impl Deferred {
+    /// Nothing is deferred, for a schedule.
+    pub fn new(alloc: Global, built: &Built) -> Result<Self, AllocError>
+        ensures suits { IfOk result (IsDeferredFor built.now) }
+        ensures nothing { IfOk result IsNothingDeferred }
+    {
+        let levels = levels_of(alloc, built)?;
+        let mut commands = Vec::new(alloc);
+        let mut grants = Vec::new(alloc);
+        for _system in 0..built.count() {
+            commands.push(CommandBuffer::new(alloc))?;
+            grants.push(Granted {
+                ids: Vec::new(alloc),
+            })?;
+        }
+        Ok(Deferred {
+            levels,
+            commands,
+            grants,
+        })
+    }
+
+    /// Nothing is deferred, for no schedule.
+    pub(crate) fn none(alloc: Global) -> Self {
+        Deferred {
+            levels: Vec::new(alloc),
+            commands: Vec::new(alloc),
+            grants: Vec::new(alloc),
+        }
+    }
+
+    /// Drops what is deferred; the room of buffers stays.
+    pub fn clear(&mut self)
+        ensures suits { (s : Schedule) → IsDeferredFor s self.old → IsDeferredFor s self.new }
+        ensures nothing { IsNothingDeferred self.new }
+    {
+        empty_commands(&mut self.commands);
+        empty_grants(&mut self.grants);
+    }
+
+    /// The buffer of a system that has deferred nothing, for its next commands.
+    pub fn take_buffer(&mut self, alloc: Global, system: usize) -> CommandBuffer
+        requires known { system < length self.old.commands }
+        requires none { commands_at self.old system ≡ [] }
+        ensures empty { result ≡ [] }
+        ensures same { self.new ≡ self.old }
+    {
+        mem::replace(&mut self.commands[system], CommandBuffer::new(alloc))
+    }
+
+    /// Notes the ids that a system was granted.
+    pub fn note_grant(&mut self, system: usize, ids: Vec<Entity>)
+        requires known { system < length self.old.grants }
+        ensures { self.new ≡ with_grants system ids.items self.old }
+    {
+        self.grants[system] = Granted { ids };
+    }
+
+    /// Keeps the commands of a system that finished.
+    pub fn keep(&mut self, system: usize, commands: CommandBuffer)
+        requires known { system < length self.old.commands }
+        ensures { self.new ≡ with_commands system commands self.old }
+    {
+        self.commands[system] = commands;
+    }
+
+    /// A sync point: the clock moves to the next tick, the commands of the systems of the level are done in schedule order at that tick, and
+    /// the ids granted to them that were not spawned are freed. After a stop the state is of no more use.
+    pub(crate) fn sync(
+        &mut self,
+        alloc: Global,
+        built: &Built,
+        state: &mut OpenState,
+        point: u32,
+    ) -> Result<(), Stop>
+        requires suits { IsDeferredFor built.now self.old }
+        requires known { point < built.now.syncs }
+        requires home { AreAllHome state.old.layout }
+        requires in_hand { AreInHand state.old.state.world.slots self.old }
+        ensures synced { OnOk result (run_with state.new.state self.new ≡ after_sync built.now point (run_with state.old.state self.old)) }
+        ensures ticked { OnOk result (has_tick state.old.state ≡ true) }
+        ensures home { OnOk result (AreAllHome state.new.layout) }
+        ensures suits { OnOk result (IsDeferredFor built.now self.new) }
+        ensures in_hand { OnOk result (AreInHand state.new.state.world.slots self.new) }
+        ensures stopped { IfErr result (StopsBy false (LacksTick state.old.state)) }
+    {
+        built.law();
+        let tick = state.next()?;
+        let systems = systems_of(&self.levels, point);
+        state.apply(alloc, &self.commands, systems, tick)?;
+        free_ids(state, &self.grants, systems);
+        clear_places(&mut self.commands, &mut self.grants, systems);
+        Ok(())
+    }
+}
+
+// Drops all commands; the room of buffers stays.
+fn empty_commands(commands: &mut [CommandBuffer])
+    ensures { (n : ℕ) → get_or commands.new n [] ≡ [] }
+{
+    for buffer in commands {
+        buffer.clear();
+    }
+}
+
+// Drops all ids.
+fn empty_grants(grants: &mut [Granted])
+    ensures { (n : ℕ) → get_or grants.new n [] ≡ [] }
+{
+    for granted in grants {
+        granted.ids.clear();
+    }
+}
+
+// The systems of a level.
+fn systems_of(levels: &[Level], level: u32) -> &[u32]
+    requires { level < length levels.now }
+    ensures { result.now ≡ get_or levels.now level [] }
+{
+    let level = &levels[level as usize];
+    level.systems.as_slice()
+}
+
+// Drops what these systems deferred; the room of buffers stays.
+fn clear_places(commands: &mut [CommandBuffer], grants: &mut [Granted], level: &[u32])
+    requires commands { All (λ n. n < length commands.old) level.now }
+    requires grants { All (λ n. n < length grants.old) level.now }
+    ensures commands { commands.new ≡ emptied level.now commands.old }
+    ensures grants { grants.new ≡ emptied level.now grants.old }
+{
+    for system in level {
+        let place = *system as usize;
+        commands[place].clear();
+        let granted = &mut grants[place];
+        granted.ids.clear();
+    }
+}
+
+// Frees each id granted to these systems that is granted still.
+fn free_ids(state: &mut OpenState, grants: &[Granted], level: &[u32])
+    requires { All (λ n. n < length grants.now) level.now }
+    ensures { state.new ≡ record { state = with_slots_in (release (grants_of grants.now level.now) state.old.state.world.slots) state.old.state; layout = state.old.layout } }
+{
+    for system in level {
+        let granted = &grants[*system as usize];
+        state.release(&granted.ids);
+    }
+}
+
+// The systems of each level, in schedule order.
+fn levels_of(alloc: Global, built: &Built) -> Result<Vec<Level>, AllocError>
+    ensures count { IfOk result (λ levels. length levels.items ≡ built.now.syncs) }
+    ensures each { IfOk result (λ levels. (k : ℕ) → k < built.now.syncs → get_or levels.items k [] ≡ systems_of_level built.now k) }
+{
+    built.law();
+    let mut levels = no_levels(alloc, built.syncs())?;
+    for system in built.order() {
+        let level = &mut levels[built.level(*system) as usize];
+        level.systems.push(*system)?;
+    }
+    Ok(levels)
+}
+
+// So many levels without a system.
+fn no_levels(alloc: Global, count: u32) -> Result<Vec<Level>, AllocError>
+    ensures count { IfOk result (λ levels. length levels.items ≡ count) }
+    ensures each { IfOk result (λ levels. (k : ℕ) → get_or levels.items k [] ≡ []) }
+{
+    let mut levels = Vec::new(alloc);
+    for _level in 0..count {
+        levels.push(Level {
+            systems: Vec::new(alloc),
+        })?;
+    }
+    Ok(levels)
+}

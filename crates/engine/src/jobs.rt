@@ -1,0 +1,126 @@
+// The bodies of a run, at home and out, and the jobs with which they are out: how a system starts, and how one ends.
+
+ghost use Rattle.std.specs.Prelude.{◌≡◌, ◌<◌, ◌+◌, [], ℕ, List, true, length, Some, Err, IfErr, IfOk, OnOk};
+ghost use Rattle.model.specs.declared.steps.Step.TheVariants.{Start as Begin, Finish};
+ghost use Rattle.model.specs.Lists.{IsIn};
+ghost use Rattle.model.specs.shown.Outcome.{BodyMeaning};
+ghost use Rattle.model.specs.steps.Schedule.{Schedule};
+ghost use Rattle.model.specs.runs.Meaning.{interleaved_step};
+ghost use Rattle.model.specs.runs.Causes.{interleaved_cause_of};
+ghost use Rattle.worker_pool.specs.JobOut.{JobOut};
+ghost use Rattle.engine.specs.Deferred.{IsDeferredFor};
+ghost use Rattle.engine.specs.Jobs.{woven, AreKept, CanBegin, InHand, Placed};
+ghost use Rattle.engine.specs.Meanings.{AllKeepWithin};
+ghost use Rattle.engine.specs.Stops.{StopsBy};
+ghost use Rattle.engine.specs.declared.stop.Stop.TheVariants as stop;
+
+use crate::bodies::Bodies;
+use crate::run_state::RunState;
+use crate::stop::Stop;
+use body::system_body::Body;
+use schedule_builder::built::Built;
+use worker_pool::{Done, HandFault, Mode, Pool, Start};
+
+/// The bodies of a run, and the jobs that are out.
+#[derive(Drop)]
+pub(crate) struct Jobs<B: Body> {
+    /// The bodies that are at home.
+    pub(crate) bodies: Bodies<B>,
+    /// The jobs that are out, each with its body.
+    pub(crate) pool: Pool<B>,
+    /// How many systems have started in the run.
+    pub(crate) started: u64,
+}
+
+/// A start: the system is granted its ids and shown the state, and its body is handed out. It runs from then on.
+pub(crate) fn start<'s, M: Mode<'s>, B: Body + 's>(
+    built: &Built,
+    run: &mut RunState,
+    jobs: &mut Jobs<B>,
+    mode: &M,
+    system: u32,
+) -> Result<(), Stop>
+    requires allowed { CanBegin built.now system run.old.deferred jobs.old.pool run.old.state }
+    requires placed { (bodies : List BodyMeaning) × Placed B.meaning B.fits (M.has_scope mode.now) built.now bodies jobs.old.bodies jobs.old.pool run.old.state }
+    requires hand { InHand built.now run.old.deferred jobs.old.pool run.old.state }
+    ensures started { OnOk result ((bodies : List BodyMeaning) → interleaved_step built.now bodies (Begin system) (woven run.old.state.state run.old.deferred jobs.old.pool) ≡ Some (woven run.new.state.state run.new.deferred jobs.new.pool)) }
+    ensures placed { OnOk result ((bodies : List BodyMeaning) → Placed B.meaning B.fits (M.has_scope mode.now) built.now bodies jobs.old.bodies jobs.old.pool run.old.state → Placed B.meaning B.fits (M.has_scope mode.now) built.now bodies jobs.new.bodies jobs.new.pool run.new.state) }
+    ensures hand { OnOk result (InHand built.now run.new.deferred jobs.new.pool run.new.state) }
+    ensures longer { OnOk result (length jobs.new.pool ≡ length jobs.old.pool + 1) }
+    ensures stopped { IfErr result (StopsBy (M.has_scope mode.now) (λ met. (bodies : List BodyMeaning) → interleaved_cause_of built.now bodies (Begin system) (woven run.old.state.state run.old.deferred jobs.old.pool) ≡ Some met)) }
+    ensures kept { IfErr result (λ told. (told ≡ stop.NoWorker → ⊥) → (jobs.new.bodies ≡ jobs.old.bodies) × (jobs.new.pool ≡ jobs.old.pool)) }
+{
+    run.state.law();
+    let shown = run.show(built, system)?;
+    let view = Box::new(run.alloc, shown)?;
+    let number = jobs.started.saturating_add(1);
+    jobs.started = number;
+    let body = jobs.bodies.take(system as usize);
+    match jobs.pool.hand_out(
+        mode,
+        Start {
+            number,
+            system,
+            body,
+            view,
+        },
+    ) {
+        Ok(()) => Ok(()),
+        Err(HandFault::Memory(start)) => {
+            let Start { body, .. } = start;
+            jobs.bodies.put(system as usize, body);
+            Err(Stop::Memory)
+        }
+        Err(HandFault::NoWorker) => Err(Stop::NoWorker),
+    }
+}
+
+/// A finish: a job comes back, its body is put in its place, and what comes of it is laid over the state. The system that has ended.
+pub(crate) fn finish<'s, M: Mode<'s>, B: Body + 's>(
+    built: &Built,
+    run: &mut RunState,
+    jobs: &mut Jobs<B>,
+    mode: &M,
+) -> Result<u32, Stop>
+    requires out { 0 < length jobs.old.pool }
+    requires placed { (bodies : List BodyMeaning) × Placed B.meaning B.fits (M.has_scope mode.now) built.now bodies jobs.old.bodies jobs.old.pool run.old.state }
+    requires suits { IsDeferredFor built.now run.old.deferred }
+    ensures running { IfOk result (λ n. (job : JobOut B) × IsIn job jobs.old.pool × (job.system ≡ n)) }
+    ensures finished { IfOk result (λ n. (bodies : List BodyMeaning) → Placed B.meaning B.fits (M.has_scope mode.now) built.now bodies jobs.old.bodies jobs.old.pool run.old.state → interleaved_step built.now bodies (Finish n) (woven run.old.state.state run.old.deferred jobs.old.pool) ≡ Some (woven run.new.state.state run.new.deferred jobs.new.pool)) }
+    ensures placed { OnOk result ((bodies : List BodyMeaning) → Placed B.meaning B.fits (M.has_scope mode.now) built.now bodies jobs.old.bodies jobs.old.pool run.old.state → Placed B.meaning B.fits (M.has_scope mode.now) built.now bodies jobs.new.bodies jobs.new.pool run.new.state) }
+    ensures hand { OnOk result ((bodies : List BodyMeaning) → Placed B.meaning B.fits (M.has_scope mode.now) built.now bodies jobs.old.bodies jobs.old.pool run.old.state → AllKeepWithin built.now bodies → InHand built.now run.old.deferred jobs.old.pool run.old.state → InHand built.now run.new.deferred jobs.new.pool run.new.state) }
+    ensures shorter { OnOk result (length jobs.new.pool + 1 ≡ length jobs.old.pool) }
+    ensures stopped { IfErr result (λ told. (bodies : List BodyMeaning) → Placed B.meaning B.fits (M.has_scope mode.now) built.now bodies jobs.old.bodies jobs.old.pool run.old.state → StopsBy (M.has_scope mode.now) (λ met. (job : JobOut B) × IsIn job jobs.old.pool × (interleaved_cause_of built.now bodies (Finish job.system) (woven run.old.state.state run.old.deferred jobs.old.pool) ≡ Some met)) told) }
+    ensures kept { IfErr result (λ told. (told ≡ stop.NoWorker → ⊥) → (bodies : List BodyMeaning) → Placed B.meaning B.fits (M.has_scope mode.now) built.now bodies jobs.old.bodies jobs.old.pool run.old.state → AreKept B.meaning B.fits (M.has_scope mode.now) built.now bodies jobs.new.bodies jobs.new.pool) }
+{
+    let Some(done) = jobs.pool.bring_back(mode) else {
+        return Err(Stop::NoWorker);
+    };
+    let Done {
+        number: _,
+        system,
+        body,
+        view,
+        answer,
+    } = done;
+    jobs.bodies.put(system as usize, body);
+    run.close(system, answer, Box::into_inner(view))?;
+    Ok(system)
+}
+
+/// Brings all jobs back and puts their bodies in their places: what else comes of them is dropped.
+pub(crate) fn bring_home<'s, M: Mode<'s>, B: Body + 's>(
+    jobs: &mut Jobs<B>,
+    mode: &M,
+) -> Result<(), Stop>
+    ensures kept { OnOk result ((s : Schedule) (bodies : List BodyMeaning) → AreKept B.meaning B.fits (M.has_scope mode.now) s bodies jobs.old.bodies jobs.old.pool → AreKept B.meaning B.fits (M.has_scope mode.now) s bodies jobs.new.bodies []) }
+    ensures lost { IfErr result (λ told. (told ≡ stop.NoWorker) × ((s : Schedule) (bodies : List BodyMeaning) → AreKept B.meaning B.fits (M.has_scope mode.now) s bodies jobs.old.bodies jobs.old.pool → M.has_scope mode.now ≡ true)) }
+{
+    while jobs.pool.count() > 0 {
+        let Some(done) = jobs.pool.bring_back(mode) else {
+            return Err(Stop::NoWorker);
+        };
+        jobs.bodies.put(done.system as usize, done.body);
+    }
+    Ok(())
+}
