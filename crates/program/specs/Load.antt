@@ -1,9 +1,12 @@
 -- A program file's entities and resources, as the state as loaded has them.
-use Rattle.std.specs.Prelude.{ℕ, ℤ, Vec, List, map, drop, take, replicate, length, ◌++◌}
+use Rattle.std.specs.Prelude.{◌≡◌, ℤ, Vec, List, [], ◌∷◌, map}
 use Rattle.std.specs.declared.alloc.Global.{Global}
-use Rattle.model.specs.state.Ids.{granted_slot}
-use Rattle.model.specs.state.Loaded.{Given, slot_given, resource_given}
-use Rattle.model.specs.state.State.{Slot, World, fresh_slot}
+use Rattle.model.specs.declared.entities.Entity.{Entity}
+use Rattle.model.specs.state.Loaded.{Given, row_given, slot_given, resource_given}
+use Rattle.model.specs.state.State.{Slot, World}
+use Rattle.model.specs.state.State.Status.{Living}
+use Rattle.archetype_store.specs.Changes.{components_left, slot_left}
+use Rattle.archetype_store.specs.declared.change.EntityChange.{EntityChange}
 use Rattle.kinds.specs.declared.value.Value.{Value}
 use Rattle.kinds.specs.Value.{value_number, value_words}
 
@@ -27,6 +30,14 @@ with_resources values w = record { slots = w.slots; resources = map resource_giv
 abbrev pub loaded_world : List (List Given) → List ℤ → World
 loaded_world entities values = record { slots = map slot_given entities; resources = map resource_given values; clock = 1 }
 
--- the slots where the first of so many granted ones have got their entities
-abbrev pub slots_so_far : ℕ → List (List Given) → List Slot
-slots_so_far done entities = map slot_given (take done entities) ++ drop done (replicate (length entities) (granted_slot fresh_slot))
+-- an id lives, with these components
+pub record IsGiven (e : Entity) (given : List Given) (c : EntityChange) : Type 0 where
+  pub entity : c.entity ≡ e
+  pub row : components_left c.fate ≡ row_given given
+  pub left : (slot : Slot) → slot_left c.fate slot ≡ record { generation = slot.generation; status = Living; row = row_given given }
+
+-- each of these ids does, with the components beside it
+abbrev pub AreGiven : List Entity → List (List Given) → List EntityChange → Type 0
+AreGiven [] [] [] = Unit {0}
+AreGiven (e ∷ es) (g ∷ gs) (c ∷ cs) = IsGiven e g c × AreGiven es gs cs
+AreGiven _ _ _ = ⊥

@@ -1,24 +1,20 @@
 // The world as a program file gives it: entity i of the file at index i with generation 1, all at tick 1.
 
-ghost use Rattle.std.specs.Prelude.{◌≡◌, ◌≤◌, [], map, length, replicate, true, IfErr, IfOk, OnOk};
-ghost use Rattle.model.specs.state.Commands.{is_alive, with_row};
-ghost use Rattle.model.specs.state.Loaded.{slot_given};
-ghost use Rattle.model.specs.state.Rows.{insert_component};
+ghost use Rattle.std.specs.Prelude.{◌≡◌, ◌≤◌, [], map, length, IfErr, IfOk, OnOk};
+ghost use Rattle.model.specs.state.Loaded.{row_given};
 ghost use Rattle.model.specs.state.State.{resource_count};
-ghost use Rattle.entity_table.specs.Ids.{IsGranted};
 ghost use Rattle.archetype_store.specs.Layout.{AreAllHome};
-ghost use Rattle.archetype_store.specs.Store.{with_slot};
-ghost use Rattle.kinds.specs.Value.{value_number, value_words};
+ghost use Rattle.archetype_store.specs.Row.{component_of};
 ghost use Rattle.program.specs.Refused.{IsUngiven};
-ghost use Rattle.program.specs.Load.{given_of, entity_given, loaded_world, with_resources, with_entities};
+ghost use Rattle.program.specs.Load.{given_of, entity_given, loaded_world, with_resources, with_entities, AreGiven};
 
 use crate::fault::Fault;
-use archetype_store::fault::StoreFault;
+use archetype_store::change::{EntityChange, Fate};
+use archetype_store::components::put_component;
 use archetype_store::store::World;
 use change_ticks::clock::{Clock, Tick};
+use column_store::stamped::StampedValue;
 use entity_table::Entity;
-use kinds::component::Component;
-use kinds::each_kind;
 use kinds::res::Res;
 use kinds::value::Value;
 use std::alloc::{AllocError, Global};
@@ -67,54 +63,36 @@ fn give_entities(alloc: Global, world: &mut World, entities: &[Vec<Value>]) -> R
         return Err(Fault::IdsSpent);
     };
     let ids = world.grant(alloc, count)?;
-    for (index, components) in entities.iter().enumerate() {
-        give_entity(world, ids[index], components.as_slice())?;
-    }
+    let changes = changes_of(alloc, &ids, entities)?;
+    world.change(&changes)?;
     Ok(())
 }
 
-// Makes a granted id live, with these components.
-fn give_entity(world: &mut World, entity: Entity, components: &[Value]) -> Result<(), AllocError>
-    requires clock { 1 ≤ world.old.state.clock }
-    requires granted { IsGranted world.old.state.slots entity }
-    requires first { entity.generation ≡ 1 }
-    requires home { AreAllHome world.old.layout }
-    ensures given { OnOk result (world.new.state ≡ with_slot entity.index (λ slot. slot_given (map given_of components.now)) world.old.state) }
-    ensures home { AreAllHome world.new.layout }
+// What becomes of the ids of these entities: each lives, with its components.
+fn changes_of(
+    alloc: Global,
+    ids: &[Entity],
+    entities: &[Vec<Value>],
+) -> Result<Vec<EntityChange>, AllocError>
+    requires { length ids.now ≡ length entities.now }
+    ensures { IfOk result (λ changes. AreGiven ids.now (map entity_given entities.now) changes.items) }
 {
-    world.spawn_at(entity);
-    for value in components {
-        give(world, entity, *value)?;
+    let mut changes = Vec::new(alloc);
+    for (index, values) in entities.iter().enumerate() {
+        let fate = Fate::Lives(row_of(alloc, values.as_slice())?);
+        let entity = ids[index];
+        changes.push(EntityChange { entity, fate })?;
     }
-    Ok(())
+    Ok(changes)
 }
 
-// Gives an entity that lives a component.
-fn give(world: &mut World, entity: Entity, value: Value) -> Result<(), AllocError>
-    requires clock { 1 ≤ world.old.state.clock }
-    requires alive { is_alive world.old.state.slots entity ≡ true }
-    requires home { AreAllHome world.old.layout }
-    ensures given { OnOk result (world.new.state ≡ with_slot entity.index (with_row (insert_component 1 (value_number value) (value_words value))) world.old.state) }
-    ensures home { AreAllHome world.new.layout }
+// The components of an entity as the store has them: in rising kinds, all added as the file is loaded.
+fn row_of(alloc: Global, values: &[Value]) -> Result<Vec<StampedValue>, AllocError>
+    ensures { IfOk result (λ row. map component_of row.items ≡ row_given (map given_of values.now)) }
 {
-    each_kind!(value.kind(), K => { give_of::<K>(world, entity, value) })
-}
-
-// Gives an entity that lives a component of this kind.
-fn give_of<C: Component>(world: &mut World, entity: Entity, value: Value) -> Result<(), AllocError>
-    requires clock { 1 ≤ world.old.state.clock }
-    requires alive { is_alive world.old.state.slots entity ≡ true }
-    requires home { AreAllHome world.old.layout }
-    requires kind { value_number value ≡ C.NUMBER }
-    ensures given { OnOk result (world.new.state ≡ with_slot entity.index (with_row (insert_component 1 (value_number value) (value_words value))) world.old.state) }
-    ensures home { AreAllHome world.new.layout }
-{
-    let Some(component) = C::from_value(value) else {
-        unreachable!()
-    };
-    match world.insert(entity, component, LOADING) {
-        Ok(()) => Ok(()),
-        Err(StoreFault::Memory) => Err(AllocError),
-        Err(StoreFault::NotAlive) => unreachable!(),
+    let mut row = Vec::with_capacity(alloc, values.len())?;
+    for value in values {
+        put_component(&mut row, *value, LOADING)?;
     }
+    Ok(row)
 }
