@@ -13,7 +13,9 @@ use Rattle.model.specs.steps.Schedule.{Schedule, params_of}
 use Rattle.model.specs.state.State.{State, World}
 use Rattle.script.specs.declared.script_body.ScriptBody.{ScriptBody}
 use Rattle.script.specs.Faults.{fits}
-use Rattle.engine.specs.Meanings.{body_at, IsFirstMisfit}
+use Rattle.std.proofs.lemmas.List.{length-map}
+use Rattle.engine.specs.Meanings.{body_at, HasMemories, IsFirstMisfit, Suits}
+use Rattle.engine.proofs.Beginning.{has_first}
 use Rattle.engine.specs.Meanings as engine
 use Rattle.command_line.specs.declared.args.Work.{Work}
 use Rattle.command_line.specs.Args.{is_recorded}
@@ -21,7 +23,7 @@ use Rattle.streams.specs.Writing.{WritesWhole, line_of}
 use Rattle.kinds.specs.declared.value.Value.{Value}
 use Rattle.program.specs.Load.{entity_given, loaded_world}
 use Rattle.engine.specs.FirstState.{first_state}
-use Rattle.program.specs.Setup.{IsScheduleOf, AreScriptsOf, declared_names, script_fits, meanings_of_scripts}
+use Rattle.program.specs.Setup.{IsScheduleOf, AreScriptsOf, declared_names, script_fits, script_suits, meanings_of_scripts}
 use Rattle.program.specs.Recorded.{IsTextOfRuns}
 use Rattle.program.specs.declared.answer.Answer.{Answer}
 use Rattle.program.specs.declared.fault.Fault.{Fault}
@@ -57,6 +59,14 @@ at-place : (params : Params) (scripts : List ScriptBody) (n : ℕ) → engine.bo
 at-place params [] n = refl
 at-place params (x ∷ scripts) zero = refl
 at-place params (x ∷ scripts) (suc n) = at-place params scripts n
+
+-- they suit the state with which their schedule begins
+pub scripts-suit : (s : Schedule) (scripts : List ScriptBody) (world : World) (state : State) → AreScriptsOf s scripts → state ≡ first_state s world → Suits script_suits s (map Some scripts) state
+scripts-suit s scripts world state fitting is = record {
+  body_count = length-map scripts (λ x. Some x) ∙ fitting.count;
+  memories = subst (HasMemories s) (sym is) (has_first s world);
+  fit = λ n known. at-place (params_of s n) scripts n ∙ fitting.fit n known;
+}
 
 -- every script fits
 pub no-misfit : (s : Schedule) (scripts : List ScriptBody) (state : State) (n : ℕ) → AreScriptsOf s scripts → IsFirstMisfit (λ script p. fits p script) s (map Some scripts) state n → ⊥

@@ -16,3 +16,4 @@ pub mod Stores
 pub mod OtherRow
 pub mod Follows
 pub mod ColumnCode
+pub mod Sources

@@ -1,6 +1,6 @@
 // What is looked at in a script before it runs.
 
-ghost use Rattle.std.specs.Prelude.{◌≡◌, ℕ, [], map};
+ghost use Rattle.std.specs.Prelude.{◌≡◌, ◌<◌, ℕ, [], map};
 ghost use Rattle.std.specs.List.{list_any};
 ghost use Rattle.std.specs.Result.{result_err};
 ghost use Rattle.model.specs.Lists.{is_number};
@@ -9,16 +9,18 @@ ghost use Rattle.body.specs.Seen.{fetched, fetches as query_fetches};
 ghost use Rattle.kinds.specs.Kind.{kind_number};
 ghost use Rattle.query.specs.Term.{term_of};
 ghost use Rattle.script.specs.Script.{place_in};
-ghost use Rattle.script.specs.Faults.{has_field, source_cause, target_cause, count_cause, is_entity, shows_entity, commands_cause, slot_cause, subject_cause, pair_cause, values_cause, values_count, width_cause, least, instruction_cause};
+ghost use Rattle.access_set.specs.Footprints.{has_bit};
+ghost use Rattle.script.specs.Faults.{is_unfetched, names_unfetched, names_undeclared, named_cause, has_field, source_cause, target_cause, count_cause, is_entity, shows_entity, commands_cause, slot_cause, subject_cause, pair_cause, values_cause, values_count, width_cause, least, instruction_cause};
 ghost use Rattle.script.specs.Faults.{IsCommand, is_spawn, code_spawns, blocks_spawn, is_once, is_at_event, spawn_cause, code_fault};
 ghost use Rattle.script.specs.Block.{block_of};
 
 use crate::fault::{Cause, ScriptFault};
 use crate::instruction::Instruction;
-use crate::operands::{Axis, Field, Source, Subject, Target, Values};
+use crate::operands::{Axis, Field, Mentions, Source, Subject, Target, Values};
 use crate::script_body::{Block, Rounds};
 use access_set::params::Params;
-use kinds::kind::Kind;
+use kinds::kind::{Kind, kinds_are_apart};
+use kinds::res::Res;
 use query::Term;
 
 /// How many registers a system has.
@@ -183,6 +185,53 @@ fn pair_cause(
     )
 }
 
+// Whether one of these kinds is named and not fetched.
+fn any_unfetched(kinds: &[Kind], terms: &[Term], named: Mentions) -> bool
+    ensures { result ≡ list_any (λ kind. is_unfetched (map term_of terms.now) named (kind_number kind)) kinds.now }
+{
+    kinds
+        .iter()
+        .any(|kind| has_bit(named.kinds, kind.number()) && !fetches(terms, *kind))
+}
+
+// Whether a kind is named of which the query fetches no component.
+#[tactic(auto, using(crate::proofs::Terms::over_terms))]
+fn names_unfetched(terms: &[Term], named: Mentions) -> bool
+    ensures { result ≡ names_unfetched (map term_of terms.now) named }
+{
+    any_unfetched(Kind::every(), terms, named)
+}
+
+// Whether a resource is named that the system does not declare.
+fn names_undeclared(params: &Params, named: Mentions) -> bool
+    ensures { result ≡ names_undeclared params.now named }
+{
+    Res::ALL
+        .iter()
+        .any(|resource| has_bit(named.resources, resource.number()) && !params.names_resource(*resource))
+}
+
+// Whether the word has the bit of a number.
+fn has_bit(word: u64, number: u32) -> bool
+    requires { number < 64 }
+    ensures { result ≡ has_bit word number }
+{
+    (word >> number) & 1 == 1
+}
+
+// What is wrong with what more values name than a kind has fields.
+fn named_cause(params: &Params, terms: &[Term], event: bool, named: Mentions) -> Option<Cause>
+    ensures { result ≡ named_cause params.now (map term_of terms.now) event named }
+{
+    if names_unfetched(terms, named) {
+        return Some(Cause::NotFetched);
+    }
+    if names_undeclared(params, named) || (named.event && !event) {
+        return Some(Cause::NotDeclared);
+    }
+    None
+}
+
 // What is wrong with the values of a component.
 fn values_cause(params: &Params, terms: &[Term], event: bool, values: Values) -> Option<Cause>
     ensures { result ≡ values_cause params.now (map term_of terms.now) event values }
@@ -190,7 +239,8 @@ fn values_cause(params: &Params, terms: &[Term], event: bool, values: Values) ->
     match values {
         Values::One(value) => source_cause(params, terms, event, value),
         Values::Two(first, second) => pair_cause(params, terms, event, first, second),
-        Values::Empty | Values::Many => None,
+        Values::Many(named) => named_cause(params, terms, event, named),
+        Values::Empty => None,
     }
 }
 
@@ -202,7 +252,7 @@ fn values_count(values: Values) -> usize
         Values::Empty => 0,
         Values::One(_) => 1,
         Values::Two(_, _) => 2,
-        Values::Many => 3,
+        Values::Many(_) => 3,
     }
 }
 

@@ -1,11 +1,10 @@
 // What an instruction takes values from and writes, whom a command is about, and how these are read.
 
-ghost use Rattle.std.specs.Prelude.{◌≤◌, ◌↔◌, IsTrue, [], ◌∷◌, length, map};
-ghost use Rattle.std.specs.List.{AllByRecursion};
+ghost use Rattle.std.specs.Prelude.{◌≡◌, ◌<◌, ◌≤◌, [], ◌∷◌, length, map};
 ghost use Rattle.parsing.specs.Reads.{Reads};
-ghost use Rattle.script.specs.Operands.{IsAxis, IsField, IsRegister, IsTarget, IsSource, IsSlot, IsSubject, IsSomeSource, AreValues};
+ghost use Rattle.script.specs.Operands.{IsAxis, IsField, IsRegister, IsTarget, IsSource, IsSlot, IsSubject, IsNamedBy, AreValues, with_bit, with_source};
 
-use kinds::kind::Kind;
+use kinds::kind::{Kind, kinds_are_apart};
 use kinds::res::Res;
 use parsing::integer::{read_integer, read_number};
 
@@ -158,21 +157,67 @@ pub enum Values {
     One(Source),
     /// Two values.
     Two(Source, Source),
-    /// More than two, which no kind has fields for: they are read, and not kept.
-    Many,
+    /// More than two, which no kind has fields for: what they name is kept.
+    Many(Mentions),
 }
 
-// Whether each of these words is a source.
-fn are_sources(words: &[&str]) -> bool
-    ensures { IsTrue result ↔ AllByRecursion IsSomeSource (map (λ word. word.now) words.now) }
+/// What several sources name.
+#[derive(Clone, Copy, PartialEq, Eq)]
+pub struct Mentions {
+    /// The kinds of their fields, as the bits of their numbers.
+    pub kinds: u64,
+    /// Their resources, likewise.
+    pub resources: u64,
+    /// Whether the event is among them.
+    pub event: bool,
+}
+
+// The word with the bit of a number.
+fn with_bit(word: u64, number: u32) -> u64
+    requires { number < 64 }
+    ensures { result ≡ with_bit word number }
 {
-    for word in words {
-        match Source::read(word) {
-            Some(_) => {}
-            None => return false,
+    word | (1 << number)
+}
+
+impl Mentions {
+    // What they name with one source more.
+    fn with(self, source: Source) -> Mentions
+        ensures { result ≡ with_source self source }
+    {
+        kinds_are_apart();
+        match source {
+            Source::Field(field) => Mentions {
+                kinds: with_bit(self.kinds, field.kind.number()),
+                ..self
+            },
+            Source::Resource(resource) => Mentions {
+                resources: with_bit(self.resources, resource.number()),
+                ..self
+            },
+            Source::Event => Mentions {
+                event: true,
+                ..self
+            },
+            Source::Integer(_) | Source::Register(_) => self,
         }
     }
-    true
+
+    // What the sources name that words spell.
+    fn read(words: &[&str]) -> Option<Mentions>
+        ensures { Reads IsNamedBy (map (λ word. word.now) words.now) result }
+    {
+        let mut named = Mentions {
+            kinds: 0,
+            resources: 0,
+            event: false,
+        };
+        for word in words {
+            let source = Source::read(word)?;
+            named = named.with(source);
+        }
+        Some(named)
+    }
 }
 
 impl Values {
@@ -207,6 +252,6 @@ impl Values {
         requires { 3 ≤ length words.now }
         ensures { Reads AreValues (map (λ word. word.now) words.now) result }
     {
-        are_sources(words).then_some(Values::Many)
+        Some(Values::Many(Mentions::read(words)?))
     }
 }

@@ -1,6 +1,11 @@
 use Rattle.std.proofs.Common.{arith}
 use Rattle.program.proofs.Replays.{fitting-count}
+use Rattle.program.proofs.Serving.{scripts-suit}
 use Rattle.program.proofs.replaying.replay_trace.Goals as goal
+
+-- the scripts suit the first state
+pub replay_runs-requires : goal.replay_runs-requires
+replay_runs-requires g c = ?
 
 -- so many runs as have numbers of 32 bits
 pub overflow_cast-len : goal.overflow_cast-len
