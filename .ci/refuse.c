@@ -1,0 +1,44 @@
+/* Refuses one allocation of a process: the one that REFUSE_AT numbers, counted from 1. Where it does, it creates the file that
+   REFUSE_NOTE names. Loaded in front of the C library by .ci/allocations. */
+#define _GNU_SOURCE
+#include <dlfcn.h>
+#include <errno.h>
+#include <fcntl.h>
+#include <stdatomic.h>
+#include <stddef.h>
+#include <stdlib.h>
+#include <unistd.h>
+
+static atomic_long calls;
+
+static int is_refused(void) {
+    static atomic_long at = -1;
+    long wanted = atomic_load(&at);
+    if (wanted < 0) {
+        const char *text = getenv("REFUSE_AT");
+        wanted = text ? atol(text) : 0;
+        atomic_store(&at, wanted);
+    }
+    if (atomic_fetch_add(&calls, 1) + 1 != wanted) return 0;
+    const char *note = getenv("REFUSE_NOTE");
+    int file = note ? open(note, O_CREAT | O_WRONLY, 0600) : -1;
+    if (file >= 0) close(file);
+    errno = ENOMEM;
+    return 1;
+}
+
+extern void *__libc_malloc(size_t);
+extern void *__libc_calloc(size_t, size_t);
+extern void *__libc_realloc(void *, size_t);
+extern void *__libc_memalign(size_t, size_t);
+
+void *malloc(size_t size) { return is_refused() ? NULL : __libc_malloc(size); }
+void *calloc(size_t count, size_t size) { return is_refused() ? NULL : __libc_calloc(count, size); }
+void *realloc(void *from, size_t size) { return is_refused() ? NULL : __libc_realloc(from, size); }
+void *memalign(size_t align, size_t size) { return is_refused() ? NULL : __libc_memalign(align, size); }
+void *aligned_alloc(size_t align, size_t size) { return is_refused() ? NULL : __libc_memalign(align, size); }
+int posix_memalign(void **to, size_t align, size_t size) {
+    if (is_refused()) return ENOMEM;
+    *to = __libc_memalign(align, size);
+    return *to ? 0 : ENOMEM;
+}
