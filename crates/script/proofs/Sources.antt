@@ -1,5 +1,5 @@
 -- Words that spell sources, one after the other, and what the sources name.
-use Rattle.std.proofs.Common.{◌≡◌, ◌≤◌, ◌<◌, ◌+◌, ℕ, zero, suc, List, [], ◌∷◌, ◌++◌, length, get_or, map, take, Some, None, refl, sym, ap, ap₂, ◌∙◌, subst, arith}
+use Rattle.std.proofs.Common.{◌≡◌, ◌≤◌, ◌<◌, ◌+◌, ℕ, zero, suc, false, List, [], ◌∷◌, ◌++◌, length, get_or, map, take, Some, None, refl, sym, ap, ap₂, ◌∙◌, subst, arith}
 use Rattle.std.proofs.lemmas.List.{map-append, take_more}
 use Rattle.parsing.specs.Reads.{Reads, SpellsNone, SpellsOnly}
 use Rattle.script.specs.declared.operands.Mentions.{Mentions}
@@ -43,11 +43,11 @@ read-next words word named next s h k is = record {
 }
 
 -- one word of several more
-pub read-more : {A : Type 0} (f : A → List ℕ) (xs : List A) (i : ℕ) (x : A) (named next : Mentions) (s : Source) → i < length xs → x ≡ get_or xs i x → AreRead (map f (take i xs)) named
-    → SpellsOnly IsSource (f x) s → next ≡ with_source named s → AreRead (map f (take (i + 1) xs)) next
-read-more {A} f xs i x named next s known at h k is =
-    subst (λ words. AreRead words next) (sym (ap (map f) (take_more xs i x known) ∙ (map-append f (take i xs) (get_or xs i x ∷ []) ∙ ap (λ (y : A). map f (take i xs) ++ f y ∷ []) (sym at))))
-    (read-next (map f (take i xs)) (f x) named next s h k is)
+pub read-more : {A : Type 0} (f : A → List ℕ) (xs : List A) (i : ℕ) (d : A) (named next : Mentions) (s : Source) → i < length xs → AreRead (map f (take i xs)) named
+    → SpellsOnly IsSource (f (get_or xs i d)) s → next ≡ with_source named s → AreRead (map f (take (i + 1) xs)) next
+read-more f xs i d named next s known h k is =
+    subst (λ words. AreRead words next) (sym (ap (map f) (take_more xs i d known) ∙ map-append f (take i xs) (get_or xs i d ∷ [])))
+    (read-next (map f (take i xs)) (f (get_or xs i d)) named next s h k is)
 
 -- what is read of all words
 pub reads-named : (words : List (List ℕ)) (named : Mentions) → AreRead words named → Reads IsNamedBy words (Some named)

@@ -189,9 +189,7 @@ fn pair_cause(
 fn any_unfetched(kinds: &[Kind], terms: &[Term], named: Mentions) -> bool
     ensures { result ≡ list_any (λ kind. is_unfetched (map term_of terms.now) named (kind_number kind)) kinds.now }
 {
-    kinds
-        .iter()
-        .any(|kind| has_bit(named.kinds, kind.number()) && !fetches(terms, *kind))
+    kinds.iter().any(|kind| has_bit(named.kinds, kind.number()) && !fetches(terms, *kind))
 }
 
 // Whether a kind is named of which the query fetches no component.
@@ -206,9 +204,8 @@ fn names_unfetched(terms: &[Term], named: Mentions) -> bool
 fn names_undeclared(params: &Params, named: Mentions) -> bool
     ensures { result ≡ names_undeclared params.now named }
 {
-    Res::ALL
-        .iter()
-        .any(|resource| has_bit(named.resources, resource.number()) && !params.names_resource(*resource))
+    Res::ALL.iter().any(|resource| has_bit(named.resources, resource.number())
+        && !params.names_resource(*resource))
 }
 
 // Whether the word has the bit of a number.

@@ -19,7 +19,7 @@ loop-word-init c = record {
 
 pub loop-word-preserved : goal.loop-word-preserved
 loop-word-preserved c =
-    read-more (λ word. word.now) c.args.words.now c.loop-word.word-index _ c.loop-word.named _ c.in_ok-source.source c.loop-word-test.true c.word-item.is c.loop-word.invariant c.in_ok-source.ensures c.with.ensures
+    read-more (λ word. word.now) c.args.words.now c.loop-word.word-index _ c.loop-word.named _ c.in_ok-source.source c.loop-word-test.true c.loop-word.invariant c.in_ok-source.ensures c.with-named.ensures
 
 pub returns-in_err-source : goal.returns-in_err-source
 returns-in_err-source c = rw c.from_residual.ensures (λ named spelled.
