@@ -8,7 +8,7 @@ use Rattle.kinds.specs.declared.res.Event.TheVariants.{Hit, Heal, Spark, Done}
 use Rattle.kinds.specs.Kind.{kind_count, kind_number, numbers_from, NumbersAreBelow}
 use Rattle.kinds.specs.Res.{res_number, event_number}
 use Rattle.query.specs.declared.term.Term.{Term}
-use Rattle.query.specs.declared.term.Term.TheVariants.{Entity, Read, Mut, Opt, With, Without, Added, Changed}
+use Rattle.query.specs.declared.term.Term.TheVariants.{Entity, Read, Mut, Opt, With, Without, Added, Changed, Or}
 use Rattle.query.specs.Term.{term_of}
 use Rattle.model.specs.Lists.{has, is_number, IsIn}
 use Rattle.model.specs.access.Query.{Term as ModelTerm, touched, touches}
@@ -61,6 +61,7 @@ known_term : NumbersAreBelow → (t : Term) (k : ℕ) → is_number k (touched (
 known_term below Entity k e = absurd (false≢true e)
 known_term below (With kind) k e = absurd (false≢true e)
 known_term below (Without kind) k e = absurd (false≢true e)
+known_term below (Or alternatives) k e = absurd (false≢true e)
 known_term below (Read kind) k e = subst (λ (n : ℕ). n < kind_count) (eqb-true (kind_number kind) k e) (below kind)
 known_term below (Mut kind) k e = subst (λ (n : ℕ). n < kind_count) (eqb-true (kind_number kind) k e) (below kind)
 known_term below (Opt kind) k e = subst (λ (n : ℕ). n < kind_count) (eqb-true (kind_number kind) k e) (below kind)

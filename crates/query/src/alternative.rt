@@ -15,9 +15,10 @@ pub enum Alternative {
 }
 
 /// The alternatives of an `or` term. Two to four are asked for; with another number `check` refuses the query.
-#[derive(Clone, Copy, PartialEq, Eq, Debug)]
+#[derive(Clone, Copy, PartialEq, Eq, Debug, Default)]
 pub enum Alternatives {
     /// None, so that no entity passes.
+    #[default]
     Zero,
     /// One alone.
     One([Alternative; 1]),
