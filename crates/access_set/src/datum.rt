@@ -31,9 +31,6 @@ pub enum Datum {
     Event(Event),
 }
 
-// The kinds of events, by number.
-const EVENTS: [Event; Event::COUNT] = [Event::Hit, Event::Heal, Event::Spark, Event::Done];
-
 impl Datum {
     /// The name of the kind, the resource or the event kind.
     pub fn name(self) -> &'static str
@@ -168,7 +165,7 @@ fn least_event(a: &Params, b: &Params) -> Option<Event>
     ensures { IsLeastAt (λ kind. ConflictAt a.now b.now (OfEvent kind)) (option_map event_number result) }
 {
     are_known_events(a);
-    for event in EVENTS {
+    for event in Event::ALL {
         if conflict_at_event(a, b, event) {
             return Some(event);
         }

@@ -56,8 +56,8 @@ impl Kind {
     /// How many kinds there are.
     pub const COUNT: usize = 20;
 
-    // The kinds, in the order of their numbers.
-    const ALL: [Kind; Kind::COUNT] = [
+    /// Every kind, by number.
+    pub const ALL: [Kind; Kind::COUNT] = [
         Kind::Position,
         Kind::Velocity,
         Kind::Health,
