@@ -2,13 +2,12 @@
 use Rattle.std.proofs.Common.{ℕ, zero, suc, ◌+◌, ◌<◌, ◌≤◌, true, ◌≡◌, ◌==◌, inl, inr, List, [], ◌∷◌, length, map, get_or, Some, None, subst, sym, arith, eqb-true, ltb-true}
 use Rattle.std.proofs.lemmas.Bool.{false≢true, or_cases, cases_lt}
 use Rattle.kinds.specs.declared.res.Res.{Res}
-use Rattle.kinds.specs.declared.res.Res.TheVariants.{Round, Gravity, Total, Seed, Limit, Alarm, Mode, Step}
 use Rattle.kinds.specs.declared.res.Event.{Event}
-use Rattle.kinds.specs.declared.res.Event.TheVariants.{Hit, Heal, Spark, Done}
 use Rattle.kinds.specs.Kind.{kind_count, kind_number, numbers_from, NumbersAreBelow}
 use Rattle.kinds.specs.Res.{res_number, event_number}
+use Rattle.kinds.proofs.Numbers.{res_below, event_below}
 use Rattle.query.specs.declared.term.Term.{Term}
-use Rattle.query.specs.declared.term.Term.TheVariants.{Entity, Read, Mut, Opt, With, Without, Added, Changed}
+use Rattle.query.specs.declared.term.Term.TheVariants.{Entity, Read, Mut, Opt, With, Without, Added, Changed, Or}
 use Rattle.query.specs.Term.{term_of}
 use Rattle.model.specs.Lists.{has, is_number, IsIn}
 use Rattle.model.specs.access.Query.{Term as ModelTerm, touched, touches}
@@ -26,22 +25,6 @@ below_bound f bound below (x ∷ xs) n h = elim (or_cases (f x == n) (has n (map
   | inl e ↦ subst (λ (k : ℕ). k < bound) (eqb-true (f x) n e) (below x)
   | inr e ↦ below_bound f bound below xs n e
 ]
-
-res_below : (resource : Res) → res_number resource < 8
-res_below Round = omega arith
-res_below Gravity = omega arith
-res_below Total = omega arith
-res_below Seed = omega arith
-res_below Limit = omega arith
-res_below Alarm = omega arith
-res_below Mode = omega arith
-res_below Step = omega arith
-
-event_below : (event : Event) → event_number event < 4
-event_below Hit = omega arith
-event_below Heal = omega arith
-event_below Spark = omega arith
-event_below Done = omega arith
 
 -- resources
 pub known_resources : (a : Params) (read written : List Res) → map res_number read ≡ a.res → map res_number written ≡ a.res_mut → (number : ℕ) → names_resource a number ≡ true → number < 8
@@ -61,6 +44,7 @@ known_term : NumbersAreBelow → (t : Term) (k : ℕ) → is_number k (touched (
 known_term below Entity k e = absurd (false≢true e)
 known_term below (With kind) k e = absurd (false≢true e)
 known_term below (Without kind) k e = absurd (false≢true e)
+known_term below (Or alternatives) k e = absurd (false≢true e)
 known_term below (Read kind) k e = subst (λ (n : ℕ). n < kind_count) (eqb-true (kind_number kind) k e) (below kind)
 known_term below (Mut kind) k e = subst (λ (n : ℕ). n < kind_count) (eqb-true (kind_number kind) k e) (below kind)
 known_term below (Opt kind) k e = subst (λ (n : ℕ). n < kind_count) (eqb-true (kind_number kind) k e) (below kind)

@@ -1,4 +1,7 @@
 pub mod Meets
 pub mod Least
+pub mod Bits
+pub mod Choices
+pub mod Ways
 pub mod Footprints
 pub mod TermWords

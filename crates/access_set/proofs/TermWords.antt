@@ -8,7 +8,7 @@ use Rattle.query.specs.declared.term.Term.{Term}
 use Rattle.query.specs.Term.{term_of}
 use Rattle.query.proofs.Terms.{any_of_terms}
 use Rattle.access_set.specs.Footprints.{has_bit}
-use Rattle.access_set.proofs.Footprints.{no_bit}
+use Rattle.access_set.proofs.Bits.{no_bit}
 
 -- the word and the terms from a place on say of each kind what all terms say
 abbrev pub IsSaid : (ModelTerm → Option ℕ) → List Term → ℕ → ℕ → Type 0

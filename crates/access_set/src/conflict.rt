@@ -1,5 +1,5 @@
-// When two accesses conflict: of all sets of kinds that two queries could both match, the least is enough, and that is asked of
-// the words of both.
+// When two accesses conflict: with an alternative taken of each `or` term, of all sets of kinds that could match two queries the
+// least is enough, and that is asked of the words of both.
 
 ghost use Rattle.std.specs.Prelude.{◌≡◌, ◌↔◌, IsTrue};
 ghost use Rattle.std.specs.List.{list_any};
@@ -40,14 +40,14 @@ fn any_meets(footprints: &[Footprint], others: &[Footprint]) -> bool
 {
     footprints
         .iter()
-        .any(|footprint| meets_any(*footprint, others))
+        .any(|footprint| meets_any(footprint, others))
 }
 
 /// Whether the footprint meets some of the others.
-pub(crate) fn meets_any(footprint: Footprint, others: &[Footprint]) -> bool
-    ensures { result ≡ list_any (footprints_meet footprint) others.now }
+pub(crate) fn meets_any(footprint: &Footprint, others: &[Footprint]) -> bool
+    ensures { result ≡ list_any (footprints_meet footprint.now) others.now }
 {
-    others.iter().any(|other| footprint.meets(*other))
+    others.iter().any(|other| footprint.meets(other))
 }
 
 // Whether they conflict at a resource.

@@ -10,7 +10,7 @@ ghost use Rattle.model.specs.access.Query.{Term, touches};
 ghost use Rattle.model.specs.access.Access.{names_resource, names_event};
 ghost use Rattle.model.specs.access.Conflict.{ConflictAt, IsLeastDatum, conflict_at};
 ghost use Rattle.model.specs.access.Conflict.Datum.{OfKind, OfResource, OfEvent};
-ghost use Rattle.access_set.specs.Footprints.{has_bit, kinds_met};
+ghost use Rattle.access_set.specs.Footprints.{footprints_meet_at};
 ghost use Rattle.access_set.specs.Datum.{datum_of, datum_name, IsLeastAt, AreKnownKinds};
 
 use crate::footprint::Footprint;
@@ -30,9 +30,6 @@ pub enum Datum {
     /// A kind of events.
     Event(Event),
 }
-
-// The kinds of events, by number.
-const EVENTS: [Event; Event::COUNT] = [Event::Hit, Event::Heal, Event::Spark, Event::Done];
 
 impl Datum {
     /// The name of the kind, the resource or the event kind.
@@ -89,23 +86,24 @@ fn least_kind(a: &Params, b: &Params) -> Option<Kind>
 fn conflict_at_kind(a: &Params, b: &Params, kind: Kind) -> bool
     ensures { result ≡ conflict_at a.now b.now (OfKind (kind_number kind)) }
 {
+    kinds_are_apart();
     any_meets_at(a.footprints(), b.footprints(), kind)
 }
 
 // Whether some of these footprints meets some of the others at the kind.
 fn any_meets_at(footprints: &[Footprint], others: &[Footprint], kind: Kind) -> bool
-    ensures { result ≡ list_any (λ f. list_any (λ g. has_bit (kinds_met f g) (kind_number kind)) others.now) footprints.now }
+    ensures { result ≡ list_any (λ f. list_any (λ g. footprints_meet_at f g (kind_number kind)) others.now) footprints.now }
 {
     footprints
         .iter()
-        .any(|footprint| meets_any_at(*footprint, others, kind))
+        .any(|footprint| meets_any_at(footprint, others, kind))
 }
 
 // Whether the footprint meets some of the others at the kind.
-fn meets_any_at(footprint: Footprint, others: &[Footprint], kind: Kind) -> bool
-    ensures { result ≡ list_any (λ g. has_bit (kinds_met footprint g) (kind_number kind)) others.now }
+fn meets_any_at(footprint: &Footprint, others: &[Footprint], kind: Kind) -> bool
+    ensures { result ≡ list_any (λ g. footprints_meet_at footprint.now g (kind_number kind)) others.now }
 {
-    others.iter().any(|other| footprint.meets_at(*other, kind))
+    others.iter().any(|other| footprint.meets_at(other, kind))
 }
 
 // What queries touch has the number of a kind.
@@ -167,7 +165,7 @@ fn least_event(a: &Params, b: &Params) -> Option<Event>
     ensures { IsLeastAt (λ kind. ConflictAt a.now b.now (OfEvent kind)) (option_map event_number result) }
 {
     are_known_events(a);
-    for event in EVENTS {
+    for event in Event::ALL {
         if conflict_at_event(a, b, event) {
             return Some(event);
         }

@@ -1,21 +1,33 @@
 // The kinds of a query as the bits of words, so that two queries are compared a word at a time.
 
-ghost use Rattle.std.specs.Prelude.{◌≡◌, ◌||◌, ℕ};
+ghost use Rattle.std.specs.Prelude.{◌≡◌, ◌||◌, ◌++◌, ℕ, map, IfOk};
 ghost use Rattle.std.specs.Option.{option_map};
 ghost use Rattle.kinds.specs.Kind.{kind_number};
 ghost use Rattle.query.specs.Term.{term_of};
+ghost use Rattle.query.specs.Alternative.{alternative_of, alternatives_of};
 ghost use Rattle.model.specs.Lists.{is_number};
 ghost use Rattle.model.specs.access.Query.{touched, written};
-ghost use Rattle.model.specs.access.Conflict.{required};
-ghost use Rattle.model.specs.access.QueryFaults.{excluded};
-ghost use Rattle.access_set.specs.Footprints.{has_bit, kinds_met, footprints_meet, is_writing, IsFootprint};
+ghost use Rattle.model.specs.access.Conflict.{choices};
+ghost use Rattle.model.specs.access.QueryFaults.{required, excluded};
+ghost use Rattle.access_set.specs.Footprints.{has_bit, with_bit, way_with, kinds_shared, way_of_both, kinds_met, met_in, footprints_meet, footprints_meet_at, is_writing, IsWords, IsFootprint};
 
 use kinds::kind::{Kind, kinds_are_apart};
-use query::{Query, Term};
+use query::{Alternative, Alternatives, Query, Term};
+use smallvec::SmallVec;
+use std::alloc::{AllocError, Global};
+
+/// What a query touches, and what it asks of the kinds of an entity.
+#[derive(Drop)]
+pub(crate) struct Footprint {
+    /// What its terms but the `or` terms name.
+    pub(crate) words: Words,
+    /// The alternatives of its `or` terms, term by term.
+    pub(crate) choices: SmallVec<Alternatives, 1>,
+}
 
 /// The kinds that a query touches, writes, requires and excludes: in each word the bits of their numbers.
 #[derive(Clone, Copy)]
-pub(crate) struct Footprint {
+pub(crate) struct Words {
     /// Those that it touches.
     pub(crate) touched: u64,
     /// Those that it writes.
@@ -26,31 +38,79 @@ pub(crate) struct Footprint {
     pub(crate) excluded: u64,
 }
 
+/// The kinds that an entity must have and those that it must lack to match two queries in one way: with some alternatives of their
+/// `or` terms taken.
+#[derive(Clone, Copy)]
+pub(crate) struct Way {
+    /// Those that it must have.
+    pub(crate) required: u64,
+    /// Those that it must lack.
+    pub(crate) excluded: u64,
+}
+
 impl Footprint {
-    /// The footprint of a query.
-    pub(crate) fn of_query(query: &Query) -> Self
-        ensures { IsFootprint query.now result }
+    /// The footprint of a query. It takes memory where the query has more than one `or` term.
+    pub(crate) fn of_query(alloc: Global, query: &Query) -> Result<Self, AllocError>
+        ensures { IfOk result (IsFootprint query.now) }
     {
-        let mut footprint = Footprint {
+        kinds_are_apart();
+        Ok(Footprint {
+            words: Words::of_query(query),
+            choices: choices_of(alloc, query.terms())?,
+        })
+    }
+
+    /// Whether two queries of these footprints conflict.
+    pub(crate) fn meets(&self, other: &Footprint) -> bool
+        ensures { result ≡ footprints_meet self.now other.now }
+    {
+        let shared = self.words.shared(other.words);
+        let way = self.words.way(other.words);
+        met_in(shared, way, self.choices.as_slice(), other.choices.as_slice())
+    }
+
+    /// Whether they conflict at the kind.
+    pub(crate) fn meets_at(&self, other: &Footprint, kind: Kind) -> bool
+        ensures { result ≡ footprints_meet_at self.now other.now (kind_number kind) }
+    {
+        let shared = self.words.shared(other.words) & with_bit(0, kind);
+        let way = self.words.way(other.words);
+        met_in(shared, way, self.choices.as_slice(), other.choices.as_slice())
+    }
+
+    /// Whether a query of this footprint can match without its `or` terms, and writes.
+    pub(crate) fn is_writing(&self) -> bool
+        ensures { result ≡ is_writing self.now }
+    {
+        self.words.written != 0 && self.words.required & self.words.excluded == 0
+    }
+}
+
+impl Words {
+    // The words of a query.
+    fn of_query(query: &Query) -> Self
+        ensures { IsWords query.now result }
+    {
+        let mut words = Words {
             touched: 0,
             written: 0,
             required: 0,
             excluded: 0,
         };
         for term in query.terms() {
-            footprint = footprint.with_term(*term);
+            words = words.with_term(*term);
         }
-        footprint
+        words
     }
 
-    // The footprint with one more term.
+    // The words with one more term.
     fn with_term(self, term: Term) -> Self
         ensures touched { (kind : ℕ) → has_bit result.touched kind ≡ (is_number kind (touched (term_of term)) || has_bit self.touched kind) }
         ensures written { (kind : ℕ) → has_bit result.written kind ≡ (is_number kind (written (term_of term)) || has_bit self.written kind) }
         ensures required { (kind : ℕ) → has_bit result.required kind ≡ (is_number kind (required (term_of term)) || has_bit self.required kind) }
         ensures excluded { (kind : ℕ) → has_bit result.excluded kind ≡ (is_number kind (excluded (term_of term)) || has_bit self.excluded kind) }
     {
-        Footprint {
+        Words {
             touched: with_kind(self.touched, term.touched()),
             written: with_kind(self.written, term.written()),
             required: with_kind(self.required, term.required()),
@@ -58,38 +118,82 @@ impl Footprint {
         }
     }
 
-    /// The kinds at which two queries of these footprints conflict.
-    pub(crate) fn kinds_met(self, other: Footprint) -> u64
-        ensures { result ≡ kinds_met self other }
+    // The kinds that both touch and one writes.
+    fn shared(self, other: Words) -> u64
+        ensures { result ≡ kinds_shared self other }
     {
-        let excluded = self.excluded | other.excluded;
-        if (self.required | other.required) & excluded != 0 {
+        self.touched & other.touched & (self.written | other.written)
+    }
+
+    // What an entity must have and lack to match both, before an alternative of an `or` term is taken.
+    fn way(self, other: Words) -> Way
+        ensures { result ≡ way_of_both self other }
+    {
+        Way {
+            required: self.required | other.required,
+            excluded: self.excluded | other.excluded,
+        }
+    }
+}
+
+impl Way {
+    // The way with one more alternative taken.
+    fn with(self, alternative: Alternative) -> Self
+        ensures { result ≡ way_with (alternative_of alternative) self }
+    {
+        match alternative {
+            Alternative::With(kind) => Way {
+                required: with_bit(self.required, kind),
+                excluded: self.excluded,
+            },
+            Alternative::Without(kind) => Way {
+                required: self.required,
+                excluded: with_bit(self.excluded, kind),
+            },
+        }
+    }
+
+    // Of the shared kinds those that an entity may have that matches both queries in this way.
+    fn kinds_met(self, shared: u64) -> u64
+        ensures { result ≡ kinds_met shared self }
+    {
+        if self.required & self.excluded != 0 {
             return 0;
         }
-        let shared = self.touched & other.touched & (self.written | other.written);
-        shared ^ (shared & excluded)
+        shared ^ (shared & self.excluded)
     }
+}
 
-    /// Whether two queries of these footprints conflict.
-    pub(crate) fn meets(self, other: Footprint) -> bool
-        ensures { result ≡ footprints_meet self other }
-    {
-        self.kinds_met(other) != 0
+// The alternatives of the `or` terms, term by term.
+fn choices_of(alloc: Global, terms: &[Term]) -> Result<SmallVec<Alternatives, 1>, AllocError>
+    ensures { IfOk result (λ list. map alternatives_of list.items ≡ choices (map term_of terms.now)) }
+{
+    let mut list = SmallVec::new(alloc);
+    for term in terms {
+        if let Some(alternatives) = term.choice() {
+            list.push(alternatives)?;
+        }
     }
+    Ok(list)
+}
 
-    /// Whether a query of this footprint can match, and writes.
-    pub(crate) fn is_writing(self) -> bool
-        ensures { result ≡ is_writing self }
-    {
-        self.written != 0 && self.required & self.excluded == 0
+// Whether an entity that matches both queries may have a shared kind, in some way that goes on from this one with an alternative of
+// each choice.
+fn met_in(shared: u64, way: Way, choices: &[Alternatives], more: &[Alternatives]) -> bool
+    ensures { result ≡ met_in shared way (map alternatives_of choices.now ++ map alternatives_of more.now) }
+{
+    let Some((alternatives, rest)) = choices.split_first() else {
+        if more.is_empty() {
+            return way.kinds_met(shared) != 0;
+        }
+        return met_in(shared, way, more, &[]);
+    };
+    for alternative in alternatives.as_slice() {
+        if met_in(shared, way.with(*alternative), rest, more) {
+            return true;
+        }
     }
-
-    /// Whether they conflict at the kind.
-    pub(crate) fn meets_at(self, other: Footprint, kind: Kind) -> bool
-        ensures { result ≡ has_bit (kinds_met self other) (kind_number kind) }
-    {
-        has_kind(self.kinds_met(other), kind)
-    }
+    false
 }
 
 // The word with the bit of the kind, where there is one.
@@ -99,14 +203,14 @@ fn with_kind(word: u64, kind: Option<Kind>) -> u64
     kinds_are_apart();
     match kind {
         None => word,
-        Some(kind) => word | (1 << kind.number()),
+        Some(kind) => with_bit(word, kind),
     }
 }
 
-// Whether the word has the bit of the kind.
-fn has_kind(word: u64, kind: Kind) -> bool
-    ensures { result ≡ has_bit word (kind_number kind) }
+// The word with the bit of the kind.
+fn with_bit(word: u64, kind: Kind) -> u64
+    ensures { result ≡ with_bit (kind_number kind) word }
 {
     kinds_are_apart();
-    (word >> kind.number()) & 1 == 1
+    word | (1 << kind.number())
 }

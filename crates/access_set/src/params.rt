@@ -85,7 +85,8 @@ impl Params {
         ensures ok { OnOk result (self.new ≡ record self.old { queries = self.old.queries ++ query ∷ [] }) }
         ensures err { OnErr result (self.new ≡ self.old) }
     {
-        self.footprints.push(Footprint::of_query(&query))?;
+        let alloc = *self.queries.allocator();
+        self.footprints.push(Footprint::of_query(alloc, &query)?)?;
         if let Err(fault) = self.queries.push(query) {
             self.footprints.pop();
             return Err(fault.into());

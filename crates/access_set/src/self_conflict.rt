@@ -14,8 +14,7 @@ use crate::params::{Params, has_event, has_resource};
 use kinds::res::{Event, Res};
 
 /// Whether two parameters conflict: two of the queries, or two that name a resource or an event kind that one of them writes. A query
-/// that writes is compared with all others; as soon as two conflict no more are. Queries that write a kind and don't conflict match
-/// different sets of kinds, of which there are 4,096, so the time grows with the number of queries alone.
+/// that writes is compared with all others; as soon as two conflict no more are.
 pub fn conflicts_within(params: &Params) -> bool
     ensures { IsTrue result ↔ ConflictWithin params.now }
 {
@@ -60,7 +59,7 @@ fn meets_beside(footprints: &[Footprint], number: usize) -> bool
     ensures { MatchBool result (MeetsBeside footprints.now number) (MeetsBeside footprints.now number → ⊥) }
 {
     for other in 0..footprints.len() {
-        if number != other && footprints[number].meets(footprints[other]) {
+        if number != other && footprints[number].meets(&footprints[other]) {
             return true;
         }
     }

@@ -6,8 +6,8 @@ use Rattle.std.specs.List.{AllByRecursion}
 use Rattle.std.proofs.lemmas.List.{length-map}
 use Rattle.column_store.specs.Table.Standing.{Owned}
 use Rattle.kinds.specs.declared.kind.Kind.{Kind}
-use Rattle.kinds.specs.declared.kind.Kind.TheVariants.{Position, Velocity, Health, Damage, Team, Timer, Score, Energy, Charge, Target, Frozen, Hidden}
 use Rattle.kinds.specs.Kind.{kind_count, kind_number, numbers_from}
+use Rattle.kinds.proofs.Numbers.{number_below}
 use Rattle.model.specs.Lists.{has}
 use Rattle.column_store.specs.declared.stamped.StampedValue.{StampedValue}
 use Rattle.column_store.specs.Cells.{stamped_number}
@@ -18,23 +18,9 @@ use Rattle.archetype_store.proofs.Held.{grown_more}
 
 -- ---- kinds in order
 
-kind_below : (k : Kind) → kind_number k < kind_count
-kind_below Position = omega arith
-kind_below Velocity = omega arith
-kind_below Health = omega arith
-kind_below Damage = omega arith
-kind_below Team = omega arith
-kind_below Timer = omega arith
-kind_below Score = omega arith
-kind_below Energy = omega arith
-kind_below Charge = omega arith
-kind_below Target = omega arith
-kind_below Frozen = omega arith
-kind_below Hidden = omega arith
-
 each_below : (ks : List Kind) → AllByRecursion (λ n. n < kind_count) (map kind_number ks)
 each_below [] = tt
-each_below (k ∷ ks) = (kind_below k, each_below ks)
+each_below (k ∷ ks) = (number_below k, each_below ks)
 
 not_equal : (n m : ℕ) → n < m → (n == m) ≡ false
 not_equal n m l = grind (arith, nat_tests)

@@ -5,8 +5,6 @@ use Rattle.std.proofs.lemmas.Bool.{eq-eqb}
 use Rattle.std.proofs.lemmas.Bool.Decides.{nat_tests}
 use Rattle.std.proofs.lemmas.List.Quantifiers.{position-Some}
 use Rattle.kinds.specs.declared.value.Value.{Value}
-use Rattle.kinds.specs.declared.value.Value.TheVariants as value
-use Rattle.kinds.specs.Components.{widths}
 use Rattle.kinds.specs.Value.{value_number, value_words}
 use Rattle.model.specs.state.State.{Component}
 use Rattle.model.specs.state.Rows.{changed_component, insert_component}
@@ -65,18 +63,3 @@ pub put_at : (t : ℕ) (v : Value) (xs : List StampedValue) (i : ℕ) (s : Stamp
 put_at t v xs i s found is other =
     let at = position-Some (is_from (value_number v)) xs i s found in
     inserted_at t v xs i s at.0 at.2 at.1 (λ same. other (ap (λ (r : StampedValue). value_number r.value) is ∙ same))
-
--- a component has as many words as its kind tells
-pub value_width : (v : Value) → length (value_words v) ≡ widths (value_number v)
-value_width (value.Position x) = refl
-value_width (value.Velocity x) = refl
-value_width (value.Health x) = refl
-value_width (value.Damage x) = refl
-value_width (value.Team x) = refl
-value_width (value.Timer x) = refl
-value_width (value.Score x) = refl
-value_width (value.Energy x) = refl
-value_width (value.Charge x) = refl
-value_width (value.Target x) = refl
-value_width (value.Frozen x) = refl
-value_width (value.Hidden x) = refl

@@ -7,7 +7,7 @@ use Rattle.model.specs.declared.entities.Entity.{Entity}
 use Rattle.model.specs.state.State.{Slot, Component, fresh_slot, is_living}
 use Rattle.model.specs.state.Rows.{cell_at, kinds_of, row_at}
 use Rattle.model.specs.access.Query.{Term, matches, written, writes, touched, touches}
-use Rattle.model.specs.access.Query.Term.{Entity as IdOnly, Read, Mut, Opt, With, Without, Added, Changed}
+use Rattle.model.specs.access.Query.Term.{Entity as IdOnly, Read, Mut, Opt, With, Without, Added, Changed, AnyOf}
 use Rattle.model.specs.access.Conflict.{QueriesConflictAt}
 use Rattle.model.specs.shown.Input.{ShownRow, is_row, passes, shown_row, rows_from, rows_of}
 use Rattle.archetype_store.specs.Layout.{Archetype, archetype_at, IsLayoutOf}
@@ -68,6 +68,7 @@ written-touched (Mut m) k h = h
 written-touched (Opt m) k h = absurd (cc)
 written-touched (With m) k h = absurd (cc)
 written-touched (Without m) k h = absurd (cc)
+written-touched (AnyOf alternatives) k h = absurd (cc)
 written-touched (Added m) k h = absurd (cc)
 written-touched (Changed m) k h = absurd (cc)
 

@@ -6,7 +6,7 @@ use Rattle.model.specs.declared.entities.Entity.{Entity}
 use Rattle.model.specs.state.State.{Cell, Slot, Component}
 use Rattle.model.specs.state.Rows.{cell_at}
 use Rattle.model.specs.access.Query.{Term, written, writes}
-use Rattle.model.specs.access.Query.Term.{Entity as IdOnly, Read, Mut, Opt, With, Without, Added, Changed}
+use Rattle.model.specs.access.Query.Term.{Entity as IdOnly, Read, Mut, Opt, With, Without, Added, Changed, AnyOf}
 use Rattle.model.specs.access.QueryFaults.{fetched}
 use Rattle.model.specs.shown.Input.{ShownRow, words_of, shown_row, fetch}
 use Rattle.model.specs.shown.Outcome.{words_in_row, words_in_query, words_written}
@@ -126,6 +126,7 @@ fetch-is row f (With k) h = refl
 fetch-is row f (Without k) h = refl
 fetch-is row f (Added k) h = refl
 fetch-is row f (Changed k) h = refl
+fetch-is row f (AnyOf alternatives) h = refl
 
 fetches-are : (row : List Component) (f : ℕ → Option (List ℤ)) (terms : List Term) → ((k : ℕ) → fetches terms k ≡ true → f k ≡ words_of (cell_at row k)) → map (λ t. words_for (fetched t) f) terms ≡ map (fetch row) terms
 fetches-are row f [] h = refl

@@ -10,7 +10,7 @@ use Rattle.model.specs.state.State.{Slot, Cell, Component, fresh_slot, is_living
 use Rattle.model.specs.state.Rows.{row_at}
 use Rattle.model.specs.state.Commands.{is_alive}
 use Rattle.model.specs.access.Query.{Term, written, writes}
-use Rattle.model.specs.access.Query.Term.{Entity as IdOnly, Read, Mut, Opt, With, Without, Added, Changed}
+use Rattle.model.specs.access.Query.Term.{Entity as IdOnly, Read, Mut, Opt, With, Without, Added, Changed, AnyOf}
 use Rattle.model.specs.access.QueryFaults.{fetched}
 use Rattle.column_store.specs.Order.{is_before, is_same, AreRising}
 use Rattle.archetype_store.specs.Layout.{Archetype, archetype_at, is_in_archetype, IsArchetype, AreOfOtherKinds, IsLayoutOf}
@@ -101,6 +101,7 @@ written-number (Mut m) k h = h
 written-number (Opt m) k h = absurd (cc)
 written-number (With m) k h = absurd (cc)
 written-number (Without m) k h = absurd (cc)
+written-number (AnyOf alternatives) k h = absurd (cc)
 written-number (Added m) k h = absurd (cc)
 written-number (Changed m) k h = absurd (cc)
 

@@ -14,7 +14,7 @@ use Rattle.model.specs.state.Shape.{IsComponent}
 use Rattle.model.proofs.shape.Rows.{each-insert, each-remove, rising-insert, rising-remove, component-new, component-changed}
 use Rattle.archetype_store.specs.declared.change.EntityChange.{EntityChange}
 use Rattle.archetype_store.specs.Changes.{components_left, changed}
-use Rattle.archetype_store.proofs.RowPlaces.{value_width}
+use Rattle.kinds.proofs.Wide.{value_width}
 use Rattle.command_queue.specs.Pending.{is_left_alive, AreChanges, IsKept}
 use Rattle.command_queue.proofs.Puts.{at_place}
 use Rattle.command_queue.proofs.Targets.{can_at, changes_again, slots_again, row_again}

@@ -16,9 +16,6 @@ use kinds::res::Event;
 use std::alloc::{AllocError, Global};
 use std::marker::Model;
 
-// The kinds of events, by number.
-const EVENTS: [Event; Event::COUNT] = [Event::Hit, Event::Heal, Event::Spark, Event::Done];
-
 /// Events of one kind, in order. Contracts see the kind by number, and the values.
 #[derive(Drop)]
 pub struct EventList {
@@ -169,7 +166,7 @@ impl EventLists {
         ensures { result ≡ has_event_numbers (events_sent self.now.kinds self.now.values) events.now }
     {
         events.law();
-        self.can_send_each(&EVENTS, events)
+        self.can_send_each(&Event::ALL, events)
     }
 
     // Whether the events of each of these kinds get numbers.

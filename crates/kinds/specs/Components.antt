@@ -13,10 +13,18 @@ use Rattle.kinds.specs.declared.types.Charge.{Charge}
 use Rattle.kinds.specs.declared.types.Target.{Target}
 use Rattle.kinds.specs.declared.types.Frozen.{Frozen}
 use Rattle.kinds.specs.declared.types.Hidden.{Hidden}
+use Rattle.kinds.specs.declared.types.Home.{Home}
+use Rattle.kinds.specs.declared.types.Mass.{Mass}
+use Rattle.kinds.specs.declared.types.Armor.{Armor}
+use Rattle.kinds.specs.declared.types.Range.{Range}
+use Rattle.kinds.specs.declared.types.Level.{Level}
+use Rattle.kinds.specs.declared.types.Rank.{Rank}
+use Rattle.kinds.specs.declared.types.Sleeping.{Sleeping}
+use Rattle.kinds.specs.declared.types.Marked.{Marked}
 
 -- how many words a component of each kind has, by number; none where no kind has the number
 abbrev pub widths : ℕ → ℕ
-widths number = slice_index (2 ∷ 2 ∷ 1 ∷ 1 ∷ 1 ∷ 1 ∷ 1 ∷ 1 ∷ 1 ∷ 1 ∷ 0 ∷ 0 ∷ []) number
+widths number = slice_index (2 ∷ 2 ∷ 1 ∷ 1 ∷ 1 ∷ 1 ∷ 1 ∷ 1 ∷ 1 ∷ 1 ∷ 0 ∷ 0 ∷ 2 ∷ 1 ∷ 1 ∷ 1 ∷ 1 ∷ 1 ∷ 0 ∷ 0 ∷ []) number
 
 -- the word at a place, 0 past the end
 abbrev pub word_at : List ℤ → ℕ → ℤ
@@ -93,6 +101,54 @@ hidden_words c = []
 
 abbrev pub hidden_of : List ℤ → Hidden
 hidden_of words = record {}
+
+abbrev pub home_words : Home → List ℤ
+home_words c = c.x ∷ c.y ∷ []
+
+abbrev pub home_of : List ℤ → Home
+home_of words = record { x = word_at words 0; y = word_at words 1 }
+
+abbrev pub mass_words : Mass → List ℤ
+mass_words c = c.v ∷ []
+
+abbrev pub mass_of : List ℤ → Mass
+mass_of words = record { v = word_at words 0 }
+
+abbrev pub armor_words : Armor → List ℤ
+armor_words c = c.v ∷ []
+
+abbrev pub armor_of : List ℤ → Armor
+armor_of words = record { v = word_at words 0 }
+
+abbrev pub range_words : Range → List ℤ
+range_words c = c.v ∷ []
+
+abbrev pub range_of : List ℤ → Range
+range_of words = record { v = word_at words 0 }
+
+abbrev pub level_words : Level → List ℤ
+level_words c = c.v ∷ []
+
+abbrev pub level_of : List ℤ → Level
+level_of words = record { v = word_at words 0 }
+
+abbrev pub rank_words : Rank → List ℤ
+rank_words c = c.v ∷ []
+
+abbrev pub rank_of : List ℤ → Rank
+rank_of words = record { v = word_at words 0 }
+
+abbrev pub sleeping_words : Sleeping → List ℤ
+sleeping_words c = []
+
+abbrev pub sleeping_of : List ℤ → Sleeping
+sleeping_of words = record {}
+
+abbrev pub marked_words : Marked → List ℤ
+marked_words c = []
+
+abbrev pub marked_of : List ℤ → Marked
+marked_of words = record {}
 
 -- ---- lists of a known length
 

@@ -1,11 +1,11 @@
 -- The number and the name of each kind.
 use Rattle.std.specs.Prelude.{◌≡◌, ℕ, zero, suc, ◌+◌, ◌<◌, List, [], ◌∷◌, get_or, codes, refl}
 use Rattle.kinds.specs.declared.kind.Kind.{Kind}
-use Rattle.kinds.specs.declared.kind.Kind.TheVariants.{Position, Velocity, Health, Damage, Team, Timer, Score, Energy, Charge, Target, Frozen, Hidden}
+use Rattle.kinds.specs.declared.kind.Kind.TheVariants.{Position, Velocity, Health, Damage, Team, Timer, Score, Energy, Charge, Target, Frozen, Hidden, Home, Mass, Armor, Range, Level, Rank, Sleeping, Marked}
 
 -- how many kinds there are
 abbrev pub kind_count : ℕ
-kind_count = 12
+kind_count = 20
 
 -- the number of a kind
 abbrev pub kind_number : Kind → ℕ
@@ -21,6 +21,14 @@ kind_number Charge = 8
 kind_number Target = 9
 kind_number Frozen = 10
 kind_number Hidden = 11
+kind_number Home = 12
+kind_number Mass = 13
+kind_number Armor = 14
+kind_number Range = 15
+kind_number Level = 16
+kind_number Rank = 17
+kind_number Sleeping = 18
+kind_number Marked = 19
 
 -- the name of a kind
 abbrev pub kind_name : Kind → List ℕ
@@ -36,6 +44,14 @@ kind_name Charge = codes "Charge"
 kind_name Target = codes "Target"
 kind_name Frozen = codes "Frozen"
 kind_name Hidden = codes "Hidden"
+kind_name Home = codes "Home"
+kind_name Mass = codes "Mass"
+kind_name Armor = codes "Armor"
+kind_name Range = codes "Range"
+kind_name Level = codes "Level"
+kind_name Rank = codes "Rank"
+kind_name Sleeping = codes "Sleeping"
+kind_name Marked = codes "Marked"
 
 -- the word names the kind
 abbrev pub IsKind : Kind → List ℕ → Type 0
@@ -43,7 +59,7 @@ IsKind kind word = word ≡ kind_name kind
 
 -- the name of the kind of a number; nothing where no kind has it
 abbrev pub name_of_kind : ℕ → List ℕ
-name_of_kind number = get_or (kind_name Position ∷ kind_name Velocity ∷ kind_name Health ∷ kind_name Damage ∷ kind_name Team ∷ kind_name Timer ∷ kind_name Score ∷ kind_name Energy ∷ kind_name Charge ∷ kind_name Target ∷ kind_name Frozen ∷ kind_name Hidden ∷ []) number []
+name_of_kind number = get_or (kind_name Position ∷ kind_name Velocity ∷ kind_name Health ∷ kind_name Damage ∷ kind_name Team ∷ kind_name Timer ∷ kind_name Score ∷ kind_name Energy ∷ kind_name Charge ∷ kind_name Target ∷ kind_name Frozen ∷ kind_name Hidden ∷ kind_name Home ∷ kind_name Mass ∷ kind_name Armor ∷ kind_name Range ∷ kind_name Level ∷ kind_name Rank ∷ kind_name Sleeping ∷ kind_name Marked ∷ []) number []
 
 -- a kind has one name, by itself and by its number
 pub name_of_kind-kind_number : (kind : Kind) → name_of_kind (kind_number kind) ≡ kind_name kind
@@ -59,6 +75,14 @@ name_of_kind-kind_number Charge = refl
 name_of_kind-kind_number Target = refl
 name_of_kind-kind_number Frozen = refl
 name_of_kind-kind_number Hidden = refl
+name_of_kind-kind_number Home = refl
+name_of_kind-kind_number Mass = refl
+name_of_kind-kind_number Armor = refl
+name_of_kind-kind_number Range = refl
+name_of_kind-kind_number Level = refl
+name_of_kind-kind_number Rank = refl
+name_of_kind-kind_number Sleeping = refl
+name_of_kind-kind_number Marked = refl
 
 -- so many numbers from one on
 abbrev pub numbers_from : ℕ → ℕ → List ℕ

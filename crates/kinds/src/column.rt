@@ -6,7 +6,8 @@ ghost use Rattle.kinds.specs.Column.{column_number};
 
 use crate::kind::Kind;
 use crate::types::{
-    Charge, Damage, Energy, Frozen, Health, Hidden, Position, Score, Target, Team, Timer, Velocity,
+    Armor, Charge, Damage, Energy, Frozen, Health, Hidden, Home, Level, Marked, Mass, Position,
+    Range, Rank, Score, Sleeping, Target, Team, Timer, Velocity,
 };
 
 /// Components of one kind, as their own type. Contracts see the number of the kind and the words of each component.
@@ -24,6 +25,14 @@ pub enum Column {
     Target(Vec<Target>),
     Frozen(Vec<Frozen>),
     Hidden(Vec<Hidden>),
+    Home(Vec<Home>),
+    Mass(Vec<Mass>),
+    Armor(Vec<Armor>),
+    Range(Vec<Range>),
+    Level(Vec<Level>),
+    Rank(Vec<Rank>),
+    Sleeping(Vec<Sleeping>),
+    Marked(Vec<Marked>),
 }
 
 impl Column {
@@ -44,6 +53,14 @@ impl Column {
             Column::Target(_) => Kind::Target,
             Column::Frozen(_) => Kind::Frozen,
             Column::Hidden(_) => Kind::Hidden,
+            Column::Home(_) => Kind::Home,
+            Column::Mass(_) => Kind::Mass,
+            Column::Armor(_) => Kind::Armor,
+            Column::Range(_) => Kind::Range,
+            Column::Level(_) => Kind::Level,
+            Column::Rank(_) => Kind::Rank,
+            Column::Sleeping(_) => Kind::Sleeping,
+            Column::Marked(_) => Kind::Marked,
         }
     }
 }

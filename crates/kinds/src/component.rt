@@ -12,12 +12,14 @@ ghost use Rattle.kinds.specs.Rows.{column_row, vec_row};
 
 mod amounts;
 mod marks;
+mod measures;
 mod pairs;
 
 use crate::column::Column;
 use crate::fields::Fields;
 pub use crate::types::{
-    Charge, Damage, Energy, Frozen, Health, Hidden, Position, Score, Target, Team, Timer, Velocity,
+    Armor, Charge, Damage, Energy, Frozen, Health, Hidden, Home, Level, Marked, Mass, Position,
+    Range, Rank, Score, Sleeping, Target, Team, Timer, Velocity,
 };
 use crate::value::Value;
 

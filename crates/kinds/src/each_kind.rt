@@ -26,6 +26,14 @@ macro_rules! each_kind {
             $crate::kind::Kind::Target => $crate::for_kind!(Target [] [] $($block)*),
             $crate::kind::Kind::Frozen => $crate::for_kind!(Frozen [] [] $($block)*),
             $crate::kind::Kind::Hidden => $crate::for_kind!(Hidden [] [] $($block)*),
+            $crate::kind::Kind::Home => $crate::for_kind!(Home [] [] $($block)*),
+            $crate::kind::Kind::Mass => $crate::for_kind!(Mass [] [] $($block)*),
+            $crate::kind::Kind::Armor => $crate::for_kind!(Armor [] [] $($block)*),
+            $crate::kind::Kind::Range => $crate::for_kind!(Range [] [] $($block)*),
+            $crate::kind::Kind::Level => $crate::for_kind!(Level [] [] $($block)*),
+            $crate::kind::Kind::Rank => $crate::for_kind!(Rank [] [] $($block)*),
+            $crate::kind::Kind::Sleeping => $crate::for_kind!(Sleeping [] [] $($block)*),
+            $crate::kind::Kind::Marked => $crate::for_kind!(Marked [] [] $($block)*),
         }
     };
     (K => { $($block:tt)* }) => {{
@@ -41,6 +49,14 @@ macro_rules! each_kind {
         $crate::for_kind!(Target [] [] $($block)*);
         $crate::for_kind!(Frozen [] [] $($block)*);
         $crate::for_kind!(Hidden [] [] $($block)*);
+        $crate::for_kind!(Home [] [] $($block)*);
+        $crate::for_kind!(Mass [] [] $($block)*);
+        $crate::for_kind!(Armor [] [] $($block)*);
+        $crate::for_kind!(Range [] [] $($block)*);
+        $crate::for_kind!(Level [] [] $($block)*);
+        $crate::for_kind!(Rank [] [] $($block)*);
+        $crate::for_kind!(Sleeping [] [] $($block)*);
+        $crate::for_kind!(Marked [] [] $($block)*);
     }};
 }
 
@@ -70,7 +86,7 @@ macro_rules! for_kind {
 
 /// The sum of 2^n over the numbers n of the kinds, each added in the block of its kind: every block runs once, in order.
 pub fn sum_of_blocks() -> u32
-    ensures { result ≡ 4095 }
+    ensures { result ≡ 1048575 }
 {
     let mut sum = 0;
     each_kind!(K => { sum = with_block::<K>(sum); });

@@ -34,14 +34,30 @@ pub enum Kind {
     Frozen,
     /// A mark, without fields.
     Hidden,
+    /// A place to return to, with the fields `x` and `y`.
+    Home,
+    /// How heavy an entity is, with the field `v`.
+    Mass,
+    /// How much of what would hurt an entity is kept off, with the field `v`.
+    Armor,
+    /// How far an entity reaches, with the field `v`.
+    Range,
+    /// The number of a step that was reached, with the field `v`.
+    Level,
+    /// The number of a place among others, with the field `v`.
+    Rank,
+    /// A mark, without fields.
+    Sleeping,
+    /// A mark, without fields.
+    Marked,
 }
 
 impl Kind {
     /// How many kinds there are.
-    pub const COUNT: usize = 12;
+    pub const COUNT: usize = 20;
 
-    // The kinds, in the order of their numbers.
-    const ALL: [Kind; Kind::COUNT] = [
+    /// Every kind, by number.
+    pub const ALL: [Kind; Kind::COUNT] = [
         Kind::Position,
         Kind::Velocity,
         Kind::Health,
@@ -54,6 +70,14 @@ impl Kind {
         Kind::Target,
         Kind::Frozen,
         Kind::Hidden,
+        Kind::Home,
+        Kind::Mass,
+        Kind::Armor,
+        Kind::Range,
+        Kind::Level,
+        Kind::Rank,
+        Kind::Sleeping,
+        Kind::Marked,
     ];
 
     /// The kinds, in the order of their numbers, which rise from 0.
@@ -80,6 +104,14 @@ impl Kind {
             Kind::Target => 9,
             Kind::Frozen => 10,
             Kind::Hidden => 11,
+            Kind::Home => 12,
+            Kind::Mass => 13,
+            Kind::Armor => 14,
+            Kind::Range => 15,
+            Kind::Level => 16,
+            Kind::Rank => 17,
+            Kind::Sleeping => 18,
+            Kind::Marked => 19,
         }
     }
 
@@ -88,8 +120,8 @@ impl Kind {
         ensures { result ≡ widths (kind_number self) }
     {
         match self {
-            Kind::Position | Kind::Velocity => 2,
-            Kind::Frozen | Kind::Hidden => 0,
+            Kind::Position | Kind::Velocity | Kind::Home => 2,
+            Kind::Frozen | Kind::Hidden | Kind::Sleeping | Kind::Marked => 0,
             _ => 1,
         }
     }
@@ -111,6 +143,14 @@ impl Kind {
             Kind::Target => "Target",
             Kind::Frozen => "Frozen",
             Kind::Hidden => "Hidden",
+            Kind::Home => "Home",
+            Kind::Mass => "Mass",
+            Kind::Armor => "Armor",
+            Kind::Range => "Range",
+            Kind::Level => "Level",
+            Kind::Rank => "Rank",
+            Kind::Sleeping => "Sleeping",
+            Kind::Marked => "Marked",
         }
     }
 
@@ -131,6 +171,14 @@ impl Kind {
             "Target" => Some(Kind::Target),
             "Frozen" => Some(Kind::Frozen),
             "Hidden" => Some(Kind::Hidden),
+            "Home" => Some(Kind::Home),
+            "Mass" => Some(Kind::Mass),
+            "Armor" => Some(Kind::Armor),
+            "Range" => Some(Kind::Range),
+            "Level" => Some(Kind::Level),
+            "Rank" => Some(Kind::Rank),
+            "Sleeping" => Some(Kind::Sleeping),
+            "Marked" => Some(Kind::Marked),
             _ => None,
         }
     }

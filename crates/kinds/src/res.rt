@@ -106,6 +106,9 @@ impl Event {
     /// How many kinds of events there are.
     pub const COUNT: usize = 4;
 
+    /// Every kind of events, by number.
+    pub const ALL: [Event; Event::COUNT] = [Event::Hit, Event::Heal, Event::Spark, Event::Done];
+
     /// The number of the kind, its place among the event queues.
     pub fn number(self) -> u32
         ensures { result ≡ event_number self }

@@ -69,3 +69,48 @@ pub struct Frozen;
 /// A mark: the entity is hidden.
 #[derive(Clone, Copy, PartialEq, Eq, Debug)]
 pub struct Hidden;
+
+/// A place to return to.
+#[derive(Clone, Copy, PartialEq, Eq, Debug)]
+pub struct Home {
+    pub x: i64,
+    pub y: i64,
+}
+
+/// How heavy an entity is.
+#[derive(Clone, Copy, PartialEq, Eq, Debug)]
+pub struct Mass {
+    pub v: i64,
+}
+
+/// How much of what would hurt an entity is kept off.
+#[derive(Clone, Copy, PartialEq, Eq, Debug)]
+pub struct Armor {
+    pub v: i64,
+}
+
+/// How far an entity reaches.
+#[derive(Clone, Copy, PartialEq, Eq, Debug)]
+pub struct Range {
+    pub v: i64,
+}
+
+/// The number of a step that was reached.
+#[derive(Clone, Copy, PartialEq, Eq, Debug)]
+pub struct Level {
+    pub v: i64,
+}
+
+/// The number of a place among others.
+#[derive(Clone, Copy, PartialEq, Eq, Debug)]
+pub struct Rank {
+    pub v: i64,
+}
+
+/// A mark: the entity sleeps.
+#[derive(Clone, Copy, PartialEq, Eq, Debug)]
+pub struct Sleeping;
+
+/// A mark that a program gives the meaning of.
+#[derive(Clone, Copy, PartialEq, Eq, Debug)]
+pub struct Marked;

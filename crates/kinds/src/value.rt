@@ -10,7 +10,8 @@ use crate::each_kind;
 use crate::fields::Fields;
 use crate::kind::Kind;
 use crate::types::{
-    Charge, Damage, Energy, Frozen, Health, Hidden, Position, Score, Target, Team, Timer, Velocity,
+    Armor, Charge, Damage, Energy, Frozen, Health, Hidden, Home, Level, Marked, Mass, Position,
+    Range, Rank, Score, Sleeping, Target, Team, Timer, Velocity,
 };
 
 /// A component of any kind. Contracts see the number of its kind and its words.
@@ -28,6 +29,14 @@ pub enum Value {
     Target(Target),
     Frozen(Frozen),
     Hidden(Hidden),
+    Home(Home),
+    Mass(Mass),
+    Armor(Armor),
+    Range(Range),
+    Level(Level),
+    Rank(Rank),
+    Sleeping(Sleeping),
+    Marked(Marked),
 }
 
 impl Value {
@@ -64,6 +73,14 @@ impl Value {
             Value::Target(_) => Kind::Target,
             Value::Frozen(_) => Kind::Frozen,
             Value::Hidden(_) => Kind::Hidden,
+            Value::Home(_) => Kind::Home,
+            Value::Mass(_) => Kind::Mass,
+            Value::Armor(_) => Kind::Armor,
+            Value::Range(_) => Kind::Range,
+            Value::Level(_) => Kind::Level,
+            Value::Rank(_) => Kind::Rank,
+            Value::Sleeping(_) => Kind::Sleeping,
+            Value::Marked(_) => Kind::Marked,
         }
     }
 
@@ -85,6 +102,14 @@ impl Value {
             Value::Target(component) => component.to_words(),
             Value::Frozen(component) => component.to_words(),
             Value::Hidden(component) => component.to_words(),
+            Value::Home(component) => component.to_words(),
+            Value::Mass(component) => component.to_words(),
+            Value::Armor(component) => component.to_words(),
+            Value::Range(component) => component.to_words(),
+            Value::Level(component) => component.to_words(),
+            Value::Rank(component) => component.to_words(),
+            Value::Sleeping(component) => component.to_words(),
+            Value::Marked(component) => component.to_words(),
         }
     }
 }

@@ -23,7 +23,7 @@ use Rattle.model.specs.state.Loaded.{resource_given}
 use Rattle.archetype_store.specs.Store.{with_slots, with_resource}
 use Rattle.archetype_store.specs.Changes.{slot_left, change_at, changed, AreOfOtherIndices, CanChange}
 use Rattle.archetype_store.specs.declared.change.EntityChange.{EntityChange}
-use Rattle.archetype_store.proofs.RowPlaces.{value_width}
+use Rattle.kinds.proofs.Wide.{value_width}
 use Rattle.kinds.specs.Components.{widths}
 use Rattle.kinds.specs.declared.value.Value.{Value}
 use Rattle.kinds.specs.Value.{value_number, value_words}

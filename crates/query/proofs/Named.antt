@@ -6,15 +6,14 @@ use Rattle.std.specs.Cmp.{both_ways}
 use Rattle.std.specs.List.{list_any, filter_map, cons_option}
 use Rattle.model.specs.Lists.{has, is_number, IsIn}
 use Rattle.model.specs.access.Query.{Term as ModelTerm}
-use Rattle.model.specs.access.Conflict.{required}
-use Rattle.model.specs.access.QueryFaults.{optional, excluded, excludes_kind}
+use Rattle.model.specs.access.QueryFaults.{required, optional, excluded, excludes_kind}
 use Rattle.model.proofs.lists.Lists.{list_any-IsIn, IsIn_from_any, has-IsIn, IsIn_from_has}
 use Rattle.model.proofs.order.Histories.{same_or}
 use Rattle.kinds.specs.declared.kind.Kind.{Kind}
 use Rattle.kinds.specs.declared.kind.Kind.TheVariants.{Position}
 use Rattle.kinds.specs.Kind.{kind_count, kind_number, numbers_from}
 use Rattle.query.specs.declared.term.Term.{Term}
-use Rattle.query.specs.declared.term.Term.TheVariants.{Entity, Read, Mut, Opt, With, Without, Added, Changed}
+use Rattle.query.specs.declared.term.Term.TheVariants.{Entity, Read, Mut, Opt, With, Without, Added, Changed, Or}
 use Rattle.query.specs.Term.{term_of}
 use Rattle.query.specs.Named.{any_names, names_excluded}
 use Rattle.query.proofs.Terms.{list_any-map, any_of_terms}
@@ -55,6 +54,7 @@ required_listed (Mut kind) = kind_listed kind
 required_listed (Opt kind) = tt
 required_listed (With kind) = kind_listed kind
 required_listed (Without kind) = tt
+required_listed (Or alternatives) = tt
 required_listed (Added kind) = kind_listed kind
 required_listed (Changed kind) = kind_listed kind
 

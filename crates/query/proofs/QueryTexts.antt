@@ -13,15 +13,38 @@ use Rattle.parsing.proofs.WordsOfText.{same_words}
 use Rattle.parsing.proofs.PartsOfText.{same_parts}
 use Rattle.parsing.proofs.Grammars.{only_by_parts, none_by_parts, only_more, none_at, only_seen, none_seen}
 use Rattle.query.specs.declared.term.Term.{Term}
-use Rattle.query.specs.declared.term.Term.TheVariants.{Entity, Read, Mut, Opt, With, Without, Added, Changed}
+use Rattle.query.specs.declared.term.Term.TheVariants.{Entity, Read, Mut, Opt, With, Without, Added, Changed, Or}
+use Rattle.query.specs.declared.alternative.Alternatives.{Alternatives}
+use Rattle.query.specs.declared.alternative.Alternatives.TheVariants.{Zero, One, Two, Three, Four, Five}
 use Rattle.query.specs.Term.{term_of}
-use Rattle.query.specs.Grammar.{AreTerm, IsTerm, IsQuery}
+use Rattle.query.specs.Grammar.{AreTerm, IsTerm, AreTerms}
 
 -- the text is that of a term of the definitions
 abbrev pub IsSeenTerm : ModelTerm → List ℕ → Type 0
 IsSeenTerm = SpellsSeen term_of IsTerm
 
 -- ---- one part
+
+-- no words are no `or` term
+no_or : (alternatives : Alternatives) → AreTerm (Or alternatives) [] → ⊥
+no_or Zero h = h
+no_or (One xs) h = h
+no_or (Two ([])) h = h
+no_or (Two (a ∷ [])) h = h
+no_or (Two (a ∷ b ∷ [])) h = h
+no_or (Two (a ∷ b ∷ c ∷ xs)) h = h
+no_or (Three ([])) h = h
+no_or (Three (a ∷ [])) h = h
+no_or (Three (a ∷ b ∷ [])) h = h
+no_or (Three (a ∷ b ∷ c ∷ [])) h = h
+no_or (Three (a ∷ b ∷ c ∷ d ∷ xs)) h = h
+no_or (Four ([])) h = h
+no_or (Four (a ∷ [])) h = h
+no_or (Four (a ∷ b ∷ [])) h = h
+no_or (Four (a ∷ b ∷ c ∷ [])) h = h
+no_or (Four (a ∷ b ∷ c ∷ d ∷ [])) h = h
+no_or (Four (a ∷ b ∷ c ∷ d ∷ e ∷ xs)) h = h
+no_or (Five xs) h = h
 
 -- no words are no term
 no_words : (term : Term) → AreTerm term [] → ⊥
@@ -33,6 +56,7 @@ no_words (With kind) h = h
 no_words (Without kind) h = h
 no_words (Added kind) h = h
 no_words (Changed kind) h = h
+no_words (Or alternatives) h = no_or alternatives h
 
 -- spaces are no term
 spaces_no_term : (text : List ℕ) → AreSpaces text → SpellsNone IsSeenTerm text
@@ -75,12 +99,12 @@ spaces_lack [] h = tt
 spaces_lack (b ∷ bs) h = let is : b ≡ 32 = h.0 in ((λ e. absurd (omega arith)), spaces_lack bs h.1)
 
 -- spaces alone spell the query without terms
-pub blank_query : (text : List ℕ) → AreSpaces text → SpellsOnly IsQuery text []
+pub blank_query : (text : List ℕ) → AreSpaces text → SpellsOnly AreTerms text []
 blank_query text spaces = (spaces, others) where
   one_part : ArePartsOf (text ∷ []) text
   one_part = ((λ e. cc), (spaces_lack text spaces, tt), refl)
 
-  others : (query : List ModelTerm) → IsQuery query text → query ≡ []
+  others : (query : List ModelTerm) → AreTerms query text → query ≡ []
   others [] h = refl
   others (term ∷ terms) h = absurd (no_term (same_parts h.0 (text ∷ []) text h.1 one_part) h.2) where
     no_term : h.0 ≡ text ∷ [] → AllZip IsSeenTerm (term ∷ terms) h.0 → ⊥
@@ -93,21 +117,21 @@ no_parts (part ∷ parts) there h = h
 
 -- other texts spell what their parts do
 pub query_of_parts : (r : Result (List ModelTerm) ReadError) (text : List ℕ) (parts : List (List ℕ)) → ArePartsOf parts text → (AreSpaces text → ⊥)
-    → ReadsUnlessMemory (AllZip IsSeenTerm) parts r → ReadsUnlessMemory IsQuery text r
+    → ReadsUnlessMemory (AllZip IsSeenTerm) parts r → ReadsUnlessMemory AreTerms text r
 query_of_parts (Ok query) text parts are full h = only query (only_by_parts IsSeenTerm text parts query are h) where
-  only : (q : List ModelTerm) → SpellsOnly (ByParts IsSeenTerm) text q → SpellsOnly IsQuery text q
+  only : (q : List ModelTerm) → SpellsOnly (ByParts IsSeenTerm) text q → SpellsOnly AreTerms text q
   only [] k = absurd (no_parts k.0.0 k.0.1.0 k.0.2)
   only (term ∷ terms) k = (k.0, others) where
-    others : (v : List ModelTerm) → IsQuery v text → v ≡ term ∷ terms
+    others : (v : List ModelTerm) → AreTerms v text → v ≡ term ∷ terms
     others [] spaces = absurd (full spaces)
     others (other ∷ more) spelled = k.1 (other ∷ more) spelled
 query_of_parts (Err Outside) text parts are full h = none (none_by_parts IsSeenTerm text parts are h) where
-  none : SpellsNone (ByParts IsSeenTerm) text → SpellsNone IsQuery text
+  none : SpellsNone (ByParts IsSeenTerm) text → SpellsNone AreTerms text
   none k [] q = full q
   none k (term ∷ terms) q = k (term ∷ terms) q
 query_of_parts (Err Memory) text parts are full h = tt
 
 -- what is read of the parts of another text
 pub read_parts : (blank : Bool) (r : Result (List ModelTerm) ReadError) (text : List ℕ) (parts : List (List ℕ)) → ArePartsOf parts text → (AreSpaces text → IsTrue blank) → IsFalse blank
-    → ReadsUnlessMemory (AllZip IsSeenTerm) parts r → ReadsUnlessMemory IsQuery text r
+    → ReadsUnlessMemory (AllZip IsSeenTerm) parts r → ReadsUnlessMemory AreTerms text r
 read_parts blank r text parts are full unset h = query_of_parts r text parts are (λ spaces. both_ways blank unset (full spaces)) h

@@ -1,3 +1,4 @@
+pub mod Alternative
 pub mod Term
 pub mod Named
 pub mod BadQuery

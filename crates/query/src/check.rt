@@ -4,8 +4,7 @@ ghost use Rattle.std.specs.Prelude.{◌≡◌, map, Some, None, MatchResult};
 ghost use Rattle.std.specs.List.{list_any};
 ghost use Rattle.std.specs.Option.{option_map};
 ghost use Rattle.kinds.specs.Kind.{kind_number};
-ghost use Rattle.model.specs.access.Conflict.{required};
-ghost use Rattle.model.specs.access.QueryFaults.{excluded, optional, fetched, requires_excluded, fetches_twice, opts_excluded, query_fault};
+ghost use Rattle.model.specs.access.QueryFaults.{required, excluded, optional, fetched, is_misnumbered, requires_excluded, fetches_twice, opts_excluded, has_many_ors, misuses_or, query_fault};
 ghost use Rattle.query.specs.Term.{term_of};
 ghost use Rattle.query.specs.Named.{any_names, names_excluded};
 ghost use Rattle.query.specs.BadQuery.{fault_number, bad_query_text};
@@ -25,6 +24,8 @@ pub enum BadQuery {
     FetchedTwice,
     /// 3: an `opt` term has a kind that another term excludes.
     OptExcluded,
+    /// 4: there are more than two `or` terms, or one without two to four alternatives.
+    OrMisused,
 }
 
 impl BadQuery {
@@ -36,6 +37,7 @@ impl BadQuery {
             BadQuery::RequiredExcluded => 1,
             BadQuery::FetchedTwice => 2,
             BadQuery::OptExcluded => 3,
+            BadQuery::OrMisused => 4,
         }
     }
 }
@@ -48,6 +50,7 @@ impl fmt::Display for BadQuery {
             BadQuery::RequiredExcluded => f.write_str("1"),
             BadQuery::FetchedTwice => f.write_str("2"),
             BadQuery::OptExcluded => f.write_str("3"),
+            BadQuery::OrMisused => f.write_str("4"),
         }
     }
 }
@@ -68,6 +71,9 @@ impl Query {
         }
         if opts_excluded(terms) {
             return Err(BadQuery::OptExcluded);
+        }
+        if misuses_or(terms) {
+            return Err(BadQuery::OrMisused);
         }
         Ok(())
     }
@@ -157,4 +163,42 @@ fn any_opts(terms: &[Term], kind: Kind) -> bool
     ensures { result ≡ any_names optional terms.now (kind_number kind) }
 {
     terms.iter().any(|term| term.is_optional(kind))
+}
+
+// Whether there are more than two `or` terms, or one without two to four alternatives.
+fn misuses_or(terms: &[Term]) -> bool
+    ensures { result ≡ misuses_or (map term_of terms.now) }
+{
+    if has_many_ors(terms) {
+        return true;
+    }
+    any_misnumbered(terms)
+}
+
+/// Whether there are more than two `or` terms.
+pub(crate) fn has_many_ors(terms: &[Term]) -> bool
+    ensures { result ≡ has_many_ors (map term_of terms.now) }
+{
+    let mut count: usize = 0;
+    for term in terms {
+        if term.is_or() {
+            count += 1;
+        }
+    }
+    2 < count
+}
+
+// Whether one is an `or` term without two to four alternatives.
+#[tactic(auto, using(crate::proofs::Terms::any_of_terms))]
+fn any_misnumbered(terms: &[Term]) -> bool
+    ensures { result ≡ list_any is_misnumbered (map term_of terms.now) }
+{
+    any_misnumbered_term(terms)
+}
+
+// Whether one of these terms is an `or` term without two to four alternatives.
+fn any_misnumbered_term(terms: &[Term]) -> bool
+    ensures { result ≡ list_any (λ t. is_misnumbered (term_of t)) terms.now }
+{
+    terms.iter().any(|term| term.is_misnumbered())
 }

@@ -5,7 +5,7 @@ ghost use Rattle.std.specs.List.{list_any};
 ghost use Rattle.kinds.specs.Kind.{kind_number};
 ghost use Rattle.model.specs.Lists.{is_number};
 ghost use Rattle.model.specs.access.Query.{touched, written, touches, writes};
-ghost use Rattle.model.specs.access.Conflict.{required};
+ghost use Rattle.model.specs.access.QueryFaults.{required};
 ghost use Rattle.query.specs.Term.{term_of};
 
 use crate::term::Term;

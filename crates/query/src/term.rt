@@ -5,10 +5,12 @@ ghost use Rattle.std.specs.Option.{option_map};
 ghost use Rattle.kinds.specs.Kind.{kind_number};
 ghost use Rattle.model.specs.Lists.{is_number};
 ghost use Rattle.model.specs.access.Query.{admits, touched, written};
-ghost use Rattle.model.specs.access.Conflict.{required};
-ghost use Rattle.model.specs.access.QueryFaults.{excluded, optional, fetched};
+ghost use Rattle.model.specs.access.Conflict.{choice};
+ghost use Rattle.model.specs.access.QueryFaults.{required, excluded, optional, fetched, is_or, is_misnumbered};
+ghost use Rattle.query.specs.Alternative.{alternatives_of};
 ghost use Rattle.query.specs.Term.{term_of, is_present};
 
+use crate::alternative::Alternatives;
 use kinds::kind::Kind;
 
 /// A term of a query.
@@ -31,6 +33,8 @@ pub enum Term {
     Added(Kind),
     /// The component was changed since the last run.
     Changed(Kind),
+    /// One of the alternatives holds of the entity.
+    Or(Alternatives),
 }
 
 /// What a term asks of the kinds that an entity has.
@@ -42,6 +46,8 @@ pub enum Presence {
     Has(Kind),
     /// That it does not have the kind.
     Lacks(Kind),
+    /// That one of the alternatives holds.
+    AnyOf(Alternatives),
 }
 
 impl Term {
@@ -50,7 +56,7 @@ impl Term {
         ensures { option_map kind_number result ≡ touched (term_of self) }
     {
         match self {
-            Term::Entity | Term::With(_) | Term::Without(_) => None,
+            Term::Entity | Term::With(_) | Term::Without(_) | Term::Or(_) => None,
             Term::Read(kind) => Some(kind),
             Term::Mut(kind) => Some(kind),
             Term::Opt(kind) => Some(kind),
@@ -74,7 +80,7 @@ impl Term {
         ensures { option_map kind_number result ≡ required (term_of self) }
     {
         match self {
-            Term::Entity | Term::Opt(_) | Term::Without(_) => None,
+            Term::Entity | Term::Opt(_) | Term::Without(_) | Term::Or(_) => None,
             Term::Read(kind) => Some(kind),
             Term::Mut(kind) => Some(kind),
             Term::With(kind) => Some(kind),
@@ -125,6 +131,40 @@ impl Term {
             | Term::With(kind)
             | Term::Added(kind)
             | Term::Changed(kind) => Presence::Has(kind),
+            Term::Or(alternatives) => Presence::AnyOf(alternatives),
+        }
+    }
+
+    /// The alternatives of which the term asks one.
+    pub fn choice(self) -> Option<Alternatives>
+        ensures { option_map alternatives_of result ≡ choice (term_of self) }
+    {
+        match self {
+            Term::Or(alternatives) => Some(alternatives),
+            _ => None,
+        }
+    }
+
+    /// Whether it is an `or` term.
+    pub fn is_or(self) -> bool
+        ensures { result ≡ is_or (term_of self) }
+    {
+        match self {
+            Term::Or(_) => true,
+            _ => false,
+        }
+    }
+
+    /// Whether it is an `or` term of another number of alternatives than two to four.
+    pub fn is_misnumbered(self) -> bool
+        ensures { result ≡ is_misnumbered (term_of self) }
+    {
+        match self {
+            Term::Or(alternatives) => {
+                let count = alternatives.as_slice().len();
+                count < 2 || 4 < count
+            }
+            _ => false,
         }
     }
 

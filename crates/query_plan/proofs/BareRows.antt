@@ -9,7 +9,7 @@ use Rattle.model.specs.Lists.{is_there}
 use Rattle.model.specs.state.State.{Component, Slot, fresh_slot, is_living}
 use Rattle.model.specs.state.Rows.{kinds_of}
 use Rattle.model.specs.access.Query.{Term, matches, admits}
-use Rattle.model.specs.access.Query.Term.{Entity, Read, Mut, Opt, With, Without, Added, Changed}
+use Rattle.model.specs.access.Query.Term.{Entity, Read, Mut, Opt, With, Without, Added, Changed, AnyOf}
 use Rattle.model.specs.shown.Input.{passes}
 use Rattle.column_store.specs.Order.{AreRising}
 use Rattle.archetype_store.specs.declared.tables.ArchetypeView.{ArchetypeView}
@@ -35,6 +35,7 @@ module _ (last : ℕ) where
   free (Without k) h = refl
   free (Added k) h = absurd (cc)
   free (Changed k) h = absurd (cc)
+  free (AnyOf alternatives) h = refl
 
   all_free : (query : List Term) → matches query (λ k. false) ≡ true → list_all (passes last []) query ≡ true
   all_free [] h = refl

@@ -7,7 +7,7 @@ use Rattle.model.proofs.lists.Each.{each-append}
 use Rattle.archetype_store.proofs.KindsHome.{kinds_are_home}
 use Rattle.model.specs.state.State.{Slot}
 use Rattle.model.specs.access.Query.{Term, matches, admits, touches, touched, writes}
-use Rattle.model.specs.access.Query.Term.{Entity, Read, Mut, Opt, With, Without, Added, Changed}
+use Rattle.model.specs.access.Query.Term.{Entity, Read, Mut, Opt, With, Without, Added, Changed, AnyOf}
 use Rattle.archetype_store.specs.Layout.{Archetype, archetype_at, column_home, AreAllHome, IsLayoutOf}
 use Rattle.query_plan.specs.Picks.{Picked, picked_in, picked_of, picked_from}
 use Rattle.query_plan.specs.Standing.{IsFilterHome, ArePickedHome, PicksTellFilters, HomeTellsPicks}
@@ -82,6 +82,7 @@ module _ (query : List Term) (layout : List Archetype) (home : ArePickedHome que
       go (Without k) a w = tt
       go (Added k) a w = one k (w k (same_number k)) a
       go (Changed k) a w = one k (w k (same_number k)) a
+      go (AnyOf alternatives) a w = tt
 
 pub picks_tell_filters : PicksTellFilters
 picks_tell_filters query layout home n match = each_filter query layout home n match query (λ k h. h) match

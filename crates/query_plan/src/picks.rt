@@ -4,14 +4,15 @@ ghost use Rattle.std.specs.Prelude.{◌≡◌, ◌==◌, ◌++◌, map, IfOk, On
 ghost use Rattle.std.specs.List.{list_any, list_all};
 ghost use Rattle.kinds.specs.Kind.{kind_number};
 ghost use Rattle.model.specs.Lists.{has};
-ghost use Rattle.model.specs.access.Query.{matches, admits as term_admits};
+ghost use Rattle.model.specs.access.Query.{matches, holds_in, admits as term_admits};
 ghost use Rattle.archetype_store.specs.View.{kinds_seen};
+ghost use Rattle.query.specs.Alternative.{alternative_of};
 ghost use Rattle.query.specs.Term.{term_of};
 ghost use Rattle.query_plan.specs.Picks.{picked_in, picked_of, picked_from, pick_seen};
 
 use archetype_store::store::ArchetypeView;
 use kinds::kind::Kind;
-use query::{Presence, Query, Term};
+use query::{Alternative, Presence, Query, Term};
 use std::alloc::{AllocError, Global};
 
 /// A column that the rows of a query are in.
@@ -101,6 +102,34 @@ fn admits(term: Term, kinds: &[Kind]) -> bool
         Presence::Free => true,
         Presence::Has(kind) => is_among(kind, kinds),
         Presence::Lacks(kind) => !is_among(kind, kinds),
+        Presence::AnyOf(alternatives) => any_holds(alternatives.as_slice(), kinds),
+    }
+}
+
+// Whether one of the alternatives holds of these kinds.
+#[tactic(auto, using(query::proofs::Terms::of_kinds))]
+fn any_holds(alternatives: &[Alternative], kinds: &[Kind]) -> bool
+    ensures { result ≡ list_any (holds_in (λ kind. has kind (map kind_number kinds.now))) (map alternative_of alternatives.now) }
+{
+    any_alternative(alternatives, kinds)
+}
+
+// Whether one of them does, alternative by alternative.
+fn any_alternative(alternatives: &[Alternative], kinds: &[Kind]) -> bool
+    ensures { result ≡ list_any (λ a. holds_in (λ kind. has kind (map kind_number kinds.now)) (alternative_of a)) alternatives.now }
+{
+    alternatives
+        .iter()
+        .any(|alternative| holds(*alternative, kinds))
+}
+
+// Whether the alternative holds of these kinds.
+fn holds(alternative: Alternative, kinds: &[Kind]) -> bool
+    ensures { result ≡ holds_in (λ kind. has kind (map kind_number kinds.now)) (alternative_of alternative) }
+{
+    match alternative {
+        Alternative::With(kind) => is_among(kind, kinds),
+        Alternative::Without(kind) => !is_among(kind, kinds),
     }
 }
 

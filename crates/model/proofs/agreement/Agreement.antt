@@ -8,7 +8,7 @@ use Rattle.model.specs.Lists.{IsIn, is_number}
 use Rattle.model.specs.state.State.{Slot, Component, State, fresh_slot, is_living}
 use Rattle.model.specs.state.Rows.{row_at, cell_at, kinds_of}
 use Rattle.model.specs.access.Query.{Term, matches, touched}
-use Rattle.model.specs.access.Query.Term.{Entity, Read, Mut, Opt, With, Without, Added, Changed}
+use Rattle.model.specs.access.Query.Term.{Entity, Read, Mut, Opt, With, Without, Added, Changed, AnyOf}
 use Rattle.model.specs.access.Access.{names_resource}
 use Rattle.model.specs.shown.Input.{passes}
 use Rattle.model.specs.shown.Overlay.{slot_after, slots_after}
@@ -166,6 +166,7 @@ passes-swap p q f g kinds (Mut k) old h i = refl
 passes-swap p q f g kinds (Opt k) old h i = refl
 passes-swap p q f g kinds (With k) old h i = refl
 passes-swap p q f g kinds (Without k) old h i = refl
+passes-swap p q f g kinds (AnyOf alternatives) old h i = refl
 
 -- what the owner of a term asks of isn't written by who is apart
 unseen-term : (s : Schedule) (a b o : Observer) (f : Effect) (w : State) (query : List Term) (term : Term) (index k : ℕ) → AreApart s b a → Fits s b f w.world.slots

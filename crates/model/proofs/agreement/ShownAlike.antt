@@ -8,7 +8,7 @@ use Rattle.model.specs.state.State.{Slot, Component, Cell, Resource, EventQueue,
 use Rattle.model.specs.state.Rows.{row_at, cell_at, kinds_of}
 use Rattle.model.specs.state.Events.{queue_of, unread}
 use Rattle.model.specs.access.Query.{Term, matches}
-use Rattle.model.specs.access.Query.Term.{Entity, Read, Mut, Opt, With, Without, Added, Changed}
+use Rattle.model.specs.access.Query.Term.{Entity, Read, Mut, Opt, With, Without, Added, Changed, AnyOf}
 use Rattle.model.specs.access.Access.{names_resource}
 use Rattle.model.specs.shown.Input.{Shown, is_row, shown_row, rows_from, rows_of, passes, fetch, words_of, value_of, unread_of, shown}
 use Rattle.model.specs.access.Condition.{Condition, Asked, asked, queries_of, resources_of, watched_of, events_of, cursors_after}
@@ -46,6 +46,7 @@ fetch-without_stamps row (With k) = refl
 fetch-without_stamps row (Without k) = refl
 fetch-without_stamps row (Added k) = refl
 fetch-without_stamps row (Changed k) = refl
+fetch-without_stamps row (AnyOf alternatives) = refl
 
 -- a row that is shown has no stamp
 shown_row-without_stamps : (query : List Term) (i : ℕ) (x : Slot) → shown_row query i (slot_without_stamps x) ≡ shown_row query i x

@@ -7,7 +7,7 @@ use Rattle.model.specs.Lists.{update_at}
 use Rattle.model.specs.state.State.{Slot, Cell, Resource, Memory, State, no_memory, no_resource, fresh_slot}
 use Rattle.model.specs.state.Rows.{row_at, cell_at, kinds_of}
 use Rattle.model.specs.access.Query.{Term}
-use Rattle.model.specs.access.Query.Term.{Entity, Read, Mut, Opt, With, Without, Added, Changed}
+use Rattle.model.specs.access.Query.Term.{Entity, Read, Mut, Opt, With, Without, Added, Changed, AnyOf}
 use Rattle.model.specs.shown.Input.{passes, added_since, changed_since}
 use Rattle.model.specs.shown.Overlay.{slot_after, slots_after, resource_after, resources_after}
 use Rattle.model.specs.steps.Schedule.{Schedule}
@@ -142,6 +142,7 @@ passes-visit s a e w b index (Mut k) known timed = refl
 passes-visit s a e w b index (Opt k) known timed = refl
 passes-visit s a e w b index (With k) known timed = refl
 passes-visit s a e w b index (Without k) known timed = refl
+passes-visit s a e w b index (AnyOf alternatives) known timed = refl
 
 -- ---- resources
 

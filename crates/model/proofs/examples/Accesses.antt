@@ -2,7 +2,8 @@
 -- least datum.
 use Rattle.std.proofs.Common.{◌≡◌, true, false, List, [], ◌∷◌, Some, refl}
 use Rattle.model.specs.access.Query.{Term}
-use Rattle.model.specs.access.Query.Term.{Entity, Mut, Read, Opt, With, Without, Added}
+use Rattle.model.specs.access.Query.Alternative.{Has, Lacks}
+use Rattle.model.specs.access.Query.Term.{Entity, Mut, Read, Opt, With, Without, Added, AnyOf}
 use Rattle.model.specs.access.Access.{Params, no_params}
 use Rattle.model.specs.access.Conflict.{conflicts, least_datum}
 use Rattle.model.specs.access.SelfConflict.{conflict_within}
@@ -39,6 +40,37 @@ change_filter = refl
 -- the least kind is told, whatever the order of the terms
 least_kind : least_datum (one (Mut score ∷ Mut health ∷ [])) (one (Read score ∷ Opt health ∷ [])) ≡ Some (OfKind health)
 least_kind = refl
+
+-- an entity that has one of two kinds isn't one that lacks both, but may be one that lacks the first
+abbrev either : List Term
+either = Mut health ∷ AnyOf (Has frozen ∷ Has score ∷ []) ∷ []
+
+or_lacks_both : conflicts (one either) (one (Mut health ∷ Without frozen ∷ Without score ∷ [])) ≡ false
+or_lacks_both = refl
+
+or_lacks_first : least_datum (one either) (one (Mut health ∷ Without frozen ∷ [])) ≡ Some (OfKind health)
+or_lacks_first = refl
+
+-- the third alternative alone leaves a set that matches both
+or_third_alone : least_datum (one (Mut health ∷ AnyOf (Has frozen ∷ Has score ∷ Lacks position ∷ []) ∷ [])) (one (Read health ∷ Without frozen ∷ Without score ∷ []))
+    ≡ Some (OfKind health)
+or_third_alone = refl
+
+-- two queries that meet in a set that the last alternatives of both allow, and two that never do
+or_both : least_datum (one (Mut health ∷ AnyOf (Has frozen ∷ Has score ∷ []) ∷ [])) (one (Mut health ∷ Without frozen ∷ AnyOf (Has frozen ∷ Lacks position ∷ []) ∷ []))
+    ≡ Some (OfKind health)
+or_both = refl
+
+or_never : conflicts (one (Mut health ∷ AnyOf (Has frozen ∷ Has score ∷ []) ∷ Without score ∷ [])) (one (Mut health ∷ AnyOf (Lacks frozen ∷ Has score ∷ []) ∷ [])) ≡ false
+or_never = refl
+
+-- alternatives touch nothing: one that needs what the other writes doesn't meet it by that
+or_touches_nothing : conflicts (one (Read health ∷ AnyOf (Has position ∷ Has score ∷ []) ∷ [])) (one (Mut position ∷ [])) ≡ false
+or_touches_nothing = refl
+
+-- a query that nothing matches conflicts with none
+or_unmatched : conflicts (one (Mut health ∷ Without frozen ∷ Without score ∷ AnyOf (Has frozen ∷ Has score ∷ []) ∷ [])) (one (Mut health ∷ [])) ≡ false
+or_unmatched = refl
 
 -- resources come before event kinds
 resources_first : least_datum (record no_params { res_mut = total ∷ round ∷ []; writes = hit ∷ [] }) (record no_params { res = total ∷ []; reads = hit ∷ [] })

@@ -1,93 +1,144 @@
 -- The computed test of a conflict is true exactly where there is one, and the computed datum is the least.
-use Rattle.std.proofs.Common.{◌≡◌, ℕ, Bool, true, false, cond, ◌⊎◌, ◌↔◌, inl, inr, refl, sym, ap, subst, ◌∙◌, List, [], ◌∷◌, ◌++◌, map, filter, filter_map, flat_map, Option, Some, None, ◌||◌, ◌&&◌, arith, ◌==◌, eqb-true, eq-eqb, ltb-true, ltb-false, lt-ltb}
-use Rattle.std.proofs.lemmas.Bool.{or_cases, false≢true, false_from_ne_true, not-true, not_from_false}
-use Rattle.std.specs.List.{list_any}
+use Rattle.std.proofs.Common.{◌≡◌, ℕ, Bool, true, false, not, cond, ◌⊎◌, ◌↔◌, inl, inr, refl, sym, ap, subst, ◌∙◌, List, [], ◌∷◌, ◌++◌, map, filter, filter_map, flat_map, Option, Some, None, ◌||◌, ◌&&◌, arith, eqb-true, eq-eqb, ltb-true, ltb-false, lt-ltb}
+use Rattle.std.proofs.lemmas.Bool.{or_cases, and_parts, and_from, false≢true, false_from_ne_true, not-true, not_from_false}
+use Rattle.std.specs.List.{list_any, list_all}
 use Rattle.model.specs.Lists.{has, IsIn, is_number}
-use Rattle.model.specs.access.Query.{Term, admits, matches, touched, touches, writes}
-use Rattle.model.specs.access.Query.Term.{Entity, Read, Mut, Opt, With, Without, Added, Changed}
+use Rattle.model.specs.access.Query.{Alternative, Term, holds_in, matches, touched, touches, writes}
+use Rattle.model.specs.access.Query.Alternative.{Has, Lacks}
+use Rattle.model.specs.access.Query.Term.{Entity, Read, Mut, Opt, With, Without, Added, Changed, AnyOf}
 use Rattle.model.specs.access.Access.{Params, names_resource, names_event}
-use Rattle.model.specs.access.Conflict.{Datum, ConflictAt, Conflict, QueriesConflictAt, is_below, IsLeastDatum, required, requires_kind, least_kinds, queries_conflict_at, conflict_at, data_of, conflicts, lesser, least_of, least_datum}
+use Rattle.model.specs.access.Conflict.{Datum, ConflictAt, Conflict, QueriesConflictAt, is_below, IsLeastDatum, plains, choices, needs, least_kinds, agree, some_way, match_both, queries_conflict_at, conflict_at, data_of, conflicts, lesser, least_of, least_datum}
 use Rattle.model.specs.access.Conflict.Datum.{OfKind, OfResource, OfEvent}
-use Rattle.model.proofs.lists.Members.{in-map, in-flat_map, in-filter_map, in-filter, from-filter, number-of, number-is}
+use Rattle.model.proofs.lists.Members.{in-map, in-flat_map, in-filter_map, in-filter, from-filter, number-of}
 use Rattle.model.proofs.lists.Lists.{list_any-IsIn, IsIn_from_any, list_all-IsIn, list_all_from, IsIn_left, IsIn_right, IsIn_from_has}
+
+-- ---- what a query asks of a set of kinds, in two parts
+
+-- tests that all pass, in another order
+three_grouped : (a b c : Bool) → (a && (b && c)) ≡ ((a && b) && c)
+three_grouped true b c = refl
+three_grouped false b c = refl
+
+second_first : (a b c : Bool) → (a && (b && c)) ≡ (b && (a && c))
+second_first true true c = refl
+second_first true false c = refl
+second_first false true c = refl
+second_first false false c = refl
+
+-- whether some alternative of each choice holds of a set of kinds
+abbrev pub meets_choices : (ℕ → Bool) → List (List Alternative) → Bool
+meets_choices kinds more = list_all (λ alternatives. list_any (holds_in kinds) alternatives) more
+
+-- whether what terms ask without a choice holds, and of each choice an alternative
+abbrev pub meets_parts : (ℕ → Bool) → List Term → Bool
+meets_parts kinds q = list_all (holds_in kinds) (plains q) && meets_choices kinds (choices q)
+
+-- a set of kinds matches a query where it has what the terms ask without a choice, and of each choice an alternative
+pub matches-parts : (kinds : ℕ → Bool) (q : List Term) → matches q kinds ≡ meets_parts kinds q
+matches-parts kinds [] = refl
+matches-parts kinds (Entity ∷ q) = matches-parts kinds q
+matches-parts kinds (Opt k ∷ q) = matches-parts kinds q
+matches-parts kinds (Without k ∷ q) = ap (λ b. not (kinds k) && b) (matches-parts kinds q) ∙ three_grouped (not (kinds k)) _ _
+matches-parts kinds (Read k ∷ q) = ap (λ b. kinds k && b) (matches-parts kinds q) ∙ three_grouped (kinds k) _ _
+matches-parts kinds (Mut k ∷ q) = ap (λ b. kinds k && b) (matches-parts kinds q) ∙ three_grouped (kinds k) _ _
+matches-parts kinds (With k ∷ q) = ap (λ b. kinds k && b) (matches-parts kinds q) ∙ three_grouped (kinds k) _ _
+matches-parts kinds (Added k ∷ q) = ap (λ b. kinds k && b) (matches-parts kinds q) ∙ three_grouped (kinds k) _ _
+matches-parts kinds (Changed k ∷ q) = ap (λ b. kinds k && b) (matches-parts kinds q) ∙ three_grouped (kinds k) _ _
+matches-parts kinds (AnyOf alternatives ∷ q) =
+    ap (λ b. list_any (holds_in kinds) alternatives && b) (matches-parts kinds q) ∙ second_first (list_any (holds_in kinds) alternatives) (list_all (holds_in kinds) (plains q)) _
+
+-- a test of all of two lists
+pub all-both : {A : Type 0} (test : A → Bool) (xs ys : List A) → list_all test (xs ++ ys) ≡ (list_all test xs && list_all test ys)
+all-both test [] ys = refl
+all-both test (x ∷ xs) ys = ap (λ b. test x && b) (all-both test xs ys) ∙ three_grouped (test x) (list_all test xs) (list_all test ys)
 
 -- ---- the least set of kinds
 
--- a set that a term admits holds the kind that the term requires
-admits-required : (kinds : ℕ → Bool) (k : ℕ) (t : Term) → is_number k (required t) ≡ true → admits kinds t ≡ true → kinds k ≡ true
-admits-required kinds k Entity e h = absurd (false≢true e)
-admits-required kinds k (Opt j) e h = absurd (false≢true e)
-admits-required kinds k (Without j) e h = absurd (false≢true e)
-admits-required kinds k (Read j) e h = ap kinds (sym (eqb-true j k e)) ∙ h
-admits-required kinds k (Mut j) e h = ap kinds (sym (eqb-true j k e)) ∙ h
-admits-required kinds k (With j) e h = ap kinds (sym (eqb-true j k e)) ∙ h
-admits-required kinds k (Added j) e h = ap kinds (sym (eqb-true j k e)) ∙ h
-admits-required kinds k (Changed j) e h = ap kinds (sym (eqb-true j k e)) ∙ h
+-- what an alternative needs is in each set of which it holds
+needed-there : (kinds : ℕ → Bool) (k : ℕ) (a : Alternative) → needs k a ≡ true → holds_in kinds a ≡ true → kinds k ≡ true
+needed-there kinds k (Has j) e h = ap kinds (sym (eqb-true j k e)) ∙ h
+needed-there kinds k (Lacks j) e h = absurd (false≢true e)
 
--- a set that matches a query holds every kind that the query requires
-matches-required : (q : List Term) (kinds : ℕ → Bool) (k : ℕ) → matches q kinds ≡ true → requires_kind q k ≡ true → kinds k ≡ true
-matches-required q kinds k h e = let r = IsIn_from_any (λ t. is_number k (required t)) q e in
-    admits-required kinds k r.0 r.2 (list_all-IsIn (admits kinds) r.0 q h r.1)
+-- the least set is below each set of which all hold
+least-below : (kinds : ℕ → Bool) (taken : List Alternative) (k : ℕ) → list_all (holds_in kinds) taken ≡ true → least_kinds taken k ≡ true → kinds k ≡ true
+least-below kinds taken k h e = let r = IsIn_from_any (needs k) taken e in
+    needed-there kinds k r.0 r.2 (list_all-IsIn (holds_in kinds) r.0 taken h r.1)
 
--- a term admits a smaller set that holds what it requires
-admits-smaller : (small kinds : ℕ → Bool) → ((k : ℕ) → small k ≡ true → kinds k ≡ true) → (t : Term)
-    → ((k : ℕ) → is_number k (required t) ≡ true → small k ≡ true) → admits kinds t ≡ true → admits small t ≡ true
-admits-smaller small kinds below Entity needs h = refl
-admits-smaller small kinds below (Opt j) needs h = refl
-admits-smaller small kinds below (Without j) needs h = not_from_false (small j) (false_from_ne_true (small j) (λ e. false≢true (sym (not-true (kinds j) h) ∙ below j e)))
-admits-smaller small kinds below (Read j) needs h = needs j (number-is j)
-admits-smaller small kinds below (Mut j) needs h = needs j (number-is j)
-admits-smaller small kinds below (With j) needs h = needs j (number-is j)
-admits-smaller small kinds below (Added j) needs h = needs j (number-is j)
-admits-smaller small kinds below (Changed j) needs h = needs j (number-is j)
+-- each of them holds of the least set
+holds-least : (kinds : ℕ → Bool) (taken : List Alternative) (a : Alternative) → IsIn a taken → list_all (holds_in kinds) taken ≡ true → holds_in kinds a ≡ true
+    → holds_in (least_kinds taken) a ≡ true
+holds-least kinds taken (Has k) inside all h = list_any-IsIn (needs k) (Has k) taken inside (eq-eqb k k refl)
+holds-least kinds taken (Lacks k) inside all h =
+    not_from_false (least_kinds taken k) (false_from_ne_true (least_kinds taken k) (λ e. false≢true (sym (not-true (kinds k) h) ∙ least-below kinds taken k all e)))
 
--- a query matches a smaller set that holds what it requires
-matches-smaller : (small kinds : ℕ → Bool) → ((k : ℕ) → small k ≡ true → kinds k ≡ true) → (q : List Term)
-    → ((k : ℕ) → requires_kind q k ≡ true → small k ≡ true) → matches q kinds ≡ true → matches q small ≡ true
-matches-smaller small kinds below q needs h = list_all_from (admits small) q (λ t inside.
-    admits-smaller small kinds below t (λ k e. needs k (list_any-IsIn (λ u. is_number k (required u)) t q inside e)) (list_all-IsIn (admits kinds) t q h inside))
+-- alternatives that hold of some set agree
+agree-from : (kinds : ℕ → Bool) (taken : List Alternative) → list_all (holds_in kinds) taken ≡ true → agree taken ≡ true
+agree-from kinds taken h = list_all_from (holds_in (least_kinds taken)) taken (λ a inside.
+    holds-least kinds taken a inside h (list_all-IsIn (holds_in kinds) a taken h inside))
 
--- the least set holds what the first requires
-least-first : (q r : List Term) (kind k : ℕ) → requires_kind q k ≡ true → least_kinds q r kind k ≡ true
-least-first q r kind k e = grind arith
+-- ---- choices in turn
 
--- what the second requires
-least-second : (q r : List Term) (kind k : ℕ) → requires_kind r k ≡ true → least_kinds q r kind k ≡ true
-least-second q r kind k e = grind arith
+-- a set of kinds of which all that is taken holds, and an alternative of each choice
+pub record IsMet (kind : ℕ) (taken : List Alternative) (more : List (List Alternative)) : Type 0 where
+  pub kinds : ℕ → Bool
+  pub there : kinds kind ≡ true
+  pub holds : list_all (holds_in kinds) taken ≡ true
+  pub chosen : meets_choices kinds more ≡ true
 
--- and the kind
-least-kind : (q r : List Term) (kind : ℕ) → least_kinds q r kind kind ≡ true
-least-kind q r kind = let e : (kind == kind) ≡ true = eq-eqb kind kind refl in grind arith
+-- the choices that are found come with such a set
+pub met-by_way : (kind : ℕ) (taken : List Alternative) (more : List (List Alternative)) → some_way kind taken more ≡ true → IsMet kind taken more
+met-by_way kind taken [] e =
+    let parts = and_parts (least_kinds (Has kind ∷ taken) kind) (list_all (holds_in (least_kinds (Has kind ∷ taken))) taken) e in
+    record { kinds = least_kinds (Has kind ∷ taken); there = parts.0; holds = parts.1; chosen = refl }
+met-by_way kind taken (alternatives ∷ more) e =
+    let a = IsIn_from_any (λ a. some_way kind (a ∷ taken) more) alternatives e in
+    let r = met-by_way kind (a.0 ∷ taken) more a.2 in
+    let parts = and_parts (holds_in r.kinds a.0) (list_all (holds_in r.kinds) taken) r.holds in
+    record { kinds = r.kinds; there = r.there; holds = parts.1; chosen = and_from _ _ (list_any-IsIn (holds_in r.kinds) a.0 alternatives a.1 parts.0) r.chosen }
 
--- one of three tests passes
-one_of_three : (x y z : Bool) → (x || y || z) ≡ true → (x ≡ true) ⊎ ((y ≡ true) ⊎ (z ≡ true))
-one_of_three true y z e = inl refl
-one_of_three false true z e = inr (inl refl)
-one_of_three false false z e = inr (inr e)
+-- and where there is such a set, choices are found
+pub way-of_met : (kind : ℕ) (taken : List Alternative) (more : List (List Alternative)) → IsMet kind taken more → some_way kind taken more ≡ true
+way-of_met kind taken [] m = agree-from m.kinds (Has kind ∷ taken) (and_from _ _ m.there m.holds)
+way-of_met kind taken (alternatives ∷ more) m =
+    let parts = and_parts (list_any (holds_in m.kinds) alternatives) (meets_choices m.kinds more) m.chosen in
+    let a = IsIn_from_any (holds_in m.kinds) alternatives parts.0 in
+    list_any-IsIn (λ a. some_way kind (a ∷ taken) more) a.0 alternatives a.1
+    (way-of_met kind (a.0 ∷ taken) more (record { kinds = m.kinds; there = m.there; holds = and_from _ _ a.2 m.holds; chosen = parts.1 }))
 
--- it is below any set that shows the conflict
-least-below : (q r : List Term) (kind : ℕ) (c : QueriesConflictAt q r kind) (k : ℕ) → least_kinds q r kind k ≡ true → c.kinds k ≡ true
-least-below q r kind c k e = go (one_of_three (requires_kind q k) (requires_kind r k) (k == kind) e)
-  where
-    go : (requires_kind q k ≡ true) ⊎ ((requires_kind r k ≡ true) ⊎ ((k == kind) ≡ true)) → c.kinds k ≡ true
-    go (inl first) = matches-required q c.kinds k c.first_matches first
-    go (inr (inl second)) = matches-required r c.kinds k c.second_matches second
-    go (inr (inr same)) = ap c.kinds (eqb-true k kind same) ∙ c.holds
+-- two queries that some set with the kind matches pass the test
+test-both : (q r : List Term) (kind : ℕ) (kinds : ℕ → Bool) → matches q kinds ≡ true → matches r kinds ≡ true → kinds kind ≡ true → match_both q r kind ≡ true
+test-both q r kind kinds first second there =
+    let p = and_parts (list_all (holds_in kinds) (plains q)) (meets_choices kinds (choices q)) (sym (matches-parts kinds q) ∙ first) in
+    let o = and_parts (list_all (holds_in kinds) (plains r)) (meets_choices kinds (choices r)) (sym (matches-parts kinds r) ∙ second) in
+    way-of_met kind (plains q ++ plains r) (choices q ++ choices r) (record {
+      kinds = kinds;
+      there = there;
+      holds = all-both (holds_in kinds) (plains q) (plains r) ∙ and_from _ _ p.0 o.0;
+      chosen = all-both (λ alternatives. list_any (holds_in kinds) alternatives) (choices q) (choices r) ∙ and_from _ _ p.1 o.1;
+    })
+
+-- and those that pass it are matched by one
+set-both : (q r : List Term) (kind : ℕ) → match_both q r kind ≡ true → (kinds : ℕ → Bool) × (matches q kinds ≡ true) × (matches r kinds ≡ true) × (kinds kind ≡ true)
+set-both q r kind e =
+    let m = met-by_way kind (plains q ++ plains r) (choices q ++ choices r) e in
+    let held = and_parts (list_all (holds_in m.kinds) (plains q)) (list_all (holds_in m.kinds) (plains r)) (sym (all-both (holds_in m.kinds) (plains q) (plains r)) ∙ m.holds) in
+    let met = and_parts (meets_choices m.kinds (choices q)) (meets_choices m.kinds (choices r))
+        (sym (all-both (λ alternatives. list_any (holds_in m.kinds) alternatives) (choices q) (choices r)) ∙ m.chosen) in
+    (m.kinds, matches-parts m.kinds q ∙ and_from _ _ held.0 met.0, matches-parts m.kinds r ∙ and_from _ _ held.1 met.1, m.there)
 
 -- ---- the test is exact
 
--- five tests that all pass
-five : (x y z u v : Bool) → x ≡ true → y ≡ true → z ≡ true → u ≡ true → v ≡ true → (x && y && z && u && v) ≡ true
-five x y z u v a b c d e = grind arith
+-- four tests that all pass
+four : (x y z u : Bool) → x ≡ true → y ≡ true → z ≡ true → u ≡ true → (x && y && z && u) ≡ true
+four x y z u a b c d = grind arith
 
--- what five tests say that all pass
-from_five : (x y z u v : Bool) → (x && y && z && u && v) ≡ true → (x ≡ true) × (y ≡ true) × (z ≡ true) × (u ≡ true) × (v ≡ true)
-from_five true true true true true e = (refl, refl, refl, refl, refl)
-from_five true true true true false e = absurd (false≢true e)
-from_five true true true false v e = absurd (false≢true e)
-from_five true true false u v e = absurd (false≢true e)
-from_five true false z u v e = absurd (false≢true e)
-from_five false y z u v e = absurd (false≢true e)
+-- what four tests say that all pass
+from_four : (x y z u : Bool) → (x && y && z && u) ≡ true → (x ≡ true) × (y ≡ true) × (z ≡ true) × (u ≡ true)
+from_four true true true true e = (refl, refl, refl, refl)
+from_four true true true false e = absurd (false≢true e)
+from_four true true false u e = absurd (false≢true e)
+from_four true false z u e = absurd (false≢true e)
+from_four false y z u e = absurd (false≢true e)
 
 -- what three tests say that all pass
 from_three : (x y z : Bool) → (x && y && z) ≡ true → (x ≡ true) × (y ≡ true) × (z ≡ true)
@@ -102,16 +153,15 @@ three x y z a b c = grind arith
 
 -- queries that conflict pass the test
 pub test-queries : (q r : List Term) (kind : ℕ) → QueriesConflictAt q r kind → queries_conflict_at q r kind ≡ true
-test-queries q r kind c = five (touches q kind) (touches r kind) (writes q kind || writes r kind) (matches q (least_kinds q r kind)) (matches r (least_kinds q r kind))
-    c.first_touches c.second_touches c.one_writes
-    (matches-smaller (least_kinds q r kind) c.kinds (least-below q r kind c) q (least-first q r kind) c.first_matches)
-    (matches-smaller (least_kinds q r kind) c.kinds (least-below q r kind c) r (least-second q r kind) c.second_matches)
+test-queries q r kind c = four (touches q kind) (touches r kind) (writes q kind || writes r kind) (match_both q r kind)
+    c.first_touches c.second_touches c.one_writes (test-both q r kind c.kinds c.first_matches c.second_matches c.holds)
 
 -- queries that pass the test conflict
 pub conflict-queries : (q r : List Term) (kind : ℕ) → queries_conflict_at q r kind ≡ true → QueriesConflictAt q r kind
 conflict-queries q r kind e =
-    let p = from_five (touches q kind) (touches r kind) (writes q kind || writes r kind) (matches q (least_kinds q r kind)) (matches r (least_kinds q r kind)) e in
-    record { kinds = least_kinds q r kind; first_matches = p.3; second_matches = p.4; holds = least-kind q r kind; first_touches = p.0; second_touches = p.1; one_writes = p.2 }
+    let p = from_four (touches q kind) (touches r kind) (writes q kind || writes r kind) (match_both q r kind) e in
+    let s = set-both q r kind p.3 in
+    record { kinds = s.0; first_matches = s.1; second_matches = s.2; holds = s.3; first_touches = p.0; second_touches = p.1; one_writes = p.2 }
 
 -- accesses that conflict at a datum pass the test there
 pub test-from_conflict : (a b : Params) (d : Datum) → ConflictAt a b d → conflict_at a b d ≡ true

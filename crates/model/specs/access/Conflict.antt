@@ -1,9 +1,10 @@
 -- When two accesses conflict, over all sets of kinds; the datum of a conflict; and the conflict as a computed test.
 use Rattle.std.specs.Prelude.{ℕ, Bool, true, false, ◌==◌, ◌≡◌, ◌&&◌, ◌||◌, nat_lt, cond, List, [], ◌∷◌, ◌++◌, map, filter, filter_map, flat_map, Option, Some, None}
-use Rattle.std.specs.List.{list_any}
-use Rattle.model.specs.Lists.{has, is_number, IsIn}
-use Rattle.model.specs.access.Query.{Term, matches, touched, touches, writes}
-use Rattle.model.specs.access.Query.Term.{Entity, Read, Mut, Opt, With, Without, Added, Changed}
+use Rattle.std.specs.List.{list_any, list_all}
+use Rattle.model.specs.Lists.{has, IsIn}
+use Rattle.model.specs.access.Query.{Alternative, Term, holds_in, matches, touched, touches, writes}
+use Rattle.model.specs.access.Query.Alternative.{Has, Lacks}
+use Rattle.model.specs.access.Query.Term.{Entity, Read, Mut, Opt, With, Without, Added, Changed, AnyOf}
 use Rattle.model.specs.access.Access.{Params, names_resource, names_event}
 
 -- what two accesses can meet on: a kind of components, a resource, an event kind
@@ -59,31 +60,62 @@ abbrev pub IsLeastDatum : Params → Params → Option Datum → Type 0
 IsLeastDatum a b None = Conflict a b → ⊥
 IsLeastDatum a b (Some d) = ConflictAt a b d × ((e : Datum) → is_below e d ≡ true → ConflictAt a b e → ⊥)
 
--- ---- the computed test: of all sets of kinds the least is enough
+-- ---- the computed test: alternatives are chosen in turn, and of all sets of kinds of which the chosen ones hold the least is enough
 
--- the kind that a term requires
-abbrev pub required : Term → Option ℕ
-required Entity = None
-required (Opt k) = None
-required (Without k) = None
-required (Read k) = Some k
-required (Mut k) = Some k
-required (With k) = Some k
-required (Added k) = Some k
-required (Changed k) = Some k
+-- what a term asks of the kinds of an entity, where it leaves no choice
+abbrev pub plain : Term → Option Alternative
+plain Entity = None
+plain (Opt k) = None
+plain (Without k) = Some (Lacks k)
+plain (Read k) = Some (Has k)
+plain (Mut k) = Some (Has k)
+plain (With k) = Some (Has k)
+plain (Added k) = Some (Has k)
+plain (Changed k) = Some (Has k)
+plain (AnyOf alternatives) = None
 
--- whether a query requires a kind
-abbrev pub requires_kind : List Term → ℕ → Bool
-requires_kind query kind = list_any (λ t. is_number kind (required t)) query
+-- of what an `or` term asks one
+abbrev pub choice : Term → Option (List Alternative)
+choice (AnyOf alternatives) = Some alternatives
+choice _ = None
 
--- the least set that can match both and hold the kind
-abbrev pub least_kinds : List Term → List Term → ℕ → ℕ → Bool
-least_kinds q r kind k = requires_kind q k || requires_kind r k || (k == kind)
+-- what the terms of a query ask without a choice, and with one
+abbrev pub plains : List Term → List Alternative
+plains query = filter_map plain query
+
+abbrev pub choices : List Term → List (List Alternative)
+choices query = filter_map choice query
+
+-- whether an alternative needs the kind
+abbrev pub needs : ℕ → Alternative → Bool
+needs kind (Has k) = k == kind
+needs kind (Lacks k) = false
+
+-- whether it bars the kind
+abbrev pub bars : ℕ → Alternative → Bool
+bars kind (Has k) = false
+bars kind (Lacks k) = k == kind
+
+-- the least set of which all of these can hold
+abbrev pub least_kinds : List Alternative → ℕ → Bool
+least_kinds taken kind = list_any (needs kind) taken
+
+-- whether all of these hold of some set
+abbrev pub agree : List Alternative → Bool
+agree taken = list_all (holds_in (least_kinds taken)) taken
+
+-- whether all that is taken, and of each choice one more, hold of some set with the kind
+abbrev pub some_way : ℕ → List Alternative → List (List Alternative) → Bool
+some_way kind taken [] = agree (Has kind ∷ taken)
+some_way kind taken (alternatives ∷ more) = list_any (λ a. some_way kind (a ∷ taken) more) alternatives
+
+-- whether some set with the kind matches both queries
+abbrev pub match_both : List Term → List Term → ℕ → Bool
+match_both q r kind = some_way kind (plains q ++ plains r) (choices q ++ choices r)
 
 -- whether two queries conflict at a kind
 abbrev pub queries_conflict_at : List Term → List Term → ℕ → Bool
-queries_conflict_at q r kind = touches q kind && touches r kind && (writes q kind || writes r kind)
-    && matches q (least_kinds q r kind) && matches r (least_kinds q r kind)
+queries_conflict_at q r kind = touches q kind && touches r kind && (writes q kind || writes r kind) && match_both q r kind
 
 -- whether two accesses conflict at a datum
 abbrev pub conflict_at : Params → Params → Datum → Bool

@@ -3,10 +3,20 @@ use Rattle.std.specs.Prelude.{ℕ, Bool, true, not, List, Option, Some, None}
 use Rattle.std.specs.List.{list_any, list_all}
 use Rattle.model.specs.Lists.{is_number}
 
--- a term of a query: the id of the row's entity, a component fetched, or a filter
+-- an alternative of an `or` term: that an entity has a kind, or that it lacks it
+pub data Alternative : Type 0 where
+  Has Lacks : ℕ → Alternative
+
+-- a term of a query: the id of the row's entity, a component fetched, a filter, or alternatives of which one is to hold (an `or` term)
 pub data Term : Type 0 where
   Entity : Term
   Read Mut Opt With Without Added Changed : ℕ → Term
+  AnyOf : List Alternative → Term
+
+-- whether an alternative holds of a set of kinds
+abbrev pub holds_in : (ℕ → Bool) → Alternative → Bool
+holds_in kinds (Has k) = kinds k
+holds_in kinds (Lacks k) = not (kinds k)
 
 -- whether a term admits a set of kinds
 abbrev pub admits : (ℕ → Bool) → Term → Bool
@@ -18,8 +28,9 @@ admits kinds (Mut k) = kinds k
 admits kinds (With k) = kinds k
 admits kinds (Added k) = kinds k
 admits kinds (Changed k) = kinds k
+admits kinds (AnyOf alternatives) = list_any (holds_in kinds) alternatives
 
--- a set of kinds matches a query where it holds every required kind and no excluded one
+-- a set of kinds matches a query where it holds every required kind, no excluded one, and an alternative of each `or` term
 abbrev pub matches : List Term → (ℕ → Bool) → Bool
 matches query kinds = list_all (admits kinds) query
 
@@ -28,6 +39,7 @@ abbrev pub touched : Term → Option ℕ
 touched Entity = None
 touched (With k) = None
 touched (Without k) = None
+touched (AnyOf alternatives) = None
 touched (Read k) = Some k
 touched (Mut k) = Some k
 touched (Opt k) = Some k

@@ -4,8 +4,9 @@ use Rattle.std.proofs.Common.{◌∙◌, ap}
 use Rattle.std.specs.Coded.{Coded, code_by, coded×, coded_ℕ, coded_list, coded_option}
 use base.Stored.{Gv, gnil, gnum, gcons}
 use denote.Struct.Codes.{itself}
-use Rattle.model.specs.access.Query.{Term}
-use Rattle.model.specs.access.Query.Term.{Entity, Read, Mut, Opt, With, Without, Added, Changed}
+use Rattle.model.specs.access.Query.{Alternative, Term}
+use Rattle.model.specs.access.Query.Alternative.{Has, Lacks}
+use Rattle.model.specs.access.Query.Term.{Entity, Read, Mut, Opt, With, Without, Added, Changed, AnyOf}
 use Rattle.model.specs.access.Access.{Params}
 use Rattle.model.specs.access.Condition.{Condition}
 use Rattle.model.specs.access.Condition.Condition.{RunOnce, ResourceEquals, ResourceAtLeast, ResourceChanged, AnyWith, OnEvent, Not, And, Or}
@@ -46,6 +47,24 @@ integer_back (negsuc n) = refl
 
 -- ---- terms
 
+abbrev tree_of_alternatives : List Alternative → Gv
+tree_of_alternatives [] = gnil
+tree_of_alternatives (Has k ∷ more) = gcons (gcons (gnum 0) (gnum k)) (tree_of_alternatives more)
+tree_of_alternatives (Lacks k ∷ more) = gcons (gcons (gnum 1) (gnum k)) (tree_of_alternatives more)
+
+abbrev numbered_alternative : ℕ → ℕ → Alternative
+numbered_alternative zero k = Has k
+numbered_alternative (suc n) k = Lacks k
+
+abbrev alternatives_of : Gv → List Alternative
+alternatives_of (gcons one more) = numbered_alternative (number_of (first_of_two one)) (number_of (second_of_two one)) ∷ alternatives_of more
+alternatives_of _ = []
+
+alternatives_back : (alternatives : List Alternative) → alternatives_of (tree_of_alternatives alternatives) ≡ alternatives
+alternatives_back [] = refl
+alternatives_back (Has k ∷ more) = ap (λ rest. Has k ∷ rest) (alternatives_back more)
+alternatives_back (Lacks k ∷ more) = ap (λ rest. Lacks k ∷ rest) (alternatives_back more)
+
 abbrev tree_of_term : Term → Gv
 tree_of_term Entity = gcons (gnum 0) gnil
 tree_of_term (Read k) = gcons (gnum 1) (gnum k)
@@ -55,19 +74,21 @@ tree_of_term (With k) = gcons (gnum 4) (gnum k)
 tree_of_term (Without k) = gcons (gnum 5) (gnum k)
 tree_of_term (Added k) = gcons (gnum 6) (gnum k)
 tree_of_term (Changed k) = gcons (gnum 7) (gnum k)
+tree_of_term (AnyOf alternatives) = gcons (gnum 8) (tree_of_alternatives alternatives)
 
-abbrev numbered_term : ℕ → ℕ → Term
-numbered_term zero k = Entity
-numbered_term (suc zero) k = Read k
-numbered_term (suc (suc zero)) k = Mut k
-numbered_term (suc (suc (suc zero))) k = Opt k
-numbered_term (suc (suc (suc (suc zero)))) k = With k
-numbered_term (suc (suc (suc (suc (suc zero))))) k = Without k
-numbered_term (suc (suc (suc (suc (suc (suc zero)))))) k = Added k
-numbered_term (suc (suc (suc (suc (suc (suc (suc n))))))) k = Changed k
+abbrev numbered_term : ℕ → ℕ → Gv → Term
+numbered_term zero k tree = Entity
+numbered_term (suc zero) k tree = Read k
+numbered_term (suc (suc zero)) k tree = Mut k
+numbered_term (suc (suc (suc zero))) k tree = Opt k
+numbered_term (suc (suc (suc (suc zero)))) k tree = With k
+numbered_term (suc (suc (suc (suc (suc zero))))) k tree = Without k
+numbered_term (suc (suc (suc (suc (suc (suc zero)))))) k tree = Added k
+numbered_term (suc (suc (suc (suc (suc (suc (suc zero))))))) k tree = Changed k
+numbered_term (suc (suc (suc (suc (suc (suc (suc (suc n)))))))) k tree = AnyOf (alternatives_of tree)
 
 abbrev term_of_tree : Gv → Term
-term_of_tree tree = numbered_term (number_of (first_of_two tree)) (number_of (second_of_two tree))
+term_of_tree tree = numbered_term (number_of (first_of_two tree)) (number_of (second_of_two tree)) (second_of_two tree)
 
 pub term_back : (t : Term) → term_of_tree (tree_of_term t) ≡ t
 term_back Entity = refl
@@ -78,6 +99,7 @@ term_back (With k) = refl
 term_back (Without k) = refl
 term_back (Added k) = refl
 term_back (Changed k) = refl
+term_back (AnyOf alternatives) = ap AnyOf (alternatives_back alternatives)
 
 abbrev pub term_code : Coded Term
 term_code = code_by Gv itself tree_of_term term_of_tree term_back

@@ -1,6 +1,6 @@
 -- Every kind is looked at.
 use Rattle.std.proofs.Common.{◌∙◌}
-use Rattle.model.specs.access.Conflict.{required}
+use Rattle.model.specs.access.QueryFaults.{required}
 use Rattle.query.proofs.Named.{required_listed, any_excluded}
 use Rattle.query.proofs.check.requires_excluded.Goals as goal
 

@@ -11,4 +11,4 @@ invariant_of-self-in_default c =
     let query : List Term = c.args.query in
     subst (λ (qs : List (List Term)). AreFootprints qs c.push.new.self.items) (sym c.in_default.ensures.items)
     (subst (λ (fs : List Footprint). AreFootprints (queries ++ query ∷ []) fs) (sym c.in_ok-push.ensures.items)
-    (footprints_more queries c.self.inside.footprints.items query c.of_query.result c.self.invariant c.of_query.ensures))
+    (footprints_more queries c.self.inside.footprints.items query c.in_ok-of_query.field-0 c.self.invariant c.in_ok-of_query.ensures))
