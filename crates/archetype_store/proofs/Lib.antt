@@ -32,3 +32,4 @@ pub mod Origins
 pub mod ByTable
 pub mod Coming
 pub mod Came
+pub mod Copied

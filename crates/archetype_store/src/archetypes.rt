@@ -20,7 +20,7 @@ use crate::change::EntityChange;
 use crate::lay::{clear_in, insert_in, remove_in};
 use crate::lending::{column_at, home_at, lend_at, share_at, share_entities_at};
 use crate::locations::{EntityLocation, place_at, reach};
-use crate::owning::own_all;
+use crate::owning::{copied_tables, own_all};
 use crate::row_moves::change_in;
 use crate::table_index::TableIndex;
 use crate::tables::{ArchetypeView, components_at, find_at, has_at, views_of};
@@ -67,6 +67,23 @@ impl Archetypes {
             places: Vec::new(alloc),
             shared: false,
         }
+    }
+
+    /// The same components once more, where all columns are at home. The columns of the copy are its alone. Where an allocation fails there
+    /// is no copy.
+    pub fn copy(&self, alloc: Global) -> Result<Self, AllocError>
+        requires { AreAllHome self.now.layout }
+        ensures { IfOk result (λ copy. copy ≡ self.now) }
+    {
+        let tables = copied_tables(alloc, &self.tables)?;
+        let index = self.index.copy(alloc)?;
+        let places = Vec::from_slice(alloc, self.places.as_slice())?;
+        Ok(Archetypes {
+            tables,
+            index,
+            places,
+            shared: false,
+        })
     }
 
     /// The component of the kind with this number of the entity of an index.

@@ -1,10 +1,23 @@
-// Columns that are read elsewhere too, taken for their tables alone before rows change.
+// Columns that are read elsewhere too, taken for their tables alone before rows change, and copies of tables, whose columns are theirs alone.
 
-ghost use Rattle.std.specs.Prelude.{◌≡◌, false, OnOk};
+ghost use Rattle.std.specs.Prelude.{◌≡◌, false, map, IfOk, OnOk};
+ghost use Rattle.column_store.specs.Table.{owned};
 ghost use Rattle.archetype_store.specs.Tables.{AreHome, AreOwned, AreUnshared, AreAllAlike};
 
 use column_store::table::Table;
 use std::alloc::{AllocError, Global};
+
+// Tables of the same kinds and rows, where all columns are at home. The columns of the copies are theirs alone.
+pub(crate) fn copied_tables(alloc: Global, tables: &[Table]) -> Result<Vec<Table>, AllocError>
+    requires { AreHome tables.now }
+    ensures { IfOk result (λ copies. copies.items ≡ map owned tables.now) }
+{
+    let mut copies = Vec::with_capacity(alloc, tables.len())?;
+    for table in tables {
+        copies.push_reserved(table.copy(alloc)?);
+    }
+    Ok(copies)
+}
 
 // Takes the columns of these tables for them alone. Where an allocation fails some of them may be.
 fn own_each(tables: &mut [Table], alloc: Global) -> Result<(), AllocError>

@@ -49,6 +49,15 @@ impl Resources {
         }
     }
 
+    /// The same resources once more.
+    pub fn copy(&self) -> Self
+        ensures { result ≡ self.now }
+    {
+        Resources {
+            by_number: self.by_number,
+        }
+    }
+
     /// The value of a resource.
     pub fn value(&self, res: Res) -> i64
         ensures { result ≡ value_of self.now (res_number res) }

@@ -69,6 +69,16 @@ impl Slots {
         }
     }
 
+    /// The same slots and archetypes once more, where all columns are at home. Where an allocation fails there is no copy.
+    pub fn copy(&self, alloc: Global) -> Result<Self, AllocError>
+        requires { AreAllHome self.now.layout }
+        ensures { IfOk result (λ copy. copy ≡ self.now) }
+    {
+        let book = self.book.copy(alloc)?;
+        let archetypes = self.archetypes.copy(alloc)?;
+        Ok(Slots { book, archetypes })
+    }
+
     /// How many slots there are.
     pub fn len(&self) -> u32
         ensures { result ≡ length self.now.slots }

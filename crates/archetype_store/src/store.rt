@@ -85,6 +85,20 @@ impl World {
         }
     }
 
+    /// The same world once more, where all columns are at home. The columns of the copy are its alone, whoever reads those of this world: a
+    /// later call on one of the two leaves the other as it is. Where an allocation fails there is no copy.
+    pub fn copy(&self, alloc: Global) -> Result<World, AllocError>
+        requires { AreAllHome self.now.layout }
+        ensures { IfOk result (λ copy. copy ≡ self.now) }
+    {
+        let slots = self.slots.copy(alloc)?;
+        Ok(World {
+            slots,
+            resources: self.resources.copy(),
+            clock: self.clock,
+        })
+    }
+
     /// The tick at which the clock stands.
     pub fn now(&self) -> Tick
         ensures value { result ≡ self.now.state.clock }

@@ -51,6 +51,16 @@ impl TableIndex {
         }
     }
 
+    /// An index that finds the same tables. Where an allocation fails there is no copy.
+    pub(crate) fn copy(&self, alloc: Global) -> Result<Self, AllocError>
+        ensures { IfOk result (λ copy. (tables : List TableValue) → IsIndexed tables self.now → IsIndexed tables copy) }
+    {
+        let by_word = self.by_word.clone()?;
+        let mut peopled = Vec::with_capacity(alloc, self.peopled.capacity())?;
+        peopled.extend_from_slice(self.peopled.as_slice())?;
+        Ok(TableIndex { by_word, peopled })
+    }
+
     /// The table of the kinds of a word.
     pub(crate) fn find(&self, word: u32) -> Option<usize>
         ensures { result ≡ get nat_eq self.now.by_word word }

@@ -16,3 +16,4 @@ pub mod Joined
 pub mod Merged
 pub mod Arrived
 pub mod Gathered
+pub mod Copied

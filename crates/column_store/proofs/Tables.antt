@@ -115,7 +115,7 @@ owned_standings : (ps : List ColumnSlotValue) → map standing_in (map (standing
 owned_standings [] = refl
 owned_standings (p ∷ ps) = ap (λ ss. Owned ∷ ss) (owned_standings ps)
 
-owned_columns : (ps : List ColumnSlotValue) → map (λ (p : ColumnSlotValue). p.column) (map (standing_at Owned) ps) ≡ map (λ (p : ColumnSlotValue). p.column) ps
+pub owned_columns : (ps : List ColumnSlotValue) → map (λ (p : ColumnSlotValue). p.column) (map (standing_at Owned) ps) ≡ map (λ (p : ColumnSlotValue). p.column) ps
 owned_columns [] = refl
 owned_columns (p ∷ ps) = ap (λ cs. p.column ∷ cs) (owned_columns ps)
 

@@ -70,6 +70,14 @@ impl ColumnSlot {
         }
     }
 
+    // A slot of the same column, which is at home. The copy is its table's alone, whoever reads this one.
+    fn copy(&self, alloc: Global) -> Result<Self, AllocError>
+        requires { is_home self.now.standing ≡ true }
+        ensures { IfOk result (λ copy. copy ≡ standing_at Owned self.now) }
+    {
+        Ok(ColumnSlot::of(self.seen().try_copy(alloc)?))
+    }
+
     // Takes the column, which is at home, for the table alone: one that is read elsewhere is copied. Where an allocation fails the slot stays as
     // it was.
     pub(crate) fn own(&mut self, alloc: Global) -> Result<(), AllocError>
@@ -236,6 +244,21 @@ pub(crate) fn own_each(columns: &mut [ColumnSlot], alloc: Global) -> Result<(), 
         own_each(other_columns, alloc)?;
     }
     Ok(())
+}
+
+// The slots of the same columns, which are at home. Each copy is its table's alone.
+pub(crate) fn copied_slots(
+    alloc: Global,
+    columns: &[ColumnSlot],
+) -> Result<Vec<ColumnSlot>, AllocError>
+    requires { AllByRecursion IsAtHome columns.now }
+    ensures { IfOk result (λ copies. copies.items ≡ map (standing_at Owned) columns.now) }
+{
+    let mut copies = Vec::with_capacity(alloc, columns.len())?;
+    for column in columns {
+        copies.push_reserved(column.copy(alloc)?);
+    }
+    Ok(copies)
 }
 
 // Inserts a row of components, one into each column. Where an allocation fails all columns stay as they were.

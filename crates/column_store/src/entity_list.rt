@@ -57,6 +57,13 @@ impl EntityList {
         }
     }
 
+    // The same entities once more, of which readers elsewhere have no part.
+    pub(crate) fn copy(&self, alloc: Global) -> Result<Self, AllocError>
+        ensures { IfOk result (λ copy. copy ≡ self.now) }
+    {
+        Ok(EntityList::of(Vec::from_slice(alloc, self.list.as_slice())?))
+    }
+
     // The entities.
     pub(crate) fn as_slice(&self) -> &[Entity]
         ensures { result.now ≡ self.now }

@@ -12,7 +12,7 @@ ghost use Rattle.std.specs.Arc.{arc_value};
 ghost use Rattle.column_store.specs.Table.{Standing, empty_table, is_home, is_owned, is_not_away, is_own_if, row_of, put_row, new_row, without_row, without_rows, update_row, renewed_row, cell_in, standing_of, kind_cells, write_cell, lent, owned, homed, IsHome, IsAlike};
 
 use crate::arrivals::{Arrival, entities_of, gaps_of};
-use crate::column_slot::{ColumnSlot, empty_columns, merged_slots, own_each};
+use crate::column_slot::{ColumnSlot, copied_slots, empty_columns, merged_slots, own_each};
 use crate::entity_list::EntityList;
 use crate::merging::merged;
 use crate::order::{is_before, row_in};
@@ -74,6 +74,22 @@ impl Table {
         Ok(Table {
             kinds,
             entities: EntityList::new(alloc),
+            columns,
+        })
+    }
+
+    /// A table of the same kinds and rows, where all columns are at home. The columns of the copy are its alone, whoever reads those of
+    /// this table: a later write to one of the two is none to the other. Where an allocation fails there is no copy.
+    pub fn copy(&self, alloc: Global) -> Result<Self, AllocError>
+        requires { IsTrue (list_all is_home self.now.standings) }
+        ensures { IfOk result (λ copy. copy ≡ owned self.now) }
+    {
+        let kinds = copied_kinds(alloc, &self.kinds)?;
+        let entities = self.entities.copy(alloc)?;
+        let columns = copied_slots(alloc, &self.columns)?;
+        Ok(Table {
+            kinds,
+            entities,
             columns,
         })
     }

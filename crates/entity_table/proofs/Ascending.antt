@@ -118,7 +118,7 @@ rising_of-permutation xs ys p = same_ascending (rising_of xs) (rising_of ys) (as
 pub length-values_of : (xs : List (Reverse ℕ)) → length (rising_of (values_of xs)) ≡ length xs
 length-values_of xs = length-rising_of (values_of xs) ∙ length-map xs (λ (r : Reverse ℕ). r.0)
 
-same_values : (xs ys : List (Reverse ℕ)) → IsPermutation xs ys → rising_of (values_of xs) ≡ rising_of (values_of ys)
+pub same_values : (xs ys : List (Reverse ℕ)) → IsPermutation xs ys → rising_of (values_of xs) ≡ rising_of (values_of ys)
 same_values xs ys p = rising_of-permutation (values_of xs) (values_of ys) (IsPermutation-map (λ (r : Reverse ℕ). r.0) xs ys p)
 
 -- what holds where a call succeeds

@@ -38,6 +38,16 @@ impl EntityMeta {
         }
     }
 
+    /// The same once more.
+    pub fn copy(&self) -> Self
+        ensures { result ≡ self.now }
+    {
+        EntityMeta {
+            generation: self.generation,
+            status: self.status,
+        }
+    }
+
     /// The generation.
     pub fn generation(&self) -> u32
         ensures { result ≡ self.now.generation }

@@ -1,6 +1,6 @@
 // Numbers that come out the least first.
 
-ghost use Rattle.std.specs.Prelude.{◌≡◌, ◌<◌, ◌≤◌, [], ◌∷◌, length, OnOk, MatchOption};
+ghost use Rattle.std.specs.Prelude.{◌≡◌, ◌<◌, ◌≤◌, [], ◌∷◌, length, IfOk, OnOk, MatchOption};
 ghost use Rattle.entity_table.specs.Rising.{insert_rising};
 
 use std::alloc::{AllocError, Global};
@@ -34,6 +34,20 @@ impl MinHeap {
         MinHeap {
             heap: BinaryHeap::new(alloc),
         }
+    }
+
+    /// The same numbers, with room for so many in all.
+    pub fn copy(&self, alloc: Global, room: usize) -> Result<Self, AllocError>
+        ensures same { IfOk result (λ copy. copy.rising ≡ self.now.rising) }
+        ensures room { IfOk result (λ copy. room ≤ copy.room) }
+    {
+        let mut numbers = Vec::with_capacity(alloc, room)?;
+        numbers.extend_from_slice(self.heap.as_slice())?;
+        let mut copy = MinHeap {
+            heap: BinaryHeap::from(numbers),
+        };
+        copy.make_room(room)?;
+        Ok(copy)
     }
 
     /// How many numbers there are.

@@ -15,7 +15,7 @@ use crate::fault::GrantFault;
 use crate::min_heap::MinHeap;
 use crate::status::Status;
 use model::entities::Entity;
-use std::alloc::Global;
+use std::alloc::{AllocError, Global};
 use std::marker::Model;
 
 /// How many indices there may be.
@@ -53,6 +53,15 @@ impl EntityTable {
             places: Vec::new(alloc),
             vacant: MinHeap::new(alloc),
         }
+    }
+
+    /// The same indices once more. Where an allocation fails there is no copy.
+    pub fn copy(&self, alloc: Global) -> Result<Self, AllocError>
+        ensures { IfOk result (λ copy. copy ≡ self.now) }
+    {
+        let places = copied_places(alloc, &self.places)?;
+        let vacant = self.vacant.copy(alloc, self.places.len())?;
+        Ok(EntityTable { places, vacant })
     }
 
     /// How many indices there are: past them every index is vacant at generation 1.
@@ -196,6 +205,17 @@ impl EntityTable {
             self.vacant.push(index);
         }
     }
+}
+
+// The same indices once more.
+fn copied_places(alloc: Global, places: &[EntityMeta]) -> Result<Vec<EntityMeta>, AllocError>
+    ensures { IfOk result (λ copies. copies.items ≡ places.now) }
+{
+    let mut copies = Vec::with_capacity(alloc, places.len())?;
+    for place in places {
+        copies.push_reserved(place.copy());
+    }
+    Ok(copies)
 }
 
 // The living entity of the least index from this one on.

@@ -1,0 +1,43 @@
+-- Copies of tables whose columns are at home: they hold the same, and their columns are theirs alone.
+use Rattle.std.proofs.Common.{◌≡◌, Bool, true, false, List, [], ◌∷◌, map, Option, refl, sym, ap, ap₂, subst, ◌∙◌}
+use Rattle.std.proofs.lemmas.Bool.{and_parts}
+use Rattle.std.specs.List.{list_all}
+use Rattle.column_store.specs.Table.{Standing, TableValue, is_home, owned, IsAlike}
+use Rattle.column_store.specs.Table.Standing.{Owned}
+use Rattle.archetype_store.specs.declared.locations.EntityLocation.{EntityLocation}
+use Rattle.archetype_store.specs.declared.table_index.TableIndex.{TableIndex}
+use Rattle.archetype_store.specs.TableIndex.{IsIndexed}
+use Rattle.archetype_store.specs.Tables.{AreHome, AreOwned, AreAllAlike}
+use Rattle.archetype_store.specs.Archetypes.{archetypes_of, IsWhole}
+use Rattle.archetype_store.proofs.Standings.{owned_all, alike_value, alike_whole, owned_stored}
+use Rattle.archetype_store.proofs.TableIndex.{alike_indexed}
+
+homes_owned : (ss : List Standing) → list_all is_home ss ≡ true → map is_home (map (λ (s : Standing). Owned) ss) ≡ map is_home ss
+homes_owned [] h = refl
+homes_owned (s ∷ ss) h = let k = and_parts (is_home s) (list_all is_home ss) h in ap₂ (λ b bs. b ∷ bs) (sym k.0) (homes_owned ss k.1)
+
+copy_alike : (t : TableValue) → list_all is_home t.standings ≡ true → IsAlike t (owned t)
+copy_alike t h = record { kinds = refl; homes = homes_owned t.standings h; rows = refl }
+
+copies_alike : (ts : List TableValue) → AreHome ts → AreAllAlike ts (map owned ts)
+copies_alike [] h = tt
+copies_alike (t ∷ ts) h = (copy_alike t h.0, copies_alike ts h.1)
+
+copies_owned : (ts : List TableValue) → AreOwned (map owned ts)
+copies_owned [] = tt
+copies_owned (t ∷ ts) = (owned_all t.standings, copies_owned ts)
+
+module _ (T U : List TableValue) (P Q : List (Option EntityLocation)) (tables : U ≡ map owned T) (places : Q ≡ P) (home : AreHome T) where
+  alike : AreAllAlike T U
+  alike = subst (AreAllAlike T) (sym tables) (copies_alike T home)
+
+  -- what they hold is the same
+  pub copied_value : archetypes_of U Q ≡ archetypes_of T P
+  copied_value = ap (archetypes_of U) places ∙ alike_value T U P alike
+
+  -- they are as whole, and no column is read elsewhere
+  pub copied_whole : (i j : TableIndex) (s : Bool) → ((V : List TableValue) → IsIndexed V i → IsIndexed V j) → IsWhole T i P s → IsWhole U j Q false
+  copied_whole i j s index h = subst (λ R. IsWhole U j R false) (sym places) (record {
+    stored = owned_stored U P false (alike_whole T U P s s alike h.stored.whole) (subst AreOwned (sym tables) (copies_owned T));
+    indexed = index U (alike_indexed T U i alike h.indexed);
+  })
