@@ -1,4 +1,4 @@
-use Rattle.std.proofs.Common.{◌≡◌, ◌<◌, ◌∙◌, ap, List, length, remove, sym, subst, arith}
+use Rattle.std.proofs.Common.{◌<◌, ◌∙◌, ap, List, length, sym, subst, arith}
 use lib.ListN.{get_elem?}
 use Rattle.job_board.specs.Ends.{lead_view}
 use Rattle.job_board.proofs.Places.{within}

@@ -1,4 +1,4 @@
-use Rattle.std.proofs.Common.{◌≡◌, ◌≤◌, ℕ, length}
+use Rattle.std.proofs.Common.{◌≡◌, ◌≤◌, length}
 use Rattle.job_board.specs.Ends.{lead_view}
 use Rattle.worker_pool.specs.AreOut.{AreOut}
 use Rattle.worker_pool.proofs.desk.collect_one_of.Given as goal

@@ -1,4 +1,4 @@
-use Rattle.std.proofs.Common.{◌≡◌, ◌++◌, ◌∷◌, [], List, sym, refl, ap, ◌∙◌, subst}
+use Rattle.std.proofs.Common.{◌++◌, ◌∷◌, [], List, sym, refl, ap, ◌∙◌, subst}
 use Rattle.job_board.specs.declared.view.View.{View}
 use Rattle.job_board.specs.Ends.{lead_view}
 use Rattle.job_board.specs.Views.{after_post}
