@@ -56,7 +56,7 @@ choice_passed terms i d items o low so_far here is =
 -- ---- an alternative of the first choice
 
 -- what is at a place is in the list
-in_at : {A : Type 0} (xs : List A) (i : ℕ) (d : A) → i < length xs → IsIn (get_or xs i d) xs
+pub in_at : {A : Type 0} (xs : List A) (i : ℕ) (d : A) → i < length xs → IsIn (get_or xs i d) xs
 in_at [] i d low = absurd (omega arith)
 in_at (x ∷ xs) zero d low = inl refl
 in_at (x ∷ xs) (suc i) d low = inr (in_at xs i d (omega arith))

@@ -15,7 +15,7 @@ use Rattle.model.specs.access.SelfConflict.{queries_meet, two_meet, TwoConflictA
 use Rattle.model.specs.access.QueryFaults.{requires_kind, excludes_kind}
 use Rattle.model.proofs.lists.Lists.{same_tests, IsIn-append}
 use Rattle.model.proofs.serial.ConflictTests.{test-queries, conflict-queries, matches-parts, way-of_met}
-use Rattle.model.proofs.serial.SelfConflicts.{queries_meet_from, conflict_from_queries_meet, within_tested}
+use Rattle.model.proofs.serial.SelfConflicts.{queries_meet_from, conflict_from_queries_meet, within_tested, turned}
 use Rattle.access_set.specs.declared.footprint.Footprint.{Footprint}
 use Rattle.access_set.specs.declared.footprint.Words.{Words}
 use Rattle.access_set.specs.Footprints.{has_bit, with_bit, AreLow, IsWords, IsFootprint, choices_of, AreFootprints, kinds_shared, way_of_both, met_in, footprints_meet, footprints_meet_at, is_writing, no_kinds, HasMeetingWriter}
@@ -160,21 +160,6 @@ writer_of q r f g is other k c w =
     (not_from_false (f.words.written == 0) (false_from_ne_true (f.words.written == 0) (λ z.
     both_ways (has_bit 0 k) (no_bit k) (subst (λ (word : ℕ). has_bit word k ≡ true) (eqb-true f.words.written 0 z) (is.words.written k ∙ w)))))
     (eq-eqb (bit_and f.words.required f.words.excluded) 0 apart)
-
--- the same two the other way round
-turned : (q r : List Term) (k : ℕ) → QueriesConflictAt q r k → QueriesConflictAt r q k
-turned q r k c = record {
-  kinds = c.kinds;
-  first_matches = c.second_matches;
-  second_matches = c.first_matches;
-  holds = c.holds;
-  first_touches = c.second_touches;
-  second_touches = c.first_touches;
-  one_writes = elim (or_cases (writes q k) (writes r k) c.one_writes) [
-    | inl first ↦ or_right (writes r k) (writes q k) first
-    | inr second ↦ or_left (writes r k) (writes q k) second
-  ];
-}
 
 footprints_long : (queries : List (List Term)) (footprints : List Footprint) → AreFootprints queries footprints → length footprints ≡ length queries
 footprints_long [] [] are = refl

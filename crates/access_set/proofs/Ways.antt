@@ -105,21 +105,23 @@ met_agrees shared taken x is k h = go (bit_and x.required x.excluded == 0) refl 
         → (has_bit shared k ≡ true) × (agree (Has k ∷ taken) ≡ true)
     go false other_way h = absurd (both_ways (has_bit 0 k) (no_bit k) h)
     go true none_both h =
-        let parts = and_parts (has_bit shared k) (not (has_bit x.excluded k)) (sym (bit_of_rest shared x.excluded k) ∙ h) in
-        (parts.0, agree_from_apart (Has k ∷ taken) (λ j needed barred. elim (or_cases (k == j) (list_any (needs j) taken) needed) [
-          | inl same ↦ both_ways (has_bit x.excluded k) (not-true (has_bit x.excluded k) parts.1)
-              (is.excluded k ∙ subst (λ (i : ℕ). list_any (bars i) taken ≡ true) (sym (eqb-true k j same)) barred)
-          | inr needed ↦ both_ways (has_bit 0 j) (no_bit j) (subst (λ (word : ℕ). has_bit word j ≡ true) (eqb-true (bit_and x.required x.excluded) 0 none_both)
-              (bit_of_both x.required x.excluded j ∙ and_from (has_bit x.required j) (has_bit x.excluded j) (is.required j ∙ needed) (is.excluded j ∙ barred)))
-        ]))
+        let parts = and_parts (has_bit shared k) (not (has_bit x.excluded k)) (sym (bit_of_rest shared x.excluded k) ∙ h) in (
+          parts.0,
+          agree_from_apart (Has k ∷ taken) (λ j needed barred. elim (or_cases (k == j) (list_any (needs j) taken) needed) [
+            | inl same ↦ both_ways (has_bit x.excluded k) (not-true (has_bit x.excluded k) parts.1)
+                (is.excluded k ∙ subst (λ (i : ℕ). list_any (bars i) taken ≡ true) (sym (eqb-true k j same)) barred)
+            | inr needed ↦ both_ways (has_bit 0 j) (no_bit j) (subst (λ (word : ℕ). has_bit word j ≡ true) (eqb-true (bit_and x.required x.excluded) 0 none_both)
+                (bit_of_both x.required x.excluded j ∙ and_from (has_bit x.required j) (has_bit x.excluded j) (is.required j ∙ needed) (is.excluded j ∙ barred)))
+          ]),
+        )
 
 -- and the other way round
 agrees_met : (shared : ℕ) (taken : List Alternative) (x : Way) → AreTaken taken x → (k : ℕ) → has_bit shared k ≡ true → agree (Has k ∷ taken) ≡ true
     → has_bit (kinds_met shared x) k ≡ true
 agrees_met shared taken x is k there h =
     let none : bit_and x.required x.excluded ≡ 0 = no_bits (bit_and x.required x.excluded) (λ j b.
-        let both = and_parts (has_bit x.required j) (has_bit x.excluded j) (sym (bit_of_both x.required x.excluded j) ∙ b) in
-        agree_apart (Has k ∷ taken) h j (or_right (k == j) (list_any (needs j) taken) (sym (is.required j) ∙ both.0)) (sym (is.excluded j) ∙ both.1)) in
+    let both = and_parts (has_bit x.required j) (has_bit x.excluded j) (sym (bit_of_both x.required x.excluded j) ∙ b) in
+    agree_apart (Has k ∷ taken) h j (or_right (k == j) (list_any (needs j) taken) (sym (is.required j) ∙ both.0)) (sym (is.excluded j) ∙ both.1)) in
     ap (λ b. has_bit (cond b (bit_xor shared (bit_and shared x.excluded)) 0) k) (eq-eqb (bit_and x.required x.excluded) 0 none)
     ∙ (bit_of_rest shared x.excluded k
     ∙ and_from (has_bit shared k) (not (has_bit x.excluded k)) there

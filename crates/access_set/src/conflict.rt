@@ -11,7 +11,7 @@ ghost use Rattle.access_set.specs.Meets.{MeetAtKind, MeetAtResource, MeetAtEvent
 
 use crate::footprint::Footprint;
 use crate::params::Params;
-use kinds::res::{Event, Res};
+use kinds::{Event, Res};
 
 /// Whether two accesses conflict: they name a resource or an event kind that one of them writes, or some set of kinds
 /// matches a query of each and holds a kind that both touch and one writes.

@@ -15,8 +15,8 @@ ghost use Rattle.access_set.specs.Datum.{datum_of, datum_name, IsLeastAt, AreKno
 
 use crate::footprint::Footprint;
 use crate::params::{Params, has_event, has_resource};
-use kinds::kind::{Kind, kinds_are_apart};
-use kinds::res::{Event, Res};
+use kinds::kind::prove_kinds_apart;
+use kinds::{Event, Kind, Res};
 use query::Query;
 use std::fmt;
 
@@ -86,7 +86,7 @@ fn least_kind(a: &Params, b: &Params) -> Option<Kind>
 fn conflict_at_kind(a: &Params, b: &Params, kind: Kind) -> bool
     ensures { result ≡ conflict_at a.now b.now (OfKind (kind_number kind)) }
 {
-    kinds_are_apart();
+    prove_kinds_apart();
     any_meets_at(a.footprints(), b.footprints(), kind)
 }
 
@@ -119,7 +119,7 @@ fn are_known_kinds(queries: &[Query])
 fn are_known_kinds_of(query: &Query)
     ensures { AreKnownKinds query.now }
 {
-    kinds_are_apart();
+    prove_kinds_apart();
     let _ = query.terms();
 }
 

@@ -11,7 +11,8 @@ ghost use Rattle.model.specs.access.Conflict.{choices};
 ghost use Rattle.model.specs.access.QueryFaults.{required, excluded};
 ghost use Rattle.access_set.specs.Footprints.{has_bit, with_bit, way_with, kinds_shared, way_of_both, kinds_met, met_in, footprints_meet, footprints_meet_at, is_writing, IsWords, IsFootprint};
 
-use kinds::kind::{Kind, kinds_are_apart};
+use kinds::Kind;
+use kinds::kind::prove_kinds_apart;
 use query::{Alternative, Alternatives, Query, Term};
 use smallvec::SmallVec;
 use std::alloc::{AllocError, Global};
@@ -53,7 +54,7 @@ impl Footprint {
     pub(crate) fn of_query(alloc: Global, query: &Query) -> Result<Self, AllocError>
         ensures { IfOk result (IsFootprint query.now) }
     {
-        kinds_are_apart();
+        prove_kinds_apart();
         Ok(Footprint {
             words: Words::of_query(query),
             choices: choices_of(alloc, query.terms())?,
@@ -66,7 +67,12 @@ impl Footprint {
     {
         let shared = self.words.shared(other.words);
         let way = self.words.way(other.words);
-        met_in(shared, way, self.choices.as_slice(), other.choices.as_slice())
+        met_in(
+            shared,
+            way,
+            self.choices.as_slice(),
+            other.choices.as_slice(),
+        )
     }
 
     /// Whether they conflict at the kind.
@@ -75,7 +81,12 @@ impl Footprint {
     {
         let shared = self.words.shared(other.words) & with_bit(0, kind);
         let way = self.words.way(other.words);
-        met_in(shared, way, self.choices.as_slice(), other.choices.as_slice())
+        met_in(
+            shared,
+            way,
+            self.choices.as_slice(),
+            other.choices.as_slice(),
+        )
     }
 
     /// Whether a query of this footprint can match without its `or` terms, and writes.
@@ -200,7 +211,7 @@ fn met_in(shared: u64, way: Way, choices: &[Alternatives], more: &[Alternatives]
 fn with_kind(word: u64, kind: Option<Kind>) -> u64
     ensures { (number : ℕ) → has_bit result number ≡ (is_number number (option_map kind_number kind) || has_bit word number) }
 {
-    kinds_are_apart();
+    prove_kinds_apart();
     match kind {
         None => word,
         Some(kind) => with_bit(word, kind),
@@ -211,6 +222,6 @@ fn with_kind(word: u64, kind: Option<Kind>) -> u64
 fn with_bit(word: u64, kind: Kind) -> u64
     ensures { result ≡ with_bit (kind_number kind) word }
 {
-    kinds_are_apart();
+    prove_kinds_apart();
     word | (1 << kind.number())
 }

@@ -6,3 +6,6 @@ pub mod datum;
 mod footprint;
 pub mod params;
 pub mod self_conflict;
+
+pub use datum::Datum;
+pub use params::Params;

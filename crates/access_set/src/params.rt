@@ -9,7 +9,7 @@ ghost use Rattle.access_set.specs.Footprints.{AreFootprints};
 ghost use Rattle.access_set.specs.Union.{union};
 
 use crate::footprint::Footprint;
-use kinds::res::{Event, Res};
+use kinds::{Event, Res};
 use query::Query;
 use std::alloc::{AllocError, Global};
 use std::marker::Model;
@@ -67,7 +67,7 @@ impl Params {
     }
 
     /// What both touch: the queries, resources and event kinds of the one, then those of the other. The ids are those of the one. Where memory
-    /// is wanting both are dropped.
+    /// fails both are dropped.
     pub fn union(mut self, mut other: Params) -> Result<Self, AllocError>
         ensures { IfOk result (λ both. both ≡ union self other) }
     {

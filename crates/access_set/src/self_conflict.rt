@@ -11,7 +11,7 @@ ghost use Rattle.access_set.specs.Footprints.{MeetsBeside, HasMeetingWriter};
 
 use crate::footprint::Footprint;
 use crate::params::{Params, has_event, has_resource};
-use kinds::res::{Event, Res};
+use kinds::{Event, Res};
 
 /// Whether two parameters conflict: two of the queries, or two that name a resource or an event kind that one of them writes. A query
 /// that writes is compared with all others; as soon as two conflict no more are.

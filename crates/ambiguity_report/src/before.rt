@@ -5,7 +5,7 @@ ghost use Rattle.std.specs.List.{list_any, All, Any};
 ghost use Rattle.model.specs.steps.Ambiguity.{Before};
 ghost use Rattle.ambiguity_report.specs.Paths.{AreReached, AreReaching, ArePaths, AreAllPaths};
 
-use schedule_builder::built::Built;
+use schedule_builder::Built;
 use std::alloc::{AllocError, Global};
 
 /// The most systems that a schedule has.
@@ -46,7 +46,7 @@ pub(crate) fn paths_of(built: &Built, system: u32) -> Paths
 fn reached_from(built: &Built, first: u32) -> [bool; SYSTEMS]
     ensures { AreReached built.now first result }
 {
-    built.law();
+    built.prove_law();
     let mut reached = [false; SYSTEMS];
     for number in built.order() {
         let next = any_marked(built.predecessors(*number), first, &reached);
@@ -61,7 +61,7 @@ fn reached_from(built: &Built, first: u32) -> [bool; SYSTEMS]
 fn reaching_to(built: &Built, last: u32) -> [bool; SYSTEMS]
     ensures { AreReaching built.now last result }
 {
-    built.law();
+    built.prove_law();
     let order = built.order();
     let mut reaching = [false; SYSTEMS];
     for place in (0..order.len()).rev() {

@@ -4,3 +4,5 @@
 mod before;
 mod races;
 pub mod report;
+
+pub use report::Pair;

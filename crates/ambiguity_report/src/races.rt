@@ -6,8 +6,8 @@ ghost use Rattle.ambiguity_report.specs.Paths.{ArePaths};
 ghost use Rattle.ambiguity_report.specs.Races.{IsKnown, IsRace, AreUnordered, IsOutside, access_of_racer, is_silenced_with};
 
 use crate::before::{Paths, is_after, is_after_any, is_before, is_before_each};
-use access_set::params::Params;
-use schedule_builder::built::Built;
+use access_set::Params;
+use schedule_builder::Built;
 
 /// What races with a system.
 #[derive(Clone, Copy, PartialEq, Eq, Debug)]
@@ -102,7 +102,7 @@ fn is_outside(built: &Built, condition: u32, system: u32, paths: &Paths) -> bool
     requires paths { ArePaths built.now system paths.now }
     ensures { IsTrue result ↔ IsOutside built.now condition system }
 {
-    built.law();
+    built.prove_law();
     let covering = built.condition(condition);
     if covering.is_covering(system) {
         return false;

@@ -14,9 +14,9 @@ ghost use Rattle.ambiguity_report.specs.Report.{IsReport, IsReportTo};
 
 use crate::before::{Paths, all_paths, paths_of};
 pub use crate::races::Racer;
-use access_set::datum::{Datum, why};
-use access_set::params::Params;
-use schedule_builder::built::Built;
+use access_set::datum::why;
+use access_set::{Datum, Params};
+use schedule_builder::Built;
 use std::alloc::{AllocError, Global};
 
 /// A system and what races with it, and the least datum on which they conflict. Of two systems the lower comes first.

@@ -2,7 +2,7 @@
 use Rattle.std.proofs.Common.{◌≡◌, ℕ, zero, suc, ◌+◌, ◌-◌, ◌<◌, ◌≤◌, Bool, true, false, cond, ◌==◌, ◌&&◌, ◌⊎◌, inl, inr, List, [], ◌∷◌, length, get_or, set, take, map, Option, Some, None, option_map, is_some, Result, Ok, Err, OnOk, OnErr, refl, sym, ap, ap₂, subst, ◌∙◌, arith, add-one}
 use Rattle.std.specs.List.{list_all, AllByRecursion}
 use Rattle.std.proofs.Math.Seq.{map-set_same}
-use Rattle.std.proofs.lemmas.Bool.{cases_eq, and_parts, eqb-true, eq-eqb, ne_eqb}
+use Rattle.std.proofs.lemmas.Bool.{cases_eq, and_parts, eqb-true, eq-eqb, ne_eqb, and_parts as both}
 use Rattle.std.proofs.lemmas.Bool.Decides.{nat_tests}
 use Rattle.std.proofs.lemmas.List.{get_or-set_same, get_or-set_other, get_or_past, get_or_default}
 use Rattle.model.specs.Lists.{is_there, update_at, IsIn}
@@ -16,16 +16,18 @@ use Rattle.column_store.specs.Order.{is_before, is_same, AreRising}
 use Rattle.column_store.specs.Components.{components_in, components_of}
 use Rattle.column_store.specs.Table.{Standing, TableRow, TableValue, is_home, standing_of, empty_table, row_of as row_in_table, with_cell_at, cell_of_kind, filled_rows, lent, homed, IsHome}
 use Rattle.column_store.specs.Table.Standing.{Owned, Shared, Away}
-use Rattle.column_store.proofs.Edited.{both}
 use Rattle.column_store.proofs.Rising.{before_apart}
 use Rattle.column_store.proofs.TheirComponents.{cells_are_theirs}
+use Rattle.model.proofs.agreement.Agreement.{is_some-option_map as is_some-map}
+use Rattle.column_store.proofs.Arrived.{same_self}
 use Rattle.archetype_store.specs.declared.locations.EntityLocation.{EntityLocation}
 use Rattle.archetype_store.specs.Layout.{Archetype, archetype_of, layout_of, archetype_at, column_home, with_column, with_home}
 use Rattle.archetype_store.specs.Tables.{table_at, kinds_at, held_in, held_at, row_or_none, is_unshared, cells_at, number_of, AreUnshared, IsTableOf}
 use Rattle.archetype_store.specs.Archetypes.{ArchetypesValue, archetypes_of, row_of, row_in, holder_of, holder_in, place_of, is_place, row_cells, cell_for, cell_held, row_with, IsOfKinds, IsStored, IsFilled, AreArchetypes}
-use Rattle.archetype_store.proofs.Held.{same_self, shape_at}
+use Rattle.archetype_store.proofs.Held.{shape_at}
 use Rattle.archetype_store.proofs.Laid.{row_seen, holder_seen, not_elsewhere}
 use Rattle.archetype_store.proofs.Standings.{AreSame, same_whole, same_rows, shaped_kinds, unlike_kinds}
+use Rattle.archetype_store.proofs.RowMoves.{index_flipped as other_than}
 
 -- ---- the table of an archetype
 
@@ -301,7 +303,7 @@ length_kinds : (row : List Component) → length (map (λ (c : Component). c.kin
 length_kinds [] = refl
 length_kinds (c ∷ cs) = ap suc (length_kinds cs)
 
-not_head : (k n : ℕ) → k < n → (n == k) ≡ false
+pub not_head : (k n : ℕ) → k < n → (n == k) ≡ false
 not_head k n l = grind (arith, nat_tests)
 
 -- no component behind one of a kind is of the kind
@@ -383,10 +385,6 @@ there_filled ks k cells [] = refl
 there_filled ks k [] (r ∷ rows) = refl
 there_filled ks k (c ∷ cells) (r ∷ rows) = refl
 
-is_some-map : {A B : Type 0} (f : A → B) (o : Option A) → is_some (option_map f o) ≡ is_some o
-is_some-map f None = refl
-is_some-map f (Some x) = refl
-
 kinds-map : (ks : List ℕ) (k : ℕ) (c : Option Cell) (o : Option (List Component)) → IsOfKinds ks o → IsOfKinds ks (option_map (row_with k c) o)
 kinds-map ks k c None h = tt
 kinds-map ks k c (Some row) h = row_with_kinds k c row ∙ h
@@ -396,12 +394,9 @@ or_none-map k None None = refl
 or_none-map k (Some cell) None = refl
 or_none-map k c (Some row) = refl
 
-some_map_none : {A B : Type 0} (f : A → B) (o : Option A) → option_map f o ≡ None → o ≡ None
+pub some_map_none : {A B : Type 0} (f : A → B) (o : Option A) → option_map f o ≡ None → o ≡ None
 some_map_none f None h = refl
 some_map_none f (Some x) h = absurd (cc)
-
-other_than : (m t : ℕ) → (m == t) ≡ false → (t == m) ≡ false
-other_than m t h = grind (arith, nat_tests)
 
 module _ (T : List TableValue) (P : List (Option EntityLocation)) (s : Bool) (n t : ℕ) (at : IsTableOf T n t) (c : ColumnCells) (h : IsStored T P s) where
   -- what is held after it: in its table the rows have its cells

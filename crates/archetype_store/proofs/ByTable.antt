@@ -46,8 +46,3 @@ module _ {A : Type 0} where
   list_other (x ∷ lists) zero (suc t) h = refl
   list_other (x ∷ lists) (suc n) zero h = refl
   list_other (x ∷ lists) (suc n) (suc t) h = list_other lists n t (λ e. h (ap suc e))
-
-pub each_set : {A : Type 0} (P : A → Type 0) (xs : List A) (i : ℕ) (y : A) → P y → AllByRecursion P xs → AllByRecursion P (set xs i y)
-each_set P [] i y p h = tt
-each_set P (x ∷ xs) zero y p h = (p, h.1)
-each_set P (x ∷ xs) (suc i) y p h = (h.0, each_set P xs i y p h.1)

@@ -18,13 +18,15 @@ use Rattle.column_store.specs.Arriving.{entity_of, row_arriving, put_rows, row_c
 use Rattle.column_store.specs.Table.{TableRow, TableValue, row_of, put_row, empty_table}
 use Rattle.column_store.proofs.Made.{same_entity}
 use Rattle.column_store.proofs.Rising.{before_apart, after_apart}
+use Rattle.column_store.proofs.Passes.{one_more}
+use Rattle.column_store.proofs.Arrived.{same_self, row_of-put as put_other}
 use Rattle.archetype_store.specs.declared.row_moves.RowMove.{RowMove}
 use Rattle.archetype_store.specs.Row.{component_of}
 use Rattle.archetype_store.specs.Tables.{table_at, kinds_at, held_in, held_at, shape_of}
 use Rattle.archetype_store.specs.RowMoves.{Placing, placing_of, arrives_in, is_table, arrived, withdrawn, held_after, AreSteps, CanArrive}
 use Rattle.archetype_store.specs.Arrivals.{arrives_with, arriving, coming_to, come, AreArriving, HaveCome, AreLaid}
 use Rattle.archetype_store.proofs.ByTable.{list_here, list_past, list_other}
-use Rattle.archetype_store.proofs.Held.{put_same, put_other, components_new, same_self}
+use Rattle.archetype_store.proofs.Held.{put_same, components_new}
 use Rattle.archetype_store.proofs.RowMoves.{table_told, undone}
 
 -- ---- rows of one table
@@ -80,9 +82,6 @@ module _ (tables : List TableValue) (table : ℕ) (there new : TableValue) (news
           ∙ sym (ap (λ b. cond b (come (row_coming x news) (held_at tables t x)) (held_at tables t x)) (ne_eqb t table other))
 
 -- ---- all tables
-
-one_more : (n : ℕ) → suc n ≡ n + 1
-one_more n = omega arith
 
 module _ (lists : List (Vec Arrival Global)) (A B : List TableValue) (n : ℕ) (l : n < length lists) (so_far : AreLaid (take n lists) A B) where
   -- until then nothing was done to the table

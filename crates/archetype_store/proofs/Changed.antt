@@ -278,7 +278,7 @@ all_can_depart T T1 P rows whole apart planned came = each_from _ rows (λ i d l
           kinds = λ to. kinds_kept T T1 came.shapes from.table ∙ (plan.to from.table to).kinds;
         }
 
--- ---- where memory was wanting
+-- ---- where an allocation failed
 
 pub restored_whole : (T T' : List TableValue) (P : List (Option EntityLocation)) → IsRestored T T' → AreArchetypes T P → AreArchetypes T' P
 restored_whole T T' P r h = record {

@@ -14,6 +14,7 @@ use Rattle.model.proofs.lists.Lists.{IsIn_from_any, list_any-IsIn, map_index-sam
 use Rattle.kinds.specs.Components.{widths}
 use Rattle.column_store.specs.Order.{is_same}
 use Rattle.column_store.proofs.Made.{same_entity}
+use Rattle.column_store.proofs.Arrived.{same_self}
 use Rattle.archetype_store.specs.declared.columns.TakenColumn.{TakenColumn}
 use Rattle.archetype_store.specs.Layout.{Archetype, archetype_at, with_column, with_home, has_index, IsLayoutOf}
 use Rattle.archetype_store.specs.Archetypes.{cell_for, row_with}
@@ -21,7 +22,6 @@ use Rattle.archetype_store.specs.Slot.{cell_of}
 use Rattle.archetype_store.specs.Store.{StoreValue, with_slots, slots_with}
 use Rattle.archetype_store.specs.Lending.{all_home}
 use Rattle.archetype_store.specs.Overlays.{also_written, written_by, is_reached, IsAfter, AreReached, ColumnsAreOverlays, TakenAreOverlays, TakenClose}
-use Rattle.archetype_store.proofs.Held.{same_self}
 use Rattle.archetype_store.proofs.RowEdits.{above_absent}
 
 -- ---- one row

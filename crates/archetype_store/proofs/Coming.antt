@@ -13,8 +13,9 @@ use Rattle.column_store.proofs.Joined.{same_flipped}
 use Rattle.column_store.proofs.Made.{same_entity}
 use Rattle.archetype_store.specs.RowMoves.{Placing, arrives_in, is_table}
 use Rattle.archetype_store.specs.Arrivals.{arrives_with, arriving, coming_to, IsArrivalNoted}
-use Rattle.archetype_store.proofs.ByTable.{list_set_same, list_set_other, each_set}
+use Rattle.archetype_store.proofs.ByTable.{list_set_same, list_set_other}
 use Rattle.archetype_store.proofs.Gathered.{index_apart}
+use Rattle.archetype_store.proofs.ArchetypeColumns.{each_set}
 
 module _ (p : Placing) (lists : List (Vec Arrival Global)) (absent : (t : ℕ) → row_coming p.entity (coming_to lists t) ≡ None) where
   -- a table into which the row doesn't come

@@ -21,18 +21,12 @@ use Rattle.column_store.proofs.Made.{same_entity}
 use Rattle.column_store.proofs.Rising.{before_apart, after_apart}
 use Rattle.column_store.proofs.Rows.{row_of-no_entity}
 use Rattle.column_store.proofs.TheirComponents.{cells_are_theirs, writes_are_theirs}
+use Rattle.column_store.proofs.Arrived.{same_index as same_pair, same_self, row_of-put as put_other}
 use Rattle.archetype_store.specs.Row.{component_of, only}
 use Rattle.archetype_store.specs.Layout.{IsShape, archetype_of, layout_of}
 use Rattle.archetype_store.specs.Tables.{table_at, kinds_at, held_in, held_at, row_or_none, shape_of, AreShaped, AreUnlike, AreOwned, IsHeldNow, IsGrown}
 
 -- ---- rows of one table
-
-same_pair : (a b : ℕ) → ((a == a) && (b == b)) ≡ true
-same_pair a b = grind (arith, nat_tests)
-
--- an id is itself
-pub same_self : (e : Entity) → is_same e e ≡ true
-same_self e = same_pair e.index e.generation
 
 -- the row that was put in is found
 pub put_same : (e : Entity) (new : TableRow) (rows : List TableRow) → new.entity ≡ e → row_of e (put_row new rows) ≡ Some new
@@ -45,15 +39,6 @@ put_same e new (r ∷ rs) h = go (is_before r.entity new.entity) refl (put_same 
     go : (b : Bool) → is_before r.entity new.entity ≡ b → row_of e (put_row new rs) ≡ Some new → row_of e (cond b (r ∷ put_row new rs) (new ∷ r ∷ rs)) ≡ Some new
     go true k more = ap (λ b. cond b (Some r) (row_of e (put_row new rs))) (before_apart r.entity e (ap (is_before r.entity) (sym h) ∙ k)) ∙ more
     go false k more = first (row_of e (r ∷ rs))
-
--- and no other one is hidden
-pub put_other : (x : Entity) (new : TableRow) (rows : List TableRow) → is_same new.entity x ≡ false → row_of x (put_row new rows) ≡ row_of x rows
-put_other x new [] h = ap (λ b. cond b (Some new) None) h
-put_other x new (r ∷ rs) h = go (is_before r.entity new.entity) (put_other x new rs h)
-  where
-    go : (b : Bool) → row_of x (put_row new rs) ≡ row_of x rs → row_of x (cond b (r ∷ put_row new rs) (new ∷ r ∷ rs)) ≡ row_of x (r ∷ rs)
-    go true more = ap (cond (is_same r.entity x) (Some r)) more
-    go false more = ap (λ b. cond b (Some new) (row_of x (r ∷ rs))) h
 
 -- one that isn't removed is found
 without_other : (e x : Entity) (rows : List TableRow) → is_same e x ≡ false → row_of x (without_row e rows) ≡ row_of x rows
@@ -162,7 +147,7 @@ owned_more : (tables : List TableValue) (kinds : List ℕ) → AreOwned tables �
 owned_more [] kinds h = (owned_new kinds, tt)
 owned_more (u ∷ us) kinds h = (h.0, owned_more us kinds h.1)
 
-each_more : {A : Type 0} (P : A → Type 0) (xs : List A) (x : A) → AllByRecursion P xs → P x → AllByRecursion P (xs ++ x ∷ [])
+pub each_more : {A : Type 0} (P : A → Type 0) (xs : List A) (x : A) → AllByRecursion P xs → P x → AllByRecursion P (xs ++ x ∷ [])
 each_more P [] x h p = (p, tt)
 each_more P (y ∷ ys) x h p = (h.0, each_more P ys x h.1 p)
 

@@ -15,6 +15,7 @@ use Rattle.column_store.specs.Kinds.{in_order, AreBelow}
 use Rattle.column_store.specs.Table.{TableValue, empty_table}
 use Rattle.archetype_store.specs.Tables.{AreShaped, AreUnlike, IsGrown}
 use Rattle.archetype_store.proofs.Held.{grown_more}
+use Rattle.archetype_store.proofs.ArchetypeColumns.{not_head as not_equal_from}
 
 -- ---- kinds in order
 
@@ -24,9 +25,6 @@ each_below (k ∷ ks) = (number_below k, each_below ks)
 
 not_equal : (n m : ℕ) → n < m → (n == m) ≡ false
 not_equal n m l = grind (arith, nat_tests)
-
-not_equal_from : (n m : ℕ) → n < m → (m == n) ≡ false
-not_equal_from n m l = grind (arith, nat_tests)
 
 pub above_has : (n : ℕ) (ns : List ℕ) → AllByRecursion (λ m. n < m) ns → has n ns ≡ false
 above_has n [] h = refl

@@ -3,7 +3,7 @@ use Rattle.std.proofs.Common.{◌≡◌, ℕ, zero, suc, Bool, true, false, cond
 use Rattle.std.specs.List.{list_all, AllByRecursion}
 use Rattle.model.specs.Lists.{has}
 use Rattle.column_store.specs.Kinds.{at_kind}
-use Rattle.column_store.proofs.Edited.{both}
+use Rattle.std.proofs.lemmas.Bool.{and_parts as both}
 use Rattle.archetype_store.specs.Layout.{Archetype, archetype_at, column_home, AreAllHome, IsArchetype}
 use Rattle.archetype_store.specs.Lending.{KindsAreHome}
 
@@ -21,5 +21,5 @@ home_of [] n k each home there = absurd (cc)
 home_of (a ∷ rest) zero k each home there = home_in a.kinds k a.homes each.0.shape.each home.0 there
 home_of (a ∷ rest) (suc n) k each home there = home_of rest n k each.1 home.1 there
 
-pub kinds_are_home : KindsAreHome
-kinds_are_home slots layout n kind laid home there = home_of layout n kind laid.each home there
+pub prove_kinds_home : KindsAreHome
+prove_kinds_home slots layout n kind laid home there = home_of layout n kind laid.each home there

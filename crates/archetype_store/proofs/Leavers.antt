@@ -2,24 +2,19 @@
 use Rattle.std.specs.Prelude.{Vec}
 use Rattle.std.specs.declared.alloc.Global.{Global}
 use Rattle.std.proofs.Common.{◌≡◌, ℕ, Bool, true, false, cond, ◌&&◌, ◌||◌, List, [], ◌∷◌, map, Option, Some, None, is_some, refl, sym, ap, subst, ◌∙◌}
-use Rattle.std.proofs.lemmas.Bool.{eqb-true}
+use Rattle.std.proofs.lemmas.Bool.{eqb-true, and_parts as both, or_right as or_more}
 use Rattle.std.specs.List.{AllByRecursion}
 use Rattle.model.specs.state.State.{Component}
 use Rattle.model.specs.declared.entities.Entity.{Entity}
 use Rattle.column_store.specs.Order.{is_same}
 use Rattle.column_store.specs.Table.{TableValue, is_among}
-use Rattle.column_store.proofs.Edited.{both}
 use Rattle.column_store.proofs.Made.{same_entity}
+use Rattle.column_store.proofs.Arrived.{same_self}
 use Rattle.archetype_store.specs.declared.locations.EntityLocation.{EntityLocation}
 use Rattle.archetype_store.specs.declared.row_moves.RowMove.{RowMove}
 use Rattle.archetype_store.specs.Tables.{held_at, is_in}
 use Rattle.archetype_store.specs.RowMoves.{Placing, placing_of, row_placed, is_table, held_after, AreSteps, CanDepart}
 use Rattle.archetype_store.specs.Gathering.{goes_from, leaves, renewed, gone_at, AreLeaving}
-use Rattle.archetype_store.proofs.Held.{same_self}
-
-or_more : (a b : Bool) → b ≡ true → (a || b) ≡ true
-or_more true b h = refl
-or_more false b h = h
 
 each_among : (P : Entity → Type 0) (gs : List Entity) → ((e : Entity) → is_among e gs ≡ true → P e) → AllByRecursion P gs
 each_among P [] f = tt

@@ -8,14 +8,12 @@ use Rattle.std.specs.List.{AllByRecursion}
 use Rattle.model.specs.declared.entities.Entity.{Entity}
 use Rattle.model.proofs.lists.Each.{each-weaker}
 use Rattle.column_store.specs.Table.{TableValue, is_among}
+use Rattle.column_store.proofs.Passes.{one_more}
 use Rattle.archetype_store.specs.Tables.{held_at, shape_of, AreGone}
 use Rattle.archetype_store.specs.RowMoves.{Placing, departed, AreSteps}
 use Rattle.archetype_store.specs.Gathering.{renewed, gone_at, AreLeaving, AreLeft}
 use Rattle.archetype_store.proofs.ByTable.{list_here, list_past, list_other}
 use Rattle.archetype_store.proofs.Gathered.{departed_parts}
-
-one_more : (n : ℕ) → suc n ≡ n + 1
-one_more n = omega arith
 
 module _ (lists : List (Vec Entity Global)) (A B : List TableValue) (n : ℕ) (l : n < length lists) (so_far : AreLeft (take n lists) A B) where
   -- until then nothing was done to the table

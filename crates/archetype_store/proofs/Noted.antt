@@ -10,18 +10,16 @@ use Rattle.column_store.specs.Order.{is_same, AreRising}
 use Rattle.column_store.specs.Table.{is_among}
 use Rattle.column_store.specs.Keeping.{IsJoined}
 use Rattle.column_store.proofs.Joined.{same_flipped}
+use Rattle.model.proofs.progress.Width.{and_false}
 use Rattle.archetype_store.specs.RowMoves.{Placing}
 use Rattle.archetype_store.specs.Gathering.{goes_from, leaves, gone_at, IsNoted}
-use Rattle.archetype_store.proofs.ByTable.{list_set_same, list_set_other, each_set}
+use Rattle.archetype_store.proofs.ByTable.{list_set_same, list_set_other}
 use Rattle.archetype_store.proofs.Gathered.{index_apart}
+use Rattle.archetype_store.proofs.ArchetypeColumns.{each_set}
 
-and_true : (b : Bool) → (b && true) ≡ b
+pub and_true : (b : Bool) → (b && true) ≡ b
 and_true true = refl
 and_true false = refl
-
-and_false : (b : Bool) → (b && false) ≡ false
-and_false true = refl
-and_false false = refl
 
 pub noted : (p : Placing) (lists : List (Vec Entity Global)) (table : ℕ) (old new : Vec Entity Global) → ((t : ℕ) → (t == table) ≡ goes_from p t) → table < length lists → old.items ≡ gone_at lists table →
     IsJoined p.entity old.items new.items → AreRising new.items → AllByRecursion (λ list. AreRising list.items) lists → IsNoted p lists (set lists table new)

@@ -1,8 +1,7 @@
 -- The tables that rows leave, and those that they come into, are there.
 use Rattle.std.proofs.Common.{◌≡◌, ℕ, ◌<◌, ◌≤◌, Bool, true, false, cond, ◌==◌, ◌&&◌, List, length, Option, Some, None, not, refl, sym, subst, ◌∙◌, arith}
-use Rattle.std.proofs.lemmas.Bool.{eqb-true}
+use Rattle.std.proofs.lemmas.Bool.{eqb-true, and_parts as both}
 use Rattle.column_store.specs.Table.{TableValue}
-use Rattle.column_store.proofs.Edited.{both}
 use Rattle.archetype_store.specs.declared.locations.EntityLocation.{EntityLocation}
 use Rattle.archetype_store.specs.Tables.{is_in, IsGrown}
 use Rattle.archetype_store.specs.Archetypes.{place_of, holder_in, AreArchetypes, IsHolder}

@@ -10,6 +10,8 @@ use Rattle.model.specs.shown.Overlay.{row_after, cell_after}
 use Rattle.column_store.specs.declared.stamped.StampedValue.{StampedValue}
 use Rattle.column_store.specs.Cells.{stamped_number}
 use Rattle.column_store.specs.Kinds.{AreBelow}
+use Rattle.model.proofs.shape.Rows.{above-lower as above_lesser}
+use Rattle.column_store.proofs.TheirComponents.{not_same}
 use Rattle.archetype_store.specs.Row.{component_of, only}
 
 -- ---- a kind that isn't there
@@ -33,9 +35,6 @@ absent-removed k (c ∷ cs) h = go (c.kind == k) h (absent-removed k cs)
     go true e more = absurd (cc)
     go false e more = ap (λ rest. c ∷ rest) (more e)
 
-not_same : (n k : ℕ) → k < n → (n == k) ≡ false
-not_same n k l = grind (arith, nat_tests)
-
 lesser : (n k : ℕ) → nat_lt k n ≡ true → k < n
 lesser n k h = grind (arith, nat_tests)
 
@@ -43,10 +42,6 @@ lesser n k h = grind (arith, nat_tests)
 pub above_absent : (k : ℕ) (row : List Component) → AllByRecursion (λ c. k < c.kind) row → cell_at row k ≡ None
 above_absent k [] h = refl
 above_absent k (c ∷ cs) h = ap (λ b. cond b (Some c.cell) (cell_at cs k)) (not_same c.kind k h.0) ∙ above_absent k cs h.1
-
-above_lesser : (j k : ℕ) → j < k → (row : List Component) → AllByRecursion (λ c. k < c.kind) row → AllByRecursion (λ c. j < c.kind) row
-above_lesser j k l [] h = tt
-above_lesser j k l (c ∷ cs) h = ((let e : k < c.kind = h.0 in let f : j < c.kind = omega arith in f), above_lesser j k l cs h.1)
 
 -- ---- a kind that is there
 

@@ -11,6 +11,7 @@ use Rattle.model.proofs.lists.Each.{each-at}
 use Rattle.column_store.specs.Order.{is_same}
 use Rattle.column_store.specs.Table.{TableValue}
 use Rattle.column_store.proofs.Made.{same_entity}
+use Rattle.column_store.proofs.Arrived.{same_self}
 use Rattle.archetype_store.specs.declared.locations.EntityLocation.{EntityLocation}
 use Rattle.archetype_store.specs.declared.row_moves.RowMove.{RowMove}
 use Rattle.archetype_store.specs.Tables.{held_at, shape_of}
@@ -18,13 +19,9 @@ use Rattle.archetype_store.specs.RowMoves.{Placing, placing_of, row_placed, arri
 use Rattle.archetype_store.specs.Archetypes.{place_of}
 use Rattle.archetype_store.proofs.Laid.{kinds_kept}
 use Rattle.archetype_store.proofs.Moves.{placed_set}
-use Rattle.archetype_store.proofs.Held.{same_self}
+use Rattle.archetype_store.proofs.Gathered.{index_apart}
 
 -- ---- one entity among others
-
--- an id of another index is another
-index_apart : (x y : Entity) → (x.index == y.index) ≡ false → is_same x y ≡ false
-index_apart x y h = ap (λ b. b && (x.generation == y.generation)) h
 
 pub index_flipped : (i j : ℕ) → (i == j) ≡ false → (j == i) ≡ false
 index_flipped i j h = grind (arith, nat_tests)

@@ -9,6 +9,7 @@ use Rattle.model.specs.state.State.{Cell, Component}
 use Rattle.model.specs.state.Rows.{cell_at, new_component, insert_component, remove_component}
 use Rattle.column_store.specs.declared.stamped.StampedValue.{StampedValue}
 use Rattle.column_store.proofs.Lists.{map-insert}
+use Rattle.column_store.proofs.Rows.{some_place}
 use Rattle.archetype_store.specs.Row.{component_of, added_at}
 
 le_step : (b : Bool) (p l : ℕ) → p ≤ l → cond (not b) (1 + p) 0 ≤ suc l
@@ -18,9 +19,6 @@ le_step false p l h = omega arith
 position_or_len-le : {X : Type 0} (p : X → Bool) (xs : List X) → position_or_len p xs ≤ length xs
 position_or_len-le p [] = omega arith
 position_or_len-le p (x ∷ xs) = le_step (p x) _ _ (position_or_len-le p xs)
-
-some_place : (n m i : ℕ) → cond (nat_lt n m) (Some n) None ≡ Some i → (i ≡ n) × (i < m)
-some_place n m i h = grind (arith, nat_tests)
 
 no_place : (n m : ℕ) → n ≤ m → cond (nat_lt n m) (Some n) None ≡ None → n ≡ m
 no_place n m l h = grind (arith, nat_tests)

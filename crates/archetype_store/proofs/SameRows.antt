@@ -11,10 +11,10 @@ use Rattle.column_store.proofs.Made.{same_entity}
 use Rattle.column_store.proofs.Rising.{after_apart}
 use Rattle.column_store.proofs.Rows.{row_of-no_entity}
 use Rattle.model.proofs.lists.Each.{each-weaker}
+use Rattle.column_store.proofs.Arrived.{same_self}
 use Rattle.archetype_store.specs.Layout.{archetype_of, layout_of}
 use Rattle.archetype_store.specs.Tables.{held_in, held_at, shape_of}
 use Rattle.archetype_store.specs.RowMoves.{AreRowsRising}
-use Rattle.archetype_store.proofs.Held.{same_self}
 
 -- ---- rows in rising ids
 

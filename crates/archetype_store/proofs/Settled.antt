@@ -17,6 +17,7 @@ use Rattle.column_store.specs.Kinds.{AreBelow}
 use Rattle.entity_table.proofs.WithRows.{status-with_rows, generation-with_rows}
 use Rattle.entity_table.specs.Ids.{slot_at, IsBook, IsGranted}
 use Rattle.entity_table.specs.Rows.{with_rows}
+use Rattle.model.proofs.agreement.WithoutCommands.{update_at-update_at as update_at-twice}
 use Rattle.archetype_store.specs.declared.change.Fate.{Fate}
 use Rattle.archetype_store.specs.declared.change.Fate.TheVariants as the
 use Rattle.archetype_store.specs.declared.change.EntityChange.{EntityChange}
@@ -33,11 +34,6 @@ update_at-here : {A : Type 0} (i : ℕ) (f g : A → A) (xs : List A) (d : A) �
 update_at-here i f g [] d h = refl
 update_at-here zero f g (x ∷ xs) d h = ap (λ y. y ∷ xs) h
 update_at-here (suc i) f g (x ∷ xs) d h = ap (λ ys. x ∷ ys) (update_at-here i f g xs d h)
-
-update_at-twice : {A : Type 0} (i : ℕ) (f g : A → A) (xs : List A) → update_at i f (update_at i g xs) ≡ update_at i (λ x. f (g x)) xs
-update_at-twice i f g [] = refl
-update_at-twice zero f g (x ∷ xs) = refl
-update_at-twice (suc i) f g (x ∷ xs) = ap (λ ys. x ∷ ys) (update_at-twice i f g xs)
 
 suc_apart : (j : ℕ) → (suc j == 0) ≡ false
 suc_apart j = grind (arith, nat_tests)

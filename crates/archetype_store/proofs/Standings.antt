@@ -9,7 +9,8 @@ use Rattle.model.proofs.lists.Lists.{map_index-same}
 use Rattle.column_store.specs.Kinds.{at_kind, AreBelow}
 use Rattle.column_store.specs.Table.{Standing, TableRow, TableValue, is_home, is_owned, is_not_away, is_own_if, standing_of, IsAlike}
 use Rattle.column_store.specs.Table.Standing.{Owned, Shared, Away}
-use Rattle.column_store.proofs.Edited.{both, owned_home}
+use Rattle.column_store.proofs.Edited.{owned_home}
+use Rattle.std.proofs.lemmas.Bool.{and_parts as both}
 use Rattle.archetype_store.specs.declared.locations.EntityLocation.{EntityLocation}
 use Rattle.archetype_store.specs.Layout.{Archetype, archetype_of, layout_of, AreAllHome}
 use Rattle.archetype_store.specs.Tables.{table_at, kinds_at, held_in, held_at, row_or_none, shape_of, is_unshared, AreShaped, AreUnlike, AreHome, AreOwned, AreUnshared, AreBareHome, AreAllAlike}

@@ -21,11 +21,6 @@ use Rattle.archetype_store.proofs.RowEdits.{there-inserted, kinds-written, kinds
 
 -- ---- places
 
--- no place, where it is none
-pub none_of : {A : Type 0} (o : Option A) → ((x : A) → o ≡ Some x → ⊥) → o ≡ None
-none_of None h = refl
-none_of (Some x) h = absurd (h x refl)
-
 some_of_none : (p : EntityLocation) → None ≡ Some p → ⊥
 some_of_none p h = cc
 

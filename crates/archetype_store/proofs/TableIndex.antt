@@ -19,6 +19,8 @@ use Rattle.archetype_store.specs.TableIndex.{has_bit, peopled_from, IsWord, IsFo
 use Rattle.archetype_store.proofs.Held.{shape_at}
 use Rattle.archetype_store.proofs.KindSets.{above_has, above_each}
 use Rattle.archetype_store.proofs.Standings.{alike_same}
+use Rattle.archetype_store.proofs.Laid.{kinds_kept as shapes_kinds}
+use Rattle.archetype_store.proofs.RowMoves.{as_many_tables as shapes_many}
 
 -- ---- words and kinds
 
@@ -170,20 +172,6 @@ found_other T index new same room h = record {
   theirs = λ t word at. h.theirs t word (sym (same word) ∙ at);
   room = room;
 }
-
--- tables of the same shapes
-shapes_many : (T U : List TableValue) → map shape_of U ≡ map shape_of T → length U ≡ length T
-shapes_many [] [] h = refl
-shapes_many [] (u ∷ us) h = absurd (cc)
-shapes_many (t ∷ ts) [] h = absurd (cc)
-shapes_many (t ∷ ts) (u ∷ us) h = let rest : map shape_of us ≡ map shape_of ts = cc in ap suc (shapes_many ts us rest)
-
-shapes_kinds : (T U : List TableValue) → map shape_of U ≡ map shape_of T → (n : ℕ) → kinds_at U n ≡ kinds_at T n
-shapes_kinds [] [] h n = refl
-shapes_kinds [] (u ∷ us) h n = absurd (cc)
-shapes_kinds (t ∷ ts) [] h n = absurd (cc)
-shapes_kinds (t ∷ ts) (u ∷ us) h zero = let first : shape_of u ≡ shape_of t = cc in ap (λ (x : TableValue). x.kinds) first
-shapes_kinds (t ∷ ts) (u ∷ us) h (suc n) = let rest : map shape_of us ≡ map shape_of ts = cc in shapes_kinds ts us rest n
 
 pub found_shapes : (T U : List TableValue) (index : TableIndex) → map shape_of U ≡ map shape_of T → IsFound T index → IsFound U index
 found_shapes T U index h = found_kept T U index (shapes_many T U h) (shapes_kinds T U h)

@@ -25,13 +25,13 @@ use Rattle.archetype_store.specs.Store.{with_slots, with_slot, with_resource}
 
 -- ---- outcomes
 
--- what a call has done that refuses where a test fails, and else only for want of memory
+-- what a call has done that refuses where a test fails, and else only for a failed allocation
 pub outcome_of : {T E : Type 0} (r : Result T E) (fault : E) (test : Bool) (P Q : Type 0) → OnOk r P → OnErr r Q → (test ≡ false → IsErrOf r fault) → ((test ≡ true) × P) ⊎ Q
 outcome_of (Ok x) fault true P Q p q h = inl (refl, p)
 outcome_of (Ok x) fault false P Q p q h = let e = h refl in cc
 outcome_of (Err e) fault test P Q p q h = inr q
 
--- what one has done that refuses only for want of memory
+-- what one has done that refuses only for a failed allocation
 pub outcome_either : {T E : Type 0} (r : Result T E) (P Q : Type 0) → OnOk r P → OnErr r Q → P ⊎ Q
 outcome_either (Ok x) P Q p q = inl p
 outcome_either (Err e) P Q p q = inr q

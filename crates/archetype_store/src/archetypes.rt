@@ -24,12 +24,10 @@ use crate::owning::{copied_tables, own_all};
 use crate::row_moves::change_in;
 use crate::table_index::TableIndex;
 use crate::tables::{ArchetypeView, components_at, find_at, has_at, views_of};
-use change_ticks::clock::Tick;
-use column_store::stamped::{StampedColumn, StampedValue};
-use column_store::table::Table;
+use change_ticks::Tick;
+use column_store::{StampedColumn, StampedValue, Table};
 use entity_table::Entity;
-use kinds::kind::Kind;
-use kinds::value::Value;
+use kinds::{Kind, Value};
 use std::alloc::{AllocError, Global};
 use std::marker::Model;
 use std::sync::Arc;
@@ -139,7 +137,7 @@ impl Archetypes {
     }
 
     /// The layout is that of the rows.
-    pub(crate) fn laid(&self)
+    pub(crate) fn prove_laid(&self)
         ensures { IsLaidOut self.now }
     {
         // Tells how tables and places agree.
@@ -292,7 +290,7 @@ impl Archetypes {
         changed
     }
 
-    /// Takes all components of an entity away. Memory can be wanting only where columns were read elsewhere too; then all rows stay as
+    /// Takes all components of an entity away. An allocation can fail only where columns were read elsewhere too; then all rows stay as
     /// they were.
     pub fn clear(&mut self, e: Entity) -> Result<(), AllocError>
         requires holder { IsHolder e.generation (holder_of self.old.holders e.index) }

@@ -3,7 +3,7 @@
 ghost use Rattle.std.specs.Prelude.{◌≡◌};
 ghost use Rattle.archetype_store.specs.Changes.{row_left};
 
-use column_store::stamped::StampedValue;
+use column_store::StampedValue;
 use entity_table::Entity;
 
 /// What an entity is left as.

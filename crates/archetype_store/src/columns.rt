@@ -1,7 +1,7 @@
 // Columns of the store by the archetypes that they are of.
 
-use column_store::stamped::StampedColumn;
-use kinds::kind::Kind;
+use column_store::StampedColumn;
+use kinds::Kind;
 use std::alloc::Global;
 use std::sync::Arc;
 

@@ -5,10 +5,9 @@ ghost use Rattle.kinds.specs.Value.{value_number, value_words};
 ghost use Rattle.model.specs.state.Rows.{cell_at, insert_component, remove_component};
 ghost use Rattle.archetype_store.specs.Row.{component_of, added_at};
 
-use change_ticks::clock::Tick;
-use change_ticks::stamp::Stamp;
-use column_store::stamped::StampedValue;
-use kinds::value::Value;
+use change_ticks::{Stamp, Tick};
+use column_store::StampedValue;
+use kinds::Value;
 use std::alloc::AllocError;
 
 // A component that is added at this tick.

@@ -10,7 +10,8 @@ ghost use Rattle.archetype_store.specs.RowMoves.{placing_of, arrives_in, AreOfOt
 ghost use Rattle.archetype_store.specs.Gathering.{goes_from, gone_at, AreLeaving, IsFromWithin, IsNoted};
 
 use crate::row_moves::RowMove;
-use column_store::arrivals::{Arrival, join_arrival};
+use column_store::Arrival;
+use column_store::arrivals::join_arrival;
 use column_store::order::join;
 use entity_table::Entity;
 use std::alloc::{AllocError, Global};

@@ -20,6 +20,6 @@ pub fn taken_close()
 {}
 
 /// Where all columns are at home, that of each kind of an archetype is.
-pub fn kinds_are_home()
+pub fn prove_kinds_home()
     ensures { KindsAreHome }
 {}

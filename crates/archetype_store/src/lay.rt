@@ -16,11 +16,10 @@ use crate::table_index::TableIndex;
 use crate::tables::{
     components_at, find_at, kind_count_at, put_at, remove_at, table_for, write_at,
 };
-use change_ticks::clock::Tick;
-use column_store::stamped::StampedValue;
-use column_store::table::Table;
+use change_ticks::Tick;
+use column_store::{StampedValue, Table};
 use entity_table::Entity;
-use kinds::value::Value;
+use kinds::Value;
 use std::alloc::AllocError;
 
 // Removes the row of an entity from where it is.

@@ -8,10 +8,9 @@ ghost use Rattle.column_store.specs.Table.{standing_of, lent, homed, IsHome};
 ghost use Rattle.column_store.specs.Table.Standing.{Away};
 ghost use Rattle.archetype_store.specs.Tables.{table_at, cells_at, AreAllAlike, IsTableOf};
 
-use column_store::stamped::StampedColumn;
-use column_store::table::Table;
+use column_store::{StampedColumn, Table};
 use entity_table::Entity;
-use kinds::kind::Kind;
+use kinds::Kind;
 use std::alloc::{AllocError, Global};
 use std::sync::Arc;
 
@@ -23,7 +22,7 @@ pub(crate) fn column_at(tables: &[Table], table: usize, kind: Kind) -> &StampedC
     ensures cells { map (λ cell. Some cell) result.now.cells ≡ cells_at tables.now table (kind_number kind) }
     ensures rising { AreRising (map (λ row. row.entity) (table_at tables.now table).rows) }
 {
-    // Tells that ids rise.
+    // Proves that ids rise.
     let _entities = tables[table].entities();
     tables[table].column(kind)
 }
@@ -44,7 +43,7 @@ pub(crate) fn lend_at(
     ensures err { OnErr result (tables.new.items ≡ tables.old.items) }
 {
     let there = &mut tables[table];
-    // Tells that ids rise.
+    // Proves that ids rise.
     let _entities = there.entities();
     there.lend(alloc, kind)
 }
@@ -64,7 +63,7 @@ pub(crate) fn share_at(
     ensures alike { AreAllAlike tables.old.items tables.new.items }
 {
     let there = &mut tables[table];
-    // Tells that ids rise.
+    // Proves that ids rise.
     let _entities = there.entities();
     there.share(alloc, kind)
 }

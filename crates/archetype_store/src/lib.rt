@@ -20,3 +20,8 @@ mod slots;
 pub mod store;
 mod table_index;
 mod tables;
+
+pub use change::{EntityChange, Fate};
+pub use fault::StoreFault;
+pub use slot::{RowView, Slot};
+pub use store::World;

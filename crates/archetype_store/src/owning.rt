@@ -4,7 +4,7 @@ ghost use Rattle.std.specs.Prelude.{◌≡◌, false, map, IfOk, OnOk};
 ghost use Rattle.column_store.specs.Table.{owned};
 ghost use Rattle.archetype_store.specs.Tables.{AreHome, AreOwned, AreUnshared, AreAllAlike};
 
-use column_store::table::Table;
+use column_store::Table;
 use std::alloc::{AllocError, Global};
 
 // Tables of the same kinds and rows, where all columns are at home. The columns of the copies are theirs alone.

@@ -9,8 +9,8 @@ ghost use Rattle.model.specs.state.Loaded.{resource_given};
 ghost use Rattle.model.specs.shown.Overlay.{resource_after};
 ghost use Rattle.archetype_store.specs.Resources.{changed_of};
 
-use change_ticks::clock::Tick;
-use kinds::res::Res;
+use change_ticks::Tick;
+use kinds::Res;
 use std::marker::Model;
 
 // A resource: its value, and when it was last changed.

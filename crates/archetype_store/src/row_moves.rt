@@ -1,4 +1,4 @@
-// Rows of several entities that change at once: what comes into other tables is laid there first, which alone may want memory, and then what is
+// Rows of several entities that change at once: what comes into other tables is laid there first, which alone allocates, and then what is
 // left is removed.
 
 ghost use Rattle.std.specs.Prelude.{◌≡◌, ◌<◌, ◌≤◌, ℕ, [], length, map, None, Some, IsSome, IfOk, OnOk, OnErr};
@@ -19,8 +19,7 @@ use crate::gathering::{arriving_all, leaving_all};
 use crate::locations::{EntityLocation, place_at, reach};
 use crate::table_index::TableIndex;
 use crate::tables::{clear_at, put_all_at, remove_all_at, renew_at, table_for};
-use column_store::arrivals::Arrival;
-use column_store::table::Table;
+use column_store::{Arrival, Table};
 use entity_table::Entity;
 use std::alloc::{AllocError, Global};
 
@@ -126,7 +125,7 @@ fn renew_all(tables: &mut Vec<Table>, rows: &[RowMove<'_>])
     }
 }
 
-// Tells that ids rise in each table.
+// Proves that ids rise in each table.
 fn tell_order(tables: &[Table])
     ensures { AreRowsRising tables.now }
 {

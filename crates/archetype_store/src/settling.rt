@@ -7,7 +7,7 @@ ghost use Rattle.model.specs.state.Commands.{is_alive};
 ghost use Rattle.archetype_store.specs.Changes.{living_slot, settled_slot, book_changed, AreOfOtherIndices, IsHeldBy};
 
 use crate::change::{EntityChange, Fate};
-use entity_table::table::EntityTable;
+use entity_table::EntityTable;
 
 // An entity that lives, or is granted, lives.
 fn wake(book: &mut EntityTable, change: &EntityChange)
@@ -15,7 +15,7 @@ fn wake(book: &mut EntityTable, change: &EntityChange)
     ensures woken { book.new ≡ update_at change.now.entity.index living_slot book.old }
     ensures lives { is_alive book.new change.now.entity ≡ true }
 {
-    // Tells that who doesn't live has no row.
+    // Proves that who doesn't live has no row.
     let _count = book.len();
     if !book.lives(change.entity) {
         book.spawn_at(change.entity);

@@ -10,8 +10,8 @@ ghost use Rattle.archetype_store.specs.Archetypes.{row_of};
 ghost use Rattle.archetype_store.specs.Layout.{AreAllHome};
 
 use crate::archetypes::Archetypes;
-use column_store::stamped::StampedValue;
-use entity_table::status::Status;
+use column_store::StampedValue;
+use entity_table::Status;
 use std::marker::Model;
 
 /// The components of one entity, which contracts see as a list in rising kinds.

@@ -27,13 +27,10 @@ use crate::fault::StoreFault;
 use crate::settling::settle_all;
 use crate::slot::Slot;
 use crate::tables::ArchetypeView;
-use change_ticks::clock::Tick;
-use column_store::stamped::{StampedColumn, StampedValue};
-use entity_table::Entity;
-use entity_table::fault::GrantFault;
-use entity_table::table::EntityTable;
-use kinds::kind::Kind;
-use kinds::value::Value;
+use change_ticks::Tick;
+use column_store::{StampedColumn, StampedValue};
+use entity_table::{Entity, EntityTable, GrantFault};
+use kinds::{Kind, Value};
 use std::alloc::{AllocError, Global};
 use std::marker::Model;
 use std::sync::Arc;
@@ -165,7 +162,7 @@ impl Slots {
         ensures cells { map (λ cell. Some cell) result.now.cells ≡ column_cells self.now.slots (archetype_at self.now.layout archetype).entities (kind_number kind) }
     {
         // Tells who lives.
-        self.archetypes.laid();
+        self.archetypes.prove_laid();
         self.archetypes.column(archetype, kind)
     }
 
@@ -183,7 +180,7 @@ impl Slots {
         ensures err { OnErr result (self.new ≡ self.old) }
     {
         // Tells who lives.
-        self.archetypes.laid();
+        self.archetypes.prove_laid();
         self.archetypes.take_column(alloc, archetype, kind)
     }
 
@@ -200,7 +197,7 @@ impl Slots {
         ensures same { self.new ≡ self.old }
     {
         // Tells who lives.
-        self.archetypes.laid();
+        self.archetypes.prove_laid();
         self.archetypes.share_column(alloc, archetype, kind)
     }
 
@@ -238,10 +235,10 @@ impl Slots {
     }
 
     /// The layout is that of the slots.
-    pub(crate) fn laid(&self)
+    pub(crate) fn prove_laid(&self)
         ensures { IsLayoutOf self.now.slots self.now.layout }
     {
-        self.archetypes.laid();
+        self.archetypes.prove_laid();
     }
 
     /// Grants so many ids: the least vacant indices, at their generations. After an error the slots are as they were.

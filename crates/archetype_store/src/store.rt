@@ -32,13 +32,10 @@ use crate::resources::Resources;
 use crate::slot::Slot;
 use crate::slots::Slots;
 pub use crate::tables::ArchetypeView;
-use change_ticks::clock::{Clock, ClockSpent, Tick};
-use change_ticks::stamp::Stamp;
-use column_store::stamped::{StampedColumn, StampedValue};
+use change_ticks::{Clock, ClockSpent, Stamp, Tick};
+use column_store::{StampedColumn, StampedValue};
 use entity_table::Entity;
-use kinds::component::Component;
-use kinds::kind::Kind;
-use kinds::res::Res;
+use kinds::{Component, Kind, Res};
 use std::alloc::{AllocError, Global};
 use std::marker::Model;
 use std::sync::Arc;
@@ -76,7 +73,7 @@ impl World {
     pub fn empty(alloc: Global, clock: Clock) -> World
         ensures { result ≡ record { state = empty_world clock; layout = [] } }
     {
-        // Tells that the clock stands at one of its ticks.
+        // Proves that the clock stands at one of its ticks.
         let _now = clock.now();
         World {
             slots: Slots::new(alloc),
@@ -189,8 +186,8 @@ impl World {
         requires past { AllByRecursion (IsPast self.old.state.clock) column.cells }
         ensures { self.new ≡ homed_in self.old archetype column.kind column.cells }
     {
-        // Tells that the components have the fields of their kind.
-        column.law();
+        // Proves that the components have the fields of their kind.
+        column.prove_law();
         self.slots.put_column(archetype, column);
     }
 
@@ -207,7 +204,7 @@ impl World {
         ensures err { OnErr result (self.new ≡ self.old) }
     {
         // Tell how the layout is that of the state, and that no stamp is above the clock.
-        self.laid();
+        self.prove_laid();
         let _now = self.now();
         let mut taken = Vec::with_capacity(alloc, columns.len())?;
         for at in columns {
@@ -257,10 +254,10 @@ impl World {
 
     /// The layout is that of the state: who is in an archetype lives with just its kinds, who lives with components is in one, none is
     /// without entities, and no two have the same kinds.
-    pub fn laid(&self)
+    pub fn prove_laid(&self)
         ensures { IsLayoutOf self.now.state.slots self.now.layout }
     {
-        self.slots.laid();
+        self.slots.prove_laid();
     }
 
     /// Grants so many ids: the least vacant indices, at their generations. After an error nothing has changed.

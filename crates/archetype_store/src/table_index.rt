@@ -9,9 +9,9 @@ ghost use Rattle.archetype_store.specs.Layout.{layout_of};
 ghost use Rattle.archetype_store.specs.Tables.{IsTableOf};
 ghost use Rattle.archetype_store.specs.TableIndex.{has_bit, peopled_from, IsWord, IsFound, IsIndexed};
 
-use column_store::stamped::StampedValue;
-use column_store::table::Table;
-use kinds::kind::{Kind, kinds_are_apart};
+use column_store::{StampedValue, Table};
+use kinds::Kind;
+use kinds::kind::prove_kinds_apart;
 use std::alloc::{AllocError, Global};
 use std::collections::HashMap;
 
@@ -26,7 +26,7 @@ pub(crate) struct TableIndex {
 fn with_kind(word: u32, kind: Kind) -> u32
     ensures { (k : ℕ) → has_bit result k ≡ ((kind_number kind == k) || has_bit word k) }
 {
-    kinds_are_apart();
+    prove_kinds_apart();
     word | (1 << kind.number())
 }
 

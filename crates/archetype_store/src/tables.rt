@@ -21,13 +21,10 @@ ghost use Rattle.archetype_store.specs.TableIndex.{IsFound};
 ghost use Rattle.archetype_store.specs.Tables.{table_at, kinds_at, held_at, row_or_none, AreShaped, AreUnlike, AreGone, AreHome, AreOwned, IsHeldNow, IsGrown};
 
 use crate::table_index::{TableIndex, word_of};
-use change_ticks::clock::Tick;
-use column_store::arrivals::Arrival;
-use column_store::stamped::StampedValue;
-use column_store::table::Table;
+use change_ticks::Tick;
+use column_store::{Arrival, StampedValue, Table};
 use entity_table::Entity;
-use kinds::kind::Kind;
-use kinds::value::Value;
+use kinds::{Kind, Value};
 use std::alloc::{AllocError, Global};
 
 /// An archetype that has entities.
@@ -238,7 +235,7 @@ pub(crate) fn remove_at(tables: &mut Vec<Table>, table: usize, e: Entity)
     ensures { IsHeldNow tables.old.items tables.new.items table e None }
 {
     let there = &mut tables[table];
-    // Tells that ids rise, so that none of them is there twice.
+    // Proves that ids rise, so that none of them is there twice.
     let _entities = there.entities();
     there.remove(e);
 }

@@ -11,12 +11,14 @@ use Rattle.model.specs.access.Query.Term.{Entity as IdOnly, Read, Mut, Opt, With
 use Rattle.model.specs.access.Conflict.{QueriesConflictAt}
 use Rattle.model.specs.shown.Input.{ShownRow, is_row, passes, shown_row, rows_from, rows_of}
 use Rattle.archetype_store.specs.Layout.{Archetype, archetype_at, IsLayoutOf}
+use Rattle.std.proofs.lemmas.Bool.{and_parts as and-parts, or_right as or-right}
+use Rattle.model.proofs.serial.Conflicts.{touches_from_writes as writes-touches}
 use Rattle.body.specs.Columns.{Column}
 use Rattle.body.specs.Sheet.{Sheet}
 use Rattle.body.specs.Together.{IsAlone}
 use Rattle.body.specs.Apart.{IsPicked, IsOver, ApartAreAlone}
 use Rattle.body.proofs.Gets.{same-some, all-get}
-use Rattle.body.proofs.Plannings.{or-cases, or-left, or-right, and-parts, is-in}
+use Rattle.body.proofs.Plannings.{or-cases, is-in}
 
 -- a row of a query, at the slot of its index
 pub record IsRowAt (query : List Term) (last first : ℕ) (slots : List Slot) (row : ShownRow) : Type 0 where
@@ -71,13 +73,6 @@ written-touched (Without m) k h = absurd (cc)
 written-touched (AnyOf alternatives) k h = absurd (cc)
 written-touched (Added m) k h = absurd (cc)
 written-touched (Changed m) k h = absurd (cc)
-
-pub writes-touches : (terms : List Term) (k : ℕ) → writes terms k ≡ true → touches terms k ≡ true
-writes-touches [] k h = absurd (cc)
-writes-touches (t ∷ ts) k h = elim (or-cases (is_number k (written t)) (writes ts k) h) [
-  | inl here ↦ or-left (is_number k (touched t)) (touches ts k) (written-touched t k here)
-  | inr later ↦ or-right (is_number k (touched t)) (touches ts k) (writes-touches ts k later)
-]
 
 rest-of : (a b c : Bool) → ((a && b) && c) ≡ true → (b && c) ≡ true
 rest-of true b c h = h

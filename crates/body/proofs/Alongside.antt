@@ -1,6 +1,6 @@
 -- The laws of the queries of a view together.
 use Rattle.std.proofs.Common.{◌≡◌, ◌≢◌, ℕ, zero, suc, ◌<◌, Bool, true, false, cond, ◌||◌, ◌==◌, ◌⊎◌, inl, inr, ℤ, List, [], ◌∷◌, map, slice_get, Option, Some, None, option_map, refl, sym, ap, ap₂, ◌∙◌, arith}
-use Rattle.std.proofs.lemmas.Bool.{eqb-true, eq-eqb}
+use Rattle.std.proofs.lemmas.Bool.{eqb-true, eq-eqb, or_right as or-right, or_left as or-left}
 use Rattle.model.specs.Lists.{is_number, first_some}
 use Rattle.model.specs.declared.entities.Entity.{Entity}
 use Rattle.model.specs.state.State.{Cell, Slot, Component}
@@ -12,34 +12,18 @@ use Rattle.model.specs.shown.Input.{ShownRow, words_of, shown_row, fetch}
 use Rattle.model.specs.shown.Outcome.{words_in_row, words_in_query, words_written}
 use Rattle.model.specs.shown.Overlay.{cell_after}
 use Rattle.query_plan.specs.declared.row.Row.{Row}
+use Rattle.model.proofs.serial.Within.{words_in_row-writes as in-row-written}
 use Rattle.body.specs.Columns.{Column, cells_after, column_after}
 use Rattle.body.specs.Seen.{fetches}
 use Rattle.body.specs.Sheet.{Sheet, seen_at, row_of, words_for}
 use Rattle.body.specs.Together.{words_of_sheet, words_of_all, IsAlone, CloseTogether, IsReachedIn, ReachTogether, RowsAreShown, CellsAreAfter}
 use Rattle.body.proofs.Gets.{same-some, map-same-get}
-use Rattle.body.proofs.SheetWords.{choose}
 
 -- ---- what is written is written by a term
 
 in-row-step : (b : Bool) (v rest : Option (List ℤ)) (w : List ℤ) → first_some (cond b v None) rest ≡ Some w → (b ≡ true) ⊎ (rest ≡ Some w)
 in-row-step true v rest w h = inl refl
 in-row-step false v rest w h = inr h
-
-or-right : (a b : Bool) → b ≡ true → (a || b) ≡ true
-or-right true b h = refl
-or-right false b h = h
-
-or-left : (a b : Bool) → a ≡ true → (a || b) ≡ true
-or-left true b h = refl
-or-left false b h = absurd (cc)
-
-in-row-written : (query : List Term) (values : List (Option (List ℤ))) (k : ℕ) (w : List ℤ) → words_in_row query values k ≡ Some w → writes query k ≡ true
-in-row-written [] values k w h = absurd (cc)
-in-row-written (t ∷ ts) [] k w h = absurd (cc)
-in-row-written (t ∷ ts) (v ∷ vs) k w h = elim (in-row-step (is_number k (written t)) v (words_in_row ts vs k) w h) [
-  | inl here ↦ or-left (is_number k (written t)) (writes ts k) here
-  | inr later ↦ or-right (is_number k (written t)) (writes ts k) (in-row-written ts vs k w later)
-]
 
 -- ---- another query writes nothing there
 

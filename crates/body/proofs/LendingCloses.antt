@@ -180,11 +180,6 @@ lent_close w tick sheets laid world ticks alone reach lent =
 
 -- ---- the clock
 
--- what comes home leaves the clock
-pub home-clock : (cs : List TakenColumn) (w : StoreValue) → (all_home cs w).state.clock ≡ w.state.clock
-home-clock [] w = refl
-home-clock (c ∷ cs) w = home-clock cs w
-
 -- ---- one column after the other
 
 pub lent_of-append : (xs ys : List Column) → lent_of (xs ++ ys) ≡ lent_of xs ++ lent_of ys

@@ -198,7 +198,7 @@ module _ (P Q : TakenColumn → Type 0) (E : Column → Type 0) where
 
 -- ---- they can come home
 
-clock_kept : (cs : List TakenColumn) (w : StoreValue) → (all_home cs w).state.clock ≡ w.state.clock
+pub clock_kept : (cs : List TakenColumn) (w : StoreValue) → (all_home cs w).state.clock ≡ w.state.clock
 clock_kept [] w = refl
 clock_kept (c ∷ cs) w = clock_kept cs w
 

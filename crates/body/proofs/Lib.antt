@@ -1,6 +1,6 @@
 mod Edits
 mod Views
-mod States
+pub mod States
 mod Times
 pub mod Values
 pub mod Gets

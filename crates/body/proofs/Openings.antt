@@ -26,6 +26,7 @@ use Rattle.archetype_store.proofs.TakenColumns.{cells_past}
 use Rattle.query_plan.specs.declared.row.Row.{Row}
 use Rattle.query_plan.specs.Standing.{IsStanding}
 use Rattle.query_plan.proofs.Stamps.{cell_here, cells_length}
+use Rattle.model.proofs.serial.Within.{matches_from_row as row-matches}
 use Rattle.body.specs.Columns.{Column, AreFresh}
 use Rattle.body.specs.Seen.{fetches}
 use Rattle.body.specs.Sheet.{slot_in, slot_cell, row_of}
@@ -72,10 +73,6 @@ row-shown query last slots r row h =
       subst (λ n. is_row query last (get_or slots n fresh_slot) ≡ true) index at.passed,
     )
 
-row-matches : (query : List Term) (last : ℕ) (slot : Slot) → is_row query last slot ≡ true → matches query (kinds_of slot.row) ≡ true
-row-matches query last slot h =
-    (and_parts (is_living slot.status) (matches query (kinds_of slot.row)) (and_parts (is_living slot.status && matches query (kinds_of slot.row)) (list_all (passes last slot.row) query) h).0).1
-
 -- rows with the entities of shown rows have different indices
 of-others : (query : List Term) (last first : ℕ) (slots : List Slot) (rows : List Row) → map (λ (x : Row). x.entity) rows ≡ map (λ (x : ShownRow). x.entity) (rows_from query last first slots) → AreOfOthers rows
 unfolding rows_from
@@ -103,7 +100,7 @@ of-others query last first (x ∷ slots) rows e = at (is_row query last x) rows 
 -- ---- kinds
 
 -- what has a kind is an archetype of the layout
-kinds-within : (layout : List Archetype) (n kind : ℕ) → has kind (archetype_at layout n).kinds ≡ true → n < length layout
+pub kinds-within : (layout : List Archetype) (n kind : ℕ) → has kind (archetype_at layout n).kinds ≡ true → n < length layout
 kinds-within [] n kind h = absurd (cc)
 kinds-within (a ∷ layout) zero kind h = omega arith
 kinds-within (a ∷ layout) (suc n) kind h = let l = kinds-within layout n kind h in omega arith

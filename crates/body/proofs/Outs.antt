@@ -24,21 +24,22 @@ use Rattle.archetype_store.specs.Overlays.{is_reached, AreReached}
 use Rattle.archetype_store.specs.Slot.{cell_of, column_cells}
 use Rattle.archetype_store.specs.Store.{StoreValue}
 use Rattle.archetype_store.proofs.ColumnOverlays.{entities_home}
-use Rattle.archetype_store.proofs.Held.{same_self}
 use Rattle.archetype_store.proofs.TakenColumns.{kinds_home}
 use Rattle.query_plan.specs.Picks.{Picked, picks_of}
 use Rattle.query_plan.specs.Standing.{ArePickedHome}
 use Rattle.query_plan.proofs.PickedHome.{from_picked}
+use Rattle.model.proofs.serial.Conflicts.{touches_from_writes as writes-touches}
+use Rattle.column_store.proofs.Arrived.{same_self}
 use Rattle.body.specs.Columns.{Column}
 use Rattle.body.specs.Laid.{with_slots}
 use Rattle.body.specs.Lent.{lent_in, with_away, with_back, AreOfOtherPlaces, IsLent, IsOfEntities, AreLent}
 use Rattle.body.specs.Out.{IsWrittenBy, IsPlaceOf, AreOut, IsApartFrom}
-use Rattle.body.proofs.Aloneness.{writes-touches}
 use Rattle.body.proofs.Gets.{each-in, each-from, each-split}
 use Rattle.body.proofs.Lendings.{IsAt, IsOther, home_other, entities_away, away_later, lent_in-append, apart-append, not_both}
 use Rattle.body.proofs.Pickings.{IsPickIn, picks-are}
 use Rattle.body.proofs.Plannings.{archetype-fact, same-archetype}
-use Rattle.body.proofs.QueryOpens.{has-within, kinds-at-away}
+use Rattle.body.proofs.QueryOpens.{kinds-at-away}
+use Rattle.body.proofs.Openings.{kinds-within as has-within}
 
 -- ---- flags
 

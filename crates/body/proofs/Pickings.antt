@@ -21,6 +21,7 @@ use Rattle.archetype_store.specs.Store.{StoreValue}
 use Rattle.query_plan.specs.declared.picks.Pick.{Pick}
 use Rattle.query_plan.specs.Picks.{Picked, pick_seen, picked_in, picked_of, picked_from, picks_of}
 use Rattle.query_plan.proofs.PickedHome.{from_picked}
+use Rattle.model.proofs.lists.Lists.{==-same as same-number}
 use Rattle.body.specs.Apart.{IsPicked}
 use Rattle.body.specs.Columns.{Column}
 use Rattle.body.specs.Lent.{lent_of, with_away}
@@ -350,9 +351,6 @@ pub record IsPickIn (query : List Term) (layout : List Archetype) (p : Picked) :
   pub held : has p.kind (archetype_at layout p.archetype).kinds ≡ true
   pub touched : touches query p.kind ≡ true
   pub own : p.is_written ≡ writes query p.kind
-
-same-number : (k : ℕ) → (k == k) ≡ true
-same-number k = eq-eqb k k refl
 
 module _ (query : List Term) (P : Picked → Type 0) where
   in-kinds : (n : ℕ) (kinds : List ℕ) → ((k : ℕ) → has k kinds ≡ true → touches query k ≡ true → P (record { archetype = n; kind = k; is_written = writes query k })) → AllByRecursion P (picked_in query n kinds)

@@ -1,7 +1,7 @@
 -- A query may open over what was planned: each part of what it asks, from the layout of the store.
 use Rattle.std.proofs.Common.{◌≡◌, ◌≢◌, ℕ, zero, suc, ◌<◌, ◌≤◌, ◌⊎◌, inl, inr, Bool, true, false, ◌||◌, ◌&&◌, ◌==◌, nat_lt, List, [], ◌∷◌, length, get_or, map, slice_get, Option, Some, None, refl, sym, ap, ap₂, ◌∙◌, subst, arith}
 use Rattle.std.specs.Prelude.{IsSome}
-use Rattle.std.proofs.lemmas.Bool.{eqb-true, eq-eqb, ltb-true}
+use Rattle.std.proofs.lemmas.Bool.{eqb-true, eq-eqb, ltb-true, and_parts as and-parts, or_right as or-right, or_left as or-left}
 use Rattle.std.proofs.lemmas.Option.{slice_get_within, slice_get-get_or}
 use Rattle.std.specs.List.{AllByRecursion, list_any}
 use Rattle.model.specs.Lists.{is_there, is_number}
@@ -15,6 +15,7 @@ use Rattle.model.specs.access.QueryFaults.{fetched}
 use Rattle.column_store.specs.Order.{is_before, is_same, AreRising}
 use Rattle.archetype_store.specs.Layout.{Archetype, archetype_at, is_in_archetype, IsArchetype, AreOfOtherKinds, IsLayoutOf}
 use Rattle.query_plan.specs.declared.row.Row.{Row}
+use Rattle.query_plan.proofs.Gathered.{living_generation as alive-generation}
 use Rattle.body.specs.Columns.{Column, cell_in, AreFresh}
 use Rattle.body.specs.Seen.{fetches}
 use Rattle.body.specs.Sheet.{slot_in, IsSlot, IsRow, IsElsewhere, AreApart, ArePlaced, IsPlan}
@@ -27,18 +28,6 @@ use Rattle.body.proofs.Sheets.{cell_in-is}
 pub or-cases : (a b : Bool) → (a || b) ≡ true → (a ≡ true) ⊎ (b ≡ true)
 or-cases true b h = inl refl
 or-cases false b h = inr h
-
-pub or-right : (a b : Bool) → b ≡ true → (a || b) ≡ true
-or-right true b h = refl
-or-right false b h = h
-
-pub or-left : (a b : Bool) → a ≡ true → (a || b) ≡ true
-or-left true b h = refl
-or-left false b h = absurd (cc)
-
-pub and-parts : (a b : Bool) → (a && b) ≡ true → (a ≡ true) × (b ≡ true)
-and-parts true b h = (refl, h)
-and-parts false b h = absurd (cc)
 
 -- ---- archetypes
 
@@ -68,10 +57,6 @@ is-in (x ∷ xs) zero e h =
 is-in (x ∷ xs) (suc place) e h = or-right (is_same x e) (list_any (λ y. is_same y e) xs) (is-in xs place e h)
 
 -- ---- entities
-
-alive-generation : (slots : List Slot) (e : Entity) → is_alive slots e ≡ true → (get_or slots e.index fresh_slot).generation ≡ e.generation
-alive-generation slots e h =
-    eqb-true (get_or slots e.index fresh_slot).generation e.generation (and-parts (is_living (get_or slots e.index fresh_slot).status) ((get_or slots e.index fresh_slot).generation == e.generation) h).1
 
 same-entity : (slots : List Slot) (e f : Entity) → is_alive slots e ≡ true → is_alive slots f ≡ true → e.index ≡ f.index → e ≡ f
 same-entity slots e f a b i =

@@ -36,10 +36,10 @@ use Rattle.body.specs.SeenOver.{AreTogether}
 use Rattle.body.specs.Sheet.{Sheet, IsPlan, row_of}
 use Rattle.body.specs.SlotTable.{AreSlotsOf}
 use Rattle.body.specs.Together.{IsAlone}
-use Rattle.body.proofs.Aloneness.{apart-alone, writes-touches}
+use Rattle.body.proofs.Aloneness.{apart-alone}
 use Rattle.body.proofs.Gets.{same-some, all-get, in-get}
 use Rattle.body.proofs.Lendings.{homes_back, home_other, entities_away, with_away-append, lent_in-append, lent_next}
-use Rattle.body.proofs.Openings.{opens-over}
+use Rattle.body.proofs.Openings.{opens-over, kinds-within as has-within}
 use Rattle.body.proofs.Pickings.{picked-of, picks-are, IsPickIn}
 
 -- ---- one query
@@ -57,12 +57,6 @@ split-many (p ∷ ps) = go p.is_written (split-many ps)
     go : (b : Bool) → length (picked_own ps ++ picked_read ps) ≡ length ps → length (cond b (p ∷ picked_own ps) (picked_own ps) ++ cond b (picked_read ps) (p ∷ picked_read ps)) ≡ suc (length ps)
     go true e = ap suc e
     go false e = let a = length-append (picked_own ps) (p ∷ picked_read ps) in let b = length-append (picked_own ps) (picked_read ps) in omega arith
-
--- an archetype that has a kind is one of the layout
-pub has-within : (layout : List Archetype) (n kind : ℕ) → has kind (archetype_at layout n).kinds ≡ true → n < length layout
-has-within [] n kind h = absurd (cc)
-has-within (a ∷ layout) zero kind h = omega arith
-has-within (a ∷ layout) (suc n) kind h = let l = has-within layout n kind h in omega arith
 
 pub picked-within : (terms : List Term) (w : StoreValue) (m : ℕ) (columns : List Column) → length w.layout < m → AllByRecursion (IsPickedOf terms w) columns → AllByRecursion (λ (c : Column). c.archetype < m) columns
 picked-within terms w m columns l h = each-weaker (IsPickedOf terms w) (λ (c : Column). c.archetype < m) (λ c p. (let k = has-within w.layout c.archetype c.kind p.picked.held in omega arith)) columns h

@@ -11,10 +11,11 @@ use Rattle.model.specs.shown.Input.{ShownRow}
 use Rattle.model.specs.shown.Outcome.{words_in_row, words_in_query}
 use Rattle.model.specs.shown.Overlay.{cell_after}
 use Rattle.query_plan.specs.declared.row.Row.{Row}
+use Rattle.event_buffers.proofs.ListsOfEvents.{choose}
 use Rattle.body.specs.Columns.{Column, cell_in, cells_after, column_after}
 use Rattle.body.specs.Sheet.{slot_in, slot_cell, seen_at, words_at, row_of, written_of, IsSlot, IsRow, IsSheet, IsOverwritten, head_of, WritesReach, IsReached}
 use Rattle.body.proofs.Gets.{same-some, same-by-get, all-get, mapped}
-use Rattle.body.proofs.SheetWords.{choose, in_row-map}
+use Rattle.body.proofs.SheetWords.{in_row-map}
 use Rattle.body.proofs.Sheets.{cell_in-is, column-of, head-at}
 
 -- ---- the writes of a query, row by row

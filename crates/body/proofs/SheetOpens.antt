@@ -5,9 +5,9 @@ use Rattle.model.specs.state.State.{Cell}
 use Rattle.model.specs.access.Query.{Term, written}
 use Rattle.model.specs.shown.Outcome.{untouched_rows}
 use Rattle.query_plan.specs.declared.row.Row.{Row}
+use Rattle.event_buffers.proofs.ListsOfEvents.{choose}
 use Rattle.body.specs.Columns.{Column, cell_in, AreFresh}
 use Rattle.body.specs.Sheet.{slot_in, slot_cell, seen_at, words_at, words_for, without_kind, written_in, row_of, written_of}
-use Rattle.body.proofs.SheetWords.{choose}
 
 -- no cell was changed at the tick yet
 nothing-at : (tick : ℕ) (columns : List Column) (slot : Option ℕ) (place : ℕ) → AreFresh tick columns → words_at tick (slot_cell slot columns place) ≡ None

@@ -6,11 +6,9 @@ use Rattle.model.specs.Lists.{first_some, is_number}
 use Rattle.model.specs.access.Query.{Term, written, writes}
 use Rattle.model.specs.access.QueryFaults.{fetched}
 use Rattle.model.specs.shown.Outcome.{words_in_row}
+use Rattle.event_buffers.proofs.ListsOfEvents.{choose}
 use Rattle.body.specs.Seen.{fetches, words_shown, with_words}
 use Rattle.body.specs.Sheet.{words_for, without_kind, written_in}
-
-pub choose : {A : Type 0} (b c : Bool) (x y : A) → b ≡ c → cond b x y ≡ cond c x y
-choose b c x y e = cc
 
 nothing : (b : Bool) → cond b None (let o : Option (List ℤ) = None in o) ≡ None
 nothing true = refl

@@ -9,11 +9,12 @@ use Rattle.model.specs.state.State.{Cell}
 use Rattle.model.specs.access.Query.{Term, writes, written}
 use Rattle.column_store.specs.Cells.{changed_cell}
 use Rattle.query_plan.specs.declared.row.Row.{Row}
+use Rattle.event_buffers.proofs.ListsOfEvents.{choose}
 use Rattle.body.specs.Columns.{Column, cell_in, with_cell}
 use Rattle.body.specs.Seen.{with_words}
 use Rattle.body.specs.Sheet.{slot_in, slot_cell, seen_at, at_slot, words_at, written_of, sheet_of, Sheet, IsSlot, IsRow, IsSheet, IsOverwritten, AreChanged, head_of, IsWritable, IsWritableAt}
 use Rattle.body.proofs.Gets.{same-some, all-get, map-update-get, get-update, get-update-other}
-use Rattle.body.proofs.SheetWords.{choose, with_words-map, written_in-same}
+use Rattle.body.proofs.SheetWords.{with_words-map, written_in-same}
 use Rattle.body.proofs.Sheets.{cell_in-is, column-of, is-some, head-at, apart-at, two-cells}
 
 pub same-number : (a b : ℕ) → (a ≡ b) ⊎ (a ≢ b)

@@ -15,7 +15,7 @@ use Rattle.body.specs.Columns.{Column, cell_in, with_cell}
 use Rattle.body.specs.Seen.{fetches, words_read, no_row}
 use Rattle.body.specs.Sheet.{slot_in, slot_cell, seen_at, words_at, row_of, written_of, IsSlot, IsRow, AreApart, IsElsewhere, IsSheet, IsOverwritten, head_of, IsThere, IsReadableAt, IsReadable}
 use Rattle.body.proofs.Gets.{same-some, all-get, mapped}
-use Rattle.body.proofs.SheetWords.{choose, in_row-map, shown-map}
+use Rattle.body.proofs.SheetWords.{in_row-map, shown-map}
 
 -- ---- cells of columns
 

@@ -1,6 +1,7 @@
 -- Systems that never ran.
 use Rattle.std.proofs.Common.{◌≡◌, ℕ, zero, suc, ◌+◌, ◌<◌, List, [], ◌∷◌, ◌++◌, length, map, take, drop, set, get_or, replicate, refl, ap, ◌∙◌, arith}
 use Rattle.std.specs.List.{AllByRecursion}
+use Rattle.model.proofs.lists.Each.{each-replicate as all-replicate}
 
 more : {A : Type 0} (n : ℕ) (x : A) → replicate (suc n) x ≡ replicate n x ++ x ∷ []
 more zero x = refl
@@ -9,11 +10,6 @@ more (suc n) x = ap (λ xs. x ∷ xs) (more n x)
 -- one more
 pub replicate-more : {A : Type 0} (n : ℕ) (x : A) → replicate (n + 1) x ≡ replicate n x ++ x ∷ []
 replicate-more n x = ap (λ m. replicate m x) (let s : n + 1 ≡ suc n = omega arith in s) ∙ more n x
-
--- a fact of each
-pub all-replicate : {A : Type 0} (P : A → Type 0) (n : ℕ) (x : A) → P x → AllByRecursion P (replicate n x)
-all-replicate P zero x p = tt
-all-replicate P (suc n) x p = (p, all-replicate P n x p)
 
 -- a cursor for each reader
 pub zeros : {A : Type 0} (f : A → ℕ) (xs : List A) → map {B = ℕ} (λ kind. 0) (map f xs) ≡ replicate (length xs) 0

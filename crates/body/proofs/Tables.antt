@@ -9,6 +9,7 @@ use Rattle.query.proofs.Terms.{list_any-map}
 use Rattle.kinds.specs.Kind.{kind_count}
 use Rattle.model.specs.Lists.{update_at}
 use Rattle.model.specs.access.Query.{Term}
+use Rattle.model.proofs.lists.Lists.{length-update_at as length-update}
 use Rattle.body.specs.declared.held.Held.{Held}
 use Rattle.body.specs.declared.view_query.Slots.{Slots}
 use Rattle.body.specs.Columns.{Column}
@@ -34,11 +35,6 @@ get-update-there zero zero f (s ∷ ss) d = absurd (d refl)
 get-update-there zero (suc n) f (s ∷ ss) d = refl
 get-update-there (suc a) zero f (s ∷ ss) d = refl
 get-update-there (suc a) (suc n) f (s ∷ ss) d = get-update-there a n f ss (λ e. d (ap suc e))
-
-length-update : {A : Type 0} (a : ℕ) (f : A → A) (xs : List A) → length (update_at a f xs) ≡ length xs
-length-update a f [] = refl
-length-update zero f (s ∷ ss) = refl
-length-update (suc a) f (s ∷ ss) = ap suc (length-update a f ss)
 
 wide-update : (a k : ℕ) (v : Option ℕ) (slots : List (List (Option ℕ))) → AllByRecursion (λ row. length row ≡ kind_count) slots → AllByRecursion (λ row. length row ≡ kind_count) (update_at a (λ columns. set columns k v) slots)
 wide-update a k v [] h = tt

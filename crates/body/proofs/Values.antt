@@ -200,13 +200,3 @@ res_number-at (suc (suc (suc (suc (suc zero))))) d l = refl
 res_number-at (suc (suc (suc (suc (suc (suc zero)))))) d l = refl
 res_number-at (suc (suc (suc (suc (suc (suc (suc zero))))))) d l = refl
 res_number-at (suc (suc (suc (suc (suc (suc (suc (suc n)))))))) d l = absurd (omega arith)
-
-pub res_number-below : (r : Res) → res_number r < 8
-res_number-below Round = omega arith
-res_number-below Gravity = omega arith
-res_number-below Total = omega arith
-res_number-below Seed = omega arith
-res_number-below Limit = omega arith
-res_number-below Alarm = omega arith
-res_number-below Mode = omega arith
-res_number-below Step = omega arith

@@ -10,8 +10,8 @@ ghost use Rattle.body.specs.Together.{words_of_sheet};
 
 use crate::held::{Cells, Held};
 use crate::view_query::ViewQuery;
-use archetype_store::store::World;
-use query_plan::row_room::RowRoom;
+use archetype_store::World;
+use query_plan::RowBuffers;
 
 // Brings a column home, where it was lent.
 fn put_held(held: Held, world: &mut World)
@@ -42,7 +42,7 @@ fn put_columns(columns: Vec<Held>, world: &mut World)
 
 // Brings the columns of queries home, with what was written there: all of it is in columns that the world lent.
 // The buffers of their rows go to this room.
-pub(crate) fn put_home(queries: Vec<ViewQuery>, world: &mut World, room: &mut RowRoom)
+pub(crate) fn put_home(queries: Vec<ViewQuery>, world: &mut World, room: &mut RowBuffers)
     requires { CanComeHome (lent_after queries.items) world.old }
     ensures home { world.new ≡ all_home (lent_after queries.items) world.old }
     ensures reach { AllByRecursion (λ (s : Sheet). WritesReach (words_of_sheet s) s.taken) queries.items }

@@ -8,8 +8,9 @@ ghost use Rattle.body.specs.Lent.{lent_of, with_away};
 ghost use Rattle.body.specs.Picked.{spot_of, spot_seen, picked_own, picked_read, own_column, read_column, AreSpotsHome, AreOtherSpots, AreHeldOf};
 
 use crate::held::{Cells, Held};
-use archetype_store::store::{ColumnAt, SharedColumn, TakenColumn, World};
-use query_plan::picks::Pick;
+use archetype_store::World;
+use archetype_store::store::{ColumnAt, SharedColumn, TakenColumn};
+use query_plan::Pick;
 use std::alloc::{AllocError, Global};
 use std::snapshot::Snapshot;
 

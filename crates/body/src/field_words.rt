@@ -4,8 +4,7 @@ ghost use Rattle.std.specs.Prelude.{◌≡◌, ◌<◌, [], length};
 ghost use Rattle.kinds.specs.Components.{widths, word_at};
 ghost use Rattle.body.specs.Fields.{words_of_width, words_with};
 
-use kinds::component::Component;
-use kinds::fields::Fields;
+use kinds::{Component, Fields};
 
 /// The word at a place, 0 past the end.
 pub fn word(words: &Fields, at: usize) -> i64

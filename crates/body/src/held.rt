@@ -10,11 +10,10 @@ ghost use Rattle.body.specs.Fields.{field_of, field_cell, column_with_fields};
 ghost use Rattle.body.specs.HeldColumns.{column_in, held_seen};
 
 use crate::field_words::{field_of, with_field};
-use archetype_store::store::World;
-use change_ticks::clock::Tick;
-use column_store::stamped::StampedColumn;
-use kinds::component::Component;
-use kinds::kind::Kind;
+use archetype_store::World;
+use change_ticks::Tick;
+use column_store::StampedColumn;
+use kinds::{Component, Kind};
 use std::alloc::Global;
 use std::snapshot::Snapshot;
 use std::sync::Arc;
@@ -91,7 +90,7 @@ impl Held {
         ensures length { length values.new ≡ length values.old }
         ensures values { (i : ℕ) → i < length values.old → get_or values.new i (pos 0) ≡ field_of place (words_of (slice_get (held_seen self.now).cells (from + i))) }
     {
-        // Tells that places fit.
+        // Proves that places fit.
         let _count = self.len();
         for i in 0..values.len() {
             values[i] = field_of(&self.get::<C>(from + i), place);
@@ -124,7 +123,7 @@ impl Held {
         requires place { place < widths C.NUMBER }
         ensures { held_seen self.new ≡ column_with_fields (widths C.NUMBER) tick place from values.now (held_seen self.old) }
     {
-        // Tells that places fit.
+        // Proves that places fit.
         let _count = self.len();
         for i in 0..values.len() {
             self.set_field::<C>(from + i, place, values[i], tick);

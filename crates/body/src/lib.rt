@@ -15,3 +15,11 @@ pub mod view;
 mod view_commands;
 pub mod view_query;
 mod view_values;
+
+pub use held::{Cells, Held};
+pub use memory::Memory;
+pub use open_state::OpenState;
+pub use state::{Memories, State};
+pub use system_body::{Body, BodyFault};
+pub use view::View;
+pub use view_query::{Slots, ViewQuery};

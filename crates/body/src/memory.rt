@@ -6,9 +6,9 @@ ghost use Rattle.model.specs.state.Events.{queue_of};
 ghost use Rattle.model.specs.state.Loaded.{first_memory};
 ghost use Rattle.model.specs.runs.RunState.{memory_after_run, with_registers};
 
-use change_ticks::clock::Tick;
-use event_buffers::buffers::Events;
-use kinds::res::Event;
+use change_ticks::Tick;
+use event_buffers::Events;
+use kinds::Event;
 use std::alloc::{AllocError, Global};
 use std::marker::Model;
 

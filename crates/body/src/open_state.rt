@@ -27,18 +27,18 @@ ghost use Rattle.body.specs.Steps.{AreInTime, HasShape, asked_at, at_clock, coun
 use crate::memory::Memory;
 use crate::state::{Memories, State};
 use crate::view::View;
-use access_set::params::Params;
+use access_set::Params;
+use archetype_store::World;
 use archetype_store::fault::GrantFault;
-use archetype_store::store::World;
-use change_ticks::clock::{ClockSpent, LAST_TICK, Tick};
+use change_ticks::clock::LAST_TICK;
+use change_ticks::{ClockSpent, Tick};
+use command_queue::CommandBuffer;
 use command_queue::apply::apply;
-use command_queue::buffer::CommandBuffer;
 use condition_eval::answer::ask;
 use entity_table::Entity;
-use event_buffers::buffers::Events;
-use event_buffers::queue::SendFault;
-use kinds::res::Event;
-use query_plan::row_room::RowRoom;
+use event_buffers::{Events, SendFault};
+use kinds::Event;
+use query_plan::RowBuffers;
 use run_condition::Cond;
 use std::alloc::{AllocError, Global};
 use std::marker::Model;
@@ -56,7 +56,7 @@ pub struct OpenState {
     systems: Vec<Memory>,
     conditions: Vec<Memory>,
     passed_over: u64,
-    room: RowRoom,
+    room: RowBuffers,
 }
 
 impl Model for OpenState {
@@ -77,7 +77,7 @@ impl OpenState {
         systems: Vec<Memory>,
         conditions: Vec<Memory>,
         passed_over: u64,
-        room: RowRoom,
+        room: RowBuffers,
     ) -> Self
         requires in_time { AreInTime world.state.clock systems.items conditions.items }
         requires counted { passed_over ≤ most_passed_over }
@@ -119,22 +119,22 @@ impl OpenState {
     }
 
     /// What holds of every state: there aren't too many indices, the layout is that of the world, and no last run is above the clock.
-    pub fn law(&self)
+    pub fn prove_law(&self)
         ensures few { length self.now.state.world.slots ≤ most_indices }
         ensures laid { IsLayoutOf self.now.state.world.slots self.now.layout }
         ensures memories { AreInTime self.now.state.world.clock self.now.state.systems self.now.state.conditions }
     {
-        self.world.laid();
+        self.world.prove_laid();
         let _ = self.world.now();
     }
 
     /// What holds of every state, whatever the schedule.
-    pub fn shape(&self)
+    pub fn prove_shape(&self)
         ensures { HasShape self.now.state }
     {
         let _ = self.world.now();
-        self.events.law();
-        self.events.shape();
+        self.events.prove_law();
+        self.events.prove_shape();
     }
 
     /// The opening of a run: moves the clock to the next tick, and drops the older buffer of the events of each kind, whose newer one becomes
@@ -320,7 +320,7 @@ impl OpenState {
         ensures commands { IfOk result (λ commands. commands ≡ view.outcome.commands) }
         ensures spent { IsErrOf result SendFault.NumbersSpent ↔ (has_event_numbers (events_sent view.params.writes view.outcome.events) self.old.state.events ≡ false) }
     {
-        self.world.laid();
+        self.world.prove_laid();
         let (registers, sent, commands) = view.close(&mut self.world, &mut self.room);
         sent.send(&mut self.events)?;
         keep_registers(&mut self.systems, system, registers);

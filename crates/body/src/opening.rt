@@ -16,12 +16,11 @@ use crate::closing::put_home;
 use crate::columns::take_picked;
 use crate::slot_table::{fill_slots, no_slots};
 use crate::view_query::ViewQuery;
-use archetype_store::store::World;
-use change_ticks::clock::Tick;
+use archetype_store::World;
+use change_ticks::Tick;
 use query::Query;
-use query_plan::kept_rows::Rows;
 use query_plan::plan::plan;
-use query_plan::row_room::RowRoom;
+use query_plan::{RowBuffers, Rows};
 use std::alloc::{AllocError, Global};
 
 // A query as it is opened over a world at a tick to come: it shows its rows, and the columns that it writes are away. After an error the
@@ -32,7 +31,7 @@ pub(crate) fn open_query(
     world: &mut World,
     last_run: Tick,
     tick: Tick,
-    room: &mut RowRoom,
+    room: &mut RowBuffers,
 ) -> Result<ViewQuery, AllocError>
     requires home { ArePickedHome query.now world.old.layout }
     requires coming { world.old.state.clock < tick }
@@ -45,7 +44,7 @@ pub(crate) fn open_query(
     ensures err { OnErr result (world.new ≡ world.old) }
 {
     // Tell how the layout is that of the state, and that no stamp is above the clock.
-    world.laid();
+    world.prove_laid();
     let _now = world.now();
     let plan = plan(alloc, query, world, last_run, room)?;
     let Ok(count) = u32::try_from(plan.picks.len()) else {
@@ -65,7 +64,7 @@ pub(crate) fn open_queries(
     world: &mut World,
     last_run: Tick,
     tick: Tick,
-    room: &mut RowRoom,
+    room: &mut RowBuffers,
 ) -> Result<Vec<ViewQuery>, AllocError>
     requires home { AllByRecursion (λ query. ArePickedHome query world.old.layout) queries.now }
     requires apart { (kind : ℕ) → TwoConflictAt queries.now kind → ⊥ }
@@ -81,7 +80,7 @@ pub(crate) fn open_queries(
     ensures err { OnErr result (world.new ≡ world.old) }
 {
     // Tell how the layout is that of the state, and that no stamp is above the clock.
-    world.laid();
+    world.prove_laid();
     let _now = world.now();
     let mut opened = Vec::with_capacity(alloc, queries.len())?;
     for query in queries {

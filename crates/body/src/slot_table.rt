@@ -11,7 +11,8 @@ ghost use Rattle.body.specs.SlotTable.{AreSlotsOf, is_slot_kind, with_slot};
 
 use crate::held::Held;
 use crate::view_query::Slots;
-use kinds::kind::{Kind, kinds_are_apart};
+use kinds::Kind;
+use kinds::kind::prove_kinds_apart;
 use query::Term;
 use std::alloc::{AllocError, Global};
 
@@ -50,7 +51,7 @@ fn set_slot(slots: &mut Vec<Slots>, archetype: usize, kind: Kind, column: u32)
     ensures slots { map slots_seen slots.new.items ≡ with_slot archetype (kind_number kind) column (map slots_seen slots.old.items) }
     ensures kind { kind_number kind < kind_count }
 {
-    kinds_are_apart();
+    prove_kinds_apart();
     let row = &mut slots[archetype];
     row.columns[kind.number() as usize] = Some(column);
 }
@@ -61,7 +62,7 @@ fn add_slot(slots: &mut Vec<Slots>, terms: &[Term], held: &Held, column: u32)
     ensures slots { map slots_seen slots.new.items ≡ is_slot_kind (map term_of terms.now) (held_seen held.now) column (map slots_seen slots.old.items) }
     ensures kind { (held_seen held.now).kind < kind_count }
 {
-    kinds_are_apart();
+    prove_kinds_apart();
     let kind = held.kind();
     if fetches(terms, kind) {
         set_slot(slots, held.archetype, kind, column);

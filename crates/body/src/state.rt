@@ -8,10 +8,10 @@ ghost use Rattle.body.specs.Steps.{AreInTime, HasShape, counted_state, state_of}
 
 use crate::memory::Memory;
 use crate::open_state::OpenState;
-use archetype_store::store::World;
-use change_ticks::clock::Clock;
-use event_buffers::buffers::Events;
-use query_plan::row_room::RowRoom;
+use archetype_store::World;
+use change_ticks::Clock;
+use event_buffers::Events;
+use query_plan::RowBuffers;
 use std::alloc::Global;
 use std::marker::Model;
 
@@ -34,7 +34,7 @@ pub struct State {
     conditions: Vec<Memory>,
     passed_over: u64,
     // Buffers of rows, for the next starts.
-    room: RowRoom,
+    room: RowBuffers,
 }
 
 impl Model for State {
@@ -59,7 +59,7 @@ impl State {
             systems: Vec::new(alloc),
             conditions: Vec::new(alloc),
             passed_over: 0,
-            room: RowRoom::new(alloc),
+            room: RowBuffers::new(alloc),
         }
     }
 
@@ -73,7 +73,7 @@ impl State {
             systems,
             conditions,
         } = memories;
-        let room = RowRoom::new(*systems.allocator());
+        let room = RowBuffers::new(*systems.allocator());
         State {
             world,
             events,
@@ -90,7 +90,7 @@ impl State {
         events: Events,
         memories: Memories,
         passed_over: u64,
-        room: RowRoom,
+        room: RowBuffers,
     ) -> Self
         requires last_runs { AreInTime world.state.clock memories.systems.items memories.conditions.items }
         requires home { AreAllHome world.layout }
@@ -128,12 +128,12 @@ impl State {
     }
 
     /// What holds of every state, whatever the schedule.
-    pub fn shape(&self)
+    pub fn prove_shape(&self)
         ensures { HasShape self.now }
     {
         let _ = self.world.now();
-        self.events.law();
-        self.events.shape();
+        self.events.prove_law();
+        self.events.prove_shape();
     }
 
     /// The world.

@@ -27,19 +27,14 @@ use crate::opening::open_queries;
 use crate::view_commands::ViewCommands;
 use crate::view_query::ViewQuery;
 use crate::view_values::ViewValues;
-use access_set::params::Params;
-use archetype_store::store::World;
-use change_ticks::clock::Tick;
-use command_queue::buffer::CommandBuffer;
+use access_set::Params;
+use archetype_store::World;
+use change_ticks::Tick;
+use command_queue::CommandBuffer;
 use entity_table::Entity;
-use event_buffers::buffers::Events;
-use event_buffers::lists::EventLists;
-use kinds::component::Component;
-use kinds::each_kind;
-use kinds::fields::Fields;
-use kinds::kind::Kind;
-use kinds::res::{Event, Res};
-use query_plan::row_room::RowRoom;
+use event_buffers::{EventLists, Events};
+use kinds::{Component, Event, Fields, Kind, Res, each_kind};
+use query_plan::RowBuffers;
 use std::alloc::{AllocError, Global};
 use std::marker::Model;
 
@@ -80,7 +75,7 @@ impl View {
         tick: Tick,
         granted: Vec<Entity>,
         commands: CommandBuffer,
-        room: &mut RowRoom,
+        room: &mut RowBuffers,
     ) -> Result<Self, AllocError>
         requires empty { commands ≡ [] }
         requires home { AllByRecursion (λ query. ArePickedHome query world.old.layout) params.now.queries }
@@ -119,11 +114,11 @@ impl View {
     }
 
     /// What holds of every view: it shows rows for each query, and has commands only where its system has Commands.
-    pub fn law(&self)
+    pub fn prove_law(&self)
         ensures rows { length self.now.shown.rows ≡ length self.now.params.queries }
         ensures commands { is_some self.now.params.spawns ≡ false → self.now.outcome.commands ≡ [] }
     {
-        self.issued.law();
+        self.issued.prove_law();
     }
 
     /// The tick at which what is written counts as changed.
@@ -139,7 +134,7 @@ impl View {
     pub fn close(
         self,
         world: &mut World,
-        room: &mut RowRoom,
+        room: &mut RowBuffers,
     ) -> ([i64; 8], EventLists, CommandBuffer)
         requires lent { AreLent world.old self.opening.taken }
         requires past { self.opening.tick ≤ world.old.state.clock }
@@ -150,7 +145,7 @@ impl View {
         ensures commands { result.2 ≡ self.outcome.commands }
     {
         // Tell how the layout is that of the state, and that no stamp is above the clock.
-        world.laid();
+        world.prove_laid();
         let _now = world.now();
         let View {
             tick,

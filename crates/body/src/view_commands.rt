@@ -5,11 +5,10 @@ ghost use Rattle.kinds.specs.Kind.{kind_number};
 ghost use Rattle.model.specs.shown.Outcome.Command.{Spawn, Insert, Remove, Despawn};
 ghost use Rattle.body.specs.Issued.{IssuedSeen, granted_in, with_issued};
 
-use access_set::params::Params;
-use command_queue::buffer::CommandBuffer;
+use access_set::Params;
+use command_queue::CommandBuffer;
 use entity_table::Entity;
-use kinds::component::Component;
-use kinds::kind::Kind;
+use kinds::{Component, Kind};
 use std::alloc::AllocError;
 use std::marker::Model;
 
@@ -46,7 +45,7 @@ impl ViewCommands {
     }
 
     // What holds of all.
-    pub(crate) fn law(&self)
+    pub(crate) fn prove_law(&self)
         ensures { is_some self.now.spawns ≡ false → self.now.commands ≡ [] }
     {
         let _spawns = self.spawns;

@@ -16,14 +16,11 @@ ghost use Rattle.body.specs.Sheet.{slot_in, slot_cell, seen_at, at_slot, row_of,
 
 use crate::field_words::{field_of, with_field, zeros};
 use crate::held::Held;
-use change_ticks::clock::Tick;
+use change_ticks::Tick;
 use entity_table::Entity;
-use kinds::component::Component;
-use kinds::kind::Kind;
+use kinds::{Component, Kind};
 use query::Query;
-use query_plan::kept_rows::Rows;
-use query_plan::row::Row;
-use query_plan::row_room::RowRoom;
+use query_plan::{Row, RowBuffers, Rows};
 use std::marker::Model;
 use std::snapshot::Snapshot;
 
@@ -178,7 +175,7 @@ impl ViewQuery {
     }
 
     /// Gives the columns back: each as it was taken, with what was written laid over it. The buffer of its rows goes to this room.
-    pub fn close(self, room: &mut RowRoom) -> Vec<Held>
+    pub fn close(self, room: &mut RowBuffers) -> Vec<Held>
         ensures columns { map held_seen result.items ≡ map (column_after self.tick (words_in_query self.terms self.rows self.cells)) self.taken }
         ensures reach { WritesReach (words_in_query self.terms self.rows self.cells) self.taken }
     {
@@ -316,7 +313,7 @@ fn read_each<C: Component>(query: &ViewQuery, from: usize, place: usize, values:
     ensures length { length values.new ≡ length values.old }
     ensures values { (i : ℕ) → i < length values.old → get_or values.new i (pos 0) ≡ field_seen query.now (from + i) C.NUMBER place }
 {
-    // Tells that numbers of rows fit.
+    // Proves that numbers of rows fit.
     let _count = query.rows();
     for i in 0..values.len() {
         values[i] = field_at::<C>(query, from + i, place);
@@ -344,7 +341,7 @@ fn write_each<C: Component>(query: &mut ViewQuery, from: usize, place: usize, va
     requires place { place < widths C.NUMBER }
     ensures { query.new ≡ sheet_with_fields query.old C.NUMBER place from values.now }
 {
-    // Tells that numbers of rows fit.
+    // Proves that numbers of rows fit.
     let _count = query.rows();
     for i in 0..values.len() {
         set_field::<C>(query, from + i, place, values[i]);

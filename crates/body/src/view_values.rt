@@ -12,10 +12,10 @@ ghost use Rattle.body.specs.Seen.{value_read, with_value};
 ghost use Rattle.body.specs.Values.{first_values, value_at};
 
 use crate::memory::Memory;
-use access_set::params::Params;
-use archetype_store::store::World;
-use change_ticks::clock::Tick;
-use kinds::res::Res;
+use access_set::Params;
+use archetype_store::World;
+use change_ticks::Tick;
+use kinds::Res;
 use std::marker::Model;
 use std::snapshot::Snapshot;
 

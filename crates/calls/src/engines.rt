@@ -3,17 +3,15 @@
 ghost use Rattle.std.specs.Prelude.{};
 ghost use Rattle.archetype_store.specs.Layout.{AreAllHome};
 
-use access_set::params::Params;
-use archetype_store::store::World;
-use body::system_body::Body;
+use access_set::Params;
+use archetype_store::World;
+use body::Body;
 use engine::first_state::first_state;
 use engine::{Engine, NewFault};
 use query::Query;
 use schedule_builder::builder::build;
-use schedule_builder::built::Built;
-use schedule_builder::desc::{ScheduleDesc, SystemDesc};
-use script::instruction::Instruction;
-use script::script_body::{Block, Rounds, ScriptBody};
+use schedule_builder::{Built, ScheduleDesc, SystemDesc};
+use script::{Block, Instruction, Rounds, ScriptBody};
 use std::alloc::Global;
 
 /// The parameters of a system with this query.

@@ -3,9 +3,8 @@
 ghost use Rattle.std.specs.Prelude.{Ok, Err, None, Some, true};
 ghost use Rattle.model.specs.shown.Outcome.{untouched};
 
-use access_set::params::Params;
-use body::system_body::{Body, BodyFault};
-use body::view::View;
+use access_set::Params;
+use body::{Body, BodyFault, View};
 use std::alloc::Global;
 use std::sync::atomic::{AtomicU64, Ordering};
 use std::sync::{Arc, Condvar, Mutex, Wait};

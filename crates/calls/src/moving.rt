@@ -7,19 +7,19 @@ use crate::engines::{made, params, script};
 use crate::gathering::Answering;
 use crate::threads::run_on_threads;
 use crate::worlds::{put, world_of_one};
-use archetype_store::store::World;
-use body::system_body::Body;
-use change_ticks::clock::{Clock, LAST_TICK, Tick};
+use archetype_store::World;
+use body::Body;
+use change_ticks::clock::LAST_TICK;
+use change_ticks::{Clock, Tick};
 use engine::{Engine, NewFault, RunFault};
 use entity_table::Entity;
+use kinds::Kind;
 use kinds::component::{Position, Velocity};
-use kinds::kind::Kind;
-use script::script_body::{Rounds, ScriptBody};
+use script::{Rounds, ScriptBody};
 use std::alloc::Global;
 use std::sync::Wait;
 use std::thread::Threads;
-use worker_pool::Single;
-use worker_pool::single::NoGate;
+use worker_pool::{NoGate, Single};
 
 const FIRST: Entity = Entity {
     index: 0,

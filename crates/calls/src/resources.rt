@@ -5,13 +5,12 @@ ghost use Rattle.archetype_store.specs.Layout.{AreAllHome};
 ghost use Rattle.calls.specs.Tallied.{tallied, may_tally};
 
 use crate::engines::engine_of;
-use access_set::params::Params;
-use archetype_store::store::World;
-use body::system_body::{Body, BodyFault};
-use body::view::View;
-use change_ticks::clock::Clock;
+use access_set::Params;
+use archetype_store::World;
+use body::{Body, BodyFault, View};
+use change_ticks::Clock;
 use engine::Engine;
-use kinds::res::Res;
+use kinds::Res;
 use std::alloc::Global;
 use worker_pool::Single;
 

@@ -5,18 +5,17 @@ ghost use Rattle.std.specs.Prelude.{};
 use crate::engines::{built_of, params};
 use crate::worlds::{put, settle_used, world_of_one};
 use access_set::conflict::conflicts;
-use archetype_store::fault::StoreFault;
-use change_ticks::clock::Clock;
+use archetype_store::StoreFault;
+use change_ticks::Clock;
 use entity_table::Entity;
-use event_buffers::buffers::Events;
-use event_buffers::queue::Unread;
+use event_buffers::{Events, Unread};
 use executor_core::{Core, Step, StepFault};
 use kinds::component::Health;
-use kinds::kind::Kind;
-use kinds::res::Event;
+use kinds::{Event, Kind};
 use std::alloc::Global;
+use trace_checker::WriteFault;
 use trace_checker::read::read_traces;
-use trace_checker::write::{WriteFault, text_of_traces};
+use trace_checker::write::text_of_traces;
 
 /// A component is there until it is removed, and an entity until it is despawned; its index is then granted at the next generation.
 pub fn entities(alloc: Global) -> Option<bool> {

@@ -4,10 +4,10 @@ ghost use Rattle.std.specs.Prelude.{◌≤◌};
 
 use crate::engines::engine_of;
 use crate::gathering::{Answering, Counting, Gathering, Holding, Meeting, Watching};
-use access_set::params::Params;
-use archetype_store::store::World;
-use body::system_body::Body;
-use change_ticks::clock::Clock;
+use access_set::Params;
+use archetype_store::World;
+use body::Body;
+use change_ticks::Clock;
 use engine::{Engine, RunFault};
 use executor_core::Trace;
 use std::alloc::Global;
@@ -15,8 +15,7 @@ use std::sync::{Arc, Wait};
 use std::thread;
 use std::thread::{Scope, Threads};
 use std::time::{Clock as Watch, Duration};
-use worker_pool::single::NoGate;
-use worker_pool::{Gate, Single, Workers};
+use worker_pool::{Gate, NoGate, Single, Workers};
 
 // Runs an engine so many times, on so many threads of a scope.
 fn run_in_scope<'s, E: 's, R: Threads + Wait + Copy + Send + 's, G: Gate + 's, B: Body + 's>(
@@ -164,9 +163,7 @@ fn run_each_in_a_thread<
 }
 
 /// Two starts are past a gate at once, each in a thread of its own.
-pub fn gather_each_in_a_thread<
-    R: Threads + Wait + Watch + Copy + Send + Sync + Drop + 'static,
->(
+pub fn gather_each_in_a_thread<R: Threads + Wait + Watch + Copy + Send + Sync + Drop + 'static>(
     runtime: R,
     alloc: Global,
 ) -> Option<bool> {

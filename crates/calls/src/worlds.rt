@@ -4,10 +4,10 @@ ghost use Rattle.std.specs.Prelude.{◌≡◌, ◌≤◌, All, IfSome};
 ghost use Rattle.entity_table.specs.Ids.{IsGranted, AreApart};
 ghost use Rattle.archetype_store.specs.Layout.{AreAllHome};
 
-use archetype_store::store::World;
-use change_ticks::clock::Clock;
+use archetype_store::World;
+use change_ticks::Clock;
 use entity_table::Entity;
-use kinds::component::Component;
+use kinds::Component;
 use std::alloc::Global;
 
 /// A world at a clock in which one entity lives, without components, and that entity.
@@ -15,7 +15,7 @@ pub fn world_of_one(alloc: Global, clock: Clock) -> Option<(World, Entity)>
     ensures clock { IfSome result (λ made. 1 ≤ made.0.state.clock) }
     ensures home { IfSome result (λ made. AreAllHome made.0.layout) }
 {
-    // Tells that the clock isn't before tick 1.
+    // Proves that the clock isn't before tick 1.
     let _now = clock.now();
     let mut world = World::new(alloc, clock).ok()?;
     let granted = world.grant(alloc, 1).ok()?;

@@ -3,7 +3,7 @@
 use crate::cases::{Given, Record, Wanted};
 use crate::fault::CaseFault;
 use crate::served::{NEVER, Served, args_of, serve_opened, serve_text, serve_workers, words_of};
-use command_line::args::Args;
+use command_line::Args;
 use std::alloc::Global;
 use std::rt::Files;
 use std::sync::Wait;

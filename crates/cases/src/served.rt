@@ -2,7 +2,7 @@
 
 use crate::fakes::{Sink, Source};
 use crate::fault::CaseFault;
-use command_line::args::Args;
+use command_line::Args;
 use program::opened::open;
 use program::serve::serve;
 use program::workers::serve_on_threads;

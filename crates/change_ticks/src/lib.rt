@@ -3,3 +3,6 @@
 
 pub mod clock;
 pub mod stamp;
+
+pub use clock::{Clock, ClockSpent, Tick};
+pub use stamp::Stamp;

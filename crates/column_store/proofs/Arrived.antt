@@ -16,7 +16,7 @@ use Rattle.column_store.specs.Table.{Standing, ColumnSlotValue, TableRow, TableV
 use Rattle.column_store.specs.Table.Standing.{Owned, Shared, Away}
 use Rattle.column_store.specs.Inside.{standing_in, kind_in, with_cells, insert_in, insert_all, rows_of, table_of, IsOfLength, IsOwned, IsPutAt, IsTable}
 use Rattle.column_store.specs.Arriving.{entity_of, components_brought, row_arriving, put_rows, gap_of, laid, lay_all, brought, cells_brought, Fit, IsMergeable}
-use Rattle.column_store.proofs.Edited.{table_put, table_put_kept, absent_nowhere, head_none}
+use Rattle.column_store.proofs.Edited.{table_put, table_put_kept, absent_nowhere, head_none, none_is as none_of}
 use Rattle.column_store.proofs.Lists.{each-insert, get-map}
 use Rattle.column_store.proofs.Tables.{made}
 use Rattle.column_store.proofs.Rising.{before_trans, before_apart, gap-within}
@@ -239,14 +239,14 @@ rows_as_long ps (a ∷ news) h = (sym (length-map a.components.now stamped_numbe
 
 -- ---- one row after the other
 
-same_index : (i g : ℕ) → ((i == i) && (g == g)) ≡ true
+pub same_index : (i g : ℕ) → ((i == i) && (g == g)) ≡ true
 same_index i g = grind (arith, nat_tests)
 
-same_self : (e : Entity) → is_same e e ≡ true
+pub same_self : (e : Entity) → is_same e e ≡ true
 same_self e = same_index e.index e.generation
 
 -- a row that comes is no other's
-row_of-put : (e : Entity) (r : TableRow) (rows : List TableRow) → is_same r.entity e ≡ false → row_of e (put_row r rows) ≡ row_of e rows
+pub row_of-put : (e : Entity) (r : TableRow) (rows : List TableRow) → is_same r.entity e ≡ false → row_of e (put_row r rows) ≡ row_of e rows
 row_of-put e r [] h = ap (λ b. cond b (Some r) None) h
 row_of-put e r (row ∷ rows) h = go (is_before row.entity r.entity) (row_of-put e r rows h)
   where
@@ -304,10 +304,6 @@ earlier_apart : (news : List Arrival) (i : ℕ) (d : Arrival) → i < length new
 earlier_apart [] i d l r = absurd (omega arith)
 earlier_apart (a ∷ news) zero d l r = tt
 earlier_apart (a ∷ news) (suc i) d l r = (before_apart a.entity (get_or news i d).entity (before_at a.entity news i d (omega arith) r.0), earlier_apart news i d (omega arith) r.1)
-
-none_of : {A : Type 0} (o : Option A) → IsNone o → o ≡ None
-none_of None h = refl
-none_of (Some x) h = absurd (cc)
 
 -- who comes next has no row yet
 not_come : (news : List Arrival) (rows : List TableRow) (i : ℕ) (d : Arrival) → i < length news → AreRising (map entity_of news) → AllByRecursion (λ (a : Arrival). IsNone (row_of a.entity rows)) news →

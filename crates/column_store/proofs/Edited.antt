@@ -4,6 +4,7 @@ use Rattle.std.proofs.lemmas.List.{length-map}
 use Rattle.std.specs.Prelude.{IsNone, IsSome}
 use Rattle.std.specs.List.{list_all, AllByRecursion}
 use Rattle.model.specs.declared.entities.Entity.{Entity}
+use Rattle.std.proofs.lemmas.Bool.{and_parts as both}
 use Rattle.column_store.specs.declared.stamped.StampedValue.{StampedValue}
 use Rattle.column_store.specs.Cells.{stamped_number, stamped_cell}
 use Rattle.column_store.specs.Order.{is_same}
@@ -17,10 +18,6 @@ use Rattle.column_store.proofs.Tables.{place-within, length-of_kinds, table-put,
 use Rattle.column_store.proofs.Kept.{all_take, all_renew, kept-insert, kept-remove, kept-replace}
 
 -- ---- columns that are at home, or the table's alone
-
-pub both : (a b : Bool) → (a && b) ≡ true → (a ≡ true) × (b ≡ true)
-both true b h = (refl, h)
-both false b h = absurd (cc)
 
 -- where all stand at home, each is at home
 pub all_home : (ps : List ColumnSlotValue) → list_all is_home (map standing_in ps) ≡ true → AllByRecursion IsAtHome ps
@@ -57,7 +54,7 @@ owned_rows n i (p ∷ ps) l h o = let k : length p.column.cells ≡ n = h.0 in (
 
 -- ---- entities
 
-none_is : {A : Type 0} (o : Option A) → IsNone o → o ≡ None
+pub none_is : {A : Type 0} (o : Option A) → IsNone o → o ≡ None
 none_is None h = refl
 none_is (Some x) h = absurd (cc)
 

@@ -3,6 +3,8 @@ use Rattle.std.proofs.Common.{◌≡◌, ℕ, zero, suc, ◌≤◌, Bool, true, 
 use Rattle.std.proofs.lemmas.Bool.Decides.{nat_tests}
 use Rattle.std.specs.List.{insert}
 use Rattle.model.specs.declared.entities.Entity.{Entity}
+use Rattle.model.proofs.agreement.Places.{or-swap as or_swapped}
+use Rattle.std.proofs.lemmas.Bool.{or_parts as neither}
 use Rattle.column_store.specs.Order.{is_same}
 use Rattle.column_store.specs.Places.{IsNowhere}
 use Rattle.column_store.specs.Table.{is_among}
@@ -14,20 +16,10 @@ flipped a b c d = grind (arith, nat_tests)
 pub same_flipped : (x y : Entity) → is_same x y ≡ is_same y x
 same_flipped x y = flipped x.index y.index x.generation y.generation
 
-neither : (a b : Bool) → (a || b) ≡ false → (a ≡ false) × (b ≡ false)
-neither true b h = absurd (cc)
-neither false b h = (refl, h)
-
 -- one that isn't among others is nowhere
 pub nowhere_among : (e : Entity) (es : List Entity) → is_among e es ≡ false → IsNowhere (λ x. is_same x e) es
 nowhere_among e [] h = tt
 nowhere_among e (x ∷ es) h = let p = neither (is_same e x) (is_among e es) h in (same_flipped x e ∙ p.0, nowhere_among e es p.1)
-
-or_swapped : (a b c : Bool) → (a || (b || c)) ≡ (b || (a || c))
-or_swapped true true c = refl
-or_swapped true false c = refl
-or_swapped false true c = refl
-or_swapped false false c = refl
 
 -- who is among them then
 pub joined : (e : Entity) (es : List Entity) (i : ℕ) → i ≤ length es → IsJoined e es (insert es i e)

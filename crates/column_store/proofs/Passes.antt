@@ -49,7 +49,7 @@ drop_next zero (x ∷ xs) = refl
 drop_next (suc n) [] = refl
 drop_next (suc n) (x ∷ xs) = drop_next n xs
 
-one_more : (n : ℕ) → suc n ≡ n + 1
+pub one_more : (n : ℕ) → suc n ≡ n + 1
 one_more n = omega arith
 
 drop_again : {A : Type 0} (n : ℕ) (xs : List A) → drop 1 (drop n xs) ≡ drop (n + 1) xs

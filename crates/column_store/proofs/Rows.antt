@@ -76,7 +76,7 @@ nowhere_len : {A B : Type 0} (f : A → B) (test : B → Bool) (xs : List A) →
 nowhere_len f test [] h = tt
 nowhere_len f test (x ∷ xs) h = let p = nowhere_step (test (f x)) _ (length xs) h in (p.0, nowhere_len f test xs p.1)
 
-some_place : (n m i : ℕ) → cond (nat_lt n m) (Some n) None ≡ Some i → (i ≡ n) × (i < m)
+pub some_place : (n m i : ℕ) → cond (nat_lt n m) (Some n) None ≡ Some i → (i ≡ n) × (i < m)
 some_place n m i h = grind (arith, nat_tests)
 
 no_place : (n m : ℕ) → cond (nat_lt n m) (Some n) None ≡ None → m ≤ n

@@ -11,7 +11,7 @@ use Rattle.column_store.specs.Cells.{changed_cell}
 use Rattle.column_store.specs.Kinds.{AreBelow, at_kind, update_kind}
 use Rattle.column_store.specs.Components.{components_in, ComponentsRise, CellsAreTheirs, WritesAreTheirs}
 
-not_same : (n kind : ℕ) → kind < n → (n == kind) ≡ false
+pub not_same : (n kind : ℕ) → kind < n → (n == kind) ≡ false
 not_same n kind h = grind (arith, nat_tests)
 
 -- the kinds after one are after what is equal to it

@@ -14,10 +14,9 @@ ghost use Rattle.column_store.specs.Arriving.{components_brought, cells_brought,
 
 use crate::arrivals::{Arrival, components_of};
 use crate::stamped::{StampedColumn, StampedValue};
-use change_ticks::clock::Tick;
+use change_ticks::Tick;
 use entity_table::Entity;
-use kinds::kind::Kind;
-use kinds::value::Value;
+use kinds::{Kind, Value};
 use std::alloc::{AllocError, Global};
 use std::marker::Model;
 use std::mem;

@@ -12,3 +12,7 @@ mod parts;
 pub mod stamped;
 pub mod table;
 mod typed;
+
+pub use arrivals::Arrival;
+pub use stamped::{StampedColumn, StampedValue};
+pub use table::Table;

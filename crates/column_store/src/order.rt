@@ -8,7 +8,7 @@ ghost use Rattle.column_store.specs.Table.{is_among};
 ghost use Rattle.column_store.specs.Keeping.{IsJoined};
 
 use entity_table::Entity;
-use kinds::kind::Kind;
+use kinds::Kind;
 use std::alloc::AllocError;
 
 // Whether an id comes before another: by index, then by generation.

@@ -15,10 +15,9 @@ use crate::column_slot::{ColumnSlot, insert_row, keep_rows, read_row, remove_row
 use crate::entity_list::EntityList;
 use crate::order::{column_in, gap_in, row_in};
 use crate::stamped::{StampedColumn, StampedValue};
-use change_ticks::clock::Tick;
+use change_ticks::Tick;
 use entity_table::Entity;
-use kinds::kind::Kind;
-use kinds::value::Value;
+use kinds::{Kind, Value};
 use std::alloc::{AllocError, Global};
 use std::sync::Arc;
 

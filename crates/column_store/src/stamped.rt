@@ -17,13 +17,9 @@ use crate::typed::{
     component_at, copied, empty, insert_value, keep_values, merged_values, remove_value,
     set_component, set_value, value_at,
 };
-use change_ticks::clock::Tick;
-use change_ticks::stamp::Stamp;
+use change_ticks::{Stamp, Tick};
 use entity_table::Entity;
-use kinds::column::Column;
-use kinds::component::Component;
-use kinds::kind::Kind;
-use kinds::value::Value;
+use kinds::{Column, Component, Kind, Value};
 use std::alloc::{AllocError, Global};
 use std::marker::Model;
 
@@ -91,7 +87,7 @@ impl StampedColumn {
     }
 
     /// Each component has as many fields as the kind.
-    pub fn law(&self)
+    pub fn prove_law(&self)
         ensures { AllByRecursion (λ c. length c.words ≡ widths self.now.kind) self.now.cells }
     {
         let _ = &self.column;

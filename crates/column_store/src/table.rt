@@ -21,12 +21,9 @@ use crate::parts::{
     renew_in, seen_in, share_in, write_in,
 };
 use crate::stamped::{StampedColumn, StampedValue};
-use change_ticks::clock::Tick;
-use change_ticks::stamp::Stamp;
+use change_ticks::{Stamp, Tick};
 use entity_table::Entity;
-use kinds::component::Component;
-use kinds::kind::Kind;
-use kinds::value::Value;
+use kinds::{Component, Kind, Value};
 use std::alloc::{AllocError, Global};
 use std::marker::Model;
 use std::sync::Arc;

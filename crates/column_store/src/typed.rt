@@ -14,11 +14,7 @@ use crate::keeping::keep;
 use crate::merging::merged;
 use crate::stamped::StampedValue;
 use entity_table::Entity;
-use kinds::column::Column;
-use kinds::component::Component;
-use kinds::each_kind;
-use kinds::kind::Kind;
-use kinds::value::Value;
+use kinds::{Column, Component, Kind, Value, each_kind};
 use std::alloc::{AllocError, Global};
 
 // The column of a kind without components.

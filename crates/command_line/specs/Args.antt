@@ -30,7 +30,7 @@ is_recorded Replay = false
 abbrev pub IsWithin : Work → Type 0
 IsWithin work = (runs_of work ≤ 1000000) × (workers_of work ≤ 64)
 
--- 0 where help was asked for, 2 where the line is at fault, 3 where memory is wanting
+-- 0 where help was asked for, 2 where the line is at fault, 3 where an allocation fails
 abbrev pub line_status_of : LineFault → ℕ
 line_status_of (Help text) = 0
 line_status_of (Usage text) = 2

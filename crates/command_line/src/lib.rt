@@ -3,3 +3,5 @@
 
 pub mod args;
 pub mod words;
+
+pub use args::{Args, LineFault, Work};

@@ -7,6 +7,7 @@ use Rattle.model.proofs.lists.Each.{each-at}
 use Rattle.model.specs.state.State.{Slot}
 use Rattle.archetype_store.specs.declared.change.EntityChange.{EntityChange}
 use Rattle.archetype_store.specs.Changes.{slot_left, change_at, AreOfOtherIndices}
+use Rattle.archetype_store.proofs.RowMoves.{index_flipped as turned}
 use Rattle.command_queue.specs.Pending.{place_of, put_change}
 
 -- ---- the place of an index
@@ -98,9 +99,6 @@ each_put P c (d ∷ ds) p h = go (d.entity.index == c.entity.index) (each_put P 
     go : (b : Bool) → AllByRecursion P (put_change c ds) → AllByRecursion P (cond b (c ∷ ds) (d ∷ put_change c ds))
     go true more = (p, h.1)
     go false more = (h.0, more)
-
-turned : (a b : ℕ) → (a == b) ≡ false → (b == a) ≡ false
-turned a b h = grind (arith, nat_tests)
 
 -- no two are of one index
 pub apart_put : (c : EntityChange) (cs : List EntityChange) → AreOfOtherIndices cs → AreOfOtherIndices (put_change c cs)

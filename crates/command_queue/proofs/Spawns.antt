@@ -15,7 +15,7 @@ use Rattle.model.specs.state.Commands.{CommandTarget, is_alive, spawned, freed, 
 use Rattle.model.specs.shown.Outcome.{Command, spawned_by}
 use Rattle.model.specs.shown.Outcome.Command.{Spawn, Insert, Remove, Despawn}
 use Rattle.entity_table.specs.Ids.{slot_at, IsGranted, AreApart}
-use Rattle.entity_table.proofs.Releases.{granted-lives, granted-other}
+use Rattle.entity_table.proofs.Releases.{granted-lives, granted-other, same_granted}
 use Rattle.archetype_store.specs.declared.change.Fate.{Fate}
 use Rattle.archetype_store.specs.declared.change.Fate.TheVariants as the
 use Rattle.archetype_store.specs.declared.change.EntityChange.{EntityChange}
@@ -65,10 +65,6 @@ module _ (w : World) (cs : List EntityChange) (valid : AreChanges w cs) (e : Ent
 can_spawn-other : (f : Slot → Slot) (i : ℕ) (slots : List Slot) (es : List Entity) → AllByRecursion (λ d. i ≢ d.index) es → CanSpawn slots es → CanSpawn (update_at i f slots) es
 can_spawn-other f i slots [] apart h = tt
 can_spawn-other f i slots (e ∷ es) apart h = (granted-other f i slots e apart.0 h.0, h.1, can_spawn-other f i slots es apart.1 h.2)
-
--- granted ids of one index are one
-same_granted : (slots : List Slot) (a b : Entity) → IsGranted slots a → IsGranted slots b → a.index ≡ b.index → a ≡ b
-same_granted slots a b g h same = same_entity a b same (sym g.generation ∙ ap (λ i. (slot_at slots i).generation) same ∙ h.generation)
 
 apart_granted : (slots : List Slot) (e : Entity) (es : List Entity) → IsGranted slots e → AllByRecursion (λ d. e ≢ d) es → CanSpawn slots es → AllByRecursion (λ d. e.index ≢ d.index) es
 apart_granted slots e [] g apart h = tt

@@ -11,8 +11,8 @@ ghost use Rattle.command_queue.specs.Pending.{IsPending, target_of, CanSpawn};
 
 use crate::buffer::CommandBuffer;
 use crate::pending::Pending;
-use archetype_store::store::World;
-use change_ticks::clock::Tick;
+use archetype_store::World;
+use change_ticks::Tick;
 use std::alloc::{AllocError, Global};
 
 // What these buffers make of a world, which stays as it is.

@@ -7,8 +7,7 @@ ghost use Rattle.command_queue.specs.Commands.{command_of};
 
 use crate::command::Command;
 use entity_table::Entity;
-use kinds::component::Component;
-use kinds::kind::Kind;
+use kinds::{Component, Kind};
 use std::alloc::{AllocError, Global};
 use std::marker::Model;
 

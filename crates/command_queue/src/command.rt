@@ -1,8 +1,7 @@
 // One command.
 
 use entity_table::Entity;
-use kinds::kind::Kind;
-use kinds::value::Value;
+use kinds::{Kind, Value};
 
 /// What a system asks of the structure of the world. A command on an entity that doesn't live when it is done is passed over.
 #[derive(Clone, Copy)]

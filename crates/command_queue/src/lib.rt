@@ -6,3 +6,6 @@ pub mod buffer;
 pub mod command;
 mod pending;
 mod rows;
+
+pub use buffer::CommandBuffer;
+pub use command::Command;

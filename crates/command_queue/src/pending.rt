@@ -14,13 +14,11 @@ ghost use Rattle.command_queue.specs.Pending.{place_of, put_change, ArePlaced, I
 
 use crate::command::Command;
 use crate::rows::{insert_left, keeps, remove_left};
-use archetype_store::change::{EntityChange, Fate};
-use archetype_store::store::World;
-use change_ticks::clock::Tick;
+use archetype_store::{EntityChange, Fate, World};
+use change_ticks::Tick;
 use entity_table::Entity;
 use indexmap::IndexMap;
-use kinds::kind::Kind;
-use kinds::value::Value;
+use kinds::{Kind, Value};
 use std::alloc::{AllocError, Global};
 
 // The greatest count of commands passed over.
@@ -136,7 +134,7 @@ impl Pending {
             Found::Dead => Ok(None),
             Found::Changed(place) => Ok(Some(place)),
             Found::Unchanged => {
-                // Tells that the components of a world are of its shape.
+                // Proves that the components of a world are of its shape.
                 let _now = world.now();
                 let place = self.changes.len();
                 let fate = Fate::Lives(world.components(alloc, e.index)?);

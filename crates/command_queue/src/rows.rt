@@ -6,10 +6,10 @@ ghost use Rattle.model.specs.state.Rows.{insert_component, remove_component};
 ghost use Rattle.archetype_store.specs.Changes.{components_left};
 ghost use Rattle.command_queue.specs.Pending.{is_left_alive};
 
-use archetype_store::change::{EntityChange, Fate};
 use archetype_store::components::{put_component, take_component};
-use change_ticks::clock::Tick;
-use kinds::value::Value;
+use archetype_store::{EntityChange, Fate};
+use change_ticks::Tick;
+use kinds::Value;
 use std::alloc::AllocError;
 
 // Inserts a component at a tick among those that an entity is left with.

@@ -12,13 +12,13 @@ ghost use Rattle.query_plan.specs.Standing.{ArePickedHome};
 ghost use Rattle.run_condition.specs.Tree.{condition_of};
 ghost use Rattle.condition_eval.specs.Told.{IsAnswer, rows_there};
 
-use archetype_store::store::World;
-use change_ticks::clock::Tick;
-use event_buffers::buffers::Events;
-use kinds::res::Event;
+use archetype_store::World;
+use change_ticks::Tick;
+use event_buffers::Events;
+use kinds::Event;
 use query::Query;
+use query_plan::RowBuffers;
 use query_plan::plan::plan;
-use query_plan::row_room::RowRoom;
 use run_condition::{Cond, Tree};
 use std::alloc::{AllocError, Global};
 
@@ -78,7 +78,7 @@ fn has_row(alloc: Global, query: &Query, world: &World, last_run: Tick) -> Resul
     requires { ArePickedHome query.now world.now.layout }
     ensures { IfOk result (λ answer. answer ≡ is_there (rows_of query.now last_run world.now.state.slots)) }
 {
-    let plan = plan(alloc, query, world, last_run, &mut RowRoom::new(alloc))?;
+    let plan = plan(alloc, query, world, last_run, &mut RowBuffers::new(alloc))?;
     Ok(!plan.rows.is_empty(world))
 }
 

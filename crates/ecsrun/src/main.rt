@@ -1,13 +1,12 @@
 // The program: its command line and its streams.
 #![tactic(auto)]
 
-use command_line::args::{Args, LineFault, Work};
 use command_line::words::words_of;
-use program::created::Created;
-use program::fault::Fault;
+use command_line::{Args, LineFault, Work};
 use program::opened::open;
 use program::serve::{serve, tell};
 use program::workers::serve_on_threads;
+use program::{Created, Fault};
 use std::alloc::Global;
 use std::io::Write;
 use std::process::ExitCode;

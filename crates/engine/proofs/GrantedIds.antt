@@ -22,6 +22,7 @@ use Rattle.body.specs.Columns.{Column}
 use Rattle.body.specs.Lent.{lent_in, IsLent}
 use Rattle.body.specs.Out.{AreOut}
 use Rattle.body.specs.Steps.{with_slots_in}
+use Rattle.model.proofs.shape.Slots.{vacant-living as vacant-lives}
 
 -- ---- one slot
 
@@ -109,12 +110,6 @@ ids-vacant k slots = rw (granted_ids-is k slots) (first-vacant k 0 (with_room k 
     (λ i. ap (slot_at slots) (let e : 0 + i ≡ i = omega arith in e) ∙ sym (room-at k slots i)))
 
 -- ---- what is shown
-
-vacant-lives : (status : Status) → is_vacant status ≡ true → is_living status ≡ false
-vacant-lives Vacant e = refl
-vacant-lives Granted e = refl
-vacant-lives Living e = absurd (false≢true e)
-vacant-lives Retired e = refl
 
 -- who doesn't live is no row
 no-row : (query : List Term) (last : ℕ) (slot : Slot) → is_living slot.status ≡ false → is_row query last slot ≡ false

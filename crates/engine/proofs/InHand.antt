@@ -14,16 +14,11 @@ use Rattle.model.specs.runs.RunState.{between}
 use Rattle.model.proofs.lists.Lists.{get_or-map_index-view}
 use Rattle.entity_table.specs.Ids.{slot_at, IsGranted}
 use Rattle.entity_table.proofs.Grants.{granted-each}
+use Rattle.body.proofs.Gets.{each-in}
 use Rattle.engine.specs.Deferred.{DeferredValue, commands_at, grants_at, run_with, with_commands, with_grants, IsNothingDeferred, AreInHand}
 use Rattle.engine.proofs.GrantedIds.{granted-grant, ids-vacant}
 
 -- ---- lists with a place for each system
-
--- what is true of each element is true of this one
-pub each-in : {A : Type 0} (P : A → Type 0) (xs : List A) → AllByRecursion P xs → (x : A) → IsIn x xs → P x
-each-in P [] h x i = absurd i
-each-in P (y ∷ ys) h x (inl same) = subst P (sym same) h.0
-each-in P (y ∷ ys) h x (inr more) = each-in P ys h.1 x more
 
 -- a list with one place replaced, as a map by number
 pub set-at : {A : Type 0} (xs : List (List A)) (n : ℕ) (ys : List A) → n < length xs → (m : ℕ) → get_or (set xs n ys) m [] ≡ with_at n ys (λ j. get_or xs j []) m

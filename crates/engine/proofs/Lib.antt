@@ -1,4 +1,4 @@
-mod AtHome
+pub mod AtHome
 pub mod Stops
 pub mod InHand
 pub mod GrantedIds

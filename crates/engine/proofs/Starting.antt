@@ -13,10 +13,11 @@ use Rattle.model.specs.steps.Schedule.{Schedule, params_of}
 use Rattle.model.specs.runs.RunState.{memory_of_system, spawns_of}
 use Rattle.model.proofs.lists.Lists.{IsIn-append, has-IsIn}
 use Rattle.model.proofs.lists.Members.{in-map}
-use Rattle.entity_table.proofs.Grants.{granted-apart, granted_ids-suc, granted_ids-zero, grants_least, grants_next}
+use Rattle.entity_table.proofs.Grants.{granted-apart, granted_ids-suc, grants_least, grants_next}
 use Rattle.body.specs.Keeps.{CanBeShown}
 use Rattle.body.specs.Steps.{StateValue, AreInTime, IsInTime}
 use Rattle.worker_pool.specs.JobOut.{JobOut}
+use Rattle.model.proofs.serial.Engine.{granted_ids-none as granted_ids-zero}
 use Rattle.engine.specs.Jobs.{InHand, systems_of}
 use Rattle.engine.specs.Deferred.{DeferredValue, AreInHand, commands_at, grants_at, with_grants}
 use Rattle.engine.specs.Meanings.{HasMemories}

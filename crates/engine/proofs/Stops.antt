@@ -28,12 +28,12 @@ handed_on P (Err other) fault told is = subst P (sym told) is
 pub one_stop : {T : Type 0} {a b : Stop} → ◌≡◌ {A = Result T Stop} (Err a) (Err b) → a ≡ b
 one_stop {T} {a} {b} e = let whole : ◌≡◌ {A = Result T Stop} (Err a) (Err b) = e in cc
 
--- what holds where a worker isn't wanting, of an error that is handed on
+-- what holds where no worker is missing, of an error that is handed on
 pub lost_or_kept : {T : Type 0} {K : Type 0} (r : Result T Stop) (told : Stop) → IsErrAnd r (λ x. x ≡ told) → ((told ≡ stop.NoWorker → ⊥) → K) → (r ≡ Err stop.NoWorker → ⊥) → K
 lost_or_kept (Ok x) told e kept lost = absurd e
 lost_or_kept (Err x) told e kept lost = kept (λ is. lost (ap (λ y. Err y) (e ∙ is)))
 
--- whether a worker was wanting or not
+-- whether a worker was missing or not
 pub either_way : (there : Bool) (Meets : Cause → Type 0) (K : Type 0) (told : Stop) → StopsBy there Meets told → ((told ≡ stop.NoWorker → ⊥) → K) → (K → there ≡ true) → there ≡ true
 either_way there Meets K stop.Memory h kept f = f (kept (λ e. absurd (cc)))
 either_way there Meets K stop.NoWorker h kept f = h
@@ -70,7 +70,7 @@ stops_told there width s bodies times w stop.NoIds f h = (cause.NoIds, tt, f cau
 stops_told there width s bodies times w stop.NoEventNumber f h = (cause.NoEventNumber, tt, f cause.NoEventNumber h)
 stops_told there width s bodies times w (stop.Refused n) f h = (cause.Refused n, refl, f (cause.Refused n) h)
 
--- only a worker that is wanting is told as that, and none is told as an engine that is spoiled
+-- only a missing worker is reported as that, and none is told as an engine that is spoiled
 pub lost_told : {T : Type 0} (r : Result T RunFault) (told : Stop) → IsErrAnd r (λ f. f ≡ fault_of told) → (r ≡ Err fault.NoWorker → ⊥) → told ≡ stop.NoWorker → ⊥
 lost_told (Ok x) told e lost is = e
 lost_told (Err f) told e lost is = lost (ap (λ x. Err x) (e ∙ ap fault_of is))

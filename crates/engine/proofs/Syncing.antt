@@ -23,7 +23,8 @@ use Rattle.model.proofs.lists.Searches.{has_middle}
 use Rattle.model.proofs.serial.Engine.{synced_state, after_sync-form}
 use Rattle.entity_table.proofs.Edits.{update_at-id}
 use Rattle.entity_table.specs.Ids.{slot_at, IsGranted, AreApart}
-use Rattle.entity_table.proofs.Releases.{granted-other, granted-lives}
+use Rattle.entity_table.proofs.Releases.{granted-other, granted-lives, same_granted as same-granted, freed-granted}
+use Rattle.access_set.proofs.Choices.{in_at as in-get_or}
 use Rattle.engine.specs.Deferred.{DeferredValue, commands_at, grants_at, run_with, emptied, IsDeferredFor, AreInHand}
 
 -- ---- what is in joined lists
@@ -78,11 +79,6 @@ once-flat_map f (n ∷ ns) h each cross = once-append (f n) (flat_map f ns) (eac
 once-spawns : (granted es : List Entity) → AreSpawns granted es → AreOnce es
 once-spawns granted [] h = tt
 once-spawns granted (e ∷ es) h = (h.1, once-spawns granted es h.2)
-
-pub in-get_or : {A : Type 0} (xs : List A) (i : ℕ) (d : A) → i < length xs → IsIn (get_or xs i d) xs
-in-get_or [] i d l = absurd (omega arith)
-in-get_or (x ∷ xs) zero d l = inl refl
-in-get_or (x ∷ xs) (suc i) d l = inr (in-get_or xs i d (omega arith))
 
 apart-once : (es : List Entity) → AreOnce es → AreApart es
 apart-once [] h i j d before within same = absurd (omega arith)
@@ -141,11 +137,6 @@ module _ (slots : List Slot) (deferred : DeferredValue) (h : AreInHand slots def
 
 -- ---- releases
 
-freed-granted : (slot : Slot) → is_granted (freed slot).status ≡ false
-freed-granted slot = cond_both (slot.generation == last_generation)
-    (record { generation = slot.generation; status = Retired; row = [] })
-    (record { generation = suc slot.generation; status = Vacant; row = [] }) (λ (s : Slot). is_granted s.status ≡ false) (λ e. refl) (λ e. refl)
-
 released-joined : (slot : Slot) (first second : Bool) →
     cond (is_granted slot.status && (first || second)) (freed slot) slot
     ≡ cond (is_granted (cond (is_granted slot.status && first) (freed slot) slot).status && second) (freed (cond (is_granted slot.status && first) (freed slot) slot)) (cond (is_granted slot.status && first) (freed slot) slot)
@@ -170,11 +161,6 @@ release_joined xs ys slots =
     ∙ sym (map_index-map_index (λ i slot. cond (is_granted slot.status && names_index i ys) (freed slot) slot) (λ i slot. cond (is_granted slot.status && names_index i xs) (freed slot) slot) slots)
 
 -- ---- an id that stays granted
-
-same-granted : (slots : List Slot) (a b : Entity) → IsGranted slots a → IsGranted slots b → a.index ≡ b.index → a ≡ b
-same-granted slots a b p q e =
-    let generations : a.generation ≡ b.generation = sym p.generation ∙ ap (λ k. (slot_at slots k).generation) e ∙ q.generation in
-    λ i. record { index = e i; generation = generations i }
 
 -- while others are spawned
 granted-spawned : (slots : List Slot) (d e : Entity) → (e ≡ d → ⊥) → IsGranted slots e → IsGranted (update_at d.index (spawned d.generation) slots) e

@@ -49,7 +49,7 @@ abbrev pub StopsNext : {B : Type 0} → (B → Params → BodyMeaning) → (B �
 StopsNext meaning fits there width s slots deferred out w turn told =
     (bodies : List BodyMeaning) (start : State) (h : List Step) → IsNext meaning fits there width s bodies start h slots deferred out w turn → StopsBy there (WideStops width s bodies start) told
 
--- no body is lost by a turn, wherever this may be next, but where a worker was wanting
+-- no body is lost by a turn, wherever this may be next, but where a worker was missing
 abbrev pub KeepsNext : {B : Type 0} → (B → Params → BodyMeaning) → (B → Params → Bool) → Bool → ℕ → Schedule → List (Option B) → DeferredValue → List (JobOut B) → StateValue → Turn → List (Option B) → List (JobOut B) → Stop → Type 0
 KeepsNext meaning fits there width s slots deferred out w turn slots_later out_later told = (told ≡ stop.NoWorker → ⊥) →
     (bodies : List BodyMeaning) (start : State) (h : List Step) → IsNext meaning fits there width s bodies start h slots deferred out w turn → AreKept meaning fits there s bodies slots_later out_later

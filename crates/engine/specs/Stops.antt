@@ -36,7 +36,7 @@ abbrev pub stop_of_grant : GrantFault → Stop
 stop_of_grant granting.IdsSpent = stop.NoIds
 stop_of_grant granting.Memory = stop.Memory
 
--- what a stop means, where there are workers or none, by what a cause means: memory may be wanting at any time
+-- what a stop means, where there are workers or none, by what a cause means: an allocation may fail at any time
 abbrev pub StopsBy : Bool → (Cause → Type 0) → Stop → Type 0
 StopsBy there Meets stop.Memory = Unit {0}
 StopsBy there Meets stop.NoWorker = there ≡ true
@@ -80,7 +80,7 @@ pub record AreStopped (width : ℕ) (s : Schedule) (bodies : List BodyMeaning) (
   pub single : width ≡ 1 → IsStopped s bodies times w met
   pub undefined : width ≡ 1 → HasRuns s bodies times w → ⊥
 
--- what a fault of so many runs means, where there are workers or none: memory may be wanting at any time, and a spoiled engine has no runs
+-- what a fault of so many runs means, where there are workers or none: an allocation may fail at any time, and a spoiled engine has no runs
 abbrev pub StopsAs : Bool → ℕ → Schedule → List BodyMeaning → ℕ → State → RunFault → Type 0
 StopsAs there width s bodies times w fault.Memory = Unit {0}
 StopsAs there width s bodies times w fault.Spoiled = Unit {0}

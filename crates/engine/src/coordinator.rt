@@ -18,9 +18,9 @@ use crate::jobs::{Jobs, bring_home, finish, start};
 use crate::run_state::RunState;
 use crate::stop::Stop;
 use crate::turn::{Turn, next_turn};
-use body::system_body::Body;
+use body::Body;
 use executor_core::{Core, Ready, Step, Trace};
-use schedule_builder::built::Built;
+use schedule_builder::Built;
 use std::alloc::AllocError;
 use worker_pool::Mode;
 
@@ -78,7 +78,7 @@ fn run_turns<'s, M: Mode<'s>, B: Body + 's>(
         let step = do_turn(built, run, jobs, mode, turn)?;
         take(&mut core, &mut steps, step)?;
     }
-    run.state.law();
+    run.state.prove_law();
     Ok(Trace { steps })
 }
 
@@ -101,7 +101,7 @@ fn do_turn<'s, M: Mode<'s>, B: Body + 's>(
             Ok(Step::Finish(system))
         }
         Turn::Take(ready) => {
-            run.state.law();
+            run.state.prove_law();
             match ready {
                 Ready::Start(system) => {
                     start(built, run, jobs, mode, system)?;

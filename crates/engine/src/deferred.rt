@@ -11,10 +11,10 @@ ghost use Rattle.engine.specs.Deferred.{AreInHand, IsDeferredFor, IsNothingDefer
 ghost use Rattle.engine.specs.Stops.{LacksTick, StopsBy};
 
 use crate::stop::Stop;
-use body::open_state::OpenState;
-use command_queue::buffer::CommandBuffer;
+use body::OpenState;
+use command_queue::CommandBuffer;
 use entity_table::Entity;
-use schedule_builder::built::Built;
+use schedule_builder::Built;
 use std::alloc::{AllocError, Global};
 use std::marker::Model;
 use std::mem;
@@ -151,7 +151,7 @@ impl Deferred {
         ensures in_hand { OnOk result (AreInHand state.new.state.world.slots self.new) }
         ensures stopped { IfErr result (StopsBy false (LacksTick state.old.state)) }
     {
-        built.law();
+        built.prove_law();
         let tick = state.next()?;
         let systems = systems_of(&self.levels, point);
         state.apply(alloc, &self.commands, systems, tick)?;
@@ -219,7 +219,7 @@ fn levels_of(alloc: Global, built: &Built) -> Result<Vec<Level>, AllocError>
     ensures count { IfOk result (λ levels. length levels.items ≡ built.now.syncs) }
     ensures each { IfOk result (λ levels. (k : ℕ) → k < built.now.syncs → get_or levels.items k [] ≡ systems_of_level built.now k) }
 {
-    built.law();
+    built.prove_law();
     let mut levels = no_levels(alloc, built.syncs())?;
     for system in built.order() {
         let level = &mut levels[built.level(*system) as usize];

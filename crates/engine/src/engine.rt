@@ -12,11 +12,10 @@ use crate::faults::{NewFault, RunFault};
 use crate::fitting::check_parts;
 use crate::jobs::Jobs;
 use crate::run_state::RunState;
-use body::state::State;
-use body::system_body::Body;
+use body::{Body, State};
 use executor_core::Trace;
 use model::{runs_are_sound, single_runs_are_one, wide_of_one_is_single};
-use schedule_builder::built::Built;
+use schedule_builder::Built;
 use std::alloc::Global;
 use std::marker::Model;
 use std::mem;
@@ -74,7 +73,7 @@ impl<B: Body> Engine<B> {
     /// waits for one that ends else, and answers its trace once all have ended. `Memory` where an allocation fails, `ClockSpent` where a step
     /// has no next tick or an event no number, `IdsSpent` where a start lacks its ids, `BodyFault` where a body refuses, `NoWorker` where a
     /// thread couldn't be started; each spoils the engine, and from then on every run answers `Spoiled` and changes nothing. What the state is
-    /// after a fault isn't said: that of the run is gone. The bodies come home, and mean what they meant, but where a thread was wanting. Where the
+    /// after a fault isn't said: that of the run is gone. The bodies come home, and mean what they meant, but where a thread could not be started. Where the
     /// schedule is settled, the state agrees with what any as many runs with true answers leave of any state that agrees with the one before.
     pub fn run<'s, M: Mode<'s>>(
         &mut self,
@@ -121,8 +120,8 @@ fn run_engine<'s, M: Mode<'s>, B: Body + 's>(
     if engine.spoiled {
         return Err(RunFault::Spoiled);
     }
-    engine.built.law();
-    engine.state.shape();
+    engine.built.prove_law();
+    engine.state.prove_shape();
     engine.spoiled = true;
     let Ok(pool) = Pool::begin(alloc, mode.standing()) else {
         return Err(RunFault::Memory);

@@ -7,11 +7,10 @@ ghost use Rattle.model.specs.steps.Schedule.{access_of, params_of};
 ghost use Rattle.engine.specs.FirstState.{first_conditions, first_state, first_systems};
 ghost use Rattle.engine.specs.Meanings.{HasMemories, LacksMemories};
 
-use archetype_store::store::World;
-use body::memory::Memory;
-use body::state::{Memories, State};
-use event_buffers::buffers::Events;
-use schedule_builder::built::Built;
+use archetype_store::World;
+use body::{Memories, Memory, State};
+use event_buffers::Events;
+use schedule_builder::Built;
 use std::alloc::{AllocError, Global};
 
 /// The state of a world in which nothing was run, asked or sent, for the systems and conditions of a schedule. Fails only for a failed allocation.

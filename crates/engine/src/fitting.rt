@@ -8,9 +8,8 @@ ghost use Rattle.engine.specs.Meanings.{meanings, fits_at, AllKeepWithin, IsFirs
 
 use crate::faults::NewFault;
 use crate::first_state::lacks_memories;
-use body::state::State;
-use body::system_body::Body;
-use schedule_builder::built::Built;
+use body::{Body, State};
+use schedule_builder::Built;
 
 /// Refuses bodies and a state that are not those of a schedule: `Count` where there isn't a body and a memory for each system and a memory for
 /// each condition, each memory with a cursor for each event reader, else `Misfit` for the least system whose body doesn't fit its parameters.
@@ -66,7 +65,7 @@ fn body_fits<B: Body>(built: &Built, bodies: &[B], system: u32) -> bool
 }
 
 /// Bodies that fit their systems keep within the parameters of each.
-pub fn fitting_keep<B: Body>(built: &Built, bodies: &[B])
+pub fn prove_fitting_keep<B: Body>(built: &Built, bodies: &[B])
     requires count { length bodies.now ≡ length built.now.systems }
     requires fit { (n : ℕ) → n < length built.now.systems → fits_at B.fits built.now (map Some bodies.now) n ≡ true }
     ensures { AllKeepWithin built.now (meanings B.meaning built.now (map Some bodies.now)) }

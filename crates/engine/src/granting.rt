@@ -5,9 +5,9 @@ ghost use Rattle.std.specs.Option.{unwrap_or};
 ghost use Rattle.model.specs.state.Ids.{grant, granted_ids, has_ids};
 ghost use Rattle.body.specs.Steps.{with_slots_in};
 
-use access_set::params::Params;
+use access_set::Params;
 use archetype_store::fault::GrantFault;
-use body::open_state::OpenState;
+use body::OpenState;
 use entity_table::Entity;
 use std::alloc::Global;
 
@@ -25,7 +25,7 @@ pub fn grant_to(
     ensures err { OnErr result (state.new ≡ state.old) }
 {
     let Some(count) = params.spawns() else {
-        state.law();
+        state.prove_law();
         return Ok(Vec::new(alloc));
     };
     state.grant(alloc, count)

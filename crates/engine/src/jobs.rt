@@ -17,8 +17,8 @@ ghost use Rattle.engine.specs.declared.stop.Stop.TheVariants as stop;
 use crate::bodies::Bodies;
 use crate::run_state::RunState;
 use crate::stop::Stop;
-use body::system_body::Body;
-use schedule_builder::built::Built;
+use body::Body;
+use schedule_builder::Built;
 use worker_pool::{Done, HandFault, Mode, Pool, Start};
 
 /// The bodies of a run, and the jobs that are out.
@@ -50,7 +50,7 @@ pub(crate) fn start<'s, M: Mode<'s>, B: Body + 's>(
     ensures stopped { IfErr result (StopsBy (M.has_scope mode.now) (λ met. (bodies : List BodyMeaning) → interleaved_cause_of built.now bodies (Begin system) (woven run.old.state.state run.old.deferred jobs.old.pool) ≡ Some met)) }
     ensures kept { IfErr result (λ told. (told ≡ stop.NoWorker → ⊥) → (jobs.new.bodies ≡ jobs.old.bodies) × (jobs.new.pool ≡ jobs.old.pool)) }
 {
-    run.state.law();
+    run.state.prove_law();
     let shown = run.show(built, system)?;
     let view = Box::new(run.alloc, shown)?;
     let number = jobs.started.saturating_add(1);

@@ -14,5 +14,9 @@ pub mod run_state;
 pub mod stop;
 pub mod turn;
 
+pub use deferred::Deferred;
 pub use engine::Engine;
 pub use faults::{NewFault, RunFault};
+pub use run_state::RunState;
+pub use stop::Stop;
+pub use turn::Turn;

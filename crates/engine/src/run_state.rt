@@ -24,10 +24,8 @@ ghost use Rattle.engine.specs.Stops.{IsNotLaid, LacksTick, StopsBy};
 use crate::deferred::Deferred;
 use crate::granting::grant_to;
 use crate::stop::Stop;
-use body::open_state::OpenState;
-use body::system_body::BodyFault;
-use body::view::View;
-use schedule_builder::built::Built;
+use body::{BodyFault, OpenState, View};
+use schedule_builder::Built;
 use std::alloc::Global;
 
 /// The state within a run: that of the engine, and beside it what systems have deferred to the sync points of their levels. After a stop it is of
@@ -99,8 +97,8 @@ impl RunState {
         ensures stopped { IfErr result (StopsBy false (λ met. cause_of_start built.now system (run_with self.old.state.state self.old.deferred) ≡ Some met)) }
     {
         let params = built.params(system);
-        built.apart();
-        self.state.law();
+        built.prove_apart();
+        self.state.prove_law();
         let tick = self.state.coming()?;
         let granted = grant_to(self.alloc, params, &mut self.state)?;
         self.deferred

@@ -5,9 +5,9 @@ ghost use Rattle.engine.specs.declared.stop.Stop.TheVariants as stop;
 ghost use Rattle.engine.specs.Stops.{stop_of_body, stop_of_grant, stop_of_send};
 
 use archetype_store::fault::GrantFault;
-use body::system_body::BodyFault;
-use change_ticks::clock::ClockSpent;
-use event_buffers::queue::SendFault;
+use body::BodyFault;
+use change_ticks::ClockSpent;
+use event_buffers::SendFault;
 use std::alloc::{AllocError, AllocFailed};
 
 /// Why a step of a run stops it. A run tells of it by a `RunFault`.

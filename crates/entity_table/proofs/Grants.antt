@@ -13,6 +13,7 @@ use Rattle.model.specs.state.State.Status.{Vacant, Granted, Living, Retired}
 use Rattle.model.specs.state.Ids.{vacant_from, vacant_indices, with_room, has_ids, id_at, least_vacant, granted_ids, granted_slot, grant}
 use Rattle.model.proofs.lists.Lists.{map_index-id, length-map_index, get_or-append_replicate}
 use Rattle.model.proofs.lists.Each.{each-at}
+use Rattle.model.proofs.shape.Slots.{vacant-living as vacant_lives, length-vacant_fresh}
 use Rattle.entity_table.specs.Ids.{lives_at, IsGranted, AreApart}
 
 -- ---- words
@@ -42,11 +43,6 @@ vacant_from-append b (x ∷ xs) ys = go (is_vacant x.status) (vacant_from-append
         cond v (b ∷ vacant_from (suc b) (xs ++ ys)) (vacant_from (suc b) (xs ++ ys)) ≡ cond v (b ∷ vacant_from (suc b) xs) (vacant_from (suc b) xs) ++ vacant_from (b + suc (length xs)) ys
     go true e = ap (◌∷◌ b) e
     go false e = e
-
--- fresh slots are vacant
-length-vacant_fresh : (b n : ℕ) → length (vacant_from b (replicate n fresh_slot)) ≡ n
-length-vacant_fresh b zero = refl
-length-vacant_fresh b (suc n) = ap suc (length-vacant_fresh (suc b) n)
 
 length-vacant_room : (n : ℕ) (xs : List Slot) → length (vacant_indices (xs ++ replicate n fresh_slot)) ≡ length (vacant_indices xs) + n
 length-vacant_room n xs =
@@ -236,14 +232,6 @@ with_room-granted m xs =
     ∙ sym (first_granted-append 0 one others (vacant-with_room xs))
     ∙ ap (first_granted 1) (sym (with_room-suc m xs))
 
--- nothing is granted
-pub grant-zero : (xs : List Slot) → grant 0 xs ≡ xs
-unfolding with_room
-grant-zero xs = grant-is 0 xs ∙ first_granted-zero (with_room 0 xs) ∙ ap (λ k. xs ++ replicate k fresh_slot) (let e : 0 - length (vacant_indices xs) ≡ 0 = omega arith in e) ∙ append-nil xs
-
-pub granted_ids-zero : (xs : List Slot) → granted_ids 0 xs ≡ []
-granted_ids-zero xs = granted_ids-is 0 xs ∙ first_ids-zero 0 (with_room 0 xs)
-
 -- one is granted, and then the others
 pub grant-suc : (m : ℕ) (xs : List Slot) → grant (suc m) xs ≡ grant m (grant 1 xs)
 grant-suc m xs = grant-is (suc m) xs ∙ first_granted-suc m (with_room (suc m) xs) ∙ ap (first_granted m) (sym (with_room-granted m xs)) ∙ sym (grant-is m (grant 1 xs))
@@ -398,12 +386,6 @@ pub granted-each : (n : ℕ) (xs : List Slot) → All (IsGranted (grant n xs)) (
 granted-each n xs = rw (grant-is n xs, granted_ids-is n xs) (ids-granted n 0 (with_room n xs) (first_granted n (with_room n xs)) (λ i. ap (λ k. get_or (first_granted n (with_room n xs)) k fresh_slot) (let e : 0 + i ≡ i = omega arith in e)))
 
 -- ---- who lives
-
-vacant_lives : (status : Status) → is_vacant status ≡ true → is_living status ≡ false
-vacant_lives Vacant e = refl
-vacant_lives Granted e = refl
-vacant_lives Living e = absurd (false≢true e)
-vacant_lives Retired e = refl
 
 lives-first_granted : (n : ℕ) (xs : List Slot) (i : ℕ) → lives_at (first_granted n xs) i ≡ lives_at xs i
 lives-first_granted n [] i = refl

@@ -16,12 +16,6 @@ use Rattle.entity_table.proofs.Edits.{get_or-update_at, update_at-same, update_a
 
 -- ---- one id after the other
 
--- no id is released
-pub release-nil : (xs : List Slot) → release [] xs ≡ xs
-unfolding release
-release-nil xs = map_index-id (λ index slot. cond (is_granted slot.status && false) (freed slot) slot) fresh_slot xs
-    (λ i. ap (λ b. cond b (freed (get_or xs i fresh_slot)) (get_or xs i fresh_slot)) (and_right (is_granted (get_or xs i fresh_slot).status) false refl))
-
 -- what a release makes of an index
 released : List Entity → ℕ → Slot → Slot
 released ids index slot = cond (is_granted slot.status && names_index index ids) (freed slot) slot
@@ -33,7 +27,7 @@ release-at ids xs i = get_or-map_index (λ index slot. cond (is_granted slot.sta
 names_index-push : (i : ℕ) (ids : List Entity) (e : Entity) → names_index i (ids ++ e ∷ []) ≡ (names_index i ids || ((e.index == i) || false))
 names_index-push i ids e = list_any-append (λ x. x.index == i) ids (e ∷ [])
 
-freed-granted : (slot : Slot) → is_granted (freed slot).status ≡ false
+pub freed-granted : (slot : Slot) → is_granted (freed slot).status ≡ false
 freed-granted slot = cond_both (slot.generation == last_generation)
     (record { generation = slot.generation; status = Retired; row = [] })
     (record { generation = suc slot.generation; status = Vacant; row = [] }) (λ (s : Slot). is_granted s.status ≡ false) (λ e. refl) (λ e. refl)
@@ -145,7 +139,7 @@ length-spawned_all (x ∷ es) xs = length-spawned_all es (update_at x.index (spa
 -- ---- what stays granted
 
 -- two granted ids of one index are one
-same_granted : (xs : List Slot) (a b : Entity) → IsGranted xs a → IsGranted xs b → a.index ≡ b.index → a ≡ b
+pub same_granted : (xs : List Slot) (a b : Entity) → IsGranted xs a → IsGranted xs b → a.index ≡ b.index → a ≡ b
 same_granted xs a b p q e =
     let generations : a.generation ≡ b.generation = sym p.generation ∙ ap (λ k. (slot_at xs k).generation) e ∙ q.generation in
     λ i. record { index = e i; generation = generations i }

@@ -7,4 +7,7 @@ mod min_heap;
 pub mod status;
 pub mod table;
 
+pub use fault::GrantFault;
 pub use model::entities::Entity;
+pub use status::Status;
+pub use table::EntityTable;

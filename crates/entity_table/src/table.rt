@@ -14,7 +14,7 @@ use crate::entity_meta::EntityMeta;
 use crate::fault::GrantFault;
 use crate::min_heap::MinHeap;
 use crate::status::Status;
-use model::entities::Entity;
+use model::Entity;
 use std::alloc::{AllocError, Global};
 use std::marker::Model;
 

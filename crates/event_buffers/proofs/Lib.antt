@@ -1,3 +1,3 @@
-pub mod EventLists
+pub mod ListsOfEvents
 pub mod Numbered
 pub mod Queues

@@ -9,7 +9,7 @@ ghost use Rattle.model.specs.state.Events.{queue_of, send, send_all, can_send, u
 ghost use Rattle.model.specs.state.Shape.{IsQueue};
 
 use crate::queue::{Queue, SendFault, Unread};
-use kinds::res::Event;
+use kinds::Event;
 use std::alloc::Global;
 use std::marker::Model;
 
@@ -46,20 +46,20 @@ impl Events {
     }
 
     /// There is a queue for each kind.
-    pub fn law(&self)
+    pub fn prove_law(&self)
         ensures { length self.now ≡ event_count }
     {
         let _ = &self.queues;
     }
 
     /// The kept events of each kind have the last numbers given.
-    pub fn shape(&self)
+    pub fn prove_shape(&self)
         ensures { AllByRecursion IsQueue self.now }
     {
-        self.queues[0].shape();
-        self.queues[1].shape();
-        self.queues[2].shape();
-        self.queues[3].shape();
+        self.queues[0].prove_shape();
+        self.queues[1].prove_shape();
+        self.queues[2].prove_shape();
+        self.queues[3].prove_shape();
     }
 
     /// The number of the next event of a kind.

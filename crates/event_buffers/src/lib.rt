@@ -4,3 +4,7 @@
 pub mod buffers;
 pub mod lists;
 pub mod queue;
+
+pub use buffers::Events;
+pub use lists::{EventList, EventLists};
+pub use queue::{Queue, SendFault, Unread};

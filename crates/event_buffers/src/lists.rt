@@ -12,7 +12,7 @@ ghost use Rattle.event_buffers.specs.Lists.{ListValue, lists_of, place_in, with_
 
 use crate::buffers::Events;
 use crate::queue::SendFault;
-use kinds::res::Event;
+use kinds::Event;
 use std::alloc::{AllocError, Global};
 use std::marker::Model;
 
@@ -165,7 +165,7 @@ impl EventLists {
     fn can_send(&self, events: &Events) -> bool
         ensures { result ≡ has_event_numbers (events_sent self.now.kinds self.now.values) events.now }
     {
-        events.law();
+        events.prove_law();
         self.can_send_each(&Event::ALL, events)
     }
 
@@ -187,7 +187,7 @@ impl EventLists {
     fn send_each(&self, events: &mut Events) -> Result<(), SendFault>
         ensures { OnOk result (events.new ≡ queues_after (events_sent self.now.kinds self.now.values) events.old) }
     {
-        events.law();
+        events.prove_law();
         self.send_of(Event::Hit, events)?;
         self.send_of(Event::Heal, events)?;
         self.send_of(Event::Spark, events)?;

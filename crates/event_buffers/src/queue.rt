@@ -69,7 +69,7 @@ impl Queue {
     }
 
     /// What holds of every queue: the kept events have the last numbers given.
-    pub fn shape(&self)
+    pub fn prove_shape(&self)
         ensures { IsQueue self.now }
     {
         let _ = &self.older;

@@ -7,11 +7,10 @@ ghost use Rattle.model.specs.shown.Outcome.{untouched};
 ghost use Rattle.body.specs.Seen.{rows_at, read_at, with_written};
 ghost use Rattle.example_body.specs.Drift.{position, velocity, moved, drifted, may_drift};
 
-use access_set::params::Params;
-use body::system_body::{Body, BodyFault};
-use body::view::View;
+use access_set::Params;
+use body::{Body, BodyFault, View};
+use kinds::Kind;
 use kinds::component::{Position, Velocity};
-use kinds::kind::Kind;
 
 /// A body that moves every row of its first query by its velocity.
 #[derive(Drop)]
@@ -31,7 +30,7 @@ impl Body for Drift {
     }
 
     fn run(&mut self, view: &mut View) -> Result<(), BodyFault> {
-        view.law();
+        view.prove_law();
         drift_rows(view);
         Ok(())
     }

@@ -4,19 +4,18 @@
 ghost use Rattle.std.specs.Prelude.{IfSome, ◌≤◌};
 ghost use Rattle.archetype_store.specs.Layout.{AreAllHome};
 
-use access_set::params::Params;
-use archetype_store::store::World;
-use change_ticks::clock::Clock;
+use access_set::Params;
+use archetype_store::World;
+use change_ticks::Clock;
 use drift::Drift;
 use engine::Engine;
 use engine::first_state::first_state;
 use entity_table::Entity;
+use kinds::Kind;
 use kinds::component::{Position, Team, Velocity};
-use kinds::kind::Kind;
 use query::{Query, Term};
 use schedule_builder::builder::build;
-use schedule_builder::built::Built;
-use schedule_builder::desc::{ScheduleDesc, SystemDesc};
+use schedule_builder::{Built, ScheduleDesc, SystemDesc};
 use std::alloc::Global;
 use std::process::ExitCode;
 use streams::writing::write_whole;

@@ -5,15 +5,14 @@ ghost use Rattle.engine.specs.Meanings.{meanings};
 ghost use Rattle.printing.specs.WorldText.{world_text};
 ghost use Rattle.example_body.specs.Told.{IsTold};
 
-use body::system_body::Body;
+use body::Body;
 use engine::Engine;
 use printing::world::text_of_world;
 use std::alloc::Global;
 use std::sync::Wait;
 use std::thread;
 use std::thread::{Scope, Threads};
-use worker_pool::Workers;
-use worker_pool::single::NoGate;
+use worker_pool::{NoGate, Workers};
 
 // How many systems may run at once.
 const WORKERS: usize = 4;

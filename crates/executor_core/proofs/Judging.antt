@@ -273,7 +273,7 @@ pub sync_not-ready : (core : Stand) (h : List Step) (k : ℕ) → Stands core h 
 sync_not-ready core h k stands known high =
     inr (past_none k _ known, inr (both_ways _ (next_fresh core h stands k (omega arith)), inl (refl, (core.done, high, next_fresh core h stands core.done (omega arith)))))
 
--- no lower sync point is wanting where this one is the next
+-- no lower sync point is left where this one is the next
 next_waits-not : (core : Stand) (h : List Step) (k : ℕ) → Stands core h → k ≤ core.done → (j : ℕ) → j < k → synced h j ≡ true
 next_waits-not core h k stands low j below = done_below core h stands j (omega arith)
 

@@ -14,9 +14,9 @@ ghost use Rattle.executor_core.specs.Judges.{AllOver, NoneMeets, NoneClashes, Is
 ghost use Rattle.schedule_builder.specs.Conditions.{IsCovering, IsRisingListing};
 
 use crate::counts::Counts;
-use model::steps::{Ready, Step, StepFault};
+use model::{Ready, Step, StepFault};
 use number_set::NumberSet;
-use schedule_builder::built::Built;
+use schedule_builder::Built;
 use std::alloc::{AllocError, Global};
 use std::marker::Model;
 
@@ -119,7 +119,7 @@ impl<'a> Core<'a> {
     }
 
     /// Each history for which a core stands is lawful, and has no more steps than the schedule has room for.
-    pub fn law(&self)
+    pub fn prove_law(&self)
         ensures lawful { (h : List Step) → Stands self.now h → IsLawful self.now.schedule h }
         ensures bound { (h : List Step) → Stands self.now h → length h ≤ room self.now.schedule }
     {}
@@ -128,7 +128,7 @@ impl<'a> Core<'a> {
     pub(crate) fn built_law(&self)
         ensures { IsBuilt self.now.schedule }
     {
-        self.built.law();
+        self.built.prove_law();
     }
 
     // How many systems there are.
@@ -192,7 +192,7 @@ impl<'a> Core<'a> {
     pub(crate) fn is_after(&self, system: u32) -> bool
         ensures { IsTrue result ↔ AllOver self.now system }
     {
-        self.built.law();
+        self.built.prove_law();
         self.waits.is_none(system)
     }
 

@@ -8,7 +8,7 @@ ghost use Rattle.executor_core.specs.Stands.{Stands};
 ghost use Rattle.executor_core.specs.Judges.{Judges, IsKnown, IsReleased, IsWaiting, HasWaitingMember, HasUnasked, HasRefusing};
 
 use crate::executor::Core;
-use model::steps::{Step, StepFault};
+use model::{Step, StepFault};
 
 impl<'a> Core<'a> {
     // Whether the step may come.

@@ -7,7 +7,7 @@ ghost use Rattle.executor_core.specs.Stands.{Stands};
 ghost use Rattle.executor_core.specs.Judges.{TellsOffer, IsAskableNow, CanAsk, IsLeastAskable};
 
 use crate::executor::Core;
-use model::steps::Ready;
+use model::Ready;
 
 impl<'a> Core<'a> {
     // What the first system in schedule order offers that offers anything, else the sync point that is accepted. The systems

@@ -1,6 +1,6 @@
 // The steps of a run.
 
-use model::steps::Step;
+use model::Step;
 
 /// The steps of a run, the oldest first.
 #[derive(PartialEq, Eq, Debug, Drop)]

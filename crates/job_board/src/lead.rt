@@ -149,7 +149,7 @@ impl<T: Task> Lead<T> {
     }
 
     /// Numbers rise from 1, what is collected was posted, and no more is collected than posted.
-    pub fn law(&self)
+    pub fn prove_law(&self)
         ensures numbers { IsTally (lead_view self.now) }
         ensures counts { (length (lead_view self.now).collected ≤ length (lead_view self.now).posted) × (length (lead_view self.now).posted < 2 ^ 62) }
     {}

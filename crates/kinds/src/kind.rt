@@ -192,8 +192,8 @@ impl fmt::Display for Kind {
     }
 }
 
-/// The kinds are told apart: by their numbers, which are below their count, and by their names.
-pub fn kinds_are_apart()
+/// The kinds are distinguished: by their numbers, which are below their count, and by their names.
+pub fn prove_kinds_apart()
     ensures below { NumbersAreBelow }
     ensures numbers { NumbersAreApart }
     ensures names { NamesAreApart }

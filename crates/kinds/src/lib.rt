@@ -9,3 +9,14 @@ pub mod kind;
 pub mod res;
 pub mod types;
 pub mod value;
+
+pub use column::Column;
+pub use component::Component;
+pub use fields::Fields;
+pub use kind::Kind;
+pub use res::{Event, Res};
+pub use types::{
+    Armor, Charge, Damage, Energy, Frozen, Health, Hidden, Home, Level, Marked, Mass, Position,
+    Range, Rank, Score, Sleeping, Target, Team, Timer, Velocity,
+};
+pub use value::Value;

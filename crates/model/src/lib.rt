@@ -115,3 +115,6 @@ pub fn answers_are_asked()
 pub fn causes_are_exact()
     ensures { CausesAreExact }
 {}
+
+pub use entities::Entity;
+pub use steps::{Ready, Step, StepFault};

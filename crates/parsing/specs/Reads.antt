@@ -17,7 +17,7 @@ abbrev pub Reads : {A T : Type 0} → (A → T → Type 0) → T → Option A �
 Reads Spells text None = SpellsNone Spells text
 Reads Spells text (Some x) = SpellsOnly Spells text x
 
--- what an error of a reader says: the text spells nothing, unless memory was wanting
+-- what an error of a reader says: the text spells nothing, unless an allocation failed
 abbrev pub Refuses : {A T : Type 0} → (A → T → Type 0) → T → ReadError → Type 0
 Refuses Spells text Outside = SpellsNone Spells text
 Refuses Spells text Memory = Unit {0}

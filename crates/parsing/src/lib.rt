@@ -5,3 +5,5 @@ pub mod integer;
 pub mod parts;
 pub mod read_error;
 pub mod words;
+
+pub use read_error::ReadError;

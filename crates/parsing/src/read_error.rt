@@ -13,7 +13,7 @@ use std::fmt;
 pub enum ReadError {
     /// The text is outside its grammar.
     Outside,
-    /// Memory was wanting. Nothing is said of the text.
+    /// An allocation failed. Nothing is said of the text.
     Memory,
 }
 

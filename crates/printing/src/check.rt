@@ -4,7 +4,7 @@ ghost use Rattle.std.specs.Prelude.{◌≡◌, ◌++◌, OnOk, IfOk, string_byte
 ghost use Rattle.printing.specs.CheckText.{verdict_line, check_text};
 
 use std::alloc::{AllocError, Global};
-use trace_checker::check::Verdict;
+use trace_checker::Verdict;
 
 /// The text of what is said of runs, a line for each: `run N complete`, `run N unfinished` or `run N bad STEP SK`, with N from 1, the
 /// number of the step at fault and that of the fault.

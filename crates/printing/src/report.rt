@@ -3,7 +3,8 @@
 ghost use Rattle.std.specs.Prelude.{◌≡◌, ◌++◌, [], map, get_or, flat_map, OnOk, IfOk, string_bytes};
 ghost use Rattle.printing.specs.ReportText.{racer_text, pair_line, settled_line, report_text};
 
-use ambiguity_report::report::{Pair, Racer};
+use ambiguity_report::Pair;
+use ambiguity_report::report::Racer;
 use std::alloc::{AllocError, Global};
 
 /// The text of an ambiguity report, of systems with these names by number: each pair of what races and a system, a condition by its number

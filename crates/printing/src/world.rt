@@ -7,10 +7,9 @@ ghost use Rattle.archetype_store.specs.Layout.{AreAllHome};
 ghost use Rattle.entity_table.specs.Ids.{slot_at};
 ghost use Rattle.printing.specs.WorldText.{words_text, component_text, row_text, entity_line, slot_line, slot_lines, resource_line, lines_of, count_line, printed};
 
-use archetype_store::store::World;
-use column_store::stamped::StampedValue;
-use kinds::res::Res;
-use kinds::value::Value;
+use archetype_store::World;
+use column_store::StampedValue;
+use kinds::{Res, Value};
 use std::alloc::{AllocError, Global};
 
 /// The text of a world after so many runs, in which so many commands were passed over: the number of runs, each resource, each

@@ -21,6 +21,8 @@ use Rattle.command_line.specs.declared.args.Work.{Work}
 use Rattle.command_line.specs.Args.{is_recorded}
 use Rattle.streams.specs.Writing.{WritesWhole, line_of}
 use Rattle.kinds.specs.declared.value.Value.{Value}
+use Rattle.body.proofs.States.{map-twice}
+use Rattle.engine.proofs.AtHome.{unlike}
 use Rattle.program.specs.Load.{entity_given, loaded_world}
 use Rattle.engine.specs.FirstState.{first_state}
 use Rattle.program.specs.Setup.{IsScheduleOf, AreScriptsOf, declared_names, script_fits, script_suits, meanings_of_scripts}
@@ -50,9 +52,6 @@ use Rattle.schedule_builder.specs.declared.fault.BuildFault.TheVariants as build
 use Rattle.streams.proofs.Parts.{front_of_whole}
 use Rattle.toml.specs.Parse.{parse_document}
 use Rattle.command_line.specs.declared.args.Work.TheVariants as work
-
-pub unlike : (a : Bool) → a ≡ true → a ≡ false → ⊥
-unlike a e f = absurd (let g : true ≡ false = sym e ∙ f in cc)
 
 -- a script at its place
 at-place : (params : Params) (scripts : List ScriptBody) (n : ℕ) → engine.body_fits (λ script p. fits p script) (body_at (map Some scripts) n) params ≡ script_fits (slice_get scripts n) params
@@ -92,18 +91,9 @@ replay-loaded s scripts others rows entities values P same is h =
     subst (λ (xs : List ScriptBody). P (meanings_of_scripts s xs) (loaded s (map entity_given entities) values)) same
     (subst (λ (es : List (Vec Value Global)). P (meanings_of_scripts s scripts) (loaded s (map entity_given es) values)) is h)
 
-map-twice : {A B C : Type 0} (f : A → B) (g : B → C) (xs : List A) → map g (map f xs) ≡ map (λ x. g (f x)) xs
-map-twice f g [] = refl
-map-twice f g (x ∷ xs) = ap (λ ys. g (f x) ∷ ys) (map-twice f g xs)
-
 -- the scripts of codes are those of the tables whose blocks they have
 pub scripts-same : (codes : List Code) (rows : List SystemTable) → map (λ (code : Code). code.blocks) codes ≡ map (λ (row : SystemTable). row.blocks) rows → map (λ (code : Code). script_said code.blocks) codes ≡ map (λ (row : SystemTable). script_said row.blocks) rows
 scripts-same codes rows e = sym (map-twice (λ (code : Code). code.blocks) script_said codes) ∙ ap (map script_said) e ∙ map-twice (λ (row : SystemTable). row.blocks) script_said rows
-
--- what holds of an answer that is there
-pub of-ok : {T E : Type 0} (P Q : T → Type 0) (r : Result T E) → ((x : T) → P x → Q x) → IfOk r P → IfOk r Q
-of-ok P Q (Ok x) f h = f x h
-of-ok P Q (Err e) f h = h
 
 -- and of one of which two things are said
 pub of-ok-two : {T E : Type 0} (P R Q : T → Type 0) (r : Result T E) → ((x : T) → P x → R x → Q x) → IfOk r P → IfOk r R → IfOk r Q
@@ -301,11 +291,6 @@ module _ (bytes trace : Option (List ℕ)) (tables : ProgramFile) (s : Schedule)
   unreplayed-refused fault (inl unread) = trace-refused bytes trace work.Replay fault tt unread
   unreplayed-refused fault (inr (inl ungiven)) = given-refused bytes trace work.Replay fault tt ungiven
   unreplayed-refused fault (inr (inr refused)) = replay-refused fault refused
-
--- what is told of a fault that is there
-pub of-err : {T E : Type 0} (P Q : E → Type 0) (r : Result T E) → ((e : E) → P e → Q e) → IfErr r P → IfErr r Q
-of-err P Q (Ok x) f h = h
-of-err P Q (Err e) f h = f e h
 
 -- and of one that a conversion gave
 pub of-given : {T E : Type 0} (P Q : E → Type 0) (r : Result T E) → IsErrAnd r P → ((e : E) → P e → Q e) → IfErr r Q

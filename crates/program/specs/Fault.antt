@@ -52,7 +52,7 @@ fault_of_read read.TooLong = TooLong
 fault_of_read read.Failed = File
 fault_of_read read.Memory = Memory
 
--- what is told where the program file is refused; want of memory is no fault of the file
+-- what is told where the program file is refused; a failed allocation is no fault of the file
 abbrev pub fault_of_file : FileFault → Fault
 fault_of_file file.Memory = Memory
 fault_of_file fault = Content fault
@@ -73,7 +73,7 @@ fault_of_text (text.Line line) = TraceLine line
 fault_of_text (text.Order line) = TraceOrder line
 fault_of_text text.Memory = Memory
 
--- the fault of a script, with the name of its system, for which memory may be wanting
+-- the fault of a script, with the name of its system, for which an allocation may fail
 abbrev pub IsScriptFault : List ℕ → ScriptFault → Fault → Type 0
 IsScriptFault name fault (Script cause system block instruction) =
     (cause ≡ fault.cause) × (string_bytes system ≡ name) × (block ≡ fault.block) × (instruction ≡ fault.instruction)

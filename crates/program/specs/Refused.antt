@@ -37,7 +37,7 @@ IsUnread bytes File = Unit {0}
 IsUnread bytes Memory = Unit {0}
 IsUnread bytes _ = ⊥
 
--- the script of a system, which has this name, has this first fault; or memory is wanting
+-- the script of a system, which has this name, has this first fault; or an allocation fails
 abbrev pub IsScriptRefused : Schedule → ℕ → List ℕ → ScriptBody → Fault → Type 0
 IsScriptRefused s n name script (Script cause system block instruction) =
     (name ≡ string_bytes system) × (script_fault (params_of s n) script ≡ Some (record { cause = cause; block = block; instruction = instruction }))
@@ -49,7 +49,7 @@ abbrev pub IsUnscripted : Schedule → List (List ℕ) → List ScriptBody → F
 IsUnscripted s names scripts Memory = Unit {0}
 IsUnscripted s names scripts fault = (n : ℕ) × (n < length s.systems) × IsScriptRefused s n (get_or names n []) (get_or scripts n []) fault
 
--- ids are wanting for entities, or memory
+-- no ids are left for entities, or an allocation fails
 abbrev pub IsUngiven : Fault → Type 0
 IsUngiven IdsSpent = Unit {0}
 IsUngiven Memory = Unit {0}
@@ -74,7 +74,7 @@ IsStoppedRun recorded Memory = Unit {0}
 IsStoppedRun recorded NoWorker = Unit {0}
 IsStoppedRun recorded _ = ⊥
 
--- the runs of a trace are not replayed: the trace is not read, ids are wanting for entities, or a run of the trace is refused
+-- the runs of a trace are not replayed: the trace is not read, no ids are left for entities, or a run of the trace is refused
 abbrev pub IsUnreplayed : Schedule → List BodyMeaning → State → Option (List ℕ) → Fault → Type 0
 IsUnreplayed s bodies start trace fault = IsTraceUnread trace fault ⊎ (IsUngiven fault ⊎ IsRefusedReplay s bodies start trace fault)
 

@@ -100,7 +100,7 @@ pub record IsRecordKept (work : Work) (noted : List ℕ) (traces : Option (List 
 abbrev pub WritesRecord : {T E : Type 0} → Work → (Option (List ℕ) × Option (List ℕ)) → Result T E → List ℕ → Type 0
 WritesRecord work traces r noted = MatchResult r (λ _. IsRecordKept work noted traces) (λ _. (is_recorded work ≡ true) × HasGainedFront traces noted)
 
--- a fault was told in its line, or a beginning of that; where memory is wanting for the line, that was told
+-- a fault was told in its line, or a beginning of that; where an allocation fails for the line, that was reported
 abbrev pub Tells : Fault → (Option (List ℕ) × Option (List ℕ)) → Type 0
 Tells fault faults = HasGainedFront faults (line_of (fault_text fault)) ⊎ HasGainedFront faults (line_of (fault_text Memory))
 

@@ -11,11 +11,13 @@ use crate::answer::Answer;
 use crate::fault::Fault;
 use executor_core::Trace;
 use printing::check::text_of_check;
-use schedule_builder::built::Built;
+use schedule_builder::Built;
 use std::alloc::Global;
 use std::io::Read;
-use streams::reading::{ReadFault, read_whole};
-use trace_checker::check::{Verdict, check_all};
+use streams::ReadFault;
+use streams::reading::read_whole;
+use trace_checker::Verdict;
+use trace_checker::check::check_all;
 use trace_checker::read::read_traces;
 
 /// No text of traces has more bytes, read or written.

@@ -7,15 +7,14 @@ ghost use Rattle.program.specs.declared.fault.Fault.TheVariants.{Memory, Write};
 use archetype_store::fault::GrantFault;
 use executor_core::StepFault;
 use program_file::FileFault;
-use schedule_builder::fault::BuildFault;
-use script::fault::{Cause, ScriptFault};
+use schedule_builder::BuildFault;
+use script::{Cause, ScriptFault};
 use std::alloc::{AllocError, AllocFailed, Global};
 use std::error::Error;
 use std::fmt;
-use streams::reading::ReadFault;
-use streams::writing::WriteFault;
+use streams::{ReadFault, WriteFault};
+use trace_checker::TextFault;
 use trace_checker::check::number_of;
-use trace_checker::read::TextFault;
 
 /// Why the work is not done. It is printed as the line that the standard error gets, without its end.
 #[derive(Debug, Drop)]

@@ -14,3 +14,7 @@ mod schedule;
 pub mod serve;
 pub mod workers;
 mod world;
+
+pub use created::Created;
+pub use fault::Fault;
+pub use opened::Opened;

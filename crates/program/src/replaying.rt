@@ -15,17 +15,18 @@ use crate::answer::Answer;
 use crate::checking::traces_of;
 use crate::fault::Fault;
 use crate::world::world_of;
-use body::state::State;
+use body::State;
 use engine::RunFault;
 use engine::first_state::first_state;
 use executor_core::Trace;
-use kinds::value::Value;
+use kinds::Value;
 use printing::world::text_of_world;
-use schedule_builder::built::Built;
-use script::script_body::ScriptBody;
+use schedule_builder::Built;
+use script::ScriptBody;
 use std::alloc::Global;
 use std::io::Read;
-use trace_checker::replay::{ReplayFault, replay};
+use trace_checker::ReplayFault;
+use trace_checker::replay::replay;
 
 /// The world that the recorded runs of a trace leave. Each is taken again on one thread, from the state that the run before it leaves, the
 /// first from that of these entities and resources as loaded; the first that is refused ends it. The trace is read before the world is made.

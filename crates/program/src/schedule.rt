@@ -10,15 +10,13 @@ ghost use Rattle.script.specs.Faults.{fits};
 ghost use Rattle.program.specs.Setup.{declared_names, AreScriptsOf};
 
 use crate::fault::Fault;
-use access_set::params::Params;
-use kinds::res::{Event, Res};
+use access_set::Params;
+use kinds::{Event, Res};
 use program_file::{ChainTable, ItemTable, SystemTable};
 use query::Query;
 use run_condition::Cond;
-use schedule_builder::built::Built;
-use schedule_builder::desc::{ChainDesc, ItemDesc, ScheduleDesc, SystemDesc};
-use script::fault::CheckFault;
-use script::script_body::{Block, ScriptBody};
+use schedule_builder::{Built, ChainDesc, ItemDesc, ScheduleDesc, SystemDesc};
+use script::{Block, CheckFault, ScriptBody};
 use std::alloc::{AllocError, Global};
 
 /// What a system of a program file does: the name by which it is told, and its blocks.

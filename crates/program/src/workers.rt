@@ -4,14 +4,13 @@ ghost use Rattle.std.specs.Prelude.{◌≤◌};
 ghost use Rattle.program.specs.Served.{IsServed};
 
 use crate::serve::serve;
-use command_line::args::Args;
+use command_line::Args;
 use std::alloc::Global;
 use std::io::{Read, Write};
 use std::sync::Wait;
 use std::thread;
 use std::thread::{Scope, Threads};
-use worker_pool::Workers;
-use worker_pool::single::NoGate;
+use worker_pool::{NoGate, Workers};
 
 // The gate of the program's workers, which lets all pass.
 const NO_GATE: NoGate = NoGate;

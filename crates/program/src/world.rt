@@ -9,14 +9,12 @@ ghost use Rattle.program.specs.Refused.{IsUngiven};
 ghost use Rattle.program.specs.Load.{given_of, entity_given, loaded_world, with_resources, with_entities, AreGiven};
 
 use crate::fault::Fault;
-use archetype_store::change::{EntityChange, Fate};
 use archetype_store::components::put_component;
-use archetype_store::store::World;
-use change_ticks::clock::{Clock, Tick};
-use column_store::stamped::StampedValue;
+use archetype_store::{EntityChange, Fate, World};
+use change_ticks::{Clock, Tick};
+use column_store::StampedValue;
 use entity_table::Entity;
-use kinds::res::Res;
-use kinds::value::Value;
+use kinds::{Res, Value};
 use std::alloc::{AllocError, Global};
 
 // The tick at which a file is loaded.

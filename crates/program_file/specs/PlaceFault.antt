@@ -7,7 +7,7 @@ use Rattle.program_file.specs.declared.fault.FileFault.TheVariants as fault
 use Rattle.program_file.specs.declared.place_fault.PlaceFault.{PlaceFault}
 use Rattle.program_file.specs.declared.place_fault.PlaceFault.TheVariants.{Value, Text, Memory}
 
--- the fault with its place; want of memory has none
+-- the fault with its place; a failed allocation has none
 abbrev pub fault_at : Place → PlaceFault → FileFault
 fault_at place Value = fault.Value place
 fault_at place Text = fault.Text place

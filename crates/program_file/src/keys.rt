@@ -11,7 +11,7 @@ ghost use Rattle.program_file.specs.Name.{IsName, IsAmong};
 
 use crate::name::is_name;
 use crate::place_fault::PlaceFault;
-use kinds::res::{Event, Res};
+use kinds::{Event, Res};
 use std::alloc::Global;
 use toml::{Table, Value};
 

@@ -6,7 +6,7 @@ ghost use Rattle.program_file.specs.declared.place_fault.PlaceFault.TheVariants.
 
 use crate::fault::FileFault;
 use crate::place::Place;
-use parsing::read_error::ReadError;
+use parsing::ReadError;
 use std::alloc::{AllocError, AllocFailed};
 
 /// Why a place of a program file is not read. Which place it is, is added by who knows it.

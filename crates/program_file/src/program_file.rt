@@ -17,12 +17,10 @@ use crate::place::Place;
 use crate::place_fault::PlaceFault;
 use crate::readings::{conditions_of, instructions_of, queries_of};
 use crate::rounds::rounds_of;
-use kinds::kind::Kind;
-use kinds::res::{Event, Res};
-use kinds::value::Value;
+use kinds::{Event, Kind, Res, Value};
 use query::Query;
 use run_condition::Cond;
-use script::script_body::{Block, Rounds};
+use script::{Block, Rounds};
 use std::alloc::Global;
 use toml::Table;
 

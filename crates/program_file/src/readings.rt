@@ -10,7 +10,7 @@ ghost use Rattle.program_file.specs.Readings.{AreSpelled};
 use crate::place_fault::PlaceFault;
 use query::Query;
 use run_condition::Cond;
-use script::instruction::Instruction;
+use script::Instruction;
 use std::alloc::Global;
 
 /// The queries that texts spell, in order. `Text` tells of one that spells none.

@@ -7,8 +7,8 @@ ghost use Rattle.program_file.specs.Rounds.{SaysRounds, IsEventName, block_keys}
 
 use crate::keys::{number_of, value_at};
 use crate::place_fault::PlaceFault;
-use kinds::res::Event;
-use script::script_body::Rounds;
+use kinds::Event;
+use script::Rounds;
 use toml::{Table, Value};
 
 /// How often a block runs: once for each row of the query at `each`, or once for each event of the kind at `events`, or once. A block with

@@ -3,7 +3,7 @@
 ghost use Rattle.std.specs.Prelude.{◌≡◌, ℕ, Bool};
 ghost use Rattle.query.specs.Alternative.{listed};
 
-use kinds::kind::Kind;
+use kinds::Kind;
 
 /// An alternative of an `or` term.
 #[derive(Clone, Copy, PartialEq, Eq, Debug)]

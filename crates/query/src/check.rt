@@ -11,7 +11,7 @@ ghost use Rattle.query.specs.BadQuery.{fault_number, bad_query_text};
 
 use crate::query::{Query, any_requires};
 use crate::term::Term;
-use kinds::kind::Kind;
+use kinds::Kind;
 use std::error::Error;
 use std::fmt;
 

@@ -9,7 +9,7 @@ ghost use Rattle.model.specs.access.QueryFaults.{required};
 ghost use Rattle.query.specs.Term.{term_of};
 
 use crate::term::Term;
-use kinds::kind::Kind;
+use kinds::Kind;
 use smallvec::SmallVec;
 use std::alloc::{AllocError, Global};
 use std::marker::Model;

@@ -12,9 +12,9 @@ use crate::alternative::{Alternative, Alternatives};
 use crate::check::has_many_ors;
 use crate::query::Query;
 use crate::term::Term;
-use kinds::kind::Kind;
+use kinds::Kind;
+use parsing::ReadError;
 use parsing::parts::parts_of;
-use parsing::read_error::ReadError;
 use parsing::words::{is_blank, words_of};
 use std::alloc::Global;
 

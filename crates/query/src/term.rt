@@ -11,7 +11,7 @@ ghost use Rattle.query.specs.Alternative.{alternatives_of};
 ghost use Rattle.query.specs.Term.{term_of, is_present};
 
 use crate::alternative::Alternatives;
-use kinds::kind::Kind;
+use kinds::Kind;
 
 /// A term of a query.
 #[derive(Clone, Copy, PartialEq, Eq, Debug, Default)]

@@ -16,12 +16,9 @@ use Rattle.archetype_store.specs.declared.tables.ArchetypeView.{ArchetypeView}
 use Rattle.archetype_store.specs.Layout.{Archetype}
 use Rattle.archetype_store.specs.Slot.{bare_of}
 use Rattle.archetype_store.specs.View.{entities_seen}
+use Rattle.model.proofs.progress.Width.{and_false as and_no}
 use Rattle.query_plan.specs.declared.row.Row.{Row}
 use Rattle.query_plan.specs.Standing.{is_bare_row, bare_from}
-
-and_no : (b : Bool) → (b && false) ≡ false
-and_no true = refl
-and_no false = refl
 
 -- ---- what a query asks of one without components
 

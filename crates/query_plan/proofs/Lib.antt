@@ -1,4 +1,4 @@
-pub mod Rows
+pub mod RowLists
 pub mod Picking
 pub mod Chosen
 pub mod Merging

@@ -4,7 +4,7 @@ use Rattle.std.specs.List.{AllByRecursion}
 use Rattle.std.proofs.lemmas.Bool.{and_parts, or_cases, or_left, or_right, eqb-true, eq-eqb}
 use Rattle.model.specs.Lists.{has, is_number}
 use Rattle.model.proofs.lists.Each.{each-append}
-use Rattle.archetype_store.proofs.KindsHome.{kinds_are_home}
+use Rattle.archetype_store.proofs.KindsHome.{prove_kinds_home}
 use Rattle.model.specs.state.State.{Slot}
 use Rattle.model.specs.access.Query.{Term, matches, admits, touches, touched, writes}
 use Rattle.model.specs.access.Query.Term.{Entity, Read, Mut, Opt, With, Without, Added, Changed, AnyOf}
@@ -114,13 +114,13 @@ module _ (query : List Term) (H : ℕ → ℕ → Type 0) where
       (each_of m a.kinds (λ k there. subst (λ j. H j k) (let e : m + zero ≡ m = omega arith in e) (h zero k there)))
       (each_from (suc m) others (λ n k there. subst (λ j. H j k) (let e : m + suc n ≡ suc m + n = omega arith in e) (h (suc n) k there)))
 
-pub home_tells_picks : HomeTellsPicks
-home_tells_picks slots layout query laid home =
+pub prove_picks_home : HomeTellsPicks
+prove_picks_home slots layout query laid home =
     each_from query (λ m j. column_home (archetype_at layout m) j ≡ Some true) 0 layout
-    (λ n k there. subst (λ j. column_home (archetype_at layout j) k ≡ Some true) (let e : n ≡ 0 + n = omega arith in e) (kinds_are_home slots layout n k laid home there))
+    (λ n k there. subst (λ j. column_home (archetype_at layout j) k ≡ Some true) (let e : n ≡ 0 + n = omega arith in e) (prove_kinds_home slots layout n k laid home there))
 
 -- where all columns are at home, so are those that some queries pick
 pub home_tells_each : (slots : List Slot) (layout : List Archetype) (queries : List (List Term)) → IsLayoutOf slots layout → AreAllHome layout →
     AllByRecursion (λ query. ArePickedHome query layout) queries
 home_tells_each slots layout [] laid home = tt
-home_tells_each slots layout (query ∷ queries) laid home = (home_tells_picks slots layout query laid home, home_tells_each slots layout queries laid home)
+home_tells_each slots layout (query ∷ queries) laid home = (prove_picks_home slots layout query laid home, home_tells_each slots layout queries laid home)

@@ -11,6 +11,7 @@ use Rattle.model.specs.shown.Input.{passes}
 use Rattle.model.specs.state.Commands.{is_alive}
 use Rattle.model.proofs.lists.Each.{each-append}
 use Rattle.archetype_store.specs.Slot.{cell_of, column_cells}
+use Rattle.archetype_store.proofs.Noted.{and_true as and_one}
 use Rattle.query_plan.specs.declared.filter.Filter.{Filter}
 use Rattle.query_plan.specs.Standing.{is_newer}
 use Rattle.query_plan.specs.Filters.{IsFilterOf, AreFiltersOf}
@@ -51,10 +52,6 @@ all_end p (x ∷ xs) y = ap (λ b. p x && b) (all_end p xs y) ∙ and_assoc (p x
     and_assoc : (a b c : Bool) → (a && (b && c)) ≡ ((a && b) && c)
     and_assoc true b c = refl
     and_assoc false b c = refl
-
-and_one : (b : Bool) → (b && true) ≡ b
-and_one true = refl
-and_one false = refl
 
 module _ (slots : List Slot) (es : List Entity) (ts : List Term) (fs : List Filter) (t : Term) (so_far : AreFiltersOf slots es ts fs) where
   -- a term that is none

@@ -9,9 +9,9 @@ ghost use Rattle.query.specs.Term.{term_of};
 ghost use Rattle.query_plan.specs.Standing.{IsFilterHome, is_newer};
 ghost use Rattle.query_plan.specs.Filters.{IsFilterOf, AreFiltersOf};
 
-use archetype_store::store::World;
+use archetype_store::World;
 use change_ticks::stamp::newer;
-use column_store::stamped::StampedColumn;
+use column_store::StampedColumn;
 use query::Term;
 use std::alloc::{AllocError, Global};
 

@@ -5,10 +5,10 @@ ghost use Rattle.std.specs.Arc.{arc_value};
 ghost use Rattle.archetype_store.specs.Layout.{archetype_at};
 ghost use Rattle.query_plan.specs.Places.{every_row, rows_of_places, AreEvery, IsCounted};
 
+use crate::matched_rows::MatchedRows;
 use crate::row::Row;
-use crate::row_places::RowPlaces;
-use crate::row_room::RowRoom;
-use archetype_store::store::World;
+use crate::row_buffers::RowBuffers;
+use archetype_store::World;
 use entity_table::Entity;
 use std::alloc::{AllocError, Global};
 use std::marker::Model;
@@ -42,14 +42,14 @@ impl Model for Rows {
 
 impl Rows {
     /// The rows that stand at these places in a world.
-    pub fn of(alloc: Global, places: RowPlaces, world: &mut World) -> Result<Self, AllocError>
+    pub fn of(alloc: Global, places: MatchedRows, world: &mut World) -> Result<Self, AllocError>
         requires { IsCounted world.old.layout places }
         ensures rows { IfOk result (λ rows. rows ≡ rows_of_places world.old.layout places) }
         ensures same { world.new ≡ world.old }
     {
         match places {
-            RowPlaces::Listed(rows) => Ok(Rows::listed(rows)),
-            RowPlaces::All(archetype, count) => {
+            MatchedRows::Listed(rows) => Ok(Rows::listed(rows)),
+            MatchedRows::All(archetype, count) => {
                 if count == 0 {
                     return Ok(Rows::listed(Vec::new(alloc)));
                 }
@@ -71,7 +71,7 @@ impl Rows {
     }
 
     /// Gives the buffer of the rows back, where they are listed.
-    pub fn give_back(self, room: &mut RowRoom) {
+    pub fn give_back(self, room: &mut RowBuffers) {
         if let KeptRows::Listed(rows) = self.kept {
             room.give(rows);
         }
@@ -104,7 +104,7 @@ impl Rows {
     {
         match &self.kept {
             KeptRows::All(archetype, count, entities) => {
-                // Tells that places are below it.
+                // Proves that places are below it.
                 let _count = *count;
                 Row {
                     entity: entities[row],

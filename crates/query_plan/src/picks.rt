@@ -11,7 +11,7 @@ ghost use Rattle.query.specs.Term.{term_of};
 ghost use Rattle.query_plan.specs.Picks.{picked_in, picked_of, picked_from, pick_seen};
 
 use archetype_store::store::ArchetypeView;
-use kinds::kind::Kind;
+use kinds::Kind;
 use query::{Alternative, Presence, Query, Term};
 use std::alloc::{AllocError, Global};
 
@@ -80,7 +80,7 @@ fn pick_in(
 }
 
 // Whether a query matches these kinds.
-#[tactic(auto, using(crate::proofs::Rows::over_terms))]
+#[tactic(auto, using(crate::proofs::RowLists::over_terms))]
 pub(crate) fn matches_kinds(query: &Query, kinds: &[Kind]) -> bool
     ensures { result ≡ matches query.now (λ kind. has kind (map kind_number kinds.now)) }
 {

@@ -11,8 +11,8 @@ ghost use Rattle.query_plan.specs.Standing.{ArePickedHome, IsStanding};
 use crate::archetype_rows::rows_in;
 use crate::picks::picks_in;
 use crate::planned::Plan;
-use crate::row_room::RowRoom;
-use archetype_store::store::World;
+use crate::row_buffers::RowBuffers;
+use archetype_store::World;
 use query::Query;
 use std::alloc::{AllocError, Global};
 
@@ -25,7 +25,7 @@ pub fn plan(
     query: &Query,
     world: &World,
     last_run: u64,
-    room: &mut RowRoom,
+    room: &mut RowBuffers,
 ) -> Result<Plan, AllocError>
     requires { ArePickedHome query.now world.now.layout }
     ensures rows { IfOk result (λ plan. map (λ row. row.entity) (rows_of_places world.now.layout plan.rows) ≡ map (λ row. row.entity) (input.rows_of query.now last_run world.now.state.slots)) }

@@ -1,13 +1,13 @@
 // What is planned of a query.
 
+use crate::matched_rows::MatchedRows;
 use crate::picks::Pick;
-use crate::row_places::RowPlaces;
 
 /// What a query asks of a world: its rows, and the columns that they are in.
 #[derive(Drop)]
 pub struct Plan {
     /// Where the rows stand, in rising index.
-    pub rows: RowPlaces,
+    pub rows: MatchedRows,
     /// The columns, of archetypes that have entities alone.
     pub picks: Vec<Pick>,
     /// How many archetypes have entities.

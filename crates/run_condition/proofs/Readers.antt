@@ -31,7 +31,7 @@ module _ {A : Type 0} (R S : A × List ℕ → List ℕ → Type 0) (t u : List 
 
 -- ---- an error as it comes
 
--- want of memory says nothing
+-- a failed allocation says nothing
 pub refuses_memory : {A T : Type 0} (R : A → T → Type 0) (t : T) (e : ReadError) → e ≡ Memory → Refuses R t e
 refuses_memory R t Outside h = absurd cc
 refuses_memory R t Memory h = tt

@@ -6,7 +6,7 @@ ghost use Rattle.run_condition.specs.Access.{with_access};
 ghost use Rattle.model.specs.access.Condition.{access_of_condition};
 
 use crate::cond::{Cond, Tree};
-use access_set::params::Params;
+use access_set::Params;
 use query::Query;
 use std::alloc::{AllocError, Global};
 

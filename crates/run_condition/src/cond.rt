@@ -5,7 +5,7 @@ ghost use Rattle.run_condition.specs.Tree.{condition_of};
 ghost use Rattle.kinds.specs.Res.{res_number, event_number};
 ghost use Rattle.model.specs.access.Condition.{Condition, queries_of};
 
-use kinds::res::{Event, Res};
+use kinds::{Event, Res};
 use query::Query;
 use std::alloc::{AllocError, Global};
 use std::marker::Model;

@@ -14,10 +14,10 @@ ghost use Rattle.run_condition.specs.Fronts.{StartsMark, AtFront, BeforeComma, I
 use crate::cond::Cond;
 use crate::fronts::{behind_comma, behind_opening, closed, closing, cut};
 use crate::word::Word;
-use kinds::res::{Event, Res};
+use kinds::{Event, Res};
+use parsing::ReadError;
 use parsing::integer::read_integer;
 use parsing::parts::parts_of;
-use parsing::read_error::ReadError;
 use parsing::words::words_of;
 use query::Query;
 use std::alloc::Global;

@@ -3,7 +3,7 @@ use Rattle.std.proofs.Common.{◌≡◌, ◌↔◌, ℕ, suc, ◌+◌, ◌<◌, 
 use Rattle.std.specs.Bool.{MatchBool}
 use Rattle.std.specs.List.{list_any, All}
 use Rattle.std.specs.Option.{is_some}
-use Rattle.std.proofs.lemmas.Bool.{false≢true, or_cases, or_left, or_right, eqb-true, eq-eqb, cases_lt}
+use Rattle.std.proofs.lemmas.Bool.{false≢true, or_cases, or_left, or_right, eqb-true, eq-eqb, cases_lt, or_parts as both_false}
 use Rattle.std.proofs.lemmas.List.{take_all, get_or_append_left, get_or_push, get_or_default, length_push, length-append, map-append, length-map, get_or-map, get_or_past}
 use Rattle.model.specs.Lists.{has, IsIn, is_number}
 use Rattle.model.specs.access.Query.{Term, written, writes}
@@ -28,7 +28,7 @@ use Rattle.system_set.specs.Edges.{AreEdges}
 use Rattle.system_set.specs.Coverage.{AreCovered}
 use Rattle.system_set.proofs.EdgeLists.{member_known}
 use Rattle.schedule_builder.specs.ScheduleOrder.{schedule_with}
-use Rattle.schedule_builder.specs.declared.parts.Parts.{Parts}
+use Rattle.schedule_builder.specs.declared.desc_parts.Parts.{Parts}
 use Rattle.schedule_builder.specs.Queries.{AreGoodBelow}
 use Rattle.schedule_builder.specs.Asked.{asked_of, owners_of, asked_query, AreGoodConditionsBelow, AreReadingBelow, TellsBadCondition, HasWriting, TellsWriting, scheduled_condition, AreScheduledConditions, other_in, AreSilences, AreDeclaredSilences}
 use Rattle.cycle_search.proofs.Walks.{has-append}
@@ -158,10 +158,6 @@ some_written (t ∷ terms) e = elim (or_cases (is_some (written t)) (list_any (�
   | inl here ↦ let found = written_kind (written t) here in (found.0, or_left (is_number found.0 (written t)) (writes terms found.0) found.1)
   | inr there ↦ let found = some_written terms there in (found.0, or_right (is_number found.0 (written t)) (writes terms found.0) found.1)
 ]
-
-both_false : (b c : Bool) → (b || c) ≡ false → (b ≡ false) × (c ≡ false)
-both_false true c e = absurd (false≢true (sym e))
-both_false false c e = (refl, e)
 
 -- and one that writes none writes no kind
 unwritten_kind : (told : Option ℕ) (kind : ℕ) → is_some told ≡ false → is_number kind told ≡ false

@@ -10,7 +10,7 @@ use Rattle.model.specs.declarations.ScheduleOrder.{IsScheduleOrder}
 use Rattle.cycle_search.specs.declared.order.Order.{Order}
 use Rattle.schedule_builder.specs.ScheduleOrder.{schedule_of, IsEdge, HasSourcesBelow}
 use Rattle.schedule_builder.specs.Levels.{deferring_before, IsGreatest, IsLevelled, AreLevels, AreSyncs}
-use Rattle.schedule_builder.proofs.ScheduleOrders.{split_at}
+use Rattle.schedule_builder.proofs.ScheduleOrders.{split_at, has-front as has_front}
 
 -- ---- one more number of a list
 
@@ -19,13 +19,6 @@ has_pushed m [] x h = elim (or_cases (eqb x m) false h) [ inl e ↦ inr (eqb-tru
 has_pushed m (y ∷ xs) x h = elim (or_cases (eqb y m) (has m (xs ++ x ∷ [])) h) [
   | inl e ↦ inl (or_left (eqb y m) (has m xs) e)
   | inr e ↦ elim (has_pushed m xs x e) [ inl k ↦ inl (or_right (eqb y m) (has m xs) k) | inr k ↦ inr k ]
-]
-
-has_front : (m : ℕ) (front rest : List ℕ) → has m front ≡ true → has m (front ++ rest) ≡ true
-has_front m [] rest h = absurd (false≢true h)
-has_front m (x ∷ front) rest h = elim (or_cases (eqb x m) (has m front) h) [
-  | inl e ↦ or_left (eqb x m) (has m (front ++ rest)) e
-  | inr e ↦ or_right (eqb x m) (has m (front ++ rest)) (has_front m front rest e)
 ]
 
 has_last : (x : ℕ) (xs : List ℕ) → has x (xs ++ x ∷ []) ≡ true

@@ -1,7 +1,7 @@
 -- The levels of declared systems: those that were found are the greatest numbers of deferring edges on paths.
 use Rattle.std.proofs.Common.{◌≡◌, ℕ, zero, suc, ◌<◌, ◌≤◌, ◌+◌, ◌⊎◌, inl, inr, Bool, true, false, ◌&&◌, cond, eqb, is_some, List, [], ◌∷◌, ◌++◌, length, map, flat_map, get_or, refl, arith, subst, sym, ap, ◌∙◌}
 use Rattle.std.specs.List.{filter}
-use Rattle.std.proofs.lemmas.Bool.{false≢true, or_cases, or_left, or_right, eqb-true, eq-eqb, cases_lt}
+use Rattle.std.proofs.lemmas.Bool.{false≢true, or_cases, or_left, or_right, eqb-true, eq-eqb, cases_lt, and_parts as both_parts, and_from as both_from}
 use Rattle.std.proofs.lemmas.List.{get_or_push, get_or_append_left, length_push}
 use Rattle.model.specs.Lists.{has, IsIn}
 use Rattle.model.specs.access.Access.{no_params}
@@ -15,25 +15,12 @@ use Rattle.cycle_search.specs.declared.order.Order.{Order}
 use Rattle.cycle_search.specs.Cycles.{IsRankable}
 use Rattle.system_set.specs.Pairs.{pairs_of}
 use Rattle.system_set.specs.Edges.{AreEdges}
+use Rattle.model.proofs.lists.Lists.{IsIn-append as in_either, IsIn_left as in_front, IsIn_right as in_back}
 use Rattle.schedule_builder.specs.ScheduleOrder.{schedule_with, schedule_of, IsEdge, AreRising, AreScheduled}
 use Rattle.schedule_builder.specs.Levels.{has_commands, deferring_before, AreLevels, AreSyncs, AreLevelledBy}
 use Rattle.schedule_builder.proofs.Assembly.{edge_known, declared_edges, levels_are}
 
 -- ---- plain orders are orders
-
-in_front : {A : Type 0} (x : A) (xs ys : List A) → IsIn x xs → IsIn x (xs ++ ys)
-in_front x [] ys h = absurd h
-in_front x (y ∷ xs) ys (inl e) = inl e
-in_front x (y ∷ xs) ys (inr h) = inr (in_front x xs ys h)
-
-in_back : {A : Type 0} (x : A) (xs ys : List A) → IsIn x ys → IsIn x (xs ++ ys)
-in_back x [] ys h = h
-in_back x (y ∷ xs) ys h = inr (in_back x xs ys h)
-
-in_either : {A : Type 0} (x : A) (xs ys : List A) → IsIn x (xs ++ ys) → IsIn x xs ⊎ IsIn x ys
-in_either x [] ys h = inr h
-in_either x (y ∷ xs) ys (inl e) = inl (inl e)
-in_either x (y ∷ xs) ys (inr h) = elim (in_either x xs ys h) [ inl k ↦ inl (inr k) | inr k ↦ inr k ]
 
 within_from : {A : Type 0} (x : A) (f g : ℕ → DeclaredItem → List A) → ((n : ℕ) (i : DeclaredItem) → IsIn x (f n i) → IsIn x (g n i)) → (n : ℕ) (items : List DeclaredItem) → IsIn x (from_each f n items) → IsIn x (from_each g n items)
 within_from x f g w n [] h = h
@@ -65,14 +52,6 @@ plain_edge : (d : Declared) (m n : ℕ) → IsEdgeOf (hierarchy_of d) (plain_ord
 plain_edge d m n e = record { first = e.first; second = e.second; ordered = plain_within d (e.first, e.second) e.ordered; from = e.from; to = e.to }
 
 -- ---- deferring edges, as they were found
-
-both_parts : (a b : Bool) → (a && b) ≡ true → (a ≡ true) × (b ≡ true)
-both_parts true b h = (refl, h)
-both_parts false b h = absurd (false≢true h)
-
-both_from : (a b : Bool) → a ≡ true → b ≡ true → (a && b) ≡ true
-both_from true b h k = k
-both_from false b h k = absurd (false≢true h)
 
 -- whether an order defers a system, as a test
 abbrev is_deferring : List ScheduledSystem → ℕ → Order → Bool

@@ -13,20 +13,6 @@ use Rattle.schedule_builder.specs.Rows.{system_in, IsRow, AreRows}
 use Rattle.schedule_builder.specs.Conditions.{condition_in, IsCovering, IsClash, IsRisingListing, HasConditionRows}
 use Rattle.cycle_search.proofs.Walks.{has-append}
 
--- a greater number at the end of a rising list
-pub rising_push : (xs : List ℕ) (n : ℕ) → IsRising xs → ((m : ℕ) → has m xs ≡ true → m < n) → IsRising (xs ++ n ∷ [])
-rising_push [] n rising below = ((λ m e. absurd (false≢true e)), tt)
-rising_push (x ∷ xs) n rising below = (
-  (λ m e. elim (or_cases (has m xs) (has m (n ∷ [])) (sym (has-append m xs (n ∷ [])) ∙ e)) [
-    | inl old ↦ rising.0 m old
-    | inr new ↦ elim (or_cases (eqb n m) false new) [
-      | inl same ↦ let here : n ≡ m = eqb-true n m same in let low : x < n = below x (or_left (eqb x x) (has x xs) (eq-eqb x x refl)) in omega arith
-      | inr none ↦ absurd (false≢true none)
-    ]
-  ]),
-  rising_push xs n rising.1 (λ m e. below m (or_right (eqb x m) (has m xs) e)),
-)
-
 -- the numbers with a property below a bound, listed, with one more that has it
 pub named_more : (P : ℕ → Type 0) (xs : List ℕ) (n : ℕ) → P n → ((m : ℕ) → (has m xs ≡ true) ↔ ((m < n) × P m)) →
     (m : ℕ) → (has m (xs ++ n ∷ []) ≡ true) ↔ ((m < n + 1) × P m)

@@ -12,12 +12,10 @@ use Rattle.cycle_search.specs.declared.order.Order.{Order}
 use Rattle.cycle_search.specs.Orders.{IsBetween}
 use Rattle.system_set.specs.Pairs.{pair_of, pairs_of, ArePlaced}
 use Rattle.system_set.proofs.EdgeLists.{member_known}
+use Rattle.system_set.proofs.Ordered.{read}
 use Rattle.schedule_builder.specs.Orders.{AreDeclared, IsWhole}
 
 -- ---- orders of an item with itself
-
-read : (orders : List Order) (i : ℕ) (d : Order) → i < length orders → get_or orders i d ≡ get_or orders i (get_or orders i d)
-read orders i d low = get_or_default orders i d (get_or orders i d) low
 
 pub loop_more : (orders : List Order) (i : ℕ) (d : Order) → i < length orders → HasNoLoop (pairs_of (take i orders)) → ((get_or orders i d).first ≡ (get_or orders i d).second → ⊥) → HasNoLoop (pairs_of (take (i + 1) orders))
 loop_more orders i d low each other = each_more (λ o. o.0 ≡ o.1 → ⊥) pair_of orders i (get_or orders i d) low (read orders i d low) each other

@@ -1,24 +1,17 @@
 -- The schedule order: one more system, and why it ends with every system.
 use Rattle.std.proofs.Common.{◌≡◌, ℕ, zero, suc, ◌<◌, ◌≤◌, ◌+◌, Bool, true, false, not, ◌&&◌, eqb, cond, nat_lt, Option, None, Some, ◌⊎◌, List, [], ◌∷◌, ◌++◌, length, get_or, refl, arith, subst, sym, ap, ◌∙◌, append_assoc, inl, inr}
 use Rattle.std.specs.List.{list_all}
-use Rattle.std.proofs.lemmas.Bool.{false≢true, or_cases, or_left, or_right, eqb-true, eq-eqb, cases_lt}
+use Rattle.std.proofs.lemmas.Bool.{false≢true, or_cases, or_left, or_right, eqb-true, eq-eqb, cases_lt, and_parts as both_parts, and_from as both_from}
 use borrow.Author.Tests.{ltb-true, ltb-false}
 use Rattle.model.specs.Lists.{has}
 use Rattle.model.specs.steps.Schedule.{ScheduledSystem, system_at, level_of}
 use Rattle.model.specs.steps.Ambiguity.{Reaches, Before}
 use Rattle.model.specs.declarations.ScheduleOrder.{IsNextPlaced, IsScheduleOrder}
 use Rattle.cycle_search.specs.Cycles.{IsRankable}
+use Rattle.model.proofs.faults.Judging.{passed_all as all_pass}
 use Rattle.schedule_builder.specs.ScheduleOrder.{schedule_of, can_place, IsEdge, HasSourcesBelow, IsOpen, IsNextOpen, IsSequence, AreRising, IsLowest, TellsLowestAmong, lower_level}
 
 -- ---- tests on each of a list's numbers
-
-both_parts : (a b : Bool) → (a && b) ≡ true → (a ≡ true) × (b ≡ true)
-both_parts true b h = (refl, h)
-both_parts false b h = absurd (false≢true h)
-
-both_from : (a b : Bool) → a ≡ true → b ≡ true → (a && b) ≡ true
-both_from true b h k = k
-both_from false b h k = absurd (false≢true h)
 
 passes : (p : ℕ → Bool) (xs : List ℕ) (m : ℕ) → list_all p xs ≡ true → has m xs ≡ true → p m ≡ true
 passes p [] m a h = absurd (false≢true h)
@@ -28,10 +21,6 @@ passes p (x ∷ xs) m a h =
       | inl e ↦ subst (λ (y : ℕ). p y ≡ true) (eqb-true x m e) both.0
       | inr e ↦ passes p xs m both.1 e
     ]
-
-all_pass : (p : ℕ → Bool) (xs : List ℕ) → ((m : ℕ) → has m xs ≡ true → p m ≡ true) → list_all p xs ≡ true
-all_pass p [] h = refl
-all_pass p (x ∷ xs) h = both_from (p x) (list_all p xs) (h x (or_left (eqb x x) (has x xs) (eq-eqb x x refl))) (all_pass p xs (λ m e. h m (or_right (eqb x m) (has m xs) e)))
 
 failing_by : (p : ℕ → Bool) (x : ℕ) (xs : List ℕ) (b : Bool) → p x ≡ b → ((list_all p xs ≡ false) → (m : ℕ) × (has m xs ≡ true) × (p m ≡ false)) → (b && list_all p xs) ≡ false → (m : ℕ) × (has m (x ∷ xs) ≡ true) × (p m ≡ false)
 failing_by p x xs false e rest h = (x, or_left (eqb x x) (has x xs) (eq-eqb x x refl), e)
@@ -207,7 +196,7 @@ never_stuck systems placed lowest r sources rising low none = unplaced_left syst
 
 -- ---- by edges, and by what is before
 
-has-front : (m : ℕ) (front rest : List ℕ) → has m front ≡ true → has m (front ++ rest) ≡ true
+pub has-front : (m : ℕ) (front rest : List ℕ) → has m front ≡ true → has m (front ++ rest) ≡ true
 has-front m [] rest h = absurd (false≢true h)
 has-front m (x ∷ front) rest h = elim (or_cases (eqb x m) (has m front) h) [
   | inl e ↦ or_left (eqb x m) (has m (front ++ rest)) e

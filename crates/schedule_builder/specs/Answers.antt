@@ -5,7 +5,7 @@ use Rattle.model.specs.declarations.Refusals.{Refusal, IsRefused}
 use Rattle.schedule_builder.specs.declared.fault.BuildFault.{BuildFault}
 use Rattle.schedule_builder.specs.declared.fault.BuildFault.TheVariants.{UnknownName, DuplicateName, HierarchyLoop, HierarchyCycle, DependencyLoop, CrossDependency, SetsIntersect, DependencyCycle, SelfConflict, BadQuery, BadConditionQuery, ConditionWrites, OverLimit, Memory}
 
--- the fault is the refusal that is told of the declared items; want of memory tells nothing of them
+-- the fault is the refusal that is told of the declared items; a failed allocation says nothing of them
 abbrev pub IsAnswered : Declared → BuildFault → Type 0
 IsAnswered d (UnknownName name) = IsRefused d (Refusal.UnknownName (string_bytes name))
 IsAnswered d (DuplicateName name) = IsRefused d (Refusal.DuplicateName (string_bytes name))

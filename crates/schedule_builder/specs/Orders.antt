@@ -40,7 +40,7 @@ pub record TellsLacking (d : Declared) (looked : List (ℕ × List ℕ)) (fault 
   pub bound : ℕ
   pub first : IsFirstBad (IsKnown d) (λ x. IsKnown d x → ⊥) looked (bound, string_bytes name)
 
--- the same, or want of memory
+-- the same, or a failed allocation
 abbrev pub IsLacking : Declared → List (ℕ × List ℕ) → BuildFault → Type 0
 IsLacking d looked fault = (fault ≡ Memory) ⊎ TellsLacking d looked fault
 

@@ -19,20 +19,20 @@ ghost use Rattle.schedule_builder.specs.Asked.{asked_of, owners_of, AreDeclaredS
 ghost use Rattle.schedule_builder.specs.ScheduleOrder.{AreScheduled, system_with};
 ghost use Rattle.schedule_builder.specs.Levels.{AreLevelledBy};
 
-use crate::asked::{
+use crate::ascending_list::{Listing, silences_of};
+use crate::built::{Built, System};
+use crate::condition_faults::{
     conditions_of, first_bad_condition, first_writing, owners_of, scheduled_conditions,
 };
-use crate::built::{Built, System};
 use crate::desc::{ScheduleDesc, SystemDesc};
 use crate::fault::BuildFault;
 use crate::levels::{found_levels, level_in, syncs_of};
-use crate::listing::{Listing, silences_of};
 use crate::names::{first_repeated, places_of};
 use crate::orders::{Resolved, first_loop, hierarchy_from, resolve};
 use crate::query_faults::first_bad;
 use crate::schedule_order::{order_of, predecessors_of};
 use crate::self_conflicts::first_conflicting;
-use access_set::params::Params;
+use access_set::Params;
 use cycle_search::Order;
 use run_condition::Cond;
 use std::alloc::{AllocError, Global};

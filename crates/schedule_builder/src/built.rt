@@ -10,15 +10,15 @@ ghost use Rattle.schedule_builder.specs.Counts.{IsListing, IsAfter, waits_for, i
 ghost use Rattle.schedule_builder.specs.ScheduleOrder.{schedule_with};
 ghost use Rattle.schedule_builder.specs.Conditions.{IsRisingListing, IsCovering, IsClash};
 
+use crate::ascending_list::Listing;
 pub use crate::condition::Condition;
 use crate::condition::has_number;
 use crate::condition_rows::{lists_of_conditions, rows_of_clashes};
 use crate::counts::{counts_at, counts_before, lists_after};
-use crate::listing::Listing;
-use crate::rows::{rows_before, rows_of_rivals};
+use crate::relations::{rows_before, rows_of_rivals};
 use crate::successors::Successors;
 pub use crate::system::System;
-use access_set::params::Params;
+use access_set::Params;
 use number_set::NumberSet;
 use std::alloc::{AllocError, Global};
 use std::marker::Model;
@@ -121,7 +121,7 @@ impl Built {
     }
 
     /// What holds of every built schedule.
-    pub fn law(&self)
+    pub fn prove_law(&self)
         ensures { IsBuilt self.now }
     {
         let _ = &self.syncs;
@@ -129,7 +129,7 @@ impl Built {
 
     /// No two parameters of one system conflict: neither two of its queries, nor two that name a resource or an event kind that
     /// one of them writes.
-    pub fn apart(&self)
+    pub fn prove_apart(&self)
         ensures { (n : ℕ) → n < length self.now.systems → ConflictWithin (params_of self.now n) → ⊥ }
     {
         let _ = &self.syncs;

@@ -4,7 +4,7 @@ ghost use Rattle.std.specs.Prelude.{◌≡◌, IfOk};
 ghost use Rattle.model.specs.Lists.{has};
 ghost use Rattle.model.specs.access.Condition.{access_of_condition};
 
-use access_set::params::Params;
+use access_set::Params;
 use run_condition::Cond;
 use std::alloc::{AllocError, Global};
 use std::marker::Model;

@@ -4,9 +4,9 @@ ghost use Rattle.std.specs.Prelude.{◌≡◌, ◌<◌, ◌≤◌, ℕ, [], leng
 ghost use Rattle.schedule_builder.specs.Rows.{AreRows};
 ghost use Rattle.schedule_builder.specs.Conditions.{IsClash, IsCovering, IsRisingListing};
 
+use crate::ascending_list::Listing;
 use crate::condition::Condition;
-use crate::listing::Listing;
-use crate::rows::row_of_clashes;
+use crate::relations::row_of_clashes;
 use crate::system::System;
 use number_set::NumberSet;
 use std::alloc::{AllocError, Global};

@@ -3,7 +3,7 @@
 ghost use Rattle.std.specs.Prelude.{◌≡◌, ◌<◌, ◌++◌, ◌∷◌, [], map, length, string_bytes, OnOk, OnErr};
 ghost use Rattle.model.specs.declarations.Declarations.{items_of, item_at, declared_at, plain_item};
 
-use access_set::params::Params;
+use access_set::Params;
 use run_condition::Cond;
 use std::alloc::{AllocError, Global};
 use std::marker::Model;

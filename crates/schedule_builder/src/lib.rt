@@ -1,22 +1,28 @@
 // The builder: declared systems and orders become a built schedule, or the first thing at fault is told.
 #![tactic(auto)]
 
-mod asked;
+mod ascending_list;
 pub mod builder;
 pub mod built;
 pub mod condition;
+mod condition_faults;
 mod condition_rows;
 mod counts;
 pub mod desc;
+mod desc_parts;
 pub mod fault;
 mod levels;
-mod listing;
 mod names;
 mod orders;
-mod parts;
 mod query_faults;
-mod rows;
+mod relations;
 mod schedule_order;
 mod self_conflicts;
 mod successors;
 pub mod system;
+
+pub use built::Built;
+pub use condition::Condition;
+pub use desc::{ChainDesc, ItemDesc, ScheduleDesc, SystemDesc};
+pub use fault::BuildFault;
+pub use system::System;

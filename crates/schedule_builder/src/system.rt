@@ -2,7 +2,7 @@
 
 ghost use Rattle.std.specs.Prelude.{◌≡◌};
 
-use access_set::params::Params;
+use access_set::Params;
 use std::marker::Model;
 
 /// A system of a built schedule: its parameters, the systems with an edge to it, and its level. Contracts see these three.

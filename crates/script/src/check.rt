@@ -18,9 +18,9 @@ use crate::fault::{Cause, ScriptFault};
 use crate::instruction::Instruction;
 use crate::operands::{Axis, Field, Mentions, Source, Subject, Target, Values};
 use crate::script_body::{Block, Rounds};
-use access_set::params::Params;
-use kinds::kind::{Kind, kinds_are_apart};
-use kinds::res::Res;
+use access_set::Params;
+use kinds::kind::prove_kinds_apart;
+use kinds::{Kind, Res};
 use query::Term;
 
 /// How many registers a system has.

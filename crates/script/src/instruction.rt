@@ -5,10 +5,9 @@ ghost use Rattle.parsing.specs.Reads.{Reads, ReadsUnlessMemory};
 ghost use Rattle.script.specs.Instruction.{IsOperation, IsRelation, IsCount, AreInstruction, IsNoInsert, IsInstruction};
 
 use crate::operands::{Source, Subject, Target, Values, read_slot};
-use kinds::kind::Kind;
-use kinds::res::Event;
+use kinds::{Event, Kind};
+use parsing::ReadError;
 use parsing::integer::read_number;
-use parsing::read_error::ReadError;
 use parsing::words::words_of;
 use std::alloc::Global;
 

@@ -21,3 +21,10 @@ pub fn scripts_keep_within()
     ensures within { ScriptsKeepWithin }
     ensures shown { ScriptsKeepWithinShown }
 {}
+
+pub use fault::{Cause, CheckFault, ScriptFault};
+pub use frame::{Operand, Operands, Slot, Step};
+pub use instruction::{Instruction, Operation, Relation};
+pub use operands::{Axis, Field, Mentions, Source, Subject, Target, Values};
+pub use row_plan::RowPlan;
+pub use script_body::{Block, Rounds, ScriptBody};

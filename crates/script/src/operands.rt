@@ -4,8 +4,8 @@ ghost use Rattle.std.specs.Prelude.{◌≡◌, ◌<◌, ◌≤◌, [], ◌∷◌
 ghost use Rattle.parsing.specs.Reads.{Reads};
 ghost use Rattle.script.specs.Operands.{IsAxis, IsField, IsRegister, IsTarget, IsSource, IsSlot, IsSubject, IsNamedBy, AreValues, with_bit, with_source};
 
-use kinds::kind::{Kind, kinds_are_apart};
-use kinds::res::Res;
+use kinds::kind::prove_kinds_apart;
+use kinds::{Kind, Res};
 use parsing::integer::{read_integer, read_number};
 
 /// The letter of a field within its kind. Not every kind has each: that is looked at when the script is checked.
@@ -185,7 +185,7 @@ impl Mentions {
     fn with(self, source: Source) -> Mentions
         ensures { result ≡ with_source self source }
     {
-        kinds_are_apart();
+        prove_kinds_apart();
         match source {
             Source::Field(field) => Mentions {
                 kinds: with_bit(self.kinds, field.kind.number()),

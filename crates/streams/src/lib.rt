@@ -3,3 +3,6 @@
 
 pub mod reading;
 pub mod writing;
+
+pub use reading::ReadFault;
+pub use writing::WriteFault;

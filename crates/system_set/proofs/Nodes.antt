@@ -16,7 +16,7 @@ use Rattle.cycle_search.proofs.Walks.{walk_weaker, no_round}
 use Rattle.system_set.specs.Pairs.{pair_of, pairs_of, hierarchy_of, IsPlaced, ArePlaced}
 use Rattle.system_set.specs.Nodes.{enter_of, leave_of, enter_step, leave_step, cross_step, steps_of, items_among}
 use Rattle.system_set.proofs.Circles.{held_rankable}
-use Rattle.system_set.proofs.Reaching.{held_place, step_of_held}
+use Rattle.system_set.proofs.Reaching.{held_place, step_of_held, has_push as has_end}
 
 -- ---- lists
 
@@ -437,13 +437,6 @@ walk_inner h orders (x ∷ y ∷ nodes) high walk = (
   },
   walk_inner h orders (y ∷ nodes) (λ n e. high n (or_right (eqb x n) (has n (y ∷ nodes)) e)) walk.1,
 )
-
-has_end : (n x : ℕ) (xs : List ℕ) → has n (xs ++ x ∷ []) ≡ true → (has n xs ≡ true) ⊎ (x ≡ n)
-has_end n x [] e = elim (or_cases (eqb x n) false e) [ inl here ↦ inr (eqb-true x n here) | inr none ↦ absurd (false≢true none) ]
-has_end n x (y ∷ xs) e = elim (or_cases (eqb y n) (has n (xs ++ x ∷ [])) e) [
-  | inl here ↦ inl (or_left (eqb y n) (has n xs) here)
-  | inr there ↦ elim (has_end n x xs there) [ inl more ↦ inl (or_right (eqb y n) (has n xs) more) | inr last ↦ inr last ]
-]
 
 begins_item : (h : Hierarchy) (orders : List (ℕ × ℕ)) → IsWhole h orders → IsRankable (IsHeld h) → (first : ℕ) (rest : List ℕ) →
     IsWalk (IsNodeStep h orders) (first ∷ (rest ++ first ∷ [])) → BeginsLeast (first ∷ rest) → first < h.items

@@ -32,7 +32,7 @@ pub no_set_reached : (sets items : ℕ) (pairs : List Order) (item holder : ℕ)
 no_set_reached sets items pairs item holder placed past = λ reaches. let low : holder < sets = reached_set sets items pairs placed reaches.0 item holder reaches.1 in omega arith
 
 -- what is read at a place stands there
-read : (orders : List Order) (i : ℕ) (d : Order) → i < length orders → get_or orders i d ≡ get_or orders i (get_or orders i d)
+pub read : (orders : List Order) (i : ℕ) (d : Order) → i < length orders → get_or orders i d ≡ get_or orders i (get_or orders i d)
 read orders i d low = get_or_default orders i d (get_or orders i d) low
 
 -- ---- crossings

@@ -29,7 +29,7 @@ pub record ArePlaced (sets items : ℕ) (orders : List Order) : Type 0 where
 abbrev pub hierarchy_of : ℕ → ℕ → List Order → Hierarchy
 hierarchy_of sets items orders = record { sets = sets; items = items; inside = pairs_of orders }
 
--- the fault that is told of sets; want of memory tells nothing of them
+-- the fault that is told of sets; a failed allocation says nothing of them
 abbrev pub IsHierarchyFault : Hierarchy → HierarchyFault → Type 0
 IsHierarchyFault h (Loop n) = IsFirstSelf h n
 IsHierarchyFault h (Cycle items) = HasNoSelf h × IsToldSetCycle h items.items

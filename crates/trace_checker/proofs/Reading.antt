@@ -22,15 +22,6 @@ all_append : (a b : List Line) → AllByRecursion IsFitting a → AllByRecursion
 all_append [] b h k = k
 all_append (l ∷ a) b h k = (h.0, all_append a b h.1 k)
 
--- what is deferred and what is not
-pub not_empty : (rest : List ℕ) (b : Bool) → b ≡ (length rest == 0) → b ≡ false → rest ≢ []
-not_empty [] b e f = λ g. false≢true (sym f ∙ e)
-not_empty (x ∷ rest) b e f = λ g. omega (arith, ap length g)
-
-pub empty : (rest : List ℕ) (b : Bool) → b ≡ (length rest == 0) → b ≡ true → rest ≡ []
-empty [] b e f = refl
-empty (x ∷ rest) b e f = absurd (false≢true (sym (eqb-suc-zero (length rest)) ∙ (sym e ∙ f)))
-
 -- the lines behind those that are read
 record Behind (rest : List ℕ) (runs others : List (List Step)) : Type 0 where
   more : List Line

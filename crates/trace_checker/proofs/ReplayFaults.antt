@@ -1,4 +1,4 @@
--- One result is that of a replay, want of memory aside.
+-- One result is that of a replay, a failed allocation aside.
 use Rattle.std.proofs.Common.{◌≡◌, ◌⊎◌, inl, inr, ℕ, false, List, reverse, Result, Ok, Err, IsErrAnd, refl, sym, ap, subst, ◌∙◌}
 use Rattle.std.proofs.lemmas.Bool.{false≢true}
 use Rattle.model.specs.declared.steps.Step.{Step}

@@ -21,7 +21,7 @@ use Rattle.trace_checker.specs.Verdicts.{IsVerdict}
 use Rattle.model.specs.runs.Replays.{IsReplayed, IsWrongAnswer, IsReplayStopped}
 use Rattle.model.specs.runs.Replays.{IsWrongHere}
 
--- what stops a complete run: want of memory at any time, or the cause that the serial meaning meets first
+-- what stops a complete run: a failed allocation at any time, or the cause that the serial meaning meets first
 abbrev pub IsStoppedAs : Schedule → List BodyMeaning → State → List Step → RunFault → Type 0
 IsStoppedAs s bodies w h Memory = Unit {0}
 IsStoppedAs s bodies w h fault = (cause : Cause) × IsToldAs cause fault × IsReplayStopped s bodies w h cause

@@ -6,7 +6,7 @@ ghost use Rattle.trace_checker.specs.Grammar.{steps_of};
 ghost use Rattle.trace_checker.specs.Verdicts.{IsVerdict, AreVerdicts, is_complete, fault_number};
 
 use executor_core::{Core, StepFault, Trace};
-use schedule_builder::built::Built;
+use schedule_builder::Built;
 use std::alloc::{AllocError, Global};
 use std::fmt;
 

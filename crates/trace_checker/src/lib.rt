@@ -7,3 +7,9 @@ mod numeral;
 pub mod read;
 pub mod replay;
 pub mod write;
+
+pub use check::Verdict;
+pub use line::Line;
+pub use read::TextFault;
+pub use replay::ReplayFault;
+pub use write::WriteFault;

@@ -4,7 +4,7 @@ ghost use Rattle.parsing.specs.Reads.{Reads};
 ghost use Rattle.trace_checker.specs.Grammar.{IsLine, IsAnswerTail};
 
 use crate::numeral::numeral_of;
-use model::steps::Step;
+use model::Step;
 use std::fmt;
 
 /// A line of a trace's text.

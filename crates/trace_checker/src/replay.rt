@@ -21,16 +21,11 @@ ghost use Rattle.model.specs.runs.Replays.{IsStepTaken};
 ghost use Rattle.trace_checker.specs.ReplayFaults.{HasRun, IsKnown, IsReplay, IsReplayFault, IsStepFault};
 
 use crate::check::{Verdict, check};
-use body::state::State;
-use body::system_body::{Body, BodyFault};
-use body::view::View;
-use engine::RunFault;
-use engine::deferred::Deferred;
-use engine::fitting::fitting_keep;
-use engine::run_state::RunState;
-use engine::stop::Stop;
+use body::{Body, BodyFault, State, View};
+use engine::fitting::prove_fitting_keep;
+use engine::{Deferred, RunFault, RunState, Stop};
 use executor_core::{Step, StepFault, Trace};
-use schedule_builder::built::Built;
+use schedule_builder::Built;
 use std::alloc::{AllocError, Global};
 use thiserror::Error;
 
@@ -86,9 +81,9 @@ pub fn replay<B: Body>(
     ensures meanings { meanings B.meaning built.now (map Some bodies.new) ≡ meanings B.meaning built.now (map Some bodies.old) }
     ensures suits { IfOk result (λ final. Suits B.fits built.now (map Some bodies.new) final) }
 {
-    built.law();
-    state.shape();
-    fitting_keep(built, bodies);
+    built.prove_law();
+    state.prove_shape();
+    prove_fitting_keep(built, bodies);
     match check(alloc, built, trace)? {
         Verdict::Complete => {}
         Verdict::Unfinished => return Err(ReplayFault::Unfinished),
@@ -100,7 +95,7 @@ pub fn replay<B: Body>(
         deferred: Deferred::new(alloc, built)?,
     };
     take_steps(built, bodies, &mut run, &trace.steps)?;
-    run.state.law();
+    run.state.prove_law();
     Ok(run.state.into_state())
 }
 
@@ -156,7 +151,7 @@ fn take<B: Body>(
     ensures hand { OnOk result (AreInHand run.new.state.state.world.slots run.new.deferred) }
     ensures meanings { meanings B.meaning built.now (map Some bodies.new) ≡ meanings B.meaning built.now (map Some bodies.old) }
 {
-    run.state.law();
+    run.state.prove_law();
     match step {
         Step::Cond(condition, recorded) => {
             let answer = run.ask(built, condition)?;
@@ -199,8 +194,8 @@ fn start<B: Body>(
     ensures hand { OnOk result (AreInHand run.new.state.state.world.slots run.new.deferred) }
     ensures meanings { meanings B.meaning built.now (map Some bodies.new) ≡ meanings B.meaning built.now (map Some bodies.old) }
 {
-    run.state.law();
-    run.state.shape();
+    run.state.prove_law();
+    run.state.prove_shape();
     let mut view = run.show(built, system)?;
     let answer = run_body(bodies, system as usize, &mut view);
     run.close(system, answer, view)?;

@@ -8,6 +8,7 @@ use Rattle.atomic_table.proofs.Lists.{at_longer, at_last, at_map}
 use Rattle.job_board.specs.declared.view.View.{View}
 use Rattle.job_board.specs.Views.{having_read, after_post, after_collect, HasPosted, Uncollected, IsTally}
 use Rattle.job_board.proofs.Places.{within, at_end}
+use Rattle.column_store.proofs.Lists.{map-remove as map_remove}
 use Rattle.worker_pool.specs.declared.desk.Ticket.{Ticket}
 use Rattle.worker_pool.specs.AreOut.{AreOut}
 
@@ -105,12 +106,6 @@ if_none (Some a) P p = tt
 if_some : {A : Type 0} (o : Option A) (P Q : A → Type 0) → ((a : A) → P a → Q a) → IfSome o P → IfSome o Q
 if_some None P Q f p = tt
 if_some (Some a) P Q f p = f a p
-
-map_remove : {A B : Type 0} (f : A → B) (l : List A) (i : ℕ) → map f (remove l i) ≡ remove (map f l) i
-map_remove f [] zero = refl
-map_remove f [] (suc i) = refl
-map_remove f (x ∷ xs) zero = refl
-map_remove {A} {B} f (x ∷ xs) (suc i) = ap (λ (l : List B). f x ∷ l) (map_remove f xs i)
 
 first_of_map : {A B : Type 0} (f : A → B) (P : B → Type 0) → ((a : A) → P (f a)) → (l : List A) → 0 < length (map f l) → IsSomeAnd (slice_get (map f l) 0) P
 first_of_map f P p [] there = absurd (omega arith)

@@ -63,13 +63,13 @@ fn collect_one_of<J: Joins, T: Task>(
     ensures joins { IsTrue (J.joins mode.now) → IsSome result }
 {
     for round in 0..u64::MAX {
-        lead.law();
+        lead.prove_law();
         let (number, outcome) = collect_one(lead, mode)?;
         if let Some(place) = place_of(tickets, number) {
             return Some((place, outcome));
         }
     }
-    lead.law();
+    lead.prove_law();
     unreachable!()
 }
 
@@ -90,7 +90,7 @@ pub(crate) fn post<T: Task>(
         return Err(job);
     };
     let posted = Snapshot::of(&job);
-    lead.law();
+    lead.prove_law();
     match lead.post(job) {
         Ok(number) => {
             tickets.push_reserved(Ticket {

@@ -1,7 +1,7 @@
 // Why a job isn't handed out.
 
 use crate::start::Start;
-use body::system_body::Body;
+use body::Body;
 
 /// Why a job isn't handed out, with the job where it isn't lost.
 #[derive(Drop)]

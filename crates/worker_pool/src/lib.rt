@@ -16,6 +16,6 @@ pub mod workers;
 pub use fault::HandFault;
 pub use mode::{Gate, Hosts, Joins, Line, Mode};
 pub use pool::Pool;
-pub use single::Single;
+pub use single::{NoGate, NoLine, Single};
 pub use start::{Done, Start};
-pub use workers::Workers;
+pub use workers::{Wire, Workers};

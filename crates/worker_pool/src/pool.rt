@@ -8,7 +8,7 @@ use crate::mode::Mode;
 use crate::standing::Standing;
 use crate::start::{Done, Start};
 use crate::threaded::Threaded;
-use body::system_body::Body;
+use body::Body;
 use std::alloc::{AllocError, Global};
 use std::marker::Model;
 

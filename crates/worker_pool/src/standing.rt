@@ -9,7 +9,7 @@ use crate::hands::start_worker;
 use crate::mode::{Gate, Joins, Line};
 use crate::start::{Done, Start};
 use crate::task::StartTask;
-use body::system_body::Body;
+use body::Body;
 use job_board::{Board, Hand, Lead};
 use std::alloc::{AllocError, Global};
 use std::marker::Model;

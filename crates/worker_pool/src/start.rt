@@ -5,8 +5,7 @@ ghost use Rattle.model.specs.shown.Outcome.{untouched};
 ghost use Rattle.body.specs.Keeps.{CanBeShown};
 ghost use Rattle.worker_pool.specs.Ran.{Ran};
 
-use body::system_body::{Body, BodyFault};
-use body::view::View;
+use body::{Body, BodyFault, View};
 use std::snapshot::Snapshot;
 use std::thread::Promise;
 

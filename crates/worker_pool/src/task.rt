@@ -3,7 +3,7 @@
 ghost use Rattle.worker_pool.specs.Ran.{Ran};
 
 use crate::start::{Done, Start};
-use body::system_body::Body;
+use body::Body;
 use job_board::Task;
 use std::marker::PhantomData;
 

@@ -7,7 +7,7 @@ use crate::fault::HandFault;
 use crate::mode::{Gate, Joins, Line};
 use crate::start::{Done, DoneOf, Start};
 use crate::task::{Runs, StartTask};
-use body::system_body::Body;
+use body::Body;
 use crossbeam_channel::{Receiver, Sender};
 use std::alloc::{AllocError, Global};
 use std::marker::Model;

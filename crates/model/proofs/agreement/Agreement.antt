@@ -45,7 +45,7 @@ cell_at-without_stamps (c ∷ cs) kind = go (c.kind == kind) (cell_at-without_st
     go false r = r
 
 -- a view makes no value
-is_some-option_map : {A B : Type 0} (f : A → B) (o : Option A) → is_some (option_map f o) ≡ is_some o
+pub is_some-option_map : {A B : Type 0} (f : A → B) (o : Option A) → is_some (option_map f o) ≡ is_some o
 is_some-option_map f None = refl
 is_some-option_map f (Some x) = refl
 

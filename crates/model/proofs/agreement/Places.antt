@@ -54,7 +54,7 @@ abbrev pub next_move : (s : Schedule) (bodies : List BodyMeaning) (p : Place s) 
 next_move s bodies p x can told = record { step = x; can = can; tells = told; marks = refl; state = refl }
 
 -- three tests, the first two swapped
-or-swap : (a b c : Bool) → (a || (b || c)) ≡ (b || (a || c))
+pub or-swap : (a b c : Bool) → (a || (b || c)) ≡ (b || (a || c))
 or-swap true true c = refl
 or-swap true false c = refl
 or-swap false true c = refl

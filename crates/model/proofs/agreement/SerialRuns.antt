@@ -33,6 +33,7 @@ use Rattle.model.proofs.agreement.SerialSteps.{after, Tells, effect_of}
 use Rattle.model.proofs.agreement.Places.{Place, Move, IsAlike, next_place, next_move, places_end_alike}
 use Rattle.model.proofs.agreement.Timed.{timed_from_shape}
 use Rattle.model.proofs.agreement.WithoutCommands.{IsQuiet, condition-turn, condition-quiet, shown-turn, start-turn, start-quiet, sync-turn, sync-quiet}
+use Rattle.model.proofs.serial.Soundness.{serial_of as serial_from}
 
 -- ---- the marks of a history
 
@@ -255,11 +256,6 @@ followed widths s bodies start (x ∷ h) w run shape settled within lawful told 
     (followed widths s bodies start h p.0 q.0 shape settled within lawful.1 told.1 p.1 q.1)
 
 -- ---- runs
-
--- a complete list leaves on one thread what it leaves interleaved
-serial_from : (s : Schedule) (bodies : List BodyMeaning) (start : State) (h : List Step) (end : Interleaved) → IsLawful s h → IsComplete s h
-    → interleaved s bodies start h ≡ Some end → serial s bodies start h ≡ Some end.run
-serial_from s bodies start h end lawful complete e = sym (interleaved_serial s bodies start h lawful complete) ∙ ap (option_map (λ (w : Interleaved). w.run)) e
 
 -- one run from each of two states that agree leaves states that agree
 pub run_agrees : (widths : ℕ → ℕ) (s : Schedule) (bodies : List BodyMeaning) (v w : State) (h g : List Step) (end other : Interleaved)

@@ -39,7 +39,7 @@ own-same (OfSystem m) (OfCondition d) e = absurd (both_ways false refl e)
 own-same (OfCondition c) (OfSystem n) e = absurd (both_ways false refl e)
 own-same (OfCondition c) (OfCondition d) e = ap OfCondition (eqb-true c d e)
 
--- observers that differ are told apart
+-- observers that differ are distinguished
 pub own-differ : (a b : Observer) → (a ≡ b → ⊥) → is_own a b ≡ false
 own-differ (OfSystem m) (OfSystem n) d = ne_eqb m n (λ e. d (ap OfSystem e))
 own-differ (OfSystem m) (OfCondition n) d = refl

@@ -55,7 +55,7 @@ flat_map-none f [] h = refl
 flat_map-none f (n ∷ ns) h = ap (λ xs. xs ++ flat_map f ns) (h n) ∙ flat_map-none f ns h
 
 -- two changes at one index are one
-update_at-update_at : {A : Type 0} (n : ℕ) (f g : A → A) (xs : List A) → update_at n f (update_at n g xs) ≡ update_at n (λ x. f (g x)) xs
+pub update_at-update_at : {A : Type 0} (n : ℕ) (f g : A → A) (xs : List A) → update_at n f (update_at n g xs) ≡ update_at n (λ x. f (g x)) xs
 update_at-update_at n f g [] = refl
 update_at-update_at zero f g (x ∷ xs) = refl
 update_at-update_at (suc n) f g (x ∷ xs) = ap (λ ys. x ∷ ys) (update_at-update_at n f g xs)

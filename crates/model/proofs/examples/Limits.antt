@@ -71,7 +71,7 @@ despawn_on_old_id = refl
 greatest_count : apply_command 5 (record { slots = again; passed_over = 4611686018427387904 }) (Despawn (entity 0 1)) ≡ record { slots = again; passed_over = 4611686018427387904 }
 greatest_count = refl
 
--- ---- a tick is wanting before ids are
+-- ---- a missing tick comes before missing ids
 
 tick_first : (s : Schedule) (n : ℕ) (run : RunState) → has_tick run.state ≡ false → has_ids_to_start s n run ≡ false → cause_of_start s n run ≡ Some NoTick
 tick_first s n run e f = ap (λ b. first_some (unless b NoTick) (unless (has_ids_to_start s n run) NoIds)) e

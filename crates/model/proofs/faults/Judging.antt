@@ -78,7 +78,7 @@ all_passed test (x ∷ xs) e n among = elim (same_or x n (has n xs) among) [
   | inr there ↦ all_passed test xs (and_parts _ _ e).1 n there
 ]
 
-passed_all : (test : ℕ → Bool) (xs : List ℕ) → ((n : ℕ) → has n xs ≡ true → test n ≡ true) → list_all test xs ≡ true
+pub passed_all : (test : ℕ → Bool) (xs : List ℕ) → ((n : ℕ) → has n xs ≡ true → test n ≡ true) → list_all test xs ≡ true
 passed_all test [] each = refl
 passed_all test (x ∷ xs) each = and_from _ _ (each x (or_left _ _ (eq-eqb x x refl))) (passed_all test xs (λ n among. each n (or_right _ _ among)))
 

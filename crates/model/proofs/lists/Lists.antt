@@ -73,7 +73,7 @@ pub map_index-append_replicate : {A : Type 0} (f : ℕ → A → A) (xs : List A
 map_index-append_replicate f [] n d h = map_index-replicate f n d h
 map_index-append_replicate f (x ∷ xs) n d h = ap (◌∷◌ (f zero x)) (map_index-append_replicate (λ i. f (suc i)) xs n d (λ i. h (suc i)))
 
--- elements like the default at the end aren't told apart
+-- elements like the default at the end aren't distinguished
 pub get_or-append_replicate : {A : Type 0} (xs : List A) (n i : ℕ) (d : A) → get_or (xs ++ replicate n d) i d ≡ get_or xs i d
 get_or-append_replicate [] zero i d = refl
 get_or-append_replicate [] (suc n) zero d = refl

@@ -60,7 +60,7 @@ length-without m (x ∷ xs) = go (x == m) (length-without m xs)
 -- ---- who runs
 
 -- nothing and a test
-and_false : (b : Bool) → (b && false) ≡ false
+pub and_false : (b : Bool) → (b && false) ≡ false
 and_false true = refl
 and_false false = refl
 

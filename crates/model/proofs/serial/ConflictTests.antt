@@ -123,7 +123,7 @@ set-both q r kind e =
     let m = met-by_way kind (plains q ++ plains r) (choices q ++ choices r) e in
     let held = and_parts (list_all (holds_in m.kinds) (plains q)) (list_all (holds_in m.kinds) (plains r)) (sym (all-both (holds_in m.kinds) (plains q) (plains r)) ∙ m.holds) in
     let met = and_parts (meets_choices m.kinds (choices q)) (meets_choices m.kinds (choices r))
-        (sym (all-both (λ alternatives. list_any (holds_in m.kinds) alternatives) (choices q) (choices r)) ∙ m.chosen) in
+    (sym (all-both (λ alternatives. list_any (holds_in m.kinds) alternatives) (choices q) (choices r)) ∙ m.chosen) in
     (m.kinds, matches-parts m.kinds q ∙ and_from _ _ held.0 met.0, matches-parts m.kinds r ∙ and_from _ _ held.1 met.1, m.there)
 
 -- ---- the test is exact

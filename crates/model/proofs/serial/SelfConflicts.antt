@@ -12,6 +12,7 @@ use Rattle.model.specs.access.SelfConflict.{TwoConflictAt, IsTwiceIn, IsWrittenB
 use Rattle.model.proofs.lists.Lists.{list_any-IsIn, IsIn_from_any, has-IsIn, IsIn_from_has}
 use Rattle.model.proofs.lists.Members.{number-of}
 use Rattle.model.proofs.serial.ConflictTests.{test-queries, conflict-queries}
+use Rattle.model.proofs.serial.Conflicts.{or_swap as or_turned}
 
 -- ---- two queries
 
@@ -33,12 +34,8 @@ conflict_from q r (Some kind) e = (kind, conflict-queries q r kind e)
 pub conflict_from_queries_meet : (q r : List Term) → queries_meet q r ≡ true → (kind : ℕ) × QueriesConflictAt q r kind
 conflict_from_queries_meet q r e = let t = IsIn_from_any (λ t. meets_at q r (touched t)) q e in conflict_from q r (touched t.0) t.2
 
--- either of two tests
-or_turned : (a b : Bool) → (a || b) ≡ true → (b || a) ≡ true
-or_turned a b e = elim (or_cases a b e) [ inl first ↦ or_right b a first | inr second ↦ or_left b a second ]
-
 -- a conflict of two queries has no direction
-turned : (q r : List Term) (kind : ℕ) → QueriesConflictAt q r kind → QueriesConflictAt r q kind
+pub turned : (q r : List Term) (kind : ℕ) → QueriesConflictAt q r kind → QueriesConflictAt r q kind
 turned q r kind c = record {
   kinds = c.kinds;
   first_matches = c.second_matches;

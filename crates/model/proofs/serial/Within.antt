@@ -62,7 +62,7 @@ cond_none-some true o x h = (refl, h)
 cond_none-some false o x h = absurd (cc)
 
 -- words that a row's values write at a kind are of a query that writes it
-words_in_row-writes : (query : List Term) (values : List (Option (List ℤ))) (kind : ℕ) (x : List ℤ) → words_in_row query values kind ≡ Some x → writes query kind ≡ true
+pub words_in_row-writes : (query : List Term) (values : List (Option (List ℤ))) (kind : ℕ) (x : List ℤ) → words_in_row query values kind ≡ Some x → writes query kind ≡ true
 words_in_row-writes [] values kind x h = absurd (cc)
 words_in_row-writes (t ∷ ts) [] kind x h = absurd (cc)
 words_in_row-writes (t ∷ ts) (v ∷ vs) kind x h =

@@ -32,7 +32,7 @@ each-remove P kind (c ∷ cs) h = go (c.kind == kind) (each-remove P kind cs h.1
     go false rest = (h.0, rest)
 
 -- kinds above a kind are above a smaller one
-above-lower : (j k : ℕ) → j < k → (row : List Component) → AllByRecursion (λ c. k < c.kind) row → AllByRecursion (λ c. j < c.kind) row
+pub above-lower : (j k : ℕ) → j < k → (row : List Component) → AllByRecursion (λ c. k < c.kind) row → AllByRecursion (λ c. j < c.kind) row
 above-lower j k below row h = each-weaker (λ c. k < c.kind) (λ c. j < c.kind) (λ c above. omega arith) row h
 
 -- an insertion keeps kinds rising

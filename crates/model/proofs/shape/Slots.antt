@@ -34,7 +34,7 @@ pub slots-later : (widths : ℕ → ℕ) (clock later : ℕ) → clock ≤ later
 slots-later widths clock later le slots h = each-weaker (IsSlot widths clock) (IsSlot widths later) (slot-later widths clock later le) slots h
 
 -- who is vacant doesn't live
-vacant-living : (status : Status) → is_vacant status ≡ true → is_living status ≡ false
+pub vacant-living : (status : Status) → is_vacant status ≡ true → is_living status ≡ false
 vacant-living Vacant e = refl
 vacant-living Granted e = refl
 vacant-living Living e = absurd (false≢true e)
@@ -180,7 +180,7 @@ vacant_from-at (slot ∷ slots) first (suc i) below = go (is_vacant slot.status)
     go false e = e
 
 -- fresh slots are vacant
-length-vacant_fresh : (first n : ℕ) → length (vacant_from first (replicate n fresh_slot)) ≡ n
+pub length-vacant_fresh : (first n : ℕ) → length (vacant_from first (replicate n fresh_slot)) ≡ n
 length-vacant_fresh first zero = refl
 length-vacant_fresh first (suc n) = ap suc (length-vacant_fresh (suc first) n)
 

@@ -20,11 +20,11 @@ abbrev pub unless : Bool → Cause → Option Cause
 unless true cause = None
 unless false cause = Some cause
 
--- why a start stops before its body: the tick is wanting, then the ids
+-- why a start stops before its body: no tick is left, then no ids
 abbrev pub cause_of_start : Schedule → ℕ → RunState → Option Cause
 cause_of_start s n run = first_some (unless (has_tick run.state) NoTick) (unless (has_ids_to_start s n run) NoIds)
 
--- why the finish of a running system stops: its body refuses, then an event number is wanting
+-- why the finish of a running system stops: its body refuses, then no event number is left
 abbrev pub cause_of_answer : Schedule → RunningSystem → Result Outcome ℕ → RunState → Option Cause
 cause_of_answer s p (Err refusal) run = Some (Refused refusal)
 cause_of_answer s p (Ok outcome) run = unless (can_finish s p.system outcome run) NoEventNumber

@@ -8,7 +8,7 @@ use Rattle.ambiguity_report.proofs.races.is_outside.Goals as goal
 pub is_before_each-requires-clause-others : goal.is_before_each-requires-clause-others
 is_before_each-requires-clause-others c =
     let same : c.covers-members.result.now ≡ (condition_at c.args.built.now c.args.condition).covers = c.covers-members.ensures ∙ ap (λ (x : ScheduledCondition). x.covers) c.condition-covering.ensures in
-    λ k d low. (member_at c.args.built.now c.law.ensures c.args.condition c.covers-members.result.now same k d low).known
+    λ k d low. (member_at c.args.built.now c.prove_law.ensures c.args.condition c.covers-members.result.now same k d low).known
 
 pub returns-then-is_before_each : goal.returns-then-is_before_each
 returns-then-is_before_each c =
@@ -20,11 +20,11 @@ returns-then-is_before_each c =
 pub is_after_any-requires-clause-others : goal.is_after_any-requires-clause-others
 is_after_any-requires-clause-others c =
     let same : c.covers-members.result.now ≡ (condition_at c.args.built.now c.args.condition).covers = c.covers-members.ensures ∙ ap (λ (x : ScheduledCondition). x.covers) c.condition-covering.ensures in
-    λ k d low. (member_at c.args.built.now c.law.ensures c.args.condition c.covers-members.result.now same k d low).known
+    λ k d low. (member_at c.args.built.now c.prove_law.ensures c.args.condition c.covers-members.result.now same k d low).known
 
 pub returns : goal.returns
 returns c =
     let same : c.covers-members.result.now ≡ (condition_at c.args.built.now c.args.condition).covers = c.covers-members.ensures ∙ ap (λ (x : ScheduledCondition). x.covers) c.condition-covering.ensures in
     let none : has c.args.system c.covers-members.result.now ≡ false = rw c.covers-members.ensures (sym c.if-is_covering.ensures) in
-    outside_tells c.args.built.now c.law.ensures c.args.condition c.args.system c.covers-members.result.now same none
+    outside_tells c.args.built.now c.prove_law.ensures c.args.condition c.args.system c.covers-members.result.now same none
     c.is_before_each.result c.is_after_any.result c.if-is_before_each.false c.is_before_each.ensures c.is_after_any.ensures

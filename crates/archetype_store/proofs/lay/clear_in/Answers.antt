@@ -1,7 +1,8 @@
 use Rattle.std.proofs.Common.{◌≡◌, None, sym, ap, subst, ◌∙◌}
+use Rattle.model.proofs.serial.Conflicts.{none_from_no as none_of}
 use Rattle.archetype_store.specs.Archetypes.{archetypes_of, place_of, row_in, HasRow}
 use Rattle.archetype_store.proofs.Moves.{has_row_kept}
-use Rattle.archetype_store.proofs.Steps.{cleared, none_of}
+use Rattle.archetype_store.proofs.Steps.{cleared}
 use Rattle.archetype_store.proofs.Standings.{owned_kept}
 use Rattle.archetype_store.proofs.TableIndex.{found_shapes}
 use Rattle.archetype_store.proofs.lay.clear_in.Goals as goal

@@ -61,7 +61,7 @@ returns-in-Err-clause-err c =
     let w = c.args.world.now in
     let opened = c.loop-query.opened.items in
     c.put_home.ensures.home ∙ ap (all_home (lent_after opened)) (c.in-Err.ensures.err ∙ inv.away)
-    ∙ untouched_back w.state w.layout c.args.tick opened c.laid.ensures c.now-now.ensures.world inv.untouched inv.spots (subst (λ v. AreLent v (map (λ (s : Sheet). s.taken) opened)) inv.away inv.lent)
+    ∙ untouched_back w.state w.layout c.args.tick opened c.prove_laid.ensures c.now-now.ensures.world inv.untouched inv.spots (subst (λ v. AreLent v (map (λ (s : Sheet). s.taken) opened)) inv.away inv.lent)
 
 -- all queries are open
 pub returns-clause-terms : goal.returns-clause-terms
@@ -85,7 +85,7 @@ pub returns-clause-together : goal.returns-clause-together
 returns-clause-together c =
     opened-together c.args.tick c.args.last_run c.args.world.now c.args.queries.now c.loop-query.opened.items c.loop-query.world
     (subst (λ qs. AreOpened c.args.tick c.args.last_run c.args.world.now qs c.loop-query.opened.items c.loop-query.world) (take_all c.loop-query.query-index c.args.queries.now c.loop-query-test.false) c.loop-query.invariant.opened)
-    c.laid.ensures c.requires.apart
+    c.prove_laid.ensures c.requires.apart
 
 pub returns-clause-lent : goal.returns-clause-lent
 returns-clause-lent c = c.loop-query.invariant.opened.lent

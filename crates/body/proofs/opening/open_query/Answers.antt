@@ -19,7 +19,7 @@ use Rattle.body.proofs.opening.open_query.Goals as goal
 
 pub take_picked-requires-clause-others : goal.take_picked-requires-clause-others
 take_picked-requires-clause-others c =
-    rw (c.as_slice.ensures.value, c.in_ok-plan.ensures.picks) (picks-others c.args.world.now.state.slots c.args.query.now c.args.world.now.layout c.laid.ensures)
+    rw (c.as_slice.ensures.value, c.in_ok-plan.ensures.picks) (picks-others c.args.world.now.state.slots c.args.query.now c.args.world.now.layout c.prove_laid.ensures)
 
 pub fill_slots-requires-clause-within : goal.fill_slots-requires-clause-within
 fill_slots-requires-clause-within c =
@@ -29,7 +29,7 @@ fill_slots-requires-clause-within c =
     let got : AreHeldOf w (picked_own (map pick_seen c.as_slice.result.now) ++ picked_read (map pick_seen c.as_slice.result.now)) columns = subst (λ (x : StoreValue). AreHeldOf x (picked_own (map pick_seen c.as_slice.result.now) ++ picked_read (map pick_seen c.as_slice.result.now)) columns) c.of.ensures.same c.in_ok-columns.ensures.held in
     let picks = ap (map pick_seen) c.as_slice.ensures.value ∙ c.in_ok-plan.ensures.picks in
     let held = subst (λ ps. AreHeldOf w (picked_own ps ++ picked_read ps) columns) picks got in
-    let are = picked-of query w columns c.laid.ensures held in
+    let are = picked-of query w columns c.prove_laid.ensures held in
     let many : length c.in_ok-slots.slots.items ≡ c.in_ok-plan.plan.archetypes + 1 = ap length c.in_ok-slots.ensures ∙ length-replicated _ _ in
     let within : length w.layout < length c.in_ok-slots.slots.items = omega (arith, many, c.in_ok-plan.ensures.archetypes) in
     rw (c.as_slice-2.ensures.value) (picked-within query w (length c.in_ok-slots.slots.items) columns within are.each)
@@ -53,14 +53,14 @@ open-requires c =
     let columns = map held_seen c.in_ok-columns.columns.items in
     let got : AreHeldOf w (picked_own (map pick_seen c.as_slice.result.now) ++ picked_read (map pick_seen c.as_slice.result.now)) columns = subst (λ (x : StoreValue). AreHeldOf x (picked_own (map pick_seen c.as_slice.result.now) ++ picked_read (map pick_seen c.as_slice.result.now)) columns) c.of.ensures.same c.in_ok-columns.ensures.held in
     let picks = ap (map pick_seen) c.as_slice.ensures.value ∙ c.in_ok-plan.ensures.picks in
-    let are = picked-of query w columns c.laid.ensures (subst (λ ps. AreHeldOf w (picked_own ps ++ picked_read ps) columns) picks got) in
+    let are = picked-of query w columns c.prove_laid.ensures (subst (λ ps. AreHeldOf w (picked_own ps ++ picked_read ps) columns) picks got) in
     let many : length c.in_ok-slots.slots.items ≡ c.in_ok-plan.plan.archetypes + 1 = ap length c.in_ok-slots.ensures ∙ length-replicated _ _ in
     let count : length c.in_ok-slots.slots.items ≡ suc (length w.layout) = omega (arith, many, c.in_ok-plan.ensures.archetypes) in
     let shown = ap (map (λ (row : Row). row.entity)) c.in_ok-rows.ensures.rows ∙ c.in_ok-plan.ensures.rows in
     let stand = subst (AllByRecursion (IsStanding w.state.slots w.layout)) (sym c.in_ok-rows.ensures.rows) c.in_ok-plan.ensures.places in
     let slots = rw (c.terms.ensures, c.as_slice-2.ensures.value) at c.fill_slots.ensures in
     (open-over c.args.tick c.args.last_run query query w (length c.in_ok-slots.slots.items) (map slots_seen c.fill_slots.new.slots.items) c.in_ok-rows.rows columns
-    c.laid.ensures c.now-now.ensures.world c.in_ok-plan.ensures.rising c.requires.coming shown stand are slots refl count).0
+    c.prove_laid.ensures c.now-now.ensures.world c.in_ok-plan.ensures.rising c.requires.coming shown stand are slots refl count).0
 
 pub returns-clause-rows : goal.returns-clause-rows
 returns-clause-rows c =
@@ -69,7 +69,7 @@ returns-clause-rows c =
     let columns = map held_seen c.in_ok-columns.columns.items in
     let got : AreHeldOf w (picked_own (map pick_seen c.as_slice.result.now) ++ picked_read (map pick_seen c.as_slice.result.now)) columns = subst (λ (x : StoreValue). AreHeldOf x (picked_own (map pick_seen c.as_slice.result.now) ++ picked_read (map pick_seen c.as_slice.result.now)) columns) c.of.ensures.same c.in_ok-columns.ensures.held in
     let picks = ap (map pick_seen) c.as_slice.ensures.value ∙ c.in_ok-plan.ensures.picks in
-    let are = picked-of query w columns c.laid.ensures (subst (λ ps. AreHeldOf w (picked_own ps ++ picked_read ps) columns) picks got) in
+    let are = picked-of query w columns c.prove_laid.ensures (subst (λ ps. AreHeldOf w (picked_own ps ++ picked_read ps) columns) picks got) in
     let many : length c.in_ok-slots.slots.items ≡ c.in_ok-plan.plan.archetypes + 1 = ap length c.in_ok-slots.ensures ∙ length-replicated _ _ in
     let count : length c.in_ok-slots.slots.items ≡ suc (length w.layout) = omega (arith, many, c.in_ok-plan.ensures.archetypes) in
     let shown = ap (map (λ (row : Row). row.entity)) c.in_ok-rows.ensures.rows ∙ c.in_ok-plan.ensures.rows in
@@ -77,7 +77,7 @@ returns-clause-rows c =
     let slots = rw (c.terms.ensures, c.as_slice-2.ensures.value) at c.fill_slots.ensures in
     c.open.ensures.rows
     ∙ (open-over c.args.tick c.args.last_run query query w (length c.in_ok-slots.slots.items) (map slots_seen c.fill_slots.new.slots.items) c.in_ok-rows.rows columns
-    c.laid.ensures c.now-now.ensures.world c.in_ok-plan.ensures.rising c.requires.coming shown stand are slots refl count).1
+    c.prove_laid.ensures c.now-now.ensures.world c.in_ok-plan.ensures.rising c.requires.coming shown stand are slots refl count).1
 
 pub returns-clause-taken : goal.returns-clause-taken
 returns-clause-taken c =
@@ -87,4 +87,4 @@ returns-clause-taken c =
     let got : AreHeldOf w (picked_own (map pick_seen c.as_slice.result.now) ++ picked_read (map pick_seen c.as_slice.result.now)) columns = subst (λ (x : StoreValue). AreHeldOf x (picked_own (map pick_seen c.as_slice.result.now) ++ picked_read (map pick_seen c.as_slice.result.now)) columns) c.of.ensures.same c.in_ok-columns.ensures.held in
     let picks = ap (map pick_seen) c.as_slice.ensures.value ∙ c.in_ok-plan.ensures.picks in
     subst (ArePickedOf query w) (sym c.open.ensures.taken)
-    (picked-of query w columns c.laid.ensures (subst (λ ps. AreHeldOf w (picked_own ps ++ picked_read ps) columns) picks got))
+    (picked-of query w columns c.prove_laid.ensures (subst (λ ps. AreHeldOf w (picked_own ps ++ picked_read ps) columns) picks got))

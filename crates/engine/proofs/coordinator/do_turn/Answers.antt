@@ -109,7 +109,7 @@ ask-requires-clause-home g c =
     let h = c.requires.next.2 in
     let known = c.requires.next.3 in
     let next = subst (λ (r : Ready). IsTake s h (length out) width r) c.in-Ask.is (subst (λ (t : Turn). IsTurn s h (length out) width (Some t)) c.in-Take.is known.following) in
-    ask_allowed meaning fits there s bodies slots out w known.between.placed c.in-Ask.condition width start h deferred known.between.stage c.law.ensures.laid (next.allowed false)
+    ask_allowed meaning fits there s bodies slots out w known.between.placed c.in-Ask.condition width start h deferred known.between.stage c.prove_law.ensures.laid (next.allowed false)
 
 pub sync-requires-clause-known : goal.sync-requires-clause-known
 sync-requires-clause-known g c =
@@ -180,7 +180,7 @@ sync-requires-clause-home g c =
     let known = c.requires.next.3 in
     let next = subst (λ (r : Ready). IsTake s h (length out) width r) c.in-Sync.is (subst (λ (t : Turn). IsTurn s h (length out) width (Some t)) c.in-Take.is known.following) in
     let none = none_out width s bodies start h w.state deferred out known.between.stage c.in-Sync.point (next.allowed false) in
-    home_end meaning fits there s bodies slots out w known.between.placed none c.law.ensures.laid
+    home_end meaning fits there s bodies slots out w known.between.placed none c.prove_law.ensures.laid
 
 pub returns-in_err-start-in-Start-clause-stopped : goal.returns-in_err-start-in-Start-clause-stopped
 returns-in_err-start-in-Start-clause-stopped g c =

@@ -277,7 +277,7 @@ returns-clause-rest g c =
     let deferred = c.loop-turn.run.deferred in
     let told = c.in_default.ensures h inv.stands in
     let none : length out ≡ 0 = let a = c.count.ensures in let b = told.0 in omega arith in
-    rest_end meaning fits there s bodies slots out w inv.between.placed deferred none (meanings_count meaning fits there s c.args.jobs.now.bodies c.requires.rest.suits.body_count) c.law.ensures.laid c.requires.rest.keeps inv.between.hand
+    rest_end meaning fits there s bodies slots out w inv.between.placed deferred none (meanings_count meaning fits there s c.args.jobs.now.bodies c.requires.rest.suits.body_count) c.prove_law.ensures.laid c.requires.rest.keeps inv.between.hand
 
 pub returns-clause-empty : goal.returns-clause-empty
 returns-clause-empty g c =

@@ -4,8 +4,8 @@ use Rattle.model.specs.Lists.{IsIn}
 use Rattle.model.proofs.lists.Lists.{has-IsIn}
 use Rattle.model.specs.steps.Schedule.{Schedule, level_of}
 use Rattle.model.specs.steps.Built.{IsBuilt}
+use Rattle.access_set.proofs.Choices.{in_at as in-get_or}
 use Rattle.engine.proofs.Levelling.{AreLevelsOf, level_more}
-use Rattle.engine.proofs.Syncing.{in-get_or}
 use Rattle.engine.proofs.deferred.levels_of.Goals as goal
 
 -- what stands in the order is a system
@@ -13,12 +13,12 @@ listed-known : (s : Schedule) (items : List ℕ) (i : ℕ) → IsBuilt s → ite
 listed-known s items i built same within = built.known (get_or items i 0) (has-IsIn (get_or items i 0) s.order (subst (IsIn (get_or items i 0)) same (in-get_or items i 0 within)))
 
 pub level-requires : goal.level-requires
-level-requires c = listed-known c.args.built.now c.order-system-items.result.now c.loop-system.system-index c.law.ensures c.order-system-items.ensures c.loop-system-test.true
+level-requires c = listed-known c.args.built.now c.order-system-items.result.now c.loop-system.system-index c.prove_law.ensures c.order-system-items.ensures c.loop-system-test.true
 
 pub index_mut-level-requires : goal.index_mut-level-requires
 index_mut-level-requires c =
-    let known = listed-known c.args.built.now c.order-system-items.result.now c.loop-system.system-index c.law.ensures c.order-system-items.ensures c.loop-system-test.true in
-    let below = c.law.ensures.levels (get_or c.order-system-items.result.now c.loop-system.system-index 0) known in
+    let known = listed-known c.args.built.now c.order-system-items.result.now c.loop-system.system-index c.prove_law.ensures c.order-system-items.ensures c.loop-system-test.true in
+    let below = c.prove_law.ensures.levels (get_or c.order-system-items.result.now c.loop-system.system-index 0) known in
     omega (arith, c.level.ensures, c.loop-system.levels.ok.0, c.loop-system.invariant.count)
 
 pub loop-system-preserved : goal.loop-system-preserved
@@ -27,8 +27,8 @@ loop-system-preserved c =
     let items = c.order-system-items.result.now in
     let lists = c.loop-system.levels.items in
     let i = c.loop-system.system-index in
-    let known = listed-known s items i c.law.ensures c.order-system-items.ensures c.loop-system-test.true in
-    let below = c.law.ensures.levels (get_or items i 0) known in
+    let known = listed-known s items i c.prove_law.ensures c.order-system-items.ensures c.loop-system-test.true in
+    let below = c.prove_law.ensures.levels (get_or items i 0) known in
     let held = subst (λ (order : List ℕ). AreLevelsOf (level_of s) (take i order) lists) (sym c.order-system-items.ensures) c.loop-system.invariant.each in
     record {
       count = length-set lists c.level.result c.push.new.self.items ∙ c.loop-system.invariant.count;

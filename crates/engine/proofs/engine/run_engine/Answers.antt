@@ -111,6 +111,6 @@ returns-clause-ran g c =
       single = λ one. c.wide_of_one_is_single.ensures.runs value.schedule bodies value.state hs c.into_state.result
           (subst (λ (n : ℕ). AreWideRuns n value.schedule bodies value.state hs c.into_state.result) one ran);
       agreement = subst (λ (v : EngineValue g.row.B.Denot). AgreesWithAll widths v.schedule (meanings meaning v.schedule v.bodies) v.state times c.into_state.result) c.engine.view_is
-          (engine_agrees meaning width times before hs c.into_state.result c.law.ensures held.0.memories c.shape.ensures held.1
+          (engine_agrees meaning width times before hs c.into_state.result c.prove_law.ensures held.0.memories c.prove_shape.ensures held.1
           (length-map c.in_ok-traces.traces.items history_of ∙ c.in_ok-traces.ensures.count) inner);
     }

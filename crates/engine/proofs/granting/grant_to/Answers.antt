@@ -30,7 +30,7 @@ returns-in_default-clause-has c =
     let b = c.in_default.is in
     let alone : c.args.params.now.spawns ≡ None = cc in
     let slots = c.args.state.now.state.world.slots in
-    ap (λ (o : Option ℕ). has_ids (unwrap_or o 0) slots) alone ∙ has_ids-none slots c.law.ensures.few
+    ap (λ (o : Option ℕ). has_ids (unwrap_or o 0) slots) alone ∙ has_ids-none slots c.prove_law.ensures.few
 
 pub returns-in_default-clause-spent : goal.returns-in_default-clause-spent
 returns-in_default-clause-spent c =
@@ -38,5 +38,5 @@ returns-in_default-clause-spent c =
     let b = c.in_default.is in
     let alone : c.args.params.now.spawns ≡ None = cc in
     let slots = c.args.state.now.state.world.slots in
-    let has = ap (λ (o : Option ℕ). has_ids (unwrap_or o 0) slots) alone ∙ has_ids-none slots c.law.ensures.few in
+    let has = ap (λ (o : Option ℕ). has_ids (unwrap_or o 0) slots) alone ∙ has_ids-none slots c.prove_law.ensures.few in
     (λ e. absurd (cc), λ lacks. absurd (false≢true (sym lacks ∙ has)))

@@ -34,7 +34,7 @@ show-requires-clause-home g c =
     let deferred = c.args.run.now.deferred in
     let out = c.args.jobs.now.pool in
     let slots = c.args.jobs.now.bodies in
-    home-apart (store_of w) (held_by out) (params_of s n) c.law.ensures.laid c.requires.placed.1.held c.requires.allowed.apart
+    home-apart (store_of w) (held_by out) (params_of s n) c.prove_law.ensures.laid c.requires.placed.1.held c.requires.allowed.apart
 
 pub take-body-requires : goal.take-body-requires
 take-body-requires g c =
@@ -154,4 +154,4 @@ returns-in-Ok-clause-hand g c =
     let handed : IsHanded s n w later job = subst (λ (v : Seen). IsHanded s n w later (job_of v)) (sym c.in_ok-view.ensures.ok) (record { system = refl; params = ok.params; shown_there = ok.shown; tick = ok.tick; written = ok.written; held = ok.held; is_later = ok.noted }) in
     subst (λ (x : DeferredValue). InHand s x c.hand_out.new.self later) (sym ok.deferred)
     (subst (λ (xs : List (JobOut g.row.B.Denot)). InHand s (with_grants n (ids_at_start s n w.state) deferred) xs later) (sym c.in-Ok.ensures.ok)
-    (in_hand_start s n w later deferred out job c.requires.allowed.known c.requires.placed.1.memories c.law.ensures.memories c.requires.hand c.requires.allowed.fresh handed c.requires.allowed.home))
+    (in_hand_start s n w later deferred out job c.requires.allowed.known c.requires.placed.1.memories c.prove_law.ensures.memories c.requires.hand c.requires.allowed.fresh handed c.requires.allowed.home))

@@ -3,7 +3,8 @@ use Rattle.std.proofs.lemmas.List.{append-nil}
 use Rattle.model.specs.declared.entities.Entity.{Entity}
 use Rattle.model.specs.state.State.{Slot}
 use Rattle.model.specs.state.Ids.{granted_ids, grant}
-use Rattle.entity_table.proofs.Grants.{grant-zero, grant-suc, granted_ids-zero, granted_ids-suc}
+use Rattle.model.proofs.serial.Engine.{grant-none as grant-zero, granted_ids-none as granted_ids-zero}
+use Rattle.entity_table.proofs.Grants.{grant-suc, granted_ids-suc}
 use Rattle.entity_table.proofs.table.grant_each.Goals as goal
 
 pub loop-preserved : goal.loop-preserved

@@ -5,6 +5,7 @@ use Rattle.command_line.specs.declared.args.Work.TheVariants.{Run, Check}
 use Rattle.model.specs.shown.Outcome.{BodyMeaning}
 use Rattle.model.specs.state.Loaded.{loaded}
 use Rattle.model.specs.state.State.{State}
+use Rattle.schedule_builder.proofs.Lookups.{err_as as of-err}
 use Rattle.program.specs.declared.fault.Fault.TheVariants.{Memory}
 use Rattle.program.specs.Load.{entity_given, loaded_world}
 use Rattle.engine.specs.FirstState.{first_state}
@@ -20,8 +21,9 @@ use Rattle.program.proofs.Fitting.{count-declared}
 use Rattle.program.specs.Fault.{fault_of_build, fault_of_file}
 use Rattle.program.specs.declared.schedule.Code.{Code}
 use Rattle.schedule_builder.specs.Answers.{IsAnswered}
-use Rattle.program.proofs.Serving.{build-refused, given-refused, is-file, of-err, of-given, of-ok, of-ok-two, place-refused, replay-loaded, run-refused, runs-loaded, schedule-of, script-refused, scripts-same, trace-refused, unread-refused, unreplayed-refused}
+use Rattle.program.proofs.Serving.{build-refused, given-refused, is-file, of-given, of-ok-two, place-refused, replay-loaded, run-refused, runs-loaded, schedule-of, script-refused, scripts-same, trace-refused, unread-refused, unreplayed-refused}
 use Rattle.program.proofs.serve.answer.Goals as goal
+use Rattle.program_file.proofs.Mapped.{of-ok}
 
 -- there are as many codes as systems of the schedule
 pub bodies_of-requires : goal.bodies_of-requires

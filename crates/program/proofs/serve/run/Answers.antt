@@ -33,7 +33,7 @@ returns-in_err-traces-clause-stopped g c =
     of-given (λ (told : Fault). told ≡ c.in_err-traces.field-0.0) (IsStoppedRun c.args.recorded) c.from_residual-in_err-traces.result c.from_residual-in_err-traces.ensures.1
     (λ e same. subst (IsStoppedRun c.args.recorded) (sym same) c.in_err-traces.ensures.stopped)
 
--- want of memory for the text
+-- a failed allocation for the text
 pub returns-in_err-text_of_world-clause-stopped : goal.returns-in_err-text_of_world-clause-stopped
 returns-in_err-text_of_world-clause-stopped g c =
     of-given (λ (told : Fault). told ≡ Memory) (IsStoppedRun c.args.recorded) c.from_residual-in_err-text_of_world.result c.from_residual-in_err-text_of_world.ensures.1

@@ -2,10 +2,11 @@ use Rattle.std.proofs.Common.{◌≡◌, ◌≤◌, ◌+◌, length, string_byte
 use Rattle.model.specs.steps.Schedule.{Schedule}
 use Rattle.engine.specs.History.{history_of}
 use Rattle.engine.specs.Meanings.{meanings}
+use Rattle.engine.proofs.AtHome.{unlike}
 use Rattle.program.specs.Setup.{script_means}
 use Rattle.program.proofs.Noting.{next-noted, none-noted, record-more}
 use Rattle.program.specs.Refused.{IsStoppedRun}
-use Rattle.program.proofs.Serving.{of-given, unlike}
+use Rattle.program.proofs.Serving.{of-given}
 use Rattle.program.proofs.serve.run_times.Goals.{then-recorded+in_ok-note, else-recorded}
 use Rattle.program.proofs.serve.run_times.Goals as goal
 

@@ -1,5 +1,6 @@
 -- The text is that of the runs so far and what is deferred.
-use Rattle.trace_checker.proofs.Reading.{no_line, no_order, these_runs, still_fits, still_whole, still_counted, still_bound, not_empty, empty}
+use Rattle.run_condition.proofs.Conditions.{empty_is as empty, filled_is as not_empty}
+use Rattle.trace_checker.proofs.Reading.{no_line, no_order, these_runs, still_fits, still_whole, still_counted, still_bound}
 use Rattle.trace_checker.proofs.read.read_traces.Goals as goal
 
 pub returns-in_default-clause-only : goal.returns-in_default-clause-only

@@ -33,7 +33,7 @@ returns-in_err-take_steps-clause-only g c =
     (subst₂ (λ (start : State) (steps : List Step). IsReplayFault s ms start steps fault) c.into_open.ensures.state c.deref.ensures.value c.in_err-take_steps.ensures.stopped)
 
 pub into_state-requires : goal.into_state-requires
-into_state-requires g c = all-home (store_of c.take_steps.new.run.state) c.law-2.ensures.laid c.in_ok-take_steps.ensures.out
+into_state-requires g c = all-home (store_of c.take_steps.new.run.state) c.prove_law-2.ensures.laid c.in_ok-take_steps.ensures.out
 
 pub returns-clause-only : goal.returns-clause-only
 returns-clause-only g c = λ other h.
@@ -47,6 +47,6 @@ pub returns-clause-agreement : goal.returns-clause-agreement
 returns-clause-agreement g c =
     let s = c.args.built.now in
     let ms = meanings g.B.Body.meaning s (map Some c.args.bodies.now) in
-    replay_agrees g.B.Body.meaning s c.args.bodies.now c.args.state (reverse c.args.trace.now.steps.items) c.into_state.result c.law.ensures c.requires.memories c.shape.ensures c.fitting_keep.ensures
+    replay_agrees g.B.Body.meaning s c.args.bodies.now c.args.state (reverse c.args.trace.now.steps.items) c.into_state.result c.prove_law.ensures c.requires.memories c.prove_shape.ensures c.prove_fitting_keep.ensures
     (subst₂ (λ (start : State) (steps : List Step). IsReplay s ms start steps (Ok c.into_state.result)) c.into_open.ensures.state c.deref.ensures.value
     (subst (λ (w : State). IsReplay s ms c.into_open.result.state c.deref.result.now (Ok w)) (sym c.into_state.ensures) c.in_ok-take_steps.ensures.replayed))

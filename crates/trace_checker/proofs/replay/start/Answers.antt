@@ -20,7 +20,7 @@ use Rattle.trace_checker.proofs.replay.start.Goals as goal
 
 pub show-requires-clause-home : goal.show-requires-clause-home
 show-requires-clause-home g c =
-    home-apart (store_of c.args.run.now.state) [] (params_of c.args.built.now c.args.system) c.law.ensures.laid c.requires.out tt
+    home-apart (store_of c.args.run.now.state) [] (params_of c.args.built.now c.args.system) c.prove_law.ensures.laid c.requires.out tt
 
 pub run_body-answer-requires-clause-fits : goal.run_body-answer-requires-clause-fits
 run_body-answer-requires-clause-fits g c κs within = λ body there.
@@ -145,7 +145,7 @@ returns-clause-hand g c =
     let answered = is_answered g.B.Body.meaning g.B.Body.fits s c.args.bodies.now n c.in_ok-view.view seen c.run_body-answer.new.bodies c.run_body-answer.result ran w c.requires.suits c.requires.known shown.params c.in_ok-close.ensures.answer in
     let kept = c.in_ok-close.ensures.deferred ∙ ap (with_commands n seen.outcome.commands) shown.deferred in
     subst (AreInHand c.close.new.self.state.state.world.slots) (sym kept)
-    (in_hand_kept s ms n w deferred place shown.has.0 shown.has.1 seen (ran.shown ∙ shown.shown) answered c.close.new.self.state.state seen.opening.tick c.requires.known room c.requires.keep c.requires.suits.memories c.shape.ensures c.requires.fresh c.requires.hand
+    (in_hand_kept s ms n w deferred place shown.has.0 shown.has.1 seen (ran.shown ∙ shown.shown) answered c.close.new.self.state.state seen.opening.tick c.requires.known room c.requires.keep c.requires.suits.memories c.prove_shape.ensures c.requires.fresh c.requires.hand
     (ap (λ (x : StateValue). x.state) c.in_ok-close.ensures.laid ∙ ap (λ (x : StateValue). laid n seen.opening.tick seen x.state) shown.noted))
 
 pub returns-clause-meanings : goal.returns-clause-meanings

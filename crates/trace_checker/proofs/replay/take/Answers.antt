@@ -64,7 +64,7 @@ returns-else-answer-recorded-clause-suits g c =
     (ap (λ (x : StateValue). x.state) c.in_ok-answer-in-Cond.ensures.asked)
 
 pub sync-requires-clause-home : goal.sync-requires-clause-home
-sync-requires-clause-home g c = all-home (store_of c.args.run.now.state) c.law.ensures.laid c.requires.out
+sync-requires-clause-home g c = all-home (store_of c.args.run.now.state) c.prove_law.ensures.laid c.requires.out
 
 pub returns-in_ok-sync-in-Sync-clause-suits : goal.returns-in_ok-sync-in-Sync-clause-suits
 returns-in_ok-sync-in-Sync-clause-suits g c =
@@ -75,4 +75,4 @@ pub returns-in_ok-sync-in-Sync-clause-out : goal.returns-in_ok-sync-in-Sync-clau
 returns-in_ok-sync-in-Sync-clause-out g c = none-out (store_of c.sync.new.self.state) c.in_ok-sync-in-Sync.ensures.home
 
 pub ask-requires-clause-home : goal.ask-requires-clause-home
-ask-requires-clause-home g c = home-apart (store_of c.args.run.now.state) [] (access_of c.args.built.now c.in-Cond.condition) c.law.ensures.laid c.requires.out tt
+ask-requires-clause-home g c = home-apart (store_of c.args.run.now.state) [] (access_of c.args.built.now c.in-Cond.condition) c.prove_law.ensures.laid c.requires.out tt

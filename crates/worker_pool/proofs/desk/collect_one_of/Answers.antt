@@ -19,7 +19,7 @@ returns-in-Some-clause-some g c =
     let ticket = c.in-Some.ensures in (
       ticket.0,
       ticket.1,
-      its_own c.args.tickets.now v c.loop-round.invariant.out g.T.Task.answers c.in_ok-number.number c.in-Some.place c.in_ok-number.outcome ticket.0 c.law.ensures.numbers ticket.1 ticket.2 it.4,
+      its_own c.args.tickets.now v c.loop-round.invariant.out g.T.Task.answers c.in_ok-number.number c.in-Some.place c.in_ok-number.outcome ticket.0 c.prove_law.ensures.numbers ticket.1 ticket.2 it.4,
       subst (λ (w : View g.row.T-Job.Denot g.row.T-Outcome.Denot). AreOut (remove c.args.tickets.now c.in-Some.place) w) (sym it.2)
           (less_out c.args.tickets.now v c.loop-round.invariant.out it.0 c.in_ok-number.number it.1 c.in-Some.place c.in_ok-number.outcome ticket.0 ticket.1 ticket.2),
     )

@@ -17,4 +17,4 @@ returns-in-Ok-post-clause-out g c =
     let items = c.push_reserved.ensures.items ∙ ap (λ (l : List (Ticket g.row.T-Job.Denot)). l ++ record { number = c.in-Ok-post.number; job = c.of-posted.result } ∷ []) c.reserve.ensures.items in
     subst (λ (w : View g.row.T-Job.Denot g.row.T-Outcome.Denot). AreOut c.push_reserved.new.self.items w) (sym posted.1)
     (subst (λ (l : List (Ticket g.row.T-Job.Denot)). AreOut l (after_post v c.in-Ok-post.number c.args.job)) (sym items)
-    (more_out c.args.tickets.now.items v c.requires.out c.in-Ok-post.number c.args.job _ c.law.ensures.numbers posted.0 refl c.of-posted.ensures))
+    (more_out c.args.tickets.now.items v c.requires.out c.in-Ok-post.number c.args.job _ c.prove_law.ensures.numbers posted.0 refl c.of-posted.ensures))

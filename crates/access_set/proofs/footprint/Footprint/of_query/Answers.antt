@@ -7,5 +7,5 @@ pub returns : goal.returns
 returns c = record {
   words = c.of_query.ensures;
   choices = c.in_ok-choices_of.ensures ∙ ap choices c.terms.ensures;
-  low = low_choices c.kinds_are_apart.ensures.below c.in_ok-choices_of.field-0.items;
+  low = low_choices c.prove_kinds_apart.ensures.below c.in_ok-choices_of.field-0.items;
 }

@@ -10,5 +10,5 @@ pub returns-clause-cells : goal.returns-clause-cells
 returns-clause-cells c =
     let k = kind_number c.args.kind in
     let n = c.args.archetype in
-    let seen = cells_seen c.self.inside.book c.self.inside.archetypes c.self.invariant c.laid.ensures n k in
+    let seen = cells_seen c.self.inside.book c.self.inside.archetypes c.self.invariant c.prove_laid.ensures n k in
     c.column.ensures.cells ∙ seen ∙ ap (λ (v : SlotsValue). column_cells v.slots (archetype_at v.layout n).entities k) c.self.view_is

@@ -11,6 +11,6 @@ pub returns-clause-cells : goal.returns-clause-cells
 returns-clause-cells c =
     let k = kind_number c.args.kind in
     let n = c.args.archetype in
-    let seen = cells_seen c.self.inside.book c.self.inside.archetypes c.self.invariant c.laid.ensures n k in
+    let seen = cells_seen c.self.inside.book c.self.inside.archetypes c.self.invariant c.prove_laid.ensures n k in
     subst (λ (v : SlotsValue). IfOk c.take_column.result (λ column. map (λ cell. Some cell) column.cells ≡ column_cells v.slots (archetype_at v.layout n).entities k)) c.self.view_is
     (IfOk-weaker c.take_column.result _ _ (λ column h. h ∙ seen) c.take_column.ensures.cells)

@@ -11,7 +11,7 @@ pub invariant_of-self : goal.invariant_of-self
 invariant_of-self c =
     let w : World = record { slots = c.self.inside.slots.slots; resources = c.self.inside.resources; clock = c.self.inside.clock } in
     let past = subst (λ (v : StoreValue). AllByRecursion (IsPast v.state.clock) c.args.column.cells) (sym c.self.view_is) c.requires.past in
-    rw c.put_column.ensures.slots (world_homed widths w (archetype_at c.self.inside.slots.layout c.args.archetype).entities c.args.column.kind c.args.column.cells c.law.ensures past c.self.invariant)
+    rw c.put_column.ensures.slots (world_homed widths w (archetype_at c.self.inside.slots.layout c.args.archetype).entities c.args.column.kind c.args.column.cells c.prove_law.ensures past c.self.invariant)
 
 pub returns : goal.returns
 returns c =

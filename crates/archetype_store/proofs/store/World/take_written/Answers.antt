@@ -33,7 +33,7 @@ put_back-requires c =
     let slots = c.args.self.now.state.slots in
     let layout = c.args.self.now.layout in
     let k = kind_number p.kind in
-    let back = back_again c.args.self.now.state c.now-now.ensures.world layout (take i ps) c.loop-at.taken.items c.laid.ensures (can_take layout ps i c.requires) c.loop-at.invariant.taken in
+    let back = back_again c.args.self.now.state c.now-now.ensures.world layout (take i ps) c.loop-at.taken.items c.prove_laid.ensures (can_take layout ps i c.requires) c.loop-at.invariant.taken in
     subst (CanComeHome c.loop-at.taken.items) (sym (c.in-Err.ensures.err ∙ c.loop-at.invariant.away)) back.1
 
 pub returns-in-Err-clause-err : goal.returns-in-Err-clause-err
@@ -46,7 +46,7 @@ returns-in-Err-clause-err c =
     let slots = c.args.self.now.state.slots in
     let layout = c.args.self.now.layout in
     let k = kind_number p.kind in
-    let back = back_again c.args.self.now.state c.now-now.ensures.world layout (take i ps) c.loop-at.taken.items c.laid.ensures (can_take layout ps i c.requires) c.loop-at.invariant.taken in
+    let back = back_again c.args.self.now.state c.now-now.ensures.world layout (take i ps) c.loop-at.taken.items c.prove_laid.ensures (can_take layout ps i c.requires) c.loop-at.invariant.taken in
     c.put_back.ensures ∙ ap (all_home c.loop-at.taken.items) (c.in-Err.ensures.err ∙ c.loop-at.invariant.away) ∙ back.0
 
 pub loop-at-preserved : goal.loop-at-preserved

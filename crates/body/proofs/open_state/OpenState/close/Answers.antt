@@ -43,7 +43,7 @@ returns-clause-out c = λ front rest held.
     let words = words_written view.params.queries view.shown.rows view.outcome.cells in
     let closed : StoreValue = record { state = with_slots w.state (slots_after view.opening.tick words w.state.slots); layout = with_back (lent_in view.opening.taken) w.layout } in
     out-same closed c.close-sent.new.world (front ++ rest) (ap (λ (x : StoreValue). x.state.slots) c.close-sent.ensures.home) (ap (λ (x : StoreValue). x.layout) c.close-sent.ensures.home)
-    (out-closed w view.opening.tick words front view.opening.taken rest c.laid.ensures c.close-sent.ensures.reach
+    (out-closed w view.opening.tick words front view.opening.taken rest c.prove_laid.ensures c.close-sent.ensures.reach
     (subst (λ (s : StateValue). AreOut (store_of s) (front ++ (view.opening.taken ++ rest))) (sym c.self.view_is) held))
 
 pub invariant_of-self : goal.invariant_of-self

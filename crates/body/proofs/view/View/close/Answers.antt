@@ -12,8 +12,8 @@ use Rattle.body.specs.Seen.{Seen}
 use Rattle.body.specs.Sheet.{Sheet, WritesReach}
 use Rattle.body.specs.Together.{words_of_sheet}
 use Rattle.body.proofs.Gets.{all-get}
-use Rattle.body.proofs.Lendings.{can_come, homes_layout, back_after}
-use Rattle.body.proofs.LendingCloses.{home-clock, lent_close, lent_reach}
+use Rattle.body.proofs.Lendings.{can_come, homes_layout, back_after, clock_kept as home-clock}
+use Rattle.body.proofs.LendingCloses.{lent_close, lent_reach}
 use Rattle.body.proofs.view.View.close.Goals as goal
 
 pub put_home-requires : goal.put_home-requires
@@ -37,7 +37,7 @@ returns-clause-home c =
     let inside = c.self.inside in
     let queries = inside.queries.items in
     let lent = subst (λ (s : Seen). AreLent w s.opening.taken) (sym c.self.view_is) c.requires.lent in
-    let state = lent_close w inside.tick queries c.laid.ensures c.now-now.ensures.world c.self.invariant.ticks c.self.invariant.alone
+    let state = lent_close w inside.tick queries c.prove_laid.ensures c.now-now.ensures.world c.self.invariant.ticks c.self.invariant.alone
     (λ n s e. all-get (λ (s : Sheet). WritesReach (words_of_sheet s) s.taken) queries n s c.put_home.ensures.reach e) lent in
     let layout = homes_layout (lent_after queries) w ∙ back_after queries w.layout in
     let values = inside.values in

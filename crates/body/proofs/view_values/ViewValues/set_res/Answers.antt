@@ -1,6 +1,7 @@
 use Rattle.std.proofs.Common.{◌≡◌, true, sym, subst, arith}
 use Rattle.std.proofs.lemmas.Int.{to_z-of_z}
-use Rattle.body.proofs.Values.{values-written, res_number-below}
+use Rattle.kinds.proofs.Numbers.{res_below as res_number-below}
+use Rattle.body.proofs.Values.{values-written}
 use Rattle.body.proofs.view_values.ViewValues.set_res.Goals as goal
 
 pub returns : goal.returns

@@ -19,7 +19,7 @@ use Rattle.engine.proofs.Starting.{can_be_shown, registers_at}
 use Rattle.engine.proofs.run_state.RunState.show.Goals as goal
 
 pub open-requires-clause-apart : goal.open-requires-clause-apart
-open-requires-clause-apart c = λ conflict. c.apart.ensures c.args.system c.requires.known (subst ConflictWithin c.params-params.ensures conflict)
+open-requires-clause-apart c = λ conflict. c.prove_apart.ensures c.args.system c.requires.known (subst ConflictWithin c.params-params.ensures conflict)
 
 pub returns-clause-shown : goal.returns-clause-shown
 returns-clause-shown c =
@@ -53,7 +53,7 @@ returns-clause-showing c =
     let with_params = λ (p : Params). CanBeShown p c.in_ok-view.view.shown in
     subst with_params (sym (c.in_ok-view.ensures.params ∙ c.params-params.ensures))
     (subst (CanBeShown (params_of s n)) (sym shows)
-    (can_be_shown (params_of s n) (memory_of_system w n) w (registers_at w.world.clock w.systems n (let e = c.requires.memories.systems in let k = c.requires.known in omega (arith, e, k)) c.law.ensures.memories.systems_in)))
+    (can_be_shown (params_of s n) (memory_of_system w n) w (registers_at w.world.clock w.systems n (let e = c.requires.memories.systems in let k = c.requires.known in omega (arith, e, k)) c.prove_law.ensures.memories.systems_in)))
 
 pub returns-in_err-granted-clause-stopped : goal.returns-in_err-granted-clause-stopped
 returns-in_err-granted-clause-stopped c =

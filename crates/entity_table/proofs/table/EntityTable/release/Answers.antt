@@ -2,7 +2,8 @@ use Rattle.std.proofs.Common.{◌≡◌, ◌+◌, take, get_or, ap, sym, ◌∙�
 use Rattle.model.specs.declared.entities.Entity.{Entity}
 use Rattle.model.specs.Lists.{update_at}
 use Rattle.model.specs.state.Commands.{release}
-use Rattle.entity_table.proofs.Releases.{release-nil, release_more, freed_if_granted, freed_if-granted, freed_if-other}
+use Rattle.model.proofs.serial.Engine.{release-none as release-nil}
+use Rattle.entity_table.proofs.Releases.{release_more, freed_if_granted, freed_if-granted, freed_if-other}
 use Rattle.entity_table.proofs.table.EntityTable.release.Goals as goal
 use Rattle.entity_table.proofs.table.EntityTable.release.Goals.{Joined-is_granted, then-is_granted, else-is_granted}
 

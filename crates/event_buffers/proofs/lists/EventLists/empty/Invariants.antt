@@ -2,7 +2,7 @@
 use Rattle.std.proofs.Common.{◌≡◌, map, take}
 use Rattle.kinds.specs.Res.{event_number}
 use Rattle.event_buffers.specs.Lists.{lists_of}
-use Rattle.event_buffers.proofs.EventLists.{empty_lists}
+use Rattle.event_buffers.proofs.ListsOfEvents.{empty_lists}
 use Rattle.event_buffers.proofs.lists.EventLists.empty.Given as goal
 
 abbrev pub invariant-loop-kind : goal.invariant-loop-kind

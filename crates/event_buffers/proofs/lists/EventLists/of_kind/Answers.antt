@@ -2,7 +2,7 @@ use Rattle.std.proofs.Common.{◌≡◌, List, length, get_or, map, sym, ap, ◌
 use Rattle.kinds.specs.Res.{event_number}
 use Rattle.model.specs.shown.Outcome.{events_sent}
 use Rattle.event_buffers.specs.Lists.{ListValue, ListsValue, place_in}
-use Rattle.event_buffers.proofs.EventLists.{place-within, at-place, no-place}
+use Rattle.event_buffers.proofs.ListsOfEvents.{place-within, at-place, no-place}
 use Rattle.event_buffers.proofs.lists.EventLists.of_kind.Goals as goal
 
 pub index-requires : goal.index-requires

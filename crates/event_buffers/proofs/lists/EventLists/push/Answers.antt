@@ -4,7 +4,7 @@ use Rattle.std.proofs.lemmas.Result.{on_ok_weaker}
 use Rattle.kinds.specs.Res.{event_number}
 use Rattle.model.specs.Lists.{has}
 use Rattle.event_buffers.specs.Lists.{ListValue, ListsValue, lists_of, place_in, with_event}
-use Rattle.event_buffers.proofs.EventLists.{pushed, place-within, has-place, lists-pushed}
+use Rattle.event_buffers.proofs.ListsOfEvents.{pushed, place-within, has-place, lists-pushed}
 use Rattle.event_buffers.proofs.lists.EventLists.push.Goals as goal
 
 -- the lists with one more event

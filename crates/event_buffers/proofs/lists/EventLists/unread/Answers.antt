@@ -3,7 +3,7 @@ use Rattle.kinds.specs.Res.{event_number}
 use Rattle.model.specs.state.Events.{queue_of, unread}
 use Rattle.kinds.specs.declared.res.Event.TheVariants.{Hit}
 use Rattle.event_buffers.specs.Lists.{ListValue, lists_of}
-use Rattle.event_buffers.proofs.EventLists.{unread_lists, unread-more}
+use Rattle.event_buffers.proofs.ListsOfEvents.{unread_lists, unread-more}
 use Rattle.event_buffers.proofs.lists.EventLists.unread.Goals as goal
 
 pub loop-place-preserved : goal.loop-place-preserved

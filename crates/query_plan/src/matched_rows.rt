@@ -1,0 +1,103 @@
+// Where the rows of a query stand: all those of one archetype, or a list of places.
+
+ghost use Rattle.std.specs.Prelude.{◌≡◌, not, map, IfOk};
+ghost use Rattle.archetype_store.specs.Layout.{archetype_at};
+ghost use Rattle.archetype_store.specs.View.{entities_seen};
+ghost use Rattle.model.specs.Lists.{is_there};
+ghost use Rattle.query_plan.specs.Places.{every_row, rows_of_places, IsCounted};
+
+use crate::row::Row;
+use crate::row_buffers::RowBuffers;
+use archetype_store::World;
+use archetype_store::store::ArchetypeView;
+use entity_table::Entity;
+use std::alloc::{AllocError, Global};
+
+/// Where the rows of a query stand in a world.
+#[derive(Drop)]
+pub enum MatchedRows {
+    /// The rows are the entities of the archetype of a number, all of them, in order. There are so many.
+    All(u32, u32),
+    /// The rows one by one.
+    Listed(Vec<Row>),
+}
+
+impl MatchedRows {
+    /// Whether there are no rows.
+    pub fn is_empty(&self, _world: &World) -> bool
+        requires { IsCounted _world.now.layout self.now }
+        ensures { result ≡ not (is_there (rows_of_places _world.now.layout self.now)) }
+    {
+        match self {
+            MatchedRows::All(_archetype, count) => *count == 0,
+            MatchedRows::Listed(rows) => rows.is_empty(),
+        }
+    }
+
+    /// The rows as a list.
+    pub fn into_list(self, alloc: Global, world: &World) -> Result<Vec<Row>, AllocError>
+        ensures { IfOk result (λ rows. rows.items ≡ rows_of_places world.now.layout self) }
+    {
+        let views = world.archetypes(alloc)?;
+        listed(alloc, self, world, &views, &mut RowBuffers::new(alloc))
+    }
+}
+
+// Rows as a list, by what is seen of the archetypes of a world.
+pub(crate) fn listed(
+    alloc: Global,
+    places: MatchedRows,
+    _world: &World,
+    views: &[ArchetypeView<'_>],
+    room: &mut RowBuffers,
+) -> Result<Vec<Row>, AllocError>
+    requires { map entities_seen views.now ≡ map (λ a. a.entities) _world.now.layout }
+    ensures { IfOk result (λ rows. rows.items ≡ rows_of_places _world.now.layout places) }
+{
+    match places {
+        MatchedRows::All(archetype, _count) => all_listed(alloc, archetype, _world, views, room),
+        MatchedRows::Listed(rows) => Ok(rows),
+    }
+}
+
+// The rows of all entities of the archetype of a number.
+fn all_listed(
+    alloc: Global,
+    archetype: u32,
+    _world: &World,
+    views: &[ArchetypeView<'_>],
+    room: &mut RowBuffers,
+) -> Result<Vec<Row>, AllocError>
+    requires { map entities_seen views.now ≡ map (λ a. a.entities) _world.now.layout }
+    ensures { IfOk result (λ rows. rows.items ≡ every_row archetype 0 (archetype_at _world.now.layout archetype).entities) }
+{
+    if views.len() <= archetype as usize {
+        return Ok(Vec::new(alloc));
+    }
+    let view = &views[archetype as usize];
+    every_row(alloc, archetype, view.entities, room)
+}
+
+// A row for each of these entities, which are those of the archetype of a number.
+fn every_row(
+    alloc: Global,
+    archetype: u32,
+    entities: &[Entity],
+    room: &mut RowBuffers,
+) -> Result<Vec<Row>, AllocError>
+    ensures { IfOk result (λ rows. rows.items ≡ every_row archetype 0 entities.now) }
+{
+    let Ok(count) = u32::try_from(entities.len()) else {
+        return Err(AllocError);
+    };
+    let mut rows = room.take(alloc);
+    rows.reserve(entities.len())?;
+    for place in 0..count {
+        rows.push(Row {
+            entity: entities[place as usize],
+            archetype,
+            place,
+        })?;
+    }
+    Ok(rows)
+}

@@ -1,8 +1,0 @@
-use Rattle.std.proofs.Common.{map, ap, ◌∙◌, arith}
-use Rattle.schedule_builder.proofs.Askings.{good_conditions_next}
-use Rattle.schedule_builder.proofs.asked.first_bad_condition.Goals as goal
-
-pub loop-number-preserved : goal.loop-number-preserved
-loop-number-preserved c =
-    good_conditions_next c.args.conditions.now c.loop-number.number c.index-conditions-number.result (map (λ q. q.now) c.as_slice.result.now) (omega arith) c.index-conditions-number.is
-    (ap (map (λ q. q.now)) c.as_slice.ensures.value ∙ c.in_ok-queries.ensures) c.loop-number.invariant c.in_default.ensures

@@ -1,6 +1,0 @@
-use Rattle.std.proofs.Common.{map}
-use Rattle.schedule_builder.specs.Asked.{AreReadingBelow}
-use Rattle.schedule_builder.proofs.asked.first_writing.Given as goal
-
-abbrev pub invariant-loop-number : goal.invariant-loop-number
-invariant-loop-number l = AreReadingBelow (map (λ c. c.now) l.conditions) l.number

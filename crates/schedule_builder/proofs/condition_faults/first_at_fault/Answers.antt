@@ -1,0 +1,6 @@
+use Rattle.std.proofs.Common.{sym, arith}
+use Rattle.schedule_builder.proofs.Askings.{good_next}
+use Rattle.schedule_builder.proofs.condition_faults.first_at_fault.Goals as goal
+
+pub loop-number-preserved : goal.loop-number-preserved
+loop-number-preserved c = good_next c.args.queries.now c.loop-number.number c.index-queries-number.result (omega arith) c.index-queries-number.is c.loop-number.invariant (sym c.in_default.ensures)

@@ -1,6 +1,0 @@
-use Rattle.std.proofs.Common.{arith}
-use Rattle.schedule_builder.proofs.Askings.{others_of}
-use Rattle.schedule_builder.proofs.listing.Listing.paired.Goals as goal
-
-pub returns : goal.returns
-returns c = others_of c.args.pairs.now c.loop-pair.pair-index c.args.system c.loop-pair.numbers.items (omega arith) c.loop-pair.invariant

@@ -1,0 +1,15 @@
+use Rattle.std.proofs.Common.{ap, ◌∙◌, sym}
+use Rattle.model.specs.steps.Schedule.{ScheduledSystem}
+use Rattle.schedule_builder.proofs.SystemSets.{read_system, tells_conflict, clash_more}
+use Rattle.schedule_builder.proofs.relations.row_of_clashes.Goals as goal
+
+pub loop-other-preserved : goal.loop-other-preserved
+loop-other-preserved c =
+    let systems = c.args.systems.now in
+    let other = c.loop-other.other in
+    let first = ap (λ (s : ScheduledSystem). s.params) (read_system systems other c.index-systems-other.result c.loop-other-test.true c.index-systems-other.is) ∙ sym c.params.ensures in
+    record {
+      room = c.insert_if.ensures.room ∙ c.loop-other.invariant.room;
+      members = clash_more systems c.loop-other.row c.insert_if.new.row c.args.access.now other c.conflicts.result
+          (tells_conflict _ _ c.args.access.now c.conflicts.result first c.conflicts.ensures) c.insert_if.ensures.members c.loop-other.invariant.members;
+    }
