@@ -1,5 +1,5 @@
 pub mod Rows
-pub mod MatchedRows
+pub mod RowPlaces
 pub mod RowEdits
 pub mod Held
 pub mod KindSets

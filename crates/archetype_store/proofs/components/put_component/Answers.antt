@@ -1,6 +1,6 @@
 use Rattle.std.proofs.Common.{sym, ◌∙◌}
 use Rattle.archetype_store.proofs.Rows.{put-none}
-use Rattle.archetype_store.proofs.MatchedRows.{put_over, put_at}
+use Rattle.archetype_store.proofs.RowPlaces.{put_over, put_at}
 use Rattle.archetype_store.proofs.components.put_component.Goals as goal
 
 pub returns-in_ok-push-in-None : goal.returns-in_ok-push-in-None
