@@ -1,4 +1,7 @@
 pub mod Column
+pub mod Packed
+pub mod Words
+pub mod Held
 pub mod Cells
 pub mod Order
 pub mod Kinds

@@ -2,16 +2,18 @@
 #![tactic(auto)]
 
 pub mod arrivals;
+mod column;
 mod column_slot;
 mod entity_list;
 mod keeping;
 pub mod laws;
 mod merging;
 pub mod order;
+mod packed;
+mod packs;
 mod parts;
 pub mod stamped;
 pub mod table;
-mod typed;
 
 pub use arrivals::Arrival;
 pub use stamped::{StampedColumn, StampedValue};

@@ -11,15 +11,12 @@ ghost use Rattle.std.specs.Prelude.{map};
 ghost use Rattle.column_store.specs.Keeping.{kept_from};
 ghost use Rattle.column_store.specs.Arriving.{laid, Fit};
 
+use crate::column::Column;
 use crate::keeping::keep;
 use crate::merging::merged;
-use crate::typed::{
-    component_at, copied, empty, insert_value, keep_values, merged_values, remove_value,
-    set_component, set_value, value_at,
-};
 use change_ticks::{Stamp, Tick};
 use entity_table::Entity;
-use kinds::{Column, Component, Kind, Value};
+use kinds::{Component, Kind, Value};
 use std::alloc::{AllocError, Global};
 use std::marker::Model;
 
@@ -41,14 +38,13 @@ pub struct StampedColumn {
 
 impl Model for StampedColumn {
     ghost use Rattle.std.specs.Prelude.{◌≡◌, length};
-    ghost use Rattle.kinds.specs.Column.{column_number, column_words};
     ghost use Rattle.column_store.specs.Column.{ColumnCells, cells_of};
 
     ghost Value = { ColumnCells };
 
-    ghost view = { λ c. record { kind = column_number c.column; cells = cells_of (column_words c.column) c.stamps.items } };
+    ghost view = { λ c. record { kind = c.column.kind; cells = cells_of c.column.words c.stamps.items } };
 
-    ghost invariant = { λ c. length (column_words c.column) ≡ length c.stamps.items };
+    ghost invariant = { λ c. length c.column.words ≡ length c.stamps.items };
 }
 
 #[tactic(auto, using(crate::proofs::Cells::cell_edits))]
@@ -58,7 +54,7 @@ impl StampedColumn {
         ensures { result ≡ record { kind = kind_number kind; cells = [] } }
     {
         StampedColumn {
-            column: empty(alloc, kind),
+            column: Column::new(alloc, kind),
             stamps: Vec::new(alloc),
         }
     }
@@ -81,7 +77,7 @@ impl StampedColumn {
     pub fn try_copy(&self, alloc: Global) -> Result<Self, AllocError>
         ensures { IfOk result (λ column. column ≡ self.now) }
     {
-        let column = copied(alloc, &self.column)?;
+        let column = self.column.try_copy(alloc)?;
         let stamps = self.stamps.iter().copied().collect(alloc)?;
         Ok(StampedColumn { column, stamps })
     }
@@ -90,7 +86,7 @@ impl StampedColumn {
     pub fn prove_law(&self)
         ensures { AllByRecursion (λ c. length c.words ≡ widths self.now.kind) self.now.cells }
     {
-        let _ = &self.column;
+        self.column.prove_width();
     }
 
     /// The stamp of the component at a place.
@@ -108,7 +104,7 @@ impl StampedColumn {
         ensures cell { slice_get self.now.cells place ≡ Some (stamped_cell result) }
     {
         StampedValue {
-            value: value_at(&self.column, place),
+            value: self.column.at(place),
             stamp: self.stamps[place],
         }
     }
@@ -119,7 +115,7 @@ impl StampedColumn {
         requires within { place < length self.now.cells }
         ensures { option_map (λ c. c.words) (slice_get self.now.cells place) ≡ Some (C.words result) }
     {
-        component_at(&self.column, place)
+        self.column.get(place)
     }
 
     /// Replaces the component at a place, which counts as changed at this tick, also where the value stays.
@@ -128,7 +124,7 @@ impl StampedColumn {
         requires within { place < length self.old.cells }
         ensures { self.new ≡ record self.old { cells = update_at place (changed_cell (C.words component) tick) self.old.cells } }
     {
-        set_component(&mut self.column, place, component);
+        self.column.set(place, component.into_value());
         self.stamps[place].changed = tick;
     }
 
@@ -138,7 +134,7 @@ impl StampedColumn {
         requires within { place < length self.old.cells }
         ensures { self.new ≡ record self.old { cells = update_at place (changed_cell (value_words value) tick) self.old.cells } }
     {
-        set_value(&mut self.column, place, value);
+        self.column.set(place, value);
         self.stamps[place].changed = tick;
     }
 
@@ -148,7 +144,7 @@ impl StampedColumn {
         requires within { place < length self.old.cells }
         ensures { self.new ≡ record self.old { cells = update_at place (λ _. stamped_cell component) self.old.cells } }
     {
-        set_value(&mut self.column, place, component.value);
+        self.column.set(place, component.value);
         self.stamps[place] = component.stamp;
     }
 
@@ -160,7 +156,7 @@ impl StampedColumn {
         ensures err { OnErr result (self.new ≡ self.old) }
     {
         self.stamps.insert(place, component.stamp)?;
-        if insert_value(&mut self.column, place, component.value).is_err() {
+        if self.column.insert(place, component.value).is_err() {
             self.stamps.remove(place);
             return Err(AllocError);
         }
@@ -172,7 +168,7 @@ impl StampedColumn {
         requires { place < length self.old.cells }
         ensures { self.new ≡ record self.old { cells = remove self.old.cells place } }
     {
-        remove_value(&mut self.column, place);
+        self.column.remove(place);
         self.stamps.remove(place);
     }
 
@@ -183,7 +179,7 @@ impl StampedColumn {
         requires within { first ≤ length entities.now }
         ensures { self.new ≡ record self.old { cells = kept_from first gone.now entities.now self.old.cells } }
     {
-        keep_values(&mut self.column, first, entities, gone);
+        self.column.keep(first, entities, gone);
         keep(&mut self.stamps, first, entities, gone);
     }
 
@@ -202,7 +198,7 @@ impl StampedColumn {
     {
         let further = stamps_of(alloc, components)?;
         let stamps = merged(alloc, &self.stamps, gaps, &further)?;
-        let column = merged_values(alloc, &self.column, gaps, components)?;
+        let column = self.column.merged(alloc, gaps, components)?;
         Ok(StampedColumn { column, stamps })
     }
 }

@@ -1,6 +1,5 @@
 pub mod Kind
 pub mod Res
 pub mod Components
+pub mod Shape
 pub mod Value
-pub mod Column
-pub mod Rows

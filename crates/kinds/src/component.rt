@@ -1,22 +1,17 @@
 // What each type of components has.
 
-ghost use Rattle.std.specs.Prelude.{◌≡◌, ℕ, ℤ, List, length, map, ◌↔◌, IsSome, IfSome, IsOk, IfOk, IfErr};
-ghost use Rattle.std.specs.Borrow.{LendsIf, sem};
-ghost use Rattle.std.specs.declared.vec.Vec.{Vec};
-ghost use Rattle.std.specs.declared.alloc.Global.{Global};
-ghost use Rattle.kinds.specs.declared.column.Column.{Column};
+ghost use Rattle.std.specs.Prelude.{◌≡◌, ℕ, ℤ, List, length, ◌↔◌, IsSome, IfSome};
+ghost use Rattle.kinds.specs.Kind.{kind_number};
 ghost use Rattle.kinds.specs.Components.{widths};
 ghost use Rattle.kinds.specs.Value.{value_number, value_words};
-ghost use Rattle.kinds.specs.Column.{column_number, column_words};
-ghost use Rattle.kinds.specs.Rows.{column_row, vec_row};
 
 mod amounts;
 mod marks;
 mod measures;
 mod pairs;
 
-use crate::column::Column;
 use crate::fields::Fields;
+use crate::kind::Kind;
 pub use crate::types::{
     Armor, Charge, Damage, Energy, Frozen, Health, Hidden, Home, Level, Marked, Mass, Position,
     Range, Rank, Score, Sleeping, Target, Team, Timer, Velocity,
@@ -34,13 +29,15 @@ pub trait Component: Copy {
 
     ghost of_words: { List ℤ → Self };
 
-    ghost column_of: { Vec Self Global → Column };
-
     /// The number of the kind.
     const NUMBER: u32;
 
     /// How many fields the kind has.
     const WIDTH: usize;
+
+    /// The kind.
+    fn kind() -> Kind
+        ensures { kind_number result ≡ NUMBER };
 
     /// The fields, in order.
     fn to_words(&self) -> Fields
@@ -52,41 +49,24 @@ pub trait Component: Copy {
         ensures { result ≡ of_words list.now };
 
     /// The component among those of any kind.
-    fn into_value(self) -> Value
+    final fn into_value(self) -> Value
         ensures number { value_number result ≡ NUMBER }
-        ensures words { value_words result ≡ words self };
+        ensures words { value_words result ≡ words self }
+    {
+        Value::of(Self::kind(), self.to_words().as_slice())
+    }
 
     /// The component, if it is of this kind.
-    fn from_value(value: Value) -> Option<Self>
+    final fn from_value(value: Value) -> Option<Self>
         ensures variant { IsSome result ↔ (value_number value ≡ NUMBER) }
-        ensures some { IfSome result (λ c. value_words value ≡ words c) };
-
-    /// The components as a column.
-    fn into_column(list: Vec<Self>) -> Column
-        ensures number { column_number result ≡ NUMBER }
-        ensures words { column_words result ≡ map words list.items };
-
-    /// The components of a column of this kind. Another column is given back.
-    fn from_column(column: Column) -> Result<Vec<Self>, Column>
-        ensures variant { IsOk result ↔ (column_number column ≡ NUMBER) }
-        ensures ok { IfOk result (λ v. column_words column ≡ map words v.items) }
-        ensures err { IfErr result (λ c. c ≡ column) };
-
-    /// The components in a column, if it is of this kind.
-    fn in_column(column: &Column) -> Option<&Vec<Self>>
-        ensures variant { IsSome result ↔ (column_number column.now ≡ NUMBER) }
-        ensures some { IfSome result (λ v. column_words column.now ≡ map words v.now.items) };
-
-    /// The components in a column to write to, if it is of this kind: what is left of them is what the column has then.
-    fn in_column_mut(column: &mut Column) -> Option<&mut Vec<Self>>
-        ensures* writes_back { sem 𝓛 (LendsIf column_row (vec_row Self.row) column.entry result column_of column.old) }
-        ensures variant { IsSome result ↔ (column_number column.old ≡ NUMBER) }
-        ensures some { IfSome result (λ v. column_words column.old ≡ map words v.now.items) };
-
-    // A column shows the components that it was made of.
-    ghost column_words_of: { (v : Vec Self Global) → column_words (column_of v) ≡ map words v.items };
-
-    ghost column_number_of: { (v : Vec Self Global) → column_number (column_of v) ≡ NUMBER };
+        ensures some { IfSome result (λ c. value_words value ≡ words c) }
+    {
+        if value.number() == Self::NUMBER {
+            Some(Self::from_words(value.words().as_slice()))
+        } else {
+            None
+        }
+    }
 
     // The words determine the component, and the component its words.
     ghost round_trip: { (c : Self) → of_words (words c) ≡ c };

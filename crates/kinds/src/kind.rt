@@ -3,8 +3,10 @@
 ghost use Rattle.std.specs.Prelude.{◌≡◌, ◌<◌, map, Some};
 ghost use Rattle.kinds.specs.Kind.{kind_count, kind_number, kind_name, IsKind, numbers_from, NumbersAreBelow, NumbersAreApart, NamesAreApart};
 ghost use Rattle.kinds.specs.Components.{widths};
+ghost use Rattle.kinds.specs.Shape.{shape_of, shape_width};
 ghost use Rattle.parsing.specs.Reads.{Reads};
 
+use crate::shape::Shape;
 use std::fmt;
 
 /// A kind of components. No two have one number, and numbers rise from 0. Printed as its name.
@@ -115,14 +117,26 @@ impl Kind {
         }
     }
 
+    /// How the components of the kind are laid out.
+    pub fn shape(self) -> Shape
+        ensures shape { result ≡ shape_of self }
+        ensures width { shape_width result ≡ widths (kind_number self) }
+    {
+        match self {
+            Kind::Position | Kind::Velocity | Kind::Home => Shape::Pair,
+            Kind::Frozen | Kind::Hidden | Kind::Sleeping | Kind::Marked => Shape::Mark,
+            _ => Shape::Amount,
+        }
+    }
+
     /// How many fields a component of the kind has.
     pub fn width(self) -> usize
         ensures { result ≡ widths (kind_number self) }
     {
-        match self {
-            Kind::Position | Kind::Velocity | Kind::Home => 2,
-            Kind::Frozen | Kind::Hidden | Kind::Sleeping | Kind::Marked => 0,
-            _ => 1,
+        match self.shape() {
+            Shape::Mark => 0,
+            Shape::Amount => 1,
+            Shape::Pair => 2,
         }
     }
 

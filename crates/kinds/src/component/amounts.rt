@@ -1,15 +1,12 @@
 // The components of one field.
 
-ghost use Rattle.std.specs.Prelude.{◌≡◌, map, refl};
-ghost use Rattle.kinds.specs.declared.column.Column.TheVariants as column;
+ghost use Rattle.std.specs.Prelude.{refl};
 ghost use Rattle.kinds.specs.Components.{health_words, health_of, damage_words, damage_of, team_words, team_of, timer_words, timer_of, score_words, score_of, energy_words, energy_of, charge_words, charge_of, target_words, target_of, one_word};
-ghost use Rattle.kinds.specs.Column.{column_number, column_words};
 
-use crate::column::Column;
 use crate::component::Component;
 use crate::fields::Fields;
+use crate::kind::Kind;
 use crate::types::{Charge, Damage, Energy, Health, Score, Target, Team, Timer};
-use crate::value::Value;
 
 impl Component for Health {
     ghost NUMBER = { 2 };
@@ -19,12 +16,6 @@ impl Component for Health {
     ghost words = { health_words };
 
     ghost of_words = { health_of };
-
-    ghost column_of = { column.Health };
-
-    ghost column_words_of = { λ v. refl };
-
-    ghost column_number_of = { λ v. refl };
 
     ghost round_trip = { λ c. refl };
 
@@ -38,51 +29,16 @@ impl Component for Health {
 
     const WIDTH: usize = 1;
 
+    fn kind() -> Kind {
+        Kind::Health
+    }
+
     fn to_words(&self) -> Fields {
         Fields::one(self.v)
     }
 
     fn from_words(list: &[i64]) -> Self {
         Health { v: list[0] }
-    }
-
-    fn into_value(self) -> Value {
-        Value::Health(self)
-    }
-
-    fn from_value(value: Value) -> Option<Self> {
-        match value {
-            Value::Health(component) => Some(component),
-            _ => None,
-        }
-    }
-
-    fn into_column(list: Vec<Self>) -> Column
-        ensures number { column_number result ≡ 2 }
-        ensures words { column_words result ≡ map health_words list.items }
-    {
-        Column::Health(list)
-    }
-
-    fn from_column(column: Column) -> Result<Vec<Self>, Column> {
-        match column {
-            Column::Health(items) => Ok(items),
-            other => Err(other),
-        }
-    }
-
-    fn in_column(column: &Column) -> Option<&Vec<Self>> {
-        match column {
-            Column::Health(items) => Some(items),
-            _ => None,
-        }
-    }
-
-    fn in_column_mut(column: &mut Column) -> Option<&mut Vec<Self>> {
-        match column {
-            Column::Health(lent) => Some(lent),
-            _ => None,
-        }
     }
 }
 
@@ -94,12 +50,6 @@ impl Component for Damage {
     ghost words = { damage_words };
 
     ghost of_words = { damage_of };
-
-    ghost column_of = { column.Damage };
-
-    ghost column_words_of = { λ v. refl };
-
-    ghost column_number_of = { λ v. refl };
 
     ghost round_trip = { λ c. refl };
 
@@ -113,51 +63,16 @@ impl Component for Damage {
 
     const WIDTH: usize = 1;
 
+    fn kind() -> Kind {
+        Kind::Damage
+    }
+
     fn to_words(&self) -> Fields {
         Fields::one(self.v)
     }
 
     fn from_words(list: &[i64]) -> Self {
         Damage { v: list[0] }
-    }
-
-    fn into_value(self) -> Value {
-        Value::Damage(self)
-    }
-
-    fn from_value(value: Value) -> Option<Self> {
-        match value {
-            Value::Damage(component) => Some(component),
-            _ => None,
-        }
-    }
-
-    fn into_column(list: Vec<Self>) -> Column
-        ensures number { column_number result ≡ 3 }
-        ensures words { column_words result ≡ map damage_words list.items }
-    {
-        Column::Damage(list)
-    }
-
-    fn from_column(column: Column) -> Result<Vec<Self>, Column> {
-        match column {
-            Column::Damage(items) => Ok(items),
-            other => Err(other),
-        }
-    }
-
-    fn in_column(column: &Column) -> Option<&Vec<Self>> {
-        match column {
-            Column::Damage(items) => Some(items),
-            _ => None,
-        }
-    }
-
-    fn in_column_mut(column: &mut Column) -> Option<&mut Vec<Self>> {
-        match column {
-            Column::Damage(lent) => Some(lent),
-            _ => None,
-        }
     }
 }
 
@@ -169,12 +84,6 @@ impl Component for Team {
     ghost words = { team_words };
 
     ghost of_words = { team_of };
-
-    ghost column_of = { column.Team };
-
-    ghost column_words_of = { λ v. refl };
-
-    ghost column_number_of = { λ v. refl };
 
     ghost round_trip = { λ c. refl };
 
@@ -188,51 +97,16 @@ impl Component for Team {
 
     const WIDTH: usize = 1;
 
+    fn kind() -> Kind {
+        Kind::Team
+    }
+
     fn to_words(&self) -> Fields {
         Fields::one(self.v)
     }
 
     fn from_words(list: &[i64]) -> Self {
         Team { v: list[0] }
-    }
-
-    fn into_value(self) -> Value {
-        Value::Team(self)
-    }
-
-    fn from_value(value: Value) -> Option<Self> {
-        match value {
-            Value::Team(component) => Some(component),
-            _ => None,
-        }
-    }
-
-    fn into_column(list: Vec<Self>) -> Column
-        ensures number { column_number result ≡ 4 }
-        ensures words { column_words result ≡ map team_words list.items }
-    {
-        Column::Team(list)
-    }
-
-    fn from_column(column: Column) -> Result<Vec<Self>, Column> {
-        match column {
-            Column::Team(items) => Ok(items),
-            other => Err(other),
-        }
-    }
-
-    fn in_column(column: &Column) -> Option<&Vec<Self>> {
-        match column {
-            Column::Team(items) => Some(items),
-            _ => None,
-        }
-    }
-
-    fn in_column_mut(column: &mut Column) -> Option<&mut Vec<Self>> {
-        match column {
-            Column::Team(lent) => Some(lent),
-            _ => None,
-        }
     }
 }
 
@@ -244,12 +118,6 @@ impl Component for Timer {
     ghost words = { timer_words };
 
     ghost of_words = { timer_of };
-
-    ghost column_of = { column.Timer };
-
-    ghost column_words_of = { λ v. refl };
-
-    ghost column_number_of = { λ v. refl };
 
     ghost round_trip = { λ c. refl };
 
@@ -263,51 +131,16 @@ impl Component for Timer {
 
     const WIDTH: usize = 1;
 
+    fn kind() -> Kind {
+        Kind::Timer
+    }
+
     fn to_words(&self) -> Fields {
         Fields::one(self.v)
     }
 
     fn from_words(list: &[i64]) -> Self {
         Timer { v: list[0] }
-    }
-
-    fn into_value(self) -> Value {
-        Value::Timer(self)
-    }
-
-    fn from_value(value: Value) -> Option<Self> {
-        match value {
-            Value::Timer(component) => Some(component),
-            _ => None,
-        }
-    }
-
-    fn into_column(list: Vec<Self>) -> Column
-        ensures number { column_number result ≡ 5 }
-        ensures words { column_words result ≡ map timer_words list.items }
-    {
-        Column::Timer(list)
-    }
-
-    fn from_column(column: Column) -> Result<Vec<Self>, Column> {
-        match column {
-            Column::Timer(items) => Ok(items),
-            other => Err(other),
-        }
-    }
-
-    fn in_column(column: &Column) -> Option<&Vec<Self>> {
-        match column {
-            Column::Timer(items) => Some(items),
-            _ => None,
-        }
-    }
-
-    fn in_column_mut(column: &mut Column) -> Option<&mut Vec<Self>> {
-        match column {
-            Column::Timer(lent) => Some(lent),
-            _ => None,
-        }
     }
 }
 
@@ -319,12 +152,6 @@ impl Component for Score {
     ghost words = { score_words };
 
     ghost of_words = { score_of };
-
-    ghost column_of = { column.Score };
-
-    ghost column_words_of = { λ v. refl };
-
-    ghost column_number_of = { λ v. refl };
 
     ghost round_trip = { λ c. refl };
 
@@ -338,51 +165,16 @@ impl Component for Score {
 
     const WIDTH: usize = 1;
 
+    fn kind() -> Kind {
+        Kind::Score
+    }
+
     fn to_words(&self) -> Fields {
         Fields::one(self.v)
     }
 
     fn from_words(list: &[i64]) -> Self {
         Score { v: list[0] }
-    }
-
-    fn into_value(self) -> Value {
-        Value::Score(self)
-    }
-
-    fn from_value(value: Value) -> Option<Self> {
-        match value {
-            Value::Score(component) => Some(component),
-            _ => None,
-        }
-    }
-
-    fn into_column(list: Vec<Self>) -> Column
-        ensures number { column_number result ≡ 6 }
-        ensures words { column_words result ≡ map score_words list.items }
-    {
-        Column::Score(list)
-    }
-
-    fn from_column(column: Column) -> Result<Vec<Self>, Column> {
-        match column {
-            Column::Score(items) => Ok(items),
-            other => Err(other),
-        }
-    }
-
-    fn in_column(column: &Column) -> Option<&Vec<Self>> {
-        match column {
-            Column::Score(items) => Some(items),
-            _ => None,
-        }
-    }
-
-    fn in_column_mut(column: &mut Column) -> Option<&mut Vec<Self>> {
-        match column {
-            Column::Score(lent) => Some(lent),
-            _ => None,
-        }
     }
 }
 
@@ -394,12 +186,6 @@ impl Component for Energy {
     ghost words = { energy_words };
 
     ghost of_words = { energy_of };
-
-    ghost column_of = { column.Energy };
-
-    ghost column_words_of = { λ v. refl };
-
-    ghost column_number_of = { λ v. refl };
 
     ghost round_trip = { λ c. refl };
 
@@ -413,51 +199,16 @@ impl Component for Energy {
 
     const WIDTH: usize = 1;
 
+    fn kind() -> Kind {
+        Kind::Energy
+    }
+
     fn to_words(&self) -> Fields {
         Fields::one(self.v)
     }
 
     fn from_words(list: &[i64]) -> Self {
         Energy { v: list[0] }
-    }
-
-    fn into_value(self) -> Value {
-        Value::Energy(self)
-    }
-
-    fn from_value(value: Value) -> Option<Self> {
-        match value {
-            Value::Energy(component) => Some(component),
-            _ => None,
-        }
-    }
-
-    fn into_column(list: Vec<Self>) -> Column
-        ensures number { column_number result ≡ 7 }
-        ensures words { column_words result ≡ map energy_words list.items }
-    {
-        Column::Energy(list)
-    }
-
-    fn from_column(column: Column) -> Result<Vec<Self>, Column> {
-        match column {
-            Column::Energy(items) => Ok(items),
-            other => Err(other),
-        }
-    }
-
-    fn in_column(column: &Column) -> Option<&Vec<Self>> {
-        match column {
-            Column::Energy(items) => Some(items),
-            _ => None,
-        }
-    }
-
-    fn in_column_mut(column: &mut Column) -> Option<&mut Vec<Self>> {
-        match column {
-            Column::Energy(lent) => Some(lent),
-            _ => None,
-        }
     }
 }
 
@@ -469,12 +220,6 @@ impl Component for Charge {
     ghost words = { charge_words };
 
     ghost of_words = { charge_of };
-
-    ghost column_of = { column.Charge };
-
-    ghost column_words_of = { λ v. refl };
-
-    ghost column_number_of = { λ v. refl };
 
     ghost round_trip = { λ c. refl };
 
@@ -488,51 +233,16 @@ impl Component for Charge {
 
     const WIDTH: usize = 1;
 
+    fn kind() -> Kind {
+        Kind::Charge
+    }
+
     fn to_words(&self) -> Fields {
         Fields::one(self.v)
     }
 
     fn from_words(list: &[i64]) -> Self {
         Charge { v: list[0] }
-    }
-
-    fn into_value(self) -> Value {
-        Value::Charge(self)
-    }
-
-    fn from_value(value: Value) -> Option<Self> {
-        match value {
-            Value::Charge(component) => Some(component),
-            _ => None,
-        }
-    }
-
-    fn into_column(list: Vec<Self>) -> Column
-        ensures number { column_number result ≡ 8 }
-        ensures words { column_words result ≡ map charge_words list.items }
-    {
-        Column::Charge(list)
-    }
-
-    fn from_column(column: Column) -> Result<Vec<Self>, Column> {
-        match column {
-            Column::Charge(items) => Ok(items),
-            other => Err(other),
-        }
-    }
-
-    fn in_column(column: &Column) -> Option<&Vec<Self>> {
-        match column {
-            Column::Charge(items) => Some(items),
-            _ => None,
-        }
-    }
-
-    fn in_column_mut(column: &mut Column) -> Option<&mut Vec<Self>> {
-        match column {
-            Column::Charge(lent) => Some(lent),
-            _ => None,
-        }
     }
 }
 
@@ -544,12 +254,6 @@ impl Component for Target {
     ghost words = { target_words };
 
     ghost of_words = { target_of };
-
-    ghost column_of = { column.Target };
-
-    ghost column_words_of = { λ v. refl };
-
-    ghost column_number_of = { λ v. refl };
 
     ghost round_trip = { λ c. refl };
 
@@ -563,50 +267,15 @@ impl Component for Target {
 
     const WIDTH: usize = 1;
 
+    fn kind() -> Kind {
+        Kind::Target
+    }
+
     fn to_words(&self) -> Fields {
         Fields::one(self.v)
     }
 
     fn from_words(list: &[i64]) -> Self {
         Target { v: list[0] }
-    }
-
-    fn into_value(self) -> Value {
-        Value::Target(self)
-    }
-
-    fn from_value(value: Value) -> Option<Self> {
-        match value {
-            Value::Target(component) => Some(component),
-            _ => None,
-        }
-    }
-
-    fn into_column(list: Vec<Self>) -> Column
-        ensures number { column_number result ≡ 9 }
-        ensures words { column_words result ≡ map target_words list.items }
-    {
-        Column::Target(list)
-    }
-
-    fn from_column(column: Column) -> Result<Vec<Self>, Column> {
-        match column {
-            Column::Target(items) => Ok(items),
-            other => Err(other),
-        }
-    }
-
-    fn in_column(column: &Column) -> Option<&Vec<Self>> {
-        match column {
-            Column::Target(items) => Some(items),
-            _ => None,
-        }
-    }
-
-    fn in_column_mut(column: &mut Column) -> Option<&mut Vec<Self>> {
-        match column {
-            Column::Target(lent) => Some(lent),
-            _ => None,
-        }
     }
 }

@@ -1,0 +1,102 @@
+// What a column holds for a row: the fields of a component, with no word more than its kind has.
+
+ghost use Rattle.std.specs.Prelude.{◌≡◌, ℕ, ℤ, List, length, refl};
+ghost use Rattle.kinds.specs.Components.{widths, one_word, two_words, no_words};
+ghost use Rattle.kinds.specs.Value.{value_number, value_words};
+ghost use Rattle.column_store.specs.Packed.{mark_words, amount_words, pair_words};
+
+use kinds::{Fields, Value};
+
+// The fields of a component by themselves.
+pub(crate) trait Packed: Copy {
+    ghost WIDTH: { ℕ };
+
+    ghost words: { Self → List ℤ };
+
+    // Those of a component of so many fields.
+    fn of(value: Value) -> Self
+        requires { widths (value_number value) ≡ WIDTH }
+        ensures { words result ≡ value_words value };
+
+    // As words, in order.
+    fn fields(self) -> Fields
+        ensures { result ≡ words self };
+
+    ghost same_width: { (p : Self) → length (words p) ≡ WIDTH };
+}
+
+// No field.
+#[derive(Clone, Copy)]
+pub(crate) struct Mark;
+
+// One field.
+#[derive(Clone, Copy)]
+pub(crate) struct Amount {
+    v: i64,
+}
+
+// Two fields.
+#[derive(Clone, Copy)]
+pub(crate) struct Pair {
+    x: i64,
+    y: i64,
+}
+
+impl Packed for Mark {
+    ghost WIDTH = { 0 };
+
+    ghost words = { mark_words };
+
+    ghost same_width = { λ p. refl };
+
+    #[tactic(auto, using(kinds::specs::Components::no_words))]
+    fn of(value: Value) -> Self {
+        let _words = value.words();
+        Mark
+    }
+
+    fn fields(self) -> Fields {
+        Fields::none()
+    }
+}
+
+impl Packed for Amount {
+    ghost WIDTH = { 1 };
+
+    ghost words = { amount_words };
+
+    ghost same_width = { λ p. refl };
+
+    #[tactic(auto, using(kinds::specs::Components::one_word))]
+    fn of(value: Value) -> Self {
+        let words = value.words();
+        let list = words.as_slice();
+        Amount { v: list[0] }
+    }
+
+    fn fields(self) -> Fields {
+        Fields::one(self.v)
+    }
+}
+
+impl Packed for Pair {
+    ghost WIDTH = { 2 };
+
+    ghost words = { pair_words };
+
+    ghost same_width = { λ p. refl };
+
+    #[tactic(auto, using(kinds::specs::Components::two_words))]
+    fn of(value: Value) -> Self {
+        let words = value.words();
+        let list = words.as_slice();
+        Pair {
+            x: list[0],
+            y: list[1],
+        }
+    }
+
+    fn fields(self) -> Fields {
+        Fields::two(self.x, self.y)
+    }
+}
