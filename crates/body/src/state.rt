@@ -126,7 +126,7 @@ impl State {
             systems,
             conditions,
             passed_over: self.passed_over,
-            room: RowRoom::new(alloc),
+            room: RowBuffers::new(alloc),
         })
     }
 
