@@ -1,24 +1,20 @@
 -- Queries of one system that don't conflict leave each other's columns alone.
-use Rattle.std.proofs.Common.{◌≡◌, ℕ, zero, suc, ◌+◌, ◌<◌, Bool, true, false, cond, ◌||◌, ◌&&◌, ◌==◌, List, [], ◌∷◌, length, get_or, map, slice_get, Option, Some, None, is_some, inl, inr, refl, sym, ap, ap₂, ◌∙◌, subst, arith}
+use Rattle.std.proofs.Common.{◌≡◌, ℕ, zero, suc, ◌+◌, Bool, true, false, cond, ◌||◌, ◌&&◌, ◌==◌, List, [], ◌∷◌, get_or, map, slice_get, Some, is_some, refl, sym, ap, ◌∙◌, subst, arith}
 use mathlib.Core.Path.{fun_ext}
-use Rattle.std.specs.List.{AllByRecursion, list_all}
+use Rattle.std.specs.List.{list_all}
 use Rattle.model.specs.Lists.{has, is_number}
-use Rattle.model.specs.declared.entities.Entity.{Entity}
 use Rattle.model.specs.state.State.{Slot, Component, fresh_slot, is_living}
 use Rattle.model.specs.state.Rows.{cell_at, kinds_of, row_at}
-use Rattle.model.specs.access.Query.{Term, matches, written, writes, touched, touches}
+use Rattle.model.specs.access.Query.{Term, matches, written, writes, touched}
 use Rattle.model.specs.access.Query.Term.{Entity as IdOnly, Read, Mut, Opt, With, Without, Added, Changed, AnyOf}
-use Rattle.model.specs.access.Conflict.{QueriesConflictAt}
-use Rattle.model.specs.shown.Input.{ShownRow, is_row, passes, shown_row, rows_from, rows_of}
-use Rattle.archetype_store.specs.Layout.{Archetype, archetype_at, IsLayoutOf}
+use Rattle.model.specs.shown.Input.{ShownRow, is_row, passes, shown_row, rows_from}
+use Rattle.archetype_store.specs.Layout.{archetype_at}
 use Rattle.std.proofs.lemmas.Bool.{and_parts as and-parts, or_right as or-right}
 use Rattle.model.proofs.serial.Conflicts.{touches_from_writes as writes-touches}
-use Rattle.body.specs.Columns.{Column}
 use Rattle.body.specs.Sheet.{Sheet}
-use Rattle.body.specs.Together.{IsAlone}
-use Rattle.body.specs.Apart.{IsPicked, IsOver, ApartAreAlone}
+use Rattle.body.specs.Apart.{IsPicked, ApartAreAlone}
 use Rattle.body.proofs.Gets.{same-some, all-get}
-use Rattle.body.proofs.Plannings.{or-cases, is-in}
+use Rattle.body.proofs.Plannings.{is-in}
 
 -- a row of a query, at the slot of its index
 pub record IsRowAt (query : List Term) (last first : ℕ) (slots : List Slot) (row : ShownRow) : Type 0 where

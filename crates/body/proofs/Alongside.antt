@@ -1,22 +1,21 @@
 -- The laws of the queries of a view together.
-use Rattle.std.proofs.Common.{◌≡◌, ◌≢◌, ℕ, zero, suc, ◌<◌, Bool, true, false, cond, ◌||◌, ◌==◌, ◌⊎◌, inl, inr, ℤ, List, [], ◌∷◌, map, slice_get, Option, Some, None, option_map, refl, sym, ap, ap₂, ◌∙◌, arith}
+use Rattle.std.proofs.Common.{◌≡◌, ℕ, zero, suc, Bool, true, false, cond, ◌==◌, ◌⊎◌, inl, inr, ℤ, List, [], ◌∷◌, map, slice_get, Option, Some, None, option_map, refl, sym, ap, ap₂, ◌∙◌, arith}
 use Rattle.std.proofs.lemmas.Bool.{eqb-true, eq-eqb, or_right as or-right, or_left as or-left}
 use Rattle.model.specs.Lists.{is_number, first_some}
 use Rattle.model.specs.declared.entities.Entity.{Entity}
-use Rattle.model.specs.state.State.{Cell, Slot, Component}
+use Rattle.model.specs.state.State.{Cell, Component}
 use Rattle.model.specs.state.Rows.{cell_at}
-use Rattle.model.specs.access.Query.{Term, written, writes}
+use Rattle.model.specs.access.Query.{Term, writes}
 use Rattle.model.specs.access.Query.Term.{Entity as IdOnly, Read, Mut, Opt, With, Without, Added, Changed, AnyOf}
 use Rattle.model.specs.access.QueryFaults.{fetched}
-use Rattle.model.specs.shown.Input.{ShownRow, words_of, shown_row, fetch}
-use Rattle.model.specs.shown.Outcome.{words_in_row, words_in_query, words_written}
+use Rattle.model.specs.shown.Input.{ShownRow, words_of, fetch}
+use Rattle.model.specs.shown.Outcome.{words_in_row, words_in_query}
 use Rattle.model.specs.shown.Overlay.{cell_after}
-use Rattle.query_plan.specs.declared.row.Row.{Row}
 use Rattle.model.proofs.serial.Within.{words_in_row-writes as in-row-written}
 use Rattle.body.specs.Columns.{Column, cells_after, column_after}
 use Rattle.body.specs.Seen.{fetches}
-use Rattle.body.specs.Sheet.{Sheet, seen_at, row_of, words_for}
-use Rattle.body.specs.Together.{words_of_sheet, words_of_all, IsAlone, CloseTogether, IsReachedIn, ReachTogether, RowsAreShown, CellsAreAfter}
+use Rattle.body.specs.Sheet.{Sheet, seen_at, words_for}
+use Rattle.body.specs.Together.{words_of_sheet, words_of_all, CloseTogether, IsReachedIn, ReachTogether, RowsAreShown, CellsAreAfter}
 use Rattle.body.proofs.Gets.{same-some, map-same-get}
 
 -- ---- what is written is written by a term

@@ -1,5 +1,5 @@
 -- Commands count on from what was passed over before.
-use Rattle.std.proofs.Common.{◌≡◌, ℕ, suc, ◌+◌, ◌≤◌, Bool, true, false, cond, List, [], ◌∷◌, min, refl, sym, ap, ap₂, ◌∙◌, arith}
+use Rattle.std.proofs.Common.{◌≡◌, ℕ, suc, ◌+◌, Bool, true, false, cond, List, [], ◌∷◌, min, refl, ap, ◌∙◌, arith}
 use Rattle.model.specs.Lists.{update_at}
 use Rattle.model.specs.declared.entities.Entity.{Entity}
 use Rattle.model.specs.state.State.{Slot, most_passed_over}

@@ -1,6 +1,5 @@
 -- What a function shows of a list with one element replaced.
 use Rattle.std.proofs.Common.{◌≡◌, ℕ, zero, suc, List, [], ◌∷◌, get_or, set, map, refl, ap}
-use Rattle.std.specs.List.{AllByRecursion}
 use Rattle.model.specs.Lists.{update_at}
 
 -- nothing new

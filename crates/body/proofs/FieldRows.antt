@@ -15,7 +15,7 @@ use Rattle.body.specs.Columns.{Column, cell_in, with_cell}
 use Rattle.body.specs.HeldColumns.{held_seen}
 use Rattle.body.specs.Fields.{words_with, field_of, field_seen, field_cell, column_with_fields, sheet_with_fields}
 use Rattle.body.specs.Seen.{words_read, with_words, no_row}
-use Rattle.body.specs.Sheet.{slot_in, slot_cell, seen_at, at_slot, Sheet, sheet_of, IsSheet, IsReadableAt, IsWritableAt}
+use Rattle.body.specs.Sheet.{slot_in, slot_cell, at_slot, Sheet, sheet_of, IsSheet, IsReadableAt, IsWritableAt}
 use Rattle.body.proofs.Gets.{same-some, update-as, update-twice, update-id}
 use Rattle.body.proofs.Sheets.{cell_in-is}
 use Rattle.body.proofs.SheetCalls.{held-is, rows-within, row-readable, row-within, sheet-read, row-writable, sheet-after, sheet-set}

@@ -24,3 +24,4 @@ pub mod Outs
 pub mod Counts
 pub mod FieldWords
 pub mod FieldRows
+pub mod Sent

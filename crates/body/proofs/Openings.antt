@@ -1,20 +1,20 @@
 -- A query may open over a world: its rows and the columns that it picks are a plan, and its rows show what the definitions show.
-use Rattle.std.proofs.Common.{◌≡◌, ℕ, zero, suc, ◌<◌, inl, inr, Bool, true, false, cond, ◌&&◌, List, [], ◌∷◌, length, get_or, map, slice_get, Option, Some, None, option_map, is_some, refl, sym, ap, ap₂, ◌∙◌, subst, arith}
+use Rattle.std.proofs.Common.{◌≡◌, ℕ, zero, suc, ◌<◌, inl, inr, Bool, true, false, cond, List, [], ◌∷◌, length, get_or, map, slice_get, Option, Some, None, option_map, is_some, refl, sym, ap, ap₂, ◌∙◌, subst, arith}
 use mathlib.Core.Path.{fun_ext}
 use Rattle.std.specs.Prelude.{IsSome}
-use Rattle.std.specs.List.{AllByRecursion, list_all}
-use Rattle.std.proofs.lemmas.Bool.{and_parts, false≢true}
+use Rattle.std.specs.List.{AllByRecursion}
+use Rattle.std.proofs.lemmas.Bool.{false≢true}
 use Rattle.std.proofs.lemmas.Option.{slice_get-map, slice_get_within}
 use Rattle.kinds.specs.Components.{widths}
 use Rattle.model.specs.Lists.{has, is_number, is_there}
 use Rattle.model.specs.declared.entities.Entity.{Entity}
-use Rattle.model.specs.state.State.{Component, Slot, fresh_slot, is_living}
+use Rattle.model.specs.state.State.{Component, Slot, fresh_slot}
 use Rattle.model.specs.state.Rows.{row_at, cell_at, kinds_of}
 use Rattle.model.specs.state.Shape.{IsWorld}
 use Rattle.model.specs.access.Query.{Term, matches, touched, touches, writes}
 use Rattle.model.specs.access.Query.Term.{Read, Mut, Opt}
 use Rattle.model.specs.access.QueryFaults.{fetched}
-use Rattle.model.specs.shown.Input.{ShownRow, is_row, passes, words_of, shown_row, rows_from, rows_of}
+use Rattle.model.specs.shown.Input.{ShownRow, is_row, words_of, shown_row, rows_from, rows_of}
 use Rattle.model.proofs.lists.Each.{each-weaker}
 use Rattle.model.proofs.order.Histories.{any_weaker}
 use Rattle.model.proofs.serial.Conflicts.{none_from_no, touches_from_writes, holds_from_writes}

@@ -8,7 +8,6 @@ use Rattle.model.specs.state.State.{Slot, Cell, World, fresh_slot, is_living}
 use Rattle.model.specs.state.Rows.{cell_at, row_at}
 use Rattle.model.specs.state.Commands.{is_alive}
 use Rattle.model.specs.access.Access.{Params}
-use Rattle.model.specs.access.Conflict.{Conflict}
 use Rattle.model.specs.access.Conflict.Datum.{OfKind}
 use Rattle.model.specs.access.Query.{Term, matches, touches, writes}
 use Rattle.model.specs.shown.Overlay.{slot_after, slots_after}
@@ -20,7 +19,7 @@ use Rattle.column_store.specs.Kinds.{AreBelow, at_kind, update_kind}
 use Rattle.column_store.specs.Order.{is_same}
 use Rattle.archetype_store.specs.declared.columns.TakenColumn.{TakenColumn}
 use Rattle.archetype_store.specs.Layout.{Archetype, archetype_at, column_home, with_home, has_index, AreAllHome, IsArchetype, IsLayoutOf}
-use Rattle.archetype_store.specs.Overlays.{is_reached, AreReached}
+use Rattle.archetype_store.specs.Overlays.{AreReached}
 use Rattle.archetype_store.specs.Slot.{cell_of, column_cells}
 use Rattle.archetype_store.specs.Store.{StoreValue}
 use Rattle.archetype_store.proofs.ColumnOverlays.{entities_home}

@@ -1,13 +1,11 @@
 -- The columns that a query picks, as they are taken of a world and shared by it.
-use Rattle.std.proofs.Common.{◌≡◌, ◌≢◌, ℕ, zero, suc, ◌+◌, ◌<◌, ◌≤◌, ◌⊎◌, inl, inr, Bool, true, false, cond, not, ◌==◌, List, [], ◌∷◌, ◌++◌, length, get_or, map, take, slice_get, Option, Some, None, refl, sym, ap, ap₂, ◌∙◌, subst, arith}
+use Rattle.std.proofs.Common.{◌≡◌, ℕ, zero, suc, ◌+◌, ◌<◌, Bool, true, false, cond, ◌==◌, List, [], ◌∷◌, ◌++◌, length, get_or, map, take, slice_get, Some, refl, sym, ap, ap₂, ◌∙◌, subst, arith}
 use Rattle.std.specs.List.{AllByRecursion}
 use Rattle.std.proofs.lemmas.List.{append-nil, map-append, take_more}
-use Rattle.std.specs.Arc.{arc_value}
-use Rattle.std.proofs.lemmas.Bool.{eq-eqb, or_left, or_right}
+use Rattle.std.proofs.lemmas.Bool.{or_left, or_right}
 use Rattle.kinds.specs.Kind.{kind_number}
-use Rattle.model.specs.Lists.{has, update_at}
-use Rattle.model.specs.state.State.{Cell, Slot}
-use Rattle.model.specs.declared.entities.Entity.{Entity}
+use Rattle.model.specs.Lists.{has}
+use Rattle.model.specs.state.State.{Slot}
 use Rattle.model.specs.access.Query.{Term, matches, touches, writes}
 use Rattle.model.proofs.lists.Each.{each-append, each-weaker}
 use Rattle.column_store.specs.Kinds.{AreBelow}
@@ -22,7 +20,6 @@ use Rattle.query_plan.specs.declared.picks.Pick.{Pick}
 use Rattle.query_plan.specs.Picks.{Picked, pick_seen, picked_in, picked_of, picked_from, picks_of}
 use Rattle.query_plan.proofs.PickedHome.{from_picked}
 use Rattle.model.proofs.lists.Lists.{==-same as same-number}
-use Rattle.body.specs.Apart.{IsPicked}
 use Rattle.body.specs.Columns.{Column}
 use Rattle.body.specs.Lent.{lent_of, with_away}
 use Rattle.body.specs.Opened.{IsPickedOf, ArePickedOf}

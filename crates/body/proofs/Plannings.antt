@@ -1,27 +1,27 @@
 -- A query may open over what was planned: each part of what it asks, from the layout of the store.
-use Rattle.std.proofs.Common.{◌≡◌, ◌≢◌, ℕ, zero, suc, ◌<◌, ◌≤◌, ◌⊎◌, inl, inr, Bool, true, false, ◌||◌, ◌&&◌, ◌==◌, nat_lt, List, [], ◌∷◌, length, get_or, map, slice_get, Option, Some, None, refl, sym, ap, ap₂, ◌∙◌, subst, arith}
+use Rattle.std.proofs.Common.{◌≡◌, ◌≢◌, ℕ, zero, suc, ◌<◌, ◌⊎◌, inl, inr, Bool, true, false, ◌||◌, ◌&&◌, ◌==◌, nat_lt, List, [], ◌∷◌, length, get_or, map, slice_get, Option, Some, refl, sym, ap, ap₂, ◌∙◌, subst, arith}
 use Rattle.std.specs.Prelude.{IsSome}
-use Rattle.std.proofs.lemmas.Bool.{eqb-true, eq-eqb, ltb-true, and_parts as and-parts, or_right as or-right, or_left as or-left}
-use Rattle.std.proofs.lemmas.Option.{slice_get_within, slice_get-get_or}
+use Rattle.std.proofs.lemmas.Bool.{eq-eqb, ltb-true, and_parts as and-parts, or_right as or-right, or_left as or-left}
+use Rattle.std.proofs.lemmas.Option.{slice_get_within}
 use Rattle.std.specs.List.{AllByRecursion, list_any}
 use Rattle.model.specs.Lists.{is_there, is_number}
 use Rattle.model.specs.declared.entities.Entity.{Entity}
-use Rattle.model.specs.state.State.{Slot, Cell, Component, fresh_slot, is_living}
+use Rattle.model.specs.state.State.{Slot, Component, fresh_slot}
 use Rattle.model.specs.state.Rows.{row_at}
 use Rattle.model.specs.state.Commands.{is_alive}
 use Rattle.model.specs.access.Query.{Term, written, writes}
 use Rattle.model.specs.access.Query.Term.{Entity as IdOnly, Read, Mut, Opt, With, Without, Added, Changed, AnyOf}
 use Rattle.model.specs.access.QueryFaults.{fetched}
 use Rattle.column_store.specs.Order.{is_before, is_same, AreRising}
-use Rattle.archetype_store.specs.Layout.{Archetype, archetype_at, is_in_archetype, IsArchetype, AreOfOtherKinds, IsLayoutOf}
+use Rattle.archetype_store.specs.Layout.{Archetype, archetype_at, IsArchetype, AreOfOtherKinds}
 use Rattle.query_plan.specs.declared.row.Row.{Row}
 use Rattle.query_plan.proofs.Gathered.{living_generation as alive-generation}
-use Rattle.body.specs.Columns.{Column, cell_in, AreFresh}
+use Rattle.body.specs.Columns.{Column, cell_in}
 use Rattle.body.specs.Seen.{fetches}
-use Rattle.body.specs.Sheet.{slot_in, IsSlot, IsRow, IsElsewhere, AreApart, ArePlaced, IsPlan}
+use Rattle.body.specs.Sheet.{slot_in, IsRow, IsElsewhere, AreApart, IsPlan}
 use Rattle.body.specs.SlotTable.{AreSlotsOf}
 use Rattle.query_plan.specs.Standing.{IsStanding}
-use Rattle.body.specs.Planned.{IsColumnOf, AreOfOthers, IsAmong, IsPlanned, PlansOpen}
+use Rattle.body.specs.Planned.{IsColumnOf, AreOfOthers, IsPlanned, PlansOpen}
 use Rattle.body.proofs.Gets.{same-some, all-get}
 use Rattle.body.proofs.Sheets.{cell_in-is}
 

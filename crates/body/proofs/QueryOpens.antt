@@ -1,12 +1,11 @@
 -- A query as it opens over the columns that it takes, and queries that open one after the other.
-use Rattle.std.proofs.Common.{◌≡◌, ◌≢◌, ℕ, zero, suc, ◌+◌, ◌<◌, ◌≤◌, ◌||◌, Bool, true, false, cond, List, [], ◌∷◌, ◌++◌, length, get_or, map, take, slice_get, Option, Some, None, option_map, refl, sym, ap, ap₂, ◌∙◌, subst, arith}
+use Rattle.std.proofs.Common.{◌≡◌, ℕ, zero, suc, ◌+◌, ◌<◌, Bool, true, false, cond, List, [], ◌∷◌, ◌++◌, length, get_or, map, take, slice_get, Option, Some, option_map, refl, sym, ap, ap₂, ◌∙◌, subst, arith}
 use Rattle.std.specs.List.{AllByRecursion}
-use Rattle.std.proofs.lemmas.Bool.{or_left, or_right}
-use Rattle.std.proofs.lemmas.List.{append-nil, length-map, length-append, map-append}
+use Rattle.std.proofs.lemmas.Bool.{or_left}
+use Rattle.std.proofs.lemmas.List.{append-nil, length-append, map-append}
 use Rattle.std.proofs.lemmas.Option.{slice_get-map, slice_get-get_or, slice_get_within}
 use Rattle.kinds.specs.Components.{widths}
 use Rattle.model.specs.Lists.{has}
-use Rattle.model.specs.declared.entities.Entity.{Entity}
 use Rattle.model.specs.state.State.{Slot, World}
 use Rattle.model.specs.state.Shape.{IsWorld}
 use Rattle.model.specs.access.Query.{Term, matches, touches, writes}
@@ -14,7 +13,7 @@ use Rattle.model.specs.access.Conflict.{QueriesConflictAt}
 use Rattle.model.specs.access.SelfConflict.{TwoConflictAt}
 use Rattle.model.specs.shown.Input.{ShownRow, rows_of}
 use Rattle.model.specs.shown.Outcome.{untouched_rows, untouched_cells}
-use Rattle.model.proofs.lists.Each.{each-append, each-weaker, each-at}
+use Rattle.model.proofs.lists.Each.{each-append, each-weaker}
 use Rattle.column_store.specs.Order.{AreRising}
 use Rattle.archetype_store.specs.declared.columns.TakenColumn.{TakenColumn}
 use Rattle.archetype_store.specs.Layout.{Archetype, archetype_at, column_home, with_home, IsLayoutOf}
@@ -27,20 +26,18 @@ use Rattle.query_plan.specs.Standing.{IsStanding, ArePickedHome}
 use Rattle.query_plan.proofs.PickedHome.{from_picked}
 use Rattle.body.specs.Apart.{IsPicked, IsOver}
 use Rattle.body.specs.Columns.{Column}
-use Rattle.body.specs.Lent.{taken_of, lent_of, lent_in, with_away, with_back, AreOfOtherPlaces, IsLent, IsOfEntities, AreLent}
+use Rattle.body.specs.Lent.{taken_of, lent_of, lent_in, with_away, with_back, AreOfOtherPlaces, IsOfEntities, AreLent}
 use Rattle.body.specs.Opened.{IsPickedOf, ArePickedOf}
 use Rattle.body.specs.Out.{IsWrittenBy}
 use Rattle.body.specs.Picked.{picked_own, picked_read, AreHeldOf}
-use Rattle.body.specs.Planned.{IsAmong}
 use Rattle.body.specs.SeenOver.{AreTogether}
 use Rattle.body.specs.Sheet.{Sheet, IsPlan, row_of}
 use Rattle.body.specs.SlotTable.{AreSlotsOf}
-use Rattle.body.specs.Together.{IsAlone}
 use Rattle.body.proofs.Aloneness.{apart-alone}
 use Rattle.body.proofs.Gets.{same-some, all-get, in-get}
 use Rattle.body.proofs.Lendings.{homes_back, home_other, entities_away, with_away-append, lent_in-append, lent_next}
 use Rattle.body.proofs.Openings.{opens-over, kinds-within as has-within}
-use Rattle.body.proofs.Pickings.{picked-of, picks-are, IsPickIn}
+use Rattle.body.proofs.Pickings.{picks-are, IsPickIn}
 
 -- ---- one query
 

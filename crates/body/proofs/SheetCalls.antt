@@ -2,7 +2,6 @@
 use Rattle.std.proofs.Common.{◌≡◌, ℕ, ◌<◌, true, ℤ, List, [], length, get_or, map, slice_get, Option, Some, None, option_map, refl, sym, ap, ◌∙◌, subst, arith}
 use Rattle.std.proofs.lemmas.Option.{slice_get-map, slice_get_within, slice_get_read}
 use Rattle.std.proofs.lemmas.List.{length-map}
-use Rattle.std.specs.List.{AllByRecursion}
 use Rattle.model.specs.Lists.{update_at}
 use Rattle.model.specs.state.State.{Cell}
 use Rattle.model.specs.access.Query.{Term, writes}
@@ -10,12 +9,12 @@ use Rattle.model.specs.shown.Input.{words_of}
 use Rattle.column_store.specs.Cells.{changed_cell}
 use Rattle.query_plan.specs.declared.row.Row.{Row}
 use Rattle.body.specs.declared.held.Held.{Held}
-use Rattle.body.specs.Columns.{Column, cell_in, with_cell}
+use Rattle.body.specs.Columns.{Column, with_cell}
 use Rattle.body.specs.HeldColumns.{held_seen}
 use Rattle.body.specs.Seen.{words_read, with_words, no_row}
 use Rattle.body.specs.Sheet.{slot_in, slot_cell, seen_at, at_slot, row_of, Sheet, sheet_of, IsSheet, IsRow, IsReadable, IsReadableAt, IsWritable}
 use Rattle.body.proofs.Gets.{same-some, all-get}
-use Rattle.body.proofs.Sheets.{cell_in-is, is-some, readable, read-row, within-slots}
+use Rattle.body.proofs.Sheets.{cell_in-is, is-some, readable, read-row}
 use Rattle.body.proofs.SheetWrites.{writable, cells-written, sheet-written}
 
 pub words_of-map : (o : Option Cell) → words_of o ≡ option_map (λ c. c.words) o

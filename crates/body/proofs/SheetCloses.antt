@@ -1,8 +1,7 @@
 -- What the columns of a query are when it is closed.
-use Rattle.std.proofs.Common.{◌≡◌, ◌≢◌, ℕ, zero, suc, ◌<◌, ◌⊎◌, inl, inr, Bool, true, false, cond, ◌==◌, ℤ, List, [], ◌∷◌, length, get_or, map, slice_get, Option, Some, None, option_map, refl, sym, ap, ap₂, ◌∙◌, subst, arith}
+use Rattle.std.proofs.Common.{◌≡◌, ℕ, zero, suc, ◌<◌, ◌⊎◌, inl, inr, Bool, true, false, cond, ◌==◌, ℤ, List, [], ◌∷◌, length, get_or, map, slice_get, Option, Some, None, option_map, refl, sym, ap, ap₂, ◌∙◌, arith}
 use Rattle.std.proofs.lemmas.Option.{slice_get-map, slice_get_within, slice_get-get_or}
 use Rattle.std.proofs.lemmas.Bool.{eq-eqb, eqb-true}
-use Rattle.std.specs.List.{AllByRecursion}
 use Rattle.model.specs.Lists.{first_some}
 use Rattle.model.specs.declared.entities.Entity.{Entity}
 use Rattle.model.specs.state.State.{Cell}
@@ -13,10 +12,10 @@ use Rattle.model.specs.shown.Overlay.{cell_after}
 use Rattle.query_plan.specs.declared.row.Row.{Row}
 use Rattle.event_buffers.proofs.ListsOfEvents.{choose}
 use Rattle.body.specs.Columns.{Column, cell_in, cells_after, column_after}
-use Rattle.body.specs.Sheet.{slot_in, slot_cell, seen_at, words_at, row_of, written_of, IsSlot, IsRow, IsSheet, IsOverwritten, head_of, WritesReach, IsReached}
-use Rattle.body.proofs.Gets.{same-some, same-by-get, all-get, mapped}
+use Rattle.body.specs.Sheet.{slot_in, slot_cell, seen_at, words_at, row_of, written_of, IsSheet, IsOverwritten, head_of, WritesReach}
+use Rattle.body.proofs.Gets.{same-some, same-by-get}
 use Rattle.body.proofs.SheetWords.{in_row-map}
-use Rattle.body.proofs.Sheets.{cell_in-is, column-of, head-at}
+use Rattle.body.proofs.Sheets.{cell_in-is, head-at}
 
 -- ---- the writes of a query, row by row
 

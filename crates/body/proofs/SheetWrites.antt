@@ -1,21 +1,19 @@
 -- A write in a query of a view.
-use Rattle.std.proofs.Common.{◌≡◌, ◌≢◌, ℕ, zero, suc, ◌<◌, ◌⊎◌, inl, inr, Bool, true, false, cond, ◌==◌, ℤ, List, [], ◌∷◌, length, get_or, map, slice_get, Option, Some, None, option_map, refl, sym, ap, ap₂, ◌∙◌, subst, arith}
-use Rattle.std.proofs.lemmas.Option.{slice_get-map, slice_get_within, slice_get-get_or}
-use Rattle.std.proofs.lemmas.Bool.{eq-eqb, eqb-true, ne_eqb, cases_lt}
-use Rattle.std.specs.List.{AllByRecursion}
+use Rattle.std.proofs.Common.{◌≡◌, ◌≢◌, ℕ, zero, suc, ◌⊎◌, inl, inr, true, ◌==◌, ℤ, List, [], ◌∷◌, map, slice_get, Option, Some, None, option_map, refl, sym, ap, ap₂, ◌∙◌, subst, arith}
+use Rattle.std.proofs.lemmas.Option.{slice_get_within}
+use Rattle.std.proofs.lemmas.Bool.{eq-eqb, cases_lt}
 use Rattle.model.specs.Lists.{update_at}
-use Rattle.model.specs.declared.entities.Entity.{Entity}
 use Rattle.model.specs.state.State.{Cell}
-use Rattle.model.specs.access.Query.{Term, writes, written}
+use Rattle.model.specs.access.Query.{Term, writes}
 use Rattle.column_store.specs.Cells.{changed_cell}
 use Rattle.query_plan.specs.declared.row.Row.{Row}
 use Rattle.event_buffers.proofs.ListsOfEvents.{choose}
 use Rattle.body.specs.Columns.{Column, cell_in, with_cell}
 use Rattle.body.specs.Seen.{with_words}
-use Rattle.body.specs.Sheet.{slot_in, slot_cell, seen_at, at_slot, words_at, written_of, sheet_of, Sheet, IsSlot, IsRow, IsSheet, IsOverwritten, AreChanged, head_of, IsWritable, IsWritableAt}
+use Rattle.body.specs.Sheet.{slot_in, slot_cell, seen_at, words_at, written_of, IsRow, IsSheet, IsOverwritten, head_of, IsWritable, IsWritableAt}
 use Rattle.body.proofs.Gets.{same-some, all-get, map-update-get, get-update, get-update-other}
 use Rattle.body.proofs.SheetWords.{with_words-map, written_in-same}
-use Rattle.body.proofs.Sheets.{cell_in-is, column-of, is-some, head-at, apart-at, two-cells}
+use Rattle.body.proofs.Sheets.{column-of, is-some, head-at, apart-at, two-cells}
 
 pub same-number : (a b : ℕ) → (a ≡ b) ⊎ (a ≢ b)
 same-number a b = elim (cases_lt a b) [

@@ -1,19 +1,17 @@
 -- The cells of columns, and what holds of a query of a view over them.
-use Rattle.std.proofs.Common.{◌≡◌, ◌≢◌, ℕ, zero, suc, ◌<◌, ◌⊎◌, inl, inr, Bool, true, false, cond, ◌==◌, ℤ, List, [], ◌∷◌, length, get_or, map, slice_get, Option, Some, None, option_map, refl, sym, ap, ap₂, ◌∙◌, subst, arith}
+use Rattle.std.proofs.Common.{◌≡◌, ◌≢◌, ℕ, zero, suc, ◌<◌, ◌⊎◌, inl, inr, Bool, true, false, cond, ◌==◌, ℤ, List, [], ◌∷◌, length, get_or, map, slice_get, Option, Some, None, option_map, refl, sym, ap, ap₂, ◌∙◌, subst}
 use Rattle.std.specs.Prelude.{IsSome}
 use Rattle.std.proofs.lemmas.Option.{slice_get-map, slice_get_within, slice_get-get_or}
-use Rattle.std.proofs.lemmas.Bool.{eq-eqb, eqb-true, ne_eqb}
+use Rattle.std.proofs.lemmas.Bool.{eq-eqb}
 use Rattle.std.proofs.lemmas.List.{get_or-map}
-use Rattle.std.specs.List.{AllByRecursion}
-use Rattle.model.specs.Lists.{update_at, first_some}
-use Rattle.model.specs.declared.entities.Entity.{Entity}
+use Rattle.model.specs.Lists.{first_some}
 use Rattle.model.specs.state.State.{Cell}
 use Rattle.model.specs.access.Query.{Term, writes}
 use Rattle.model.specs.shown.Input.{words_of}
 use Rattle.query_plan.specs.declared.row.Row.{Row}
-use Rattle.body.specs.Columns.{Column, cell_in, with_cell}
+use Rattle.body.specs.Columns.{Column, cell_in}
 use Rattle.body.specs.Seen.{fetches, words_read, no_row}
-use Rattle.body.specs.Sheet.{slot_in, slot_cell, seen_at, words_at, row_of, written_of, IsSlot, IsRow, AreApart, IsElsewhere, IsSheet, IsOverwritten, head_of, IsThere, IsReadableAt, IsReadable}
+use Rattle.body.specs.Sheet.{slot_in, slot_cell, seen_at, words_at, row_of, written_of, IsRow, AreApart, IsElsewhere, IsSheet, IsOverwritten, head_of, IsReadableAt, IsReadable}
 use Rattle.body.proofs.Gets.{same-some, all-get, mapped}
 use Rattle.body.proofs.SheetWords.{in_row-map, shown-map}
 

@@ -1,10 +1,9 @@
 -- No last run is above the clock, and each memory has its registers: after a tick, after a run, and as registers are kept.
 use Rattle.std.proofs.Common.{ℕ, zero, suc, ℤ, ◌≤◌, ◌≡◌, List, [], ◌∷◌, length, arith}
-use Rattle.std.specs.List.{AllByRecursion}
 use Rattle.model.specs.Lists.{update_at}
 use Rattle.model.specs.state.State.{EventQueue, Memory, register_count}
 use Rattle.model.specs.runs.RunState.{memory_after_run, with_registers}
-use Rattle.body.specs.Steps.{AreInTime, IsInTime, IsMemoryAt}
+use Rattle.body.specs.Steps.{AreInTime, IsInTime}
 
 -- at a later tick
 later_in_time : (clock later : ℕ) (memories : List Memory) → IsInTime clock memories → clock ≤ later → IsInTime later memories

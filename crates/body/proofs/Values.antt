@@ -1,5 +1,5 @@
 -- The resources and the registers of a view: as it opens, as they are read and written, and as they are laid over a world.
-use Rattle.std.proofs.Common.{◌≡◌, ℕ, zero, suc, ℤ, pos, ◌+◌, ◌<◌, ◌≤◌, Bool, true, false, cond, ◌==◌, ◌||◌, nat_lt, List, [], ◌∷◌, length, get_or, set, map, Option, Some, None, refl, sym, ap, ap₂, ◌∙◌, subst, arith}
+use Rattle.std.proofs.Common.{◌≡◌, ℕ, zero, suc, ℤ, pos, ◌+◌, ◌<◌, ◌≤◌, Bool, true, false, cond, ◌==◌, ◌||◌, nat_lt, List, [], ◌∷◌, length, get_or, set, map, Option, Some, None, refl, sym, ap, ap₂, ◌∙◌, arith}
 use mathlib.Core.Path.{fun_ext}
 use Rattle.std.specs.Option.{unwrap_or}
 use Rattle.std.proofs.lemmas.Bool.{eqb-true, eq-eqb, ltb-true, ltb-false, lt-ltb, le-ltb, false≢true}
@@ -12,13 +12,12 @@ use Rattle.model.specs.shown.Overlay.{resource_after, resources_after}
 use Rattle.model.specs.state.State.{Resource, World, no_resource}
 use Rattle.model.proofs.lists.Lists.{map_index-id}
 use Rattle.kinds.specs.declared.res.Res.{Res}
-use Rattle.kinds.specs.declared.res.Res.TheVariants.{Round, Gravity, Total, Seed, Limit, Alarm, Mode, Step}
 use Rattle.kinds.specs.Res.{res_number, every_res}
 use Rattle.entity_table.proofs.Edits.{update_at-id}
 use Rattle.archetype_store.specs.Store.{with_resource}
 use Rattle.body.specs.Laid.{with_resources}
 use Rattle.body.specs.Seen.{value_shown, value_read, with_value}
-use Rattle.body.specs.Values.{value_at, written_at, values_over, AreWritable, first_values}
+use Rattle.body.specs.Values.{value_at, written_at, values_over, AreWritable}
 
 abbrev no_value : Option ℤ
 no_value = None

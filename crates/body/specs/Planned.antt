@@ -1,8 +1,7 @@
 -- What a plan of a query and the columns taken for it are, by the layout of the store; and that a query may open over them.
-use Rattle.std.specs.Prelude.{ℕ, suc, ◌<◌, ◌≡◌, ◌⊎◌, true, false, List, [], ◌∷◌, length, get_or, slice_get, Option, Some}
+use Rattle.std.specs.Prelude.{ℕ, suc, ◌<◌, ◌≡◌, true, List, [], ◌∷◌, length, slice_get, Option, Some}
 use Rattle.std.specs.List.{AllByRecursion}
-use Rattle.model.specs.Lists.{is_there}
-use Rattle.model.specs.state.State.{Slot, fresh_slot}
+use Rattle.model.specs.state.State.{Slot}
 use Rattle.model.specs.access.Query.{Term, writes}
 use Rattle.column_store.specs.Order.{AreRising}
 use Rattle.archetype_store.specs.Layout.{Archetype, archetype_at, IsLayoutOf}

@@ -1,8 +1,8 @@
 -- A query of a view over columns: what its rows show is a function of the columns as they were taken, and what was written is what has the
 -- tick of the start as its changed stamp.
-use Rattle.std.specs.Prelude.{ℕ, ℤ, ◌<◌, ◌≡◌, ◌==◌, ◌⊎◌, Bool, true, false, cond, List, [], ◌∷◌, map, length, get_or, slice_get, Option, Some, None, IsSome}
+use Rattle.std.specs.Prelude.{ℕ, ℤ, ◌<◌, ◌≡◌, ◌==◌, ◌⊎◌, true, cond, List, [], ◌∷◌, map, length, get_or, slice_get, Option, Some, None, IsSome}
 use Rattle.std.specs.List.{AllByRecursion}
-use Rattle.model.specs.Lists.{is_number, update_at}
+use Rattle.model.specs.Lists.{update_at}
 use Rattle.model.specs.declared.entities.Entity.{Entity}
 use Rattle.model.specs.state.State.{Cell}
 use Rattle.model.specs.access.Query.{Term, written, writes}

@@ -1,5 +1,5 @@
 -- The columns of a query by archetype and kind.
-use Rattle.std.specs.Prelude.{ℕ, ◌<◌, ◌≡◌, true, cond, List, map, length, slice_get, slice_set, Option, Some, IsSome}
+use Rattle.std.specs.Prelude.{ℕ, ◌<◌, ◌≡◌, true, cond, List, length, slice_get, slice_set, Option, Some, IsSome}
 use Rattle.std.specs.List.{AllByRecursion}
 use Rattle.kinds.specs.Kind.{kind_count}
 use Rattle.model.specs.Lists.{update_at}

@@ -105,10 +105,7 @@ impl Memory {
 }
 
 // The same memories once more.
-pub(crate) fn copied_memories(
-    alloc: Global,
-    memories: &[Memory],
-) -> Result<Vec<Memory>, AllocError>
+pub(crate) fn copied_memories(alloc: Global, memories: &[Memory]) -> Result<Vec<Memory>, AllocError>
     ensures { IfOk result (λ copies. copies.items ≡ memories.now) }
 {
     let mut copies = Vec::with_capacity(alloc, memories.len())?;

@@ -1,6 +1,5 @@
-use Rattle.std.proofs.Common.{◌∷◌, ◌++◌, [], map, sym, ap, subst, ◌∙◌}
+use Rattle.std.proofs.Common.{◌∷◌, sym, ap, subst, ◌∙◌}
 use Rattle.archetype_store.specs.Lending.{CanComeHome, all_home}
-use Rattle.body.specs.HeldColumns.{held_seen}
 use Rattle.body.specs.Lent.{lent_of, lent_after}
 use Rattle.body.proofs.LendingCloses.{query-can, queries-can, query-first, reach-more}
 use Rattle.body.proofs.closing.put_home.Goals as goal

@@ -1,9 +1,7 @@
-use Rattle.std.proofs.Common.{◌≡◌, false, length, get_or, map, refl, sym, ap, ◌∙◌}
-use Rattle.std.proofs.lemmas.List.{get_or_default, take_all}
+use Rattle.std.proofs.Common.{◌≡◌, false, get_or}
+use Rattle.std.proofs.lemmas.List.{get_or_default}
 use Rattle.kinds.specs.declared.kind.Kind.TheVariants.{Position}
 use Rattle.query_plan.specs.declared.picks.Pick.{Pick}
-use Rattle.query_plan.specs.Picks.{pick_seen}
-use Rattle.body.specs.Picked.{spot_of, spot_seen, picked_own, picked_read}
 use Rattle.body.proofs.Pickings.{own-pushed, own-passed, read-pushed, read-passed}
 use Rattle.body.proofs.columns.spots_of.Goals as goal
 use Rattle.body.proofs.columns.spots_of.Goals.{then-pick+in_ok-push, else-pick+in_ok-push-2}

@@ -1,6 +1,5 @@
-use Rattle.std.proofs.Common.{ℕ, ◌≡◌, ◌++◌, ◌≤◌, ◌+◌, [], length, map, vec_len, refl, sym, ap, ap₂, ◌∙◌, subst, arith}
+use Rattle.std.proofs.Common.{ℕ, ◌≡◌, ◌++◌, map, sym, ap, ◌∙◌, subst, arith}
 use Rattle.archetype_store.specs.Layout.{archetype_at}
-use Rattle.archetype_store.specs.Lending.{all_away}
 use Rattle.archetype_store.specs.Store.{StoreValue}
 use Rattle.query_plan.specs.Picks.{pick_seen}
 use Rattle.body.specs.HeldColumns.{held_seen}

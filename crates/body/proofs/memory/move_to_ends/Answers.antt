@@ -1,4 +1,4 @@
-use Rattle.std.proofs.Common.{ℕ, ◌+◌, ◌≡◌, ◌++◌, suc, map, set, take, drop, ap, ◌∙◌, sym, arith}
+use Rattle.std.proofs.Common.{◌+◌, ◌≡◌, ◌++◌, suc, map, set, take, drop, ap, ◌∙◌, arith}
 use Rattle.kinds.specs.declared.res.Event.{Event}
 use Rattle.kinds.specs.Res.{event_number}
 use Rattle.model.specs.state.Events.{queue_of}

@@ -1,17 +1,13 @@
-use Rattle.std.proofs.Common.{◌≡◌, ℕ, suc, ◌+◌, ◌<◌, ◌++◌, List, length, map, refl, sym, ap, ◌∙◌, subst, arith}
+use Rattle.std.proofs.Common.{◌≡◌, suc, ◌+◌, ◌<◌, ◌++◌, length, map, refl, sym, ap, ◌∙◌, subst, arith}
 use Rattle.std.specs.List.{AllByRecursion}
 use Rattle.std.proofs.lemmas.List.{length-map}
-use Rattle.model.specs.access.Query.{Term}
 use Rattle.archetype_store.specs.Store.{StoreValue}
 use Rattle.query_plan.specs.declared.row.Row.{Row}
 use Rattle.query_plan.specs.Standing.{IsStanding}
-use Rattle.query_plan.specs.Picks.{Picked, pick_seen, picks_of}
-use Rattle.body.specs.Columns.{Column}
+use Rattle.query_plan.specs.Picks.{pick_seen}
 use Rattle.body.specs.HeldColumns.{held_seen, slots_seen}
 use Rattle.body.specs.Opened.{ArePickedOf}
-use Rattle.body.specs.Picked.{picked_own, picked_read, AreOtherSpots, AreHeldOf}
-use Rattle.body.specs.Sheet.{IsPlan, row_of}
-use Rattle.body.specs.SlotTable.{AreSlotsOf}
+use Rattle.body.specs.Picked.{picked_own, picked_read, AreHeldOf}
 use Rattle.body.proofs.Pickings.{picks-others, picked-of}
 use Rattle.body.proofs.QueryOpens.{held-many, split-many, picked-within, open-over}
 use Rattle.body.proofs.Tables.{length-replicated}

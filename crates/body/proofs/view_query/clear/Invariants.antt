@@ -1,4 +1,4 @@
-use Rattle.std.proofs.Common.{◌≡◌, ℕ, ◌<◌, pos, length, get_or}
+use Rattle.std.proofs.Common.{◌≡◌, ℕ, ◌<◌, pos, get_or}
 use Rattle.body.proofs.view_query.clear.Given as goal
 
 abbrev pub invariant-loop-value : goal.invariant-loop-value

@@ -1,7 +1,7 @@
-use Rattle.std.proofs.Common.{◌+◌, ◌-◌, ◌<◌, ◌≤◌, map, length, sym, ap, ◌∙◌, arith}
+use Rattle.std.proofs.Common.{◌+◌, ◌-◌, ◌<◌, map, length, ap, ◌∙◌, arith}
 use Rattle.model.specs.shown.Input.{words_of}
 use Rattle.body.specs.Fields.{field_of}
-use Rattle.body.specs.HeldColumns.{held_seen, slots_seen}
+use Rattle.body.specs.HeldColumns.{slots_seen}
 use Rattle.body.specs.Sheet.{slot_in}
 use Rattle.body.proofs.FieldRows.{held-there}
 use Rattle.body.proofs.view_query.read_column.Goals as goal

@@ -1,4 +1,4 @@
-use Rattle.std.proofs.Common.{◌+◌, ◌-◌, ◌<◌, ◌≤◌, map, length, sym, ap, ◌∙◌, arith}
+use Rattle.std.proofs.Common.{◌+◌, ◌-◌, ◌<◌, map, length, ap, ◌∙◌, arith}
 use Rattle.kinds.specs.Components.{widths}
 use Rattle.body.specs.declared.held.Held.{Held}
 use Rattle.body.specs.Fields.{column_with_fields}

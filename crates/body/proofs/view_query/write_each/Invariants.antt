@@ -1,4 +1,4 @@
-use Rattle.std.proofs.Common.{◌≡◌, ◌+◌, length, drop}
+use Rattle.std.proofs.Common.{◌≡◌, ◌+◌, drop}
 use Rattle.body.specs.Fields.{sheet_with_fields}
 use Rattle.body.proofs.view_query.write_each.Given as goal
 

@@ -7,7 +7,6 @@ use Rattle.model.proofs.lists.Lists.{length-update_at}
 use Rattle.model.specs.shown.Outcome.{words_written}
 use Rattle.model.specs.shown.Overlay.{slots_after}
 use Rattle.archetype_store.specs.Store.{StoreValue}
-use Rattle.body.specs.Columns.{Column}
 use Rattle.body.specs.Laid.{with_slots}
 use Rattle.body.specs.Lent.{lent_in, with_back}
 use Rattle.body.specs.Out.{AreOut}

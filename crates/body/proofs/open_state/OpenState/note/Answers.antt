@@ -1,9 +1,8 @@
-use Rattle.std.proofs.Common.{ℕ, ◌≡◌, ◌≤◌, List, length, map, get_or, ap, sym, ◌∙◌, subst, arith}
-use Rattle.std.proofs.lemmas.List.{with_items_is, length-map}
-use Rattle.std.specs.List.{AllByRecursion}
+use Rattle.std.proofs.Common.{◌≡◌, ◌≤◌, List, length, map, ap, sym, ◌∙◌, subst, arith}
+use Rattle.std.proofs.lemmas.List.{with_items_is}
 use Rattle.kinds.specs.Res.{event_number}
 use Rattle.model.specs.Lists.{update_at}
-use Rattle.model.specs.state.State.{Memory, no_memory}
+use Rattle.model.specs.state.State.{Memory}
 use Rattle.model.specs.runs.RunState.{memory_after_run}
 use Rattle.model.proofs.lists.Lists.{length-update_at}
 use Rattle.body.specs.Steps.{StateValue, IsInTime}

@@ -1,4 +1,4 @@
-use Rattle.std.proofs.Common.{subst, arith}
+use Rattle.std.proofs.Common.{subst}
 use Rattle.body.specs.Steps.{HasShape, StateValue}
 use Rattle.body.proofs.open_state.OpenState.prove_shape.Goals as goal
 

@@ -1,9 +1,8 @@
-use Rattle.std.proofs.Common.{◌≡◌, ◌≤◌, List, map, sym, ap, ap₂, ◌∙◌, subst, arith}
+use Rattle.std.proofs.Common.{◌≡◌, ◌≤◌, List, sym, ap, ap₂, ◌∙◌, subst, arith}
 use Rattle.model.specs.shown.Outcome.{words_written, value_written}
 use Rattle.model.specs.shown.Overlay.{resources_after}
 use Rattle.model.specs.state.State.{World}
 use Rattle.archetype_store.specs.Layout.{Archetype}
-use Rattle.archetype_store.specs.Lending.{all_home}
 use Rattle.archetype_store.specs.Overlays.{AreReached}
 use Rattle.archetype_store.specs.Store.{StoreValue}
 use Rattle.body.specs.Laid.{with_resources, world_after}

@@ -1,5 +1,4 @@
-use Rattle.std.proofs.Common.{◌≡◌, List, map, ap, ap₂, sym, ◌∙◌, subst}
-use Rattle.kinds.specs.Res.{event_number}
+use Rattle.std.proofs.Common.{◌≡◌, List, map, ap, ap₂, ◌∙◌, subst}
 use Rattle.event_buffers.specs.Lists.{ListsValue}
 use Rattle.model.specs.access.Conflict.Datum.{OfKind}
 use Rattle.model.specs.access.Query.{Term}

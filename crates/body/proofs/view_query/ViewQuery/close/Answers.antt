@@ -1,6 +1,6 @@
-use Rattle.std.proofs.Common.{◌≡◌, List, map, sym, ap, ◌∙◌, subst}
+use Rattle.std.proofs.Common.{◌≡◌, map, subst}
 use Rattle.model.specs.shown.Outcome.{words_in_query}
-use Rattle.body.specs.Columns.{Column, column_after}
+use Rattle.body.specs.Columns.{column_after}
 use Rattle.body.specs.Sheet.{Sheet, WritesReach}
 use Rattle.body.specs.HeldColumns.{held_seen, slots_seen}
 use Rattle.body.proofs.SheetCloses.{columns-closed, reach}

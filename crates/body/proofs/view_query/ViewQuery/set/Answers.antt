@@ -1,4 +1,4 @@
-use Rattle.std.proofs.Common.{map, ◌∙◌}
+use Rattle.std.proofs.Common.{map}
 use Rattle.body.specs.HeldColumns.{held_seen, slots_seen}
 use Rattle.body.proofs.SheetCalls.{row-writable, sheet-after, sheet-set}
 use Rattle.body.proofs.view_query.ViewQuery.set.Goals as goal

@@ -1,4 +1,4 @@
-use Rattle.std.proofs.Common.{◌+◌, ◌<◌, ◌≤◌, map, length, ◌∙◌, arith}
+use Rattle.std.proofs.Common.{◌+◌, ◌<◌, map, length, arith}
 use Rattle.std.proofs.lemmas.List.{length-map}
 use Rattle.body.specs.HeldColumns.{held_seen, slots_seen}
 use Rattle.body.proofs.FieldRows.{every-within, every-writable, fields-written}
