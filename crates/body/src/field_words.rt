@@ -1,10 +1,12 @@
 // Fields of components as words.
 
-ghost use Rattle.std.specs.Prelude.{◌≡◌, ◌<◌, [], length};
+ghost use Rattle.std.specs.Prelude.{◌≡◌, ◌<◌};
+ghost use Rattle.kinds.specs.Kind.{kind_number};
 ghost use Rattle.kinds.specs.Components.{widths, word_at};
-ghost use Rattle.body.specs.Fields.{words_of_width, words_with};
+ghost use Rattle.kinds.specs.Value.{value_number, value_words};
+ghost use Rattle.body.specs.Fields.{words_with};
 
-use kinds::{Component, Fields};
+use kinds::{Fields, Kind, Value};
 
 /// The word at a place, 0 past the end.
 pub fn word(words: &Fields, at: usize) -> i64
@@ -16,34 +18,25 @@ pub fn word(words: &Fields, at: usize) -> i64
     }
 }
 
-// The field at a place of a component, 0 where it has none there.
-pub(crate) fn field_of<C: Component>(component: &C, place: usize) -> i64
-    ensures { result ≡ word_at (C.words component.now) place }
+// The same, quicker at the first place.
+pub(crate) fn field_of(words: &Fields, place: usize) -> i64
+    ensures { result ≡ word_at words.now place }
 {
-    let words = component.to_words();
     if place == 0 {
-        word(&words, 0)
+        word(words, 0)
     } else {
-        word(&words, place)
+        word(words, place)
     }
 }
 
-// A component with the field at a place replaced.
-pub(crate) fn with_field<C: Component>(component: C, place: usize, value: i64) -> C
-    requires { place < widths C.NUMBER }
-    ensures { C.words result ≡ words_with (widths C.NUMBER) place value (C.words component) }
+// The component of a kind with these fields, of which that at a place is replaced. 0 stands for what is wanting.
+pub(crate) fn with_field(kind: Kind, words: &Fields, place: usize, value: i64) -> Value
+    requires { place < widths (kind_number kind) }
+    ensures number { value_number result ≡ kind_number kind }
+    ensures words { value_words result ≡ words_with (widths (kind_number kind)) place value words.now }
 {
-    let words = component.to_words();
-    let first = if place == 0 { value } else { word(&words, 0) };
-    let second = if place == 0 { word(&words, 1) } else { value };
+    let first = if place == 0 { value } else { word(words, 0) };
+    let second = if place == 0 { word(words, 1) } else { value };
     let fields = [first, second];
-    C::from_words(&fields[..C::WIDTH])
-}
-
-// The component whose fields are 0.
-pub(crate) fn zeros<C: Component>() -> C
-    ensures { C.words result ≡ words_of_width (widths C.NUMBER) [] }
-{
-    let fields = [0, 0];
-    C::from_words(&fields[..C::WIDTH])
+    Value::of(kind, &fields[..kind.width()])
 }

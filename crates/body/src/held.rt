@@ -4,6 +4,7 @@ ghost use Rattle.std.specs.Prelude.{◌≡◌, ◌+◌, ◌<◌, ◌≤◌, ℕ,
 ghost use Rattle.column_store.specs.Cells.{changed_cell};
 ghost use Rattle.kinds.specs.Kind.{kind_number};
 ghost use Rattle.kinds.specs.Components.{widths};
+ghost use Rattle.kinds.specs.Value.{value_number, value_words};
 ghost use Rattle.model.specs.shown.Input.{words_of};
 ghost use Rattle.body.specs.Columns.{with_cell};
 ghost use Rattle.body.specs.Fields.{field_of, field_cell, column_with_fields};
@@ -13,7 +14,7 @@ use crate::field_words::{field_of, with_field};
 use archetype_store::World;
 use change_ticks::Tick;
 use column_store::StampedColumn;
-use kinds::{Component, Kind};
+use kinds::{Fields, Kind, Value};
 use std::alloc::Global;
 use std::snapshot::Snapshot;
 use std::sync::Arc;
@@ -54,24 +55,24 @@ impl Held {
         self.column().kind()
     }
 
-    // The component at a place.
-    pub(crate) fn get<C: Component>(&self, place: usize) -> C
-        requires kind { (held_seen self.now).kind ≡ C.NUMBER }
-        requires within { place < length (held_seen self.now).cells }
-        ensures { option_map (λ c. c.words) (slice_get (held_seen self.now).cells place) ≡ Some (C.words result) }
+    // The fields of the component at a place.
+    pub(crate) fn words(&self, place: usize) -> Fields
+        requires { place < length (held_seen self.now).cells }
+        ensures words { option_map (λ c. c.words) (slice_get (held_seen self.now).cells place) ≡ Some result }
+        ensures width { length result ≡ widths (held_seen self.now).kind }
     {
-        self.column().get(place)
+        self.column().at(place).value.words()
     }
 
     // Replaces the component at a place, which counts as changed at this tick, also where the value stays.
-    pub(crate) fn set<C: Component>(&mut self, place: usize, component: C, tick: Tick)
+    pub(crate) fn set(&mut self, place: usize, value: Value, tick: Tick)
         requires written { (held_seen self.old).is_written ≡ true }
-        requires kind { (held_seen self.old).kind ≡ C.NUMBER }
+        requires kind { (held_seen self.old).kind ≡ value_number value }
         requires within { place < length (held_seen self.old).cells }
-        ensures { held_seen self.new ≡ with_cell place (changed_cell (C.words component) tick) (held_seen self.old) }
+        ensures { held_seen self.new ≡ with_cell place (changed_cell (value_words value) tick) (held_seen self.old) }
     {
         match &mut self.cells {
-            Cells::Written(column) => column.set(place, component, tick),
+            Cells::Written(column) => column.write(place, value, tick),
             Cells::Read(_) => unreachable!(),
         }
     }
@@ -84,49 +85,49 @@ impl Held {
     }
 
     // The values of a field of the components from a place on, as many as there is room for.
-    pub(crate) fn read_field<C: Component>(&self, from: usize, place: usize, values: &mut [i64])
-        requires kind { (held_seen self.now).kind ≡ C.NUMBER }
-        requires within { from + length values.old ≤ length (held_seen self.now).cells }
+    pub(crate) fn read_field(&self, from: usize, place: usize, values: &mut [i64])
+        requires { from + length values.old ≤ length (held_seen self.now).cells }
         ensures length { length values.new ≡ length values.old }
         ensures values { (i : ℕ) → i < length values.old → get_or values.new i (pos 0) ≡ field_of place (words_of (slice_get (held_seen self.now).cells (from + i))) }
     {
         // Proves that places fit.
         let _count = self.len();
         for i in 0..values.len() {
-            values[i] = field_of(&self.get::<C>(from + i), place);
+            values[i] = field_of(&self.words(from + i), place);
         }
     }
 
     // Replaces a field of the component at a place, which counts as changed at this tick.
-    fn set_field<C: Component>(&mut self, at: usize, place: usize, value: i64, tick: Tick)
+    fn set_field(&mut self, at: usize, kind: Kind, place: usize, value: i64, tick: Tick)
         requires written { (held_seen self.old).is_written ≡ true }
-        requires kind { (held_seen self.old).kind ≡ C.NUMBER }
+        requires kind { (held_seen self.old).kind ≡ kind_number kind }
         requires within { at < length (held_seen self.old).cells }
-        requires place { place < widths C.NUMBER }
-        ensures { held_seen self.new ≡ with_cell at (field_cell (widths C.NUMBER) tick place value) (held_seen self.old) }
+        requires place { place < widths (kind_number kind) }
+        ensures { held_seen self.new ≡ with_cell at (field_cell (widths (kind_number kind)) tick place value) (held_seen self.old) }
     {
-        let component = self.get::<C>(at);
-        self.set(at, with_field(component, place, value), tick);
+        let words = self.words(at);
+        self.set(at, with_field(kind, &words, place, value), tick);
     }
 
     // Replaces a field of the components from a place on by these values, a value a component. They count as changed at this tick.
-    pub(crate) fn write_field<C: Component>(
+    pub(crate) fn write_field(
         &mut self,
+        kind: Kind,
         from: usize,
         place: usize,
         values: &[i64],
         tick: Tick,
     )
         requires written { (held_seen self.old).is_written ≡ true }
-        requires kind { (held_seen self.old).kind ≡ C.NUMBER }
+        requires kind { (held_seen self.old).kind ≡ kind_number kind }
         requires within { from + length values.now ≤ length (held_seen self.old).cells }
-        requires place { place < widths C.NUMBER }
-        ensures { held_seen self.new ≡ column_with_fields (widths C.NUMBER) tick place from values.now (held_seen self.old) }
+        requires place { place < widths (kind_number kind) }
+        ensures { held_seen self.new ≡ column_with_fields (widths (kind_number kind)) tick place from values.now (held_seen self.old) }
     {
         // Proves that places fit.
         let _count = self.len();
         for i in 0..values.len() {
-            self.set_field::<C>(from + i, place, values[i], tick);
+            self.set_field(from + i, kind, place, values[i], tick);
         }
     }
 }

@@ -5,6 +5,7 @@ ghost use Rattle.std.specs.List.{AllByRecursion};
 ghost use Rattle.kinds.specs.Kind.{kind_number};
 ghost use Rattle.kinds.specs.Res.{res_number, event_number};
 ghost use Rattle.kinds.specs.Components.{widths};
+ghost use Rattle.kinds.specs.Value.{value_number, value_words};
 ghost use Rattle.model.specs.Lists.{has, IsIn};
 ghost use Rattle.model.specs.state.State.{State, register_count};
 ghost use Rattle.model.specs.access.Access.{names_resource};
@@ -33,7 +34,7 @@ use change_ticks::Tick;
 use command_queue::CommandBuffer;
 use entity_table::Entity;
 use event_buffers::{EventLists, Events};
-use kinds::{Component, Event, Fields, Kind, Res, each_kind};
+use kinds::{Component, Event, Fields, Kind, Res, Value};
 use query_plan::RowBuffers;
 use std::alloc::{AllocError, Global};
 use std::marker::Model;
@@ -197,8 +198,7 @@ impl View {
         requires mut_term { IsTrue (writes (query_at self.old.params query) C.NUMBER) }
         ensures { self.new ≡ with_written self.old query row C.NUMBER (C.words component) }
     {
-        let query = &mut self.queries[query];
-        query.set(row, component);
+        self.write(query, row, component.into_value());
     }
 
     /// The value of a resource that is read or written: what was written, else what is shown.
@@ -266,7 +266,7 @@ impl View {
         ensures ok { OnOk result (self.new ≡ with_command self.old (Insert e C.NUMBER (C.words component))) }
         ensures err { OnErr result (self.new ≡ self.old) }
     {
-        self.issued.insert(e, component)
+        self.issued.insert(e, component.into_value())
     }
 
     /// An entity is to have no component of a kind from the sync point on. Where an allocation fails nothing changes.
@@ -305,24 +305,13 @@ impl View {
 
     /// The fields of the component of a kind in a row of a query: what was written there, else what is shown. None where there is no
     /// component.
-    pub fn words(&self, query: usize, row: usize, kind: Kind) -> Fields
+    pub fn words(&self, query: usize, row: usize, kind: Kind) -> Option<Fields>
         requires query { query < length self.now.shown.rows }
         requires row { row < length (rows_at self.now.shown query) }
-        ensures { result ≡ unwrap_or (read_at self.now query row (kind_number kind)) [] }
+        ensures { result ≡ read_at self.now query row (kind_number kind) }
     {
-        each_kind!(kind, K => { self.words_of::<K>(query, row) })
-    }
-
-    // The fields of a component of a row of a query.
-    fn words_of<C: Component>(&self, query: usize, row: usize) -> Fields
-        requires query { query < length self.now.shown.rows }
-        requires row { row < length (rows_at self.now.shown query) }
-        ensures { result ≡ unwrap_or (read_at self.now query row C.NUMBER) [] }
-    {
-        match self.get::<C>(query, row) {
-            Some(component) => component.to_words(),
-            None => Fields::none(),
-        }
+        let query = &self.queries[query];
+        query.words(row, kind)
     }
 
     /// Writes the component of a kind with these fields in a row of a query that has a `mut` term of the kind.
@@ -333,18 +322,28 @@ impl View {
         requires width { length words.now ≡ widths (kind_number kind) }
         ensures { self.new ≡ with_written self.old query row (kind_number kind) words.now }
     {
-        each_kind!(kind, K => { self.set_words_of::<K>(query, row, words) })
+        self.write(query, row, Value::of(kind, words));
     }
 
-    // Writes the component with these fields in a row of a query.
-    fn set_words_of<C: Component>(&mut self, query: usize, row: usize, words: &[i64])
+    /// An entity is to have the component of a kind with these fields from the sync point on. Where an allocation fails nothing changes.
+    pub fn insert_words(&mut self, e: Entity, kind: Kind, words: &[i64]) -> Result<(), AllocError>
+        requires declared { is_some self.old.params.spawns ≡ true }
+        requires width { length words.now ≡ widths (kind_number kind) }
+        ensures ok { OnOk result (self.new ≡ with_command self.old (Insert e (kind_number kind) words.now)) }
+        ensures err { OnErr result (self.new ≡ self.old) }
+    {
+        self.issued.insert(e, Value::of(kind, words))
+    }
+
+    // Writes a component of any kind of a row of a query.
+    fn write(&mut self, query: usize, row: usize, value: Value)
         requires query { query < length self.old.shown.rows }
         requires row { row < length (rows_at self.old.shown query) }
-        requires mut_term { IsTrue (writes (query_at self.old.params query) C.NUMBER) }
-        requires width { length words.now ≡ C.WIDTH }
-        ensures { self.new ≡ with_written self.old query row C.NUMBER words.now }
+        requires mut_term { IsTrue (writes (query_at self.old.params query) (value_number value)) }
+        ensures { self.new ≡ with_written self.old query row (value_number value) (value_words value) }
     {
-        self.set(query, row, C::from_words(words));
+        let query = &mut self.queries[query];
+        query.write(row, value);
     }
 }
 
@@ -364,24 +363,8 @@ impl View {
         ensures length { length values.new ≡ length values.old }
         ensures values { (i : ℕ) → i < length values.old → get_or values.new i (pos 0) ≡ field_read self.now query (from + i) (kind_number kind) place }
     {
-        each_kind!(kind, K => { self.read_field_of::<K>(query, place, from, values) })
-    }
-
-    // The values of a field of a component in the rows of a query from one on.
-    fn read_field_of<C: Component>(
-        &self,
-        query: usize,
-        place: usize,
-        from: usize,
-        values: &mut [i64],
-    )
-        requires query { query < length self.now.shown.rows }
-        requires rows { from + length values.old ≤ length (rows_at self.now.shown query) }
-        ensures length { length values.new ≡ length values.old }
-        ensures values { (i : ℕ) → i < length values.old → get_or values.new i (pos 0) ≡ field_read self.now query (from + i) C.NUMBER place }
-    {
         let query = &self.queries[query];
-        query.read_field::<C>(from, place, values);
+        query.read_field(kind, from, place, values);
     }
 
     /// Writes values into a field of a kind in the rows of a query from one on, a value a row. The query has a `mut` term of the kind, and the
@@ -400,25 +383,8 @@ impl View {
         requires place { place < widths (kind_number kind) }
         ensures { self.new ≡ with_fields self.old query (kind_number kind) place from values.now }
     {
-        each_kind!(kind, K => { self.write_field_of::<K>(query, place, from, values) })
-    }
-
-    // Writes values into a field of a component in the rows of a query from one on.
-    fn write_field_of<C: Component>(
-        &mut self,
-        query: usize,
-        place: usize,
-        from: usize,
-        values: &[i64],
-    )
-        requires query { query < length self.old.shown.rows }
-        requires rows { from + length values.now ≤ length (rows_at self.old.shown query) }
-        requires mut_term { IsTrue (writes (query_at self.old.params query) C.NUMBER) }
-        requires place { place < widths C.NUMBER }
-        ensures { self.new ≡ with_fields self.old query C.NUMBER place from values.now }
-    {
         let query = &mut self.queries[query];
-        query.write_field::<C>(from, place, values);
+        query.write_field(kind, from, place, values);
     }
 }
 

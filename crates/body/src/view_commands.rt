@@ -2,13 +2,14 @@
 
 ghost use Rattle.std.specs.Prelude.{◌≡◌, ◌<◌, true, false, [], length, is_some, OnOk, OnErr};
 ghost use Rattle.kinds.specs.Kind.{kind_number};
+ghost use Rattle.kinds.specs.Value.{value_number, value_words};
 ghost use Rattle.model.specs.shown.Outcome.Command.{Spawn, Insert, Remove, Despawn};
 ghost use Rattle.body.specs.Issued.{IssuedSeen, granted_in, with_issued};
 
 use access_set::Params;
 use command_queue::CommandBuffer;
 use entity_table::Entity;
-use kinds::{Component, Kind};
+use kinds::{Kind, Value};
 use std::alloc::AllocError;
 use std::marker::Model;
 
@@ -78,12 +79,12 @@ impl ViewCommands {
     }
 
     // An entity is to have a component.
-    pub(crate) fn insert<C: Component>(&mut self, e: Entity, component: C) -> Result<(), AllocError>
+    pub(crate) fn insert(&mut self, e: Entity, value: Value) -> Result<(), AllocError>
         requires { is_some self.old.spawns ≡ true }
-        ensures ok { OnOk result (self.new ≡ with_issued (Insert e C.NUMBER (C.words component)) self.old) }
+        ensures ok { OnOk result (self.new ≡ with_issued (Insert e (value_number value) (value_words value)) self.old) }
         ensures err { OnErr result (self.new ≡ self.old) }
     {
-        self.commands.insert(e, component)
+        self.commands.insert_value(e, value)
     }
 
     // An entity is to have no component of a kind.

@@ -1,9 +1,10 @@
 // A query of a view: its rows stand in columns, are read there and written there.
 
-ghost use Rattle.std.specs.Prelude.{◌≡◌, ◌+◌, ◌<◌, ◌≤◌, ℕ, pos, [], ◌∷◌, map, length, get_or, option_map, IsTrue};
+ghost use Rattle.std.specs.Prelude.{◌≡◌, ◌+◌, ◌<◌, ◌≤◌, ℕ, pos, [], ◌∷◌, map, length, get_or, option_map, unwrap_or, IfSome, IsTrue};
 ghost use Rattle.column_store.specs.Cells.{changed_cell};
 ghost use Rattle.kinds.specs.Kind.{kind_number};
 ghost use Rattle.kinds.specs.Components.{widths};
+ghost use Rattle.kinds.specs.Value.{value_number, value_words};
 ghost use Rattle.model.specs.Lists.{update_at};
 ghost use Rattle.model.specs.access.Query.{writes};
 ghost use Rattle.model.specs.shown.Input.{words_of};
@@ -14,11 +15,11 @@ ghost use Rattle.body.specs.Fields.{field_of, field_seen, sheet_with_fields, col
 ghost use Rattle.body.specs.Seen.{words_read, with_words, no_row};
 ghost use Rattle.body.specs.Sheet.{slot_in, slot_cell, seen_at, at_slot, row_of, IsPlan, IsReadableAt, IsReadable, IsWritableAt, IsWritable, WritesReach};
 
-use crate::field_words::{field_of, with_field, zeros};
+use crate::field_words::{field_of, with_field};
 use crate::held::Held;
 use change_ticks::Tick;
 use entity_table::Entity;
-use kinds::{Component, Kind};
+use kinds::{Component, Fields, Kind, Value};
 use query::Query;
 use query_plan::{Row, RowBuffers, Rows};
 use std::marker::Model;
@@ -112,8 +113,18 @@ impl ViewQuery {
         requires { row < length self.now.rows }
         ensures { option_map C.words result ≡ words_read self.now.terms (get_or self.now.rows row no_row).values (get_or self.now.cells row []) C.NUMBER }
     {
+        let words = self.words(row, C::kind())?;
+        Some(C::from_words(words.as_slice()))
+    }
+
+    /// The fields of the component of a kind of a row, likewise.
+    pub fn words(&self, row: usize, kind: Kind) -> Option<Fields>
+        requires { row < length self.now.rows }
+        ensures words { result ≡ words_read self.now.terms (get_or self.now.rows row no_row).values (get_or self.now.cells row []) (kind_number kind) }
+        ensures width { IfSome result (λ words. length words ≡ widths (kind_number kind)) }
+    {
         let at = self.placing.rows.at(row);
-        get_at(&self.placing.slots, &self.columns, at)
+        words_at(&self.placing.slots, &self.columns, at, kind)
     }
 
     /// Writes a component of a row of a query that has a `mut` term of its kind.
@@ -122,55 +133,66 @@ impl ViewQuery {
         requires mut_term { IsTrue (writes self.old.terms C.NUMBER) }
         ensures { self.new ≡ record self.old { cells = update_at row (with_words self.old.terms C.NUMBER (C.words component)) self.old.cells } }
     {
+        self.write(row, component.into_value());
+    }
+
+    /// Writes a component of any kind of a row of a query that has a `mut` term of its kind.
+    pub fn write(&mut self, row: usize, value: Value)
+        requires row { row < length self.old.rows }
+        requires mut_term { IsTrue (writes self.old.terms (value_number value)) }
+        ensures { self.new ≡ record self.old { cells = update_at row (with_words self.old.terms (value_number value) (value_words value)) self.old.cells } }
+    {
         let at = self.placing.rows.at(row);
         set_in(
             &self.placing.slots,
             &mut self.columns,
             at,
-            component,
+            value,
             self.placing.tick,
         );
     }
 
-    /// The values of a field of the rows from one on, as many as there is room for: 0 where a row has not the kind, and where the query
-    /// doesn't fetch it.
-    pub fn read_field<C: Component>(&self, from: usize, place: usize, values: &mut [i64])
+    /// The values of a field of a kind of the rows from one on, as many as there is room for: 0 where a row has not the kind, and where the
+    /// query doesn't fetch it.
+    pub fn read_field(&self, kind: Kind, from: usize, place: usize, values: &mut [i64])
         requires { from + length values.old ≤ length self.now.rows }
         ensures length { length values.new ≡ length values.old }
-        ensures values { (i : ℕ) → i < length values.old → get_or values.new i (pos 0) ≡ field_seen self.now (from + i) C.NUMBER place }
+        ensures values { (i : ℕ) → i < length values.old → get_or values.new i (pos 0) ≡ field_seen self.now (from + i) (kind_number kind) place }
     {
         match self.placing.rows.archetype() {
-            Some(archetype) => read_column::<C>(
+            Some(archetype) => read_column(
                 &self.placing.slots,
                 &self.columns,
                 archetype as usize,
+                kind,
                 from,
                 place,
                 values,
             ),
-            None => read_each::<C>(self, from, place, values),
+            None => read_each(self, kind, from, place, values),
         }
     }
 
-    /// Writes values into a field of the rows from one on, a value a row, of a query that has a `mut` term of its kind. The other field of
-    /// each component stays.
-    pub fn write_field<C: Component>(&mut self, from: usize, place: usize, values: &[i64])
+    /// Writes values into a field of a kind of the rows from one on, a value a row, of a query that has a `mut` term of the kind. The other
+    /// field of each component stays.
+    pub fn write_field(&mut self, kind: Kind, from: usize, place: usize, values: &[i64])
         requires rows { from + length values.now ≤ length self.old.rows }
-        requires mut_term { IsTrue (writes self.old.terms C.NUMBER) }
-        requires place { place < widths C.NUMBER }
-        ensures { self.new ≡ sheet_with_fields self.old C.NUMBER place from values.now }
+        requires mut_term { IsTrue (writes self.old.terms (kind_number kind)) }
+        requires place { place < widths (kind_number kind) }
+        ensures { self.new ≡ sheet_with_fields self.old (kind_number kind) place from values.now }
     {
         match self.placing.rows.archetype() {
-            Some(archetype) => write_column::<C>(
+            Some(archetype) => write_column(
                 &self.placing.slots,
                 &mut self.columns,
                 archetype as usize,
+                kind,
                 from,
                 place,
                 values,
                 self.placing.tick,
             ),
-            None => write_each::<C>(self, from, place, values),
+            None => write_each(self, kind, from, place, values),
         }
     }
 
@@ -190,70 +212,72 @@ impl ViewQuery {
 }
 
 // The number of the column of a kind in an archetype.
-fn slot_of(slots: &[Slots], archetype: usize, number: u32) -> Option<u32>
+fn slot_of(slots: &[Slots], archetype: usize, kind: Kind) -> Option<u32>
     requires { archetype < length slots.now }
-    ensures { result ≡ slot_in (map slots_seen slots.now) archetype number }
+    ensures { result ≡ slot_in (map slots_seen slots.now) archetype (kind_number kind) }
 {
-    match slots[archetype].columns.get(number as usize) {
+    match slots[archetype].columns.get(kind.number() as usize) {
         Some(slot) => *slot,
         None => None,
     }
 }
 
-// The component in a row.
-fn get_at<C: Component>(slots: &[Slots], columns: &[Held], at: Row) -> Option<C>
+// The fields of the component of a kind in a row.
+fn words_at(slots: &[Slots], columns: &[Held], at: Row, kind: Kind) -> Option<Fields>
     requires archetype { at.archetype < length slots.now }
-    requires readable { IsReadable (map slots_seen slots.now) (map held_seen columns.now) at C.NUMBER }
-    ensures { option_map C.words result ≡ words_of (seen_at (map slots_seen slots.now) (map held_seen columns.now) at C.NUMBER) }
+    requires readable { IsReadable (map slots_seen slots.now) (map held_seen columns.now) at (kind_number kind) }
+    ensures words { result ≡ words_of (seen_at (map slots_seen slots.now) (map held_seen columns.now) at (kind_number kind)) }
+    ensures width { IfSome result (λ words. length words ≡ widths (kind_number kind)) }
 {
-    let slot = slot_of(slots, at.archetype as usize, C::NUMBER)?;
-    Some(columns[slot as usize].get(at.place as usize))
+    let slot = slot_of(slots, at.archetype as usize, kind)?;
+    Some(columns[slot as usize].words(at.place as usize))
 }
 
 // Replaces the component in a row, which counts as changed at this tick.
-fn set_at<C: Component>(slots: &[Slots], columns: &mut [Held], at: Row, component: C, tick: Tick)
+fn set_at(slots: &[Slots], columns: &mut [Held], at: Row, value: Value, tick: Tick)
     requires archetype { at.archetype < length slots.now }
-    requires writable { IsWritable (map slots_seen slots.now) (map held_seen columns.old) at C.NUMBER }
-    ensures { map held_seen columns.new ≡ at_slot (slot_in (map slots_seen slots.now) at.archetype C.NUMBER) (with_cell at.place (changed_cell (C.words component) tick)) (map held_seen columns.old) }
+    requires writable { IsWritable (map slots_seen slots.now) (map held_seen columns.old) at (value_number value) }
+    ensures { map held_seen columns.new ≡ at_slot (slot_in (map slots_seen slots.now) at.archetype (value_number value)) (with_cell at.place (changed_cell (value_words value) tick)) (map held_seen columns.old) }
 {
-    match slot_of(slots, at.archetype as usize, C::NUMBER) {
+    match slot_of(slots, at.archetype as usize, value.kind()) {
         Some(slot) => {
             let held = &mut columns[slot as usize];
-            held.set(at.place as usize, component, tick);
+            held.set(at.place as usize, value, tick);
         }
         None => unreachable!(),
     }
 }
 
 // The same in a vector.
-fn set_in<C: Component>(slots: &[Slots], columns: &mut Vec<Held>, at: Row, component: C, tick: Tick)
+fn set_in(slots: &[Slots], columns: &mut Vec<Held>, at: Row, value: Value, tick: Tick)
     requires archetype { at.archetype < length slots.now }
-    requires writable { IsWritable (map slots_seen slots.now) (map held_seen columns.old.items) at C.NUMBER }
-    ensures { map held_seen columns.new.items ≡ at_slot (slot_in (map slots_seen slots.now) at.archetype C.NUMBER) (with_cell at.place (changed_cell (C.words component) tick)) (map held_seen columns.old.items) }
+    requires writable { IsWritable (map slots_seen slots.now) (map held_seen columns.old.items) at (value_number value) }
+    ensures { map held_seen columns.new.items ≡ at_slot (slot_in (map slots_seen slots.now) at.archetype (value_number value)) (with_cell at.place (changed_cell (value_words value) tick)) (map held_seen columns.old.items) }
 {
-    set_at(slots, columns, at, component, tick);
+    set_at(slots, columns, at, value, tick);
 }
 
-// The values of a field of the components of an archetype from a place on, 0 where it has none of the kind.
-fn read_column<C: Component>(
+// The values of a field of the components of a kind of an archetype from a place on, 0 where it has none of the kind.
+fn read_column(
     slots: &[Slots],
     columns: &[Held],
     archetype: usize,
+    kind: Kind,
     from: usize,
     place: usize,
     values: &mut [i64],
 )
     requires archetype { 0 < length values.old → archetype < length slots.now }
-    requires readable { (i : ℕ) → i < length values.old → IsReadableAt (slot_in (map slots_seen slots.now) archetype C.NUMBER) (map held_seen columns.now) C.NUMBER (from + i) }
+    requires readable { (i : ℕ) → i < length values.old → IsReadableAt (slot_in (map slots_seen slots.now) archetype (kind_number kind)) (map held_seen columns.now) (kind_number kind) (from + i) }
     ensures length { length values.new ≡ length values.old }
-    ensures values { (i : ℕ) → i < length values.old → get_or values.new i (pos 0) ≡ field_of place (words_of (slot_cell (slot_in (map slots_seen slots.now) archetype C.NUMBER) (map held_seen columns.now) (from + i))) }
+    ensures values { (i : ℕ) → i < length values.old → get_or values.new i (pos 0) ≡ field_of place (words_of (slot_cell (slot_in (map slots_seen slots.now) archetype (kind_number kind)) (map held_seen columns.now) (from + i))) }
 {
     let count = values.len();
     if count == 0 {
         return;
     }
-    match slot_of(slots, archetype, C::NUMBER) {
-        Some(slot) => columns[slot as usize].read_field::<C>(from, place, values),
+    match slot_of(slots, archetype, kind) {
+        Some(slot) => columns[slot as usize].read_field(from, place, values),
         None => clear(values),
     }
 }
@@ -268,82 +292,91 @@ fn clear(values: &mut [i64])
     }
 }
 
-// Writes values into a field of the components of an archetype from a place on, which count as changed at this tick.
-fn write_column<C: Component>(
+// Writes values into a field of the components of a kind of an archetype from a place on, which count as changed at this tick.
+fn write_column(
     slots: &[Slots],
     columns: &mut Vec<Held>,
     archetype: usize,
+    kind: Kind,
     from: usize,
     place: usize,
     values: &[i64],
     tick: Tick,
 )
     requires archetype { 0 < length values.now → archetype < length slots.now }
-    requires writable { (i : ℕ) → i < length values.now → IsWritableAt (slot_in (map slots_seen slots.now) archetype C.NUMBER) (map held_seen columns.old.items) C.NUMBER (from + i) }
-    requires place { place < widths C.NUMBER }
-    ensures { map held_seen columns.new.items ≡ at_slot (slot_in (map slots_seen slots.now) archetype C.NUMBER) (column_with_fields (widths C.NUMBER) tick place from values.now) (map held_seen columns.old.items) }
+    requires writable { (i : ℕ) → i < length values.now → IsWritableAt (slot_in (map slots_seen slots.now) archetype (kind_number kind)) (map held_seen columns.old.items) (kind_number kind) (from + i) }
+    requires place { place < widths (kind_number kind) }
+    ensures { map held_seen columns.new.items ≡ at_slot (slot_in (map slots_seen slots.now) archetype (kind_number kind)) (column_with_fields (widths (kind_number kind)) tick place from values.now) (map held_seen columns.old.items) }
 {
     let count = values.len();
     if count == 0 {
         return;
     }
-    match slot_of(slots, archetype, C::NUMBER) {
+    match slot_of(slots, archetype, kind) {
         Some(slot) => {
             let held = &mut columns[slot as usize];
-            held.write_field::<C>(from, place, values, tick);
+            held.write_field(kind, from, place, values, tick);
         }
         None => unreachable!(),
     }
 }
 
-// The value of a field of a row of a query.
-fn field_at<C: Component>(query: &ViewQuery, row: usize, place: usize) -> i64
+// The value of a field of a kind of a row of a query.
+fn field_at(query: &ViewQuery, row: usize, kind: Kind, place: usize) -> i64
     requires { row < length query.now.rows }
-    ensures { result ≡ field_seen query.now row C.NUMBER place }
+    ensures { result ≡ field_seen query.now row (kind_number kind) place }
 {
-    match query.get::<C>(row) {
-        Some(component) => field_of(&component, place),
+    match query.words(row, kind) {
+        Some(words) => field_of(&words, place),
         None => 0,
     }
 }
 
-// The values of a field of the rows from one on, each found by itself.
-fn read_each<C: Component>(query: &ViewQuery, from: usize, place: usize, values: &mut [i64])
+// The values of a field of a kind of the rows from one on, each found by itself.
+fn read_each(query: &ViewQuery, kind: Kind, from: usize, place: usize, values: &mut [i64])
     requires { from + length values.old ≤ length query.now.rows }
     ensures length { length values.new ≡ length values.old }
-    ensures values { (i : ℕ) → i < length values.old → get_or values.new i (pos 0) ≡ field_seen query.now (from + i) C.NUMBER place }
+    ensures values { (i : ℕ) → i < length values.old → get_or values.new i (pos 0) ≡ field_seen query.now (from + i) (kind_number kind) place }
 {
     // Proves that numbers of rows fit.
     let _count = query.rows();
     for i in 0..values.len() {
-        values[i] = field_at::<C>(query, from + i, place);
+        values[i] = field_at(query, from + i, kind, place);
     }
 }
 
-// Writes a field of a row of a query.
-fn set_field<C: Component>(query: &mut ViewQuery, row: usize, place: usize, value: i64)
-    requires row { row < length query.old.rows }
-    requires mut_term { IsTrue (writes query.old.terms C.NUMBER) }
-    requires place { place < widths C.NUMBER }
-    ensures { query.new ≡ sheet_with_fields query.old C.NUMBER place row (value ∷ []) }
+// The fields of the component of a kind of a row of a query, none where it isn't there.
+fn fields_at(query: &ViewQuery, row: usize, kind: Kind) -> Fields
+    requires { row < length query.now.rows }
+    ensures { result ≡ unwrap_or (words_read query.now.terms (get_or query.now.rows row no_row).values (get_or query.now.cells row []) (kind_number kind)) [] }
 {
-    let component = match query.get::<C>(row) {
-        Some(component) => component,
-        None => zeros::<C>(),
-    };
-    query.set(row, with_field(component, place, value));
+    match query.words(row, kind) {
+        Some(words) => words,
+        None => Fields::none(),
+    }
 }
 
-// Writes values into a field of the rows from one on, each found by itself.
-fn write_each<C: Component>(query: &mut ViewQuery, from: usize, place: usize, values: &[i64])
+// Writes a field of a kind of a row of a query.
+fn set_field(query: &mut ViewQuery, row: usize, kind: Kind, place: usize, value: i64)
+    requires row { row < length query.old.rows }
+    requires mut_term { IsTrue (writes query.old.terms (kind_number kind)) }
+    requires place { place < widths (kind_number kind) }
+    ensures { query.new ≡ sheet_with_fields query.old (kind_number kind) place row (value ∷ []) }
+{
+    let words = fields_at(query, row, kind);
+    query.write(row, with_field(kind, &words, place, value));
+}
+
+// Writes values into a field of a kind of the rows from one on, each found by itself.
+fn write_each(query: &mut ViewQuery, kind: Kind, from: usize, place: usize, values: &[i64])
     requires rows { from + length values.now ≤ length query.old.rows }
-    requires mut_term { IsTrue (writes query.old.terms C.NUMBER) }
-    requires place { place < widths C.NUMBER }
-    ensures { query.new ≡ sheet_with_fields query.old C.NUMBER place from values.now }
+    requires mut_term { IsTrue (writes query.old.terms (kind_number kind)) }
+    requires place { place < widths (kind_number kind) }
+    ensures { query.new ≡ sheet_with_fields query.old (kind_number kind) place from values.now }
 {
     // Proves that numbers of rows fit.
     let _count = query.rows();
     for i in 0..values.len() {
-        set_field::<C>(query, from + i, place, values[i]);
+        set_field(query, from + i, kind, place, values[i]);
     }
 }

@@ -22,7 +22,7 @@ use Rattle.archetype_store.specs.declared.change.EntityChange.{EntityChange}
 use Rattle.archetype_store.specs.Changes.{components_left, slot_left, changed}
 use Rattle.command_queue.specs.Pending.{is_left_alive, place_of, put_change, AreChanges, CanSpawn}
 use Rattle.command_queue.proofs.Puts.{change_none}
-use Rattle.command_queue.proofs.Targets.{same_entity, slot_changed, granted_unchanged, changes_put, slots_put}
+use Rattle.command_queue.proofs.Targets.{slot_changed, granted_unchanged, changes_put, slots_put}
 
 -- ---- a granted id is spawned
 

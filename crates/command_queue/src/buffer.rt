@@ -3,11 +3,12 @@
 ghost use Rattle.std.specs.Prelude.{◌≡◌, ◌==◌, ◌++◌, ◌∷◌, [], OnOk, OnErr, length, map};
 ghost use Rattle.model.specs.shown.Outcome.Command.{Spawn, Insert, Remove, Despawn};
 ghost use Rattle.kinds.specs.Kind.{kind_number};
+ghost use Rattle.kinds.specs.Value.{value_number, value_words};
 ghost use Rattle.command_queue.specs.Commands.{command_of};
 
 use crate::command::Command;
 use entity_table::Entity;
-use kinds::{Component, Kind};
+use kinds::{Component, Kind, Value};
 use std::alloc::{AllocError, Global};
 use std::marker::Model;
 
@@ -50,7 +51,15 @@ impl CommandBuffer {
         ensures ok { OnOk result (self.new ≡ self.old ++ Insert e C.NUMBER (C.words component) ∷ []) }
         ensures err { OnErr result (self.new ≡ self.old) }
     {
-        self.issue(Command::Insert(e, component.into_value()))
+        self.insert_value(e, component.into_value())
+    }
+
+    /// The entity is to have a component of any kind. Where an allocation fails nothing is issued.
+    pub fn insert_value(&mut self, e: Entity, value: Value) -> Result<(), AllocError>
+        ensures ok { OnOk result (self.new ≡ self.old ++ Insert e (value_number value) (value_words value) ∷ []) }
+        ensures err { OnErr result (self.new ≡ self.old) }
+    {
+        self.issue(Command::Insert(e, value))
     }
 
     /// The entity is to have no component of a kind. Where an allocation fails nothing is issued.

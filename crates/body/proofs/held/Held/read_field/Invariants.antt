@@ -5,7 +5,7 @@ use Rattle.body.specs.HeldColumns.{held_seen}
 use Rattle.body.proofs.held.Held.read_field.Given as goal
 
 abbrev pub invariant-loop-i : goal.invariant-loop-i
-invariant-loop-i g l = record {
+invariant-loop-i l = record {
   size : length l.values ≡ length l.fn.values;
   done : (k : ℕ) → k < l.i → get_or l.values k (pos 0) ≡ field_of l.place (words_of (slice_get (held_seen l.self).cells (l.from + k)));
 }
