@@ -1,5 +1,5 @@
 -- There are as many words as slices that hold them.
-use Rattle.std.proofs.Common.{ℕ, ◌≤◌, length, map, sym, subst}
+use Rattle.std.proofs.Common.{ℕ, ◌≤◌, sym, subst}
 use Rattle.std.proofs.lemmas.List.{length-map}
 use Rattle.script.proofs.Sources.{many-read, none-read}
 use Rattle.script.proofs.operands.Values.many.Goals as goal
