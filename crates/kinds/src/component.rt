@@ -23,6 +23,7 @@ use crate::value::Value;
 pub trait Component: Copy {
     ghost NUMBER: { ℕ };
 
+    // How many fields the kind has.
     ghost WIDTH: { ℕ };
 
     ghost words: { Self → List ℤ };
@@ -31,9 +32,6 @@ pub trait Component: Copy {
 
     /// The number of the kind.
     const NUMBER: u32;
-
-    /// How many fields the kind has.
-    const WIDTH: usize;
 
     /// The kind.
     fn kind() -> Kind

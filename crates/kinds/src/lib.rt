@@ -2,7 +2,6 @@
 #![tactic(auto)]
 
 pub mod component;
-pub mod each_kind;
 pub mod fields;
 pub mod kind;
 pub mod res;

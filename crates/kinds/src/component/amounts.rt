@@ -27,8 +27,6 @@ impl Component for Health {
 
     const NUMBER: u32 = 2;
 
-    const WIDTH: usize = 1;
-
     fn kind() -> Kind {
         Kind::Health
     }
@@ -60,8 +58,6 @@ impl Component for Damage {
     ghost width_of_number = { refl };
 
     const NUMBER: u32 = 3;
-
-    const WIDTH: usize = 1;
 
     fn kind() -> Kind {
         Kind::Damage
@@ -95,8 +91,6 @@ impl Component for Team {
 
     const NUMBER: u32 = 4;
 
-    const WIDTH: usize = 1;
-
     fn kind() -> Kind {
         Kind::Team
     }
@@ -128,8 +122,6 @@ impl Component for Timer {
     ghost width_of_number = { refl };
 
     const NUMBER: u32 = 5;
-
-    const WIDTH: usize = 1;
 
     fn kind() -> Kind {
         Kind::Timer
@@ -163,8 +155,6 @@ impl Component for Score {
 
     const NUMBER: u32 = 6;
 
-    const WIDTH: usize = 1;
-
     fn kind() -> Kind {
         Kind::Score
     }
@@ -196,8 +186,6 @@ impl Component for Energy {
     ghost width_of_number = { refl };
 
     const NUMBER: u32 = 7;
-
-    const WIDTH: usize = 1;
 
     fn kind() -> Kind {
         Kind::Energy
@@ -231,8 +219,6 @@ impl Component for Charge {
 
     const NUMBER: u32 = 8;
 
-    const WIDTH: usize = 1;
-
     fn kind() -> Kind {
         Kind::Charge
     }
@@ -264,8 +250,6 @@ impl Component for Target {
     ghost width_of_number = { refl };
 
     const NUMBER: u32 = 9;
-
-    const WIDTH: usize = 1;
 
     fn kind() -> Kind {
         Kind::Target

@@ -27,8 +27,6 @@ impl Component for Frozen {
 
     const NUMBER: u32 = 10;
 
-    const WIDTH: usize = 0;
-
     fn kind() -> Kind {
         Kind::Frozen
     }
@@ -60,8 +58,6 @@ impl Component for Hidden {
     ghost width_of_number = { refl };
 
     const NUMBER: u32 = 11;
-
-    const WIDTH: usize = 0;
 
     fn kind() -> Kind {
         Kind::Hidden
@@ -95,8 +91,6 @@ impl Component for Sleeping {
 
     const NUMBER: u32 = 18;
 
-    const WIDTH: usize = 0;
-
     fn kind() -> Kind {
         Kind::Sleeping
     }
@@ -128,8 +122,6 @@ impl Component for Marked {
     ghost width_of_number = { refl };
 
     const NUMBER: u32 = 19;
-
-    const WIDTH: usize = 0;
 
     fn kind() -> Kind {
         Kind::Marked

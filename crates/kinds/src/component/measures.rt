@@ -27,8 +27,6 @@ impl Component for Mass {
 
     const NUMBER: u32 = 13;
 
-    const WIDTH: usize = 1;
-
     fn kind() -> Kind {
         Kind::Mass
     }
@@ -60,8 +58,6 @@ impl Component for Armor {
     ghost width_of_number = { refl };
 
     const NUMBER: u32 = 14;
-
-    const WIDTH: usize = 1;
 
     fn kind() -> Kind {
         Kind::Armor
@@ -95,8 +91,6 @@ impl Component for Range {
 
     const NUMBER: u32 = 15;
 
-    const WIDTH: usize = 1;
-
     fn kind() -> Kind {
         Kind::Range
     }
@@ -129,8 +123,6 @@ impl Component for Level {
 
     const NUMBER: u32 = 16;
 
-    const WIDTH: usize = 1;
-
     fn kind() -> Kind {
         Kind::Level
     }
@@ -162,8 +154,6 @@ impl Component for Rank {
     ghost width_of_number = { refl };
 
     const NUMBER: u32 = 17;
-
-    const WIDTH: usize = 1;
 
     fn kind() -> Kind {
         Kind::Rank

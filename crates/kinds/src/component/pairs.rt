@@ -27,8 +27,6 @@ impl Component for Position {
 
     const NUMBER: u32 = 0;
 
-    const WIDTH: usize = 2;
-
     fn kind() -> Kind {
         Kind::Position
     }
@@ -65,8 +63,6 @@ impl Component for Velocity {
 
     const NUMBER: u32 = 1;
 
-    const WIDTH: usize = 2;
-
     fn kind() -> Kind {
         Kind::Velocity
     }
@@ -102,8 +98,6 @@ impl Component for Home {
     ghost width_of_number = { refl };
 
     const NUMBER: u32 = 12;
-
-    const WIDTH: usize = 2;
 
     fn kind() -> Kind {
         Kind::Home
