@@ -3,8 +3,7 @@ use Rattle.std.proofs.Common.{◌≡◌, ℕ, zero, suc, ◌+◌, ◌-◌, Bool,
 use Rattle.std.specs.List.{AllByRecursion, list_all}
 use Rattle.std.proofs.lemmas.Bool.{false≢true}
 use Rattle.model.specs.declared.entities.Entity.{Entity}
-use Rattle.model.specs.state.State.{Slot, Status, Memory, State, World, fresh_slot, is_living, is_vacant}
-use Rattle.model.specs.state.State.Status.{Vacant, Granted, Living, Retired}
+use Rattle.model.specs.state.State.{Slot, Memory, State, World, fresh_slot, is_living, is_vacant}
 use Rattle.model.specs.state.Ids.{vacant_indices, with_room, granted_ids, granted_slot, grant}
 use Rattle.model.specs.state.Commands.{is_alive}
 use Rattle.model.specs.state.Rows.{cell_at, kinds_of}

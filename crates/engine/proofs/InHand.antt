@@ -1,6 +1,5 @@
 -- What is in hand: ids that are granted and commands that are kept, as ids are granted, entities written and systems end.
-use Rattle.std.proofs.Common.{◌≡◌, ◌≢◌, ℕ, ◌<◌, true, cond, ◌==◌, ◌⊎◌, inl, inr, List, [], ◌∷◌, length, get_or, set, Option, refl, ap, subst, sym, ◌∙◌}
-use Rattle.std.specs.List.{AllByRecursion}
+use Rattle.std.proofs.Common.{◌≡◌, ◌≢◌, ℕ, ◌<◌, true, cond, ◌==◌, ◌⊎◌, inl, inr, List, [], length, get_or, set, Option, refl, ap, subst, sym, ◌∙◌}
 use Rattle.std.proofs.lemmas.Bool.{cases_eq, eq-eqb, ne_eqb, false≢true}
 use Rattle.std.proofs.lemmas.List.{get_or-set_same, get_or-set_other}
 use Rattle.std.proofs.lemmas.List.Elements.{recursion_from_All}

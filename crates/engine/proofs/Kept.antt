@@ -1,5 +1,5 @@
 -- An engine that is put back: what suited it before a run suits it again.
-use Rattle.std.proofs.Common.{◌≡◌, ◌↔◌, ℕ, Bool, true, false, IsTrue, ◌⊎◌, inl, inr, List, Option, Result, Err, IsErrOf, refl, sym, ap, subst, ◌∙◌}
+use Rattle.std.proofs.Common.{◌≡◌, ◌↔◌, Bool, true, false, IsTrue, ◌⊎◌, inl, inr, List, Option, Result, Err, IsErrOf, refl, sym, ap, subst, ◌∙◌}
 use Rattle.std.proofs.lemmas.Bool.{false≢true}
 use Rattle.model.specs.access.Access.{Params}
 use Rattle.model.specs.state.State.{State}

@@ -8,8 +8,8 @@ use Rattle.std.proofs.lemmas.List.Elements.{All-from_recursion}
 use Rattle.std.proofs.lemmas.List.Folds.{list_any-append}
 use Rattle.model.specs.Lists.{IsIn, has, update_at}
 use Rattle.model.specs.declared.entities.Entity.{Entity}
-use Rattle.model.specs.state.State.{Slot, State, fresh_slot, is_granted, is_living, last_generation, most_passed_over}
-use Rattle.model.specs.state.State.Status.{Vacant, Living, Retired}
+use Rattle.model.specs.state.State.{Slot, State, fresh_slot, is_granted, is_living, most_passed_over}
+use Rattle.model.specs.state.State.Status.{Living}
 use Rattle.model.specs.state.Rows.{insert_component, remove_component}
 use Rattle.model.specs.state.Commands.{CommandTarget, is_alive, freed, spawned, with_row, if_alive, apply_command, apply_buffer, names_index, release}
 use Rattle.model.specs.shown.Outcome.{Command, AreSpawns, spawned_by}
