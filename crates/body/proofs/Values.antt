@@ -6,7 +6,6 @@ use Rattle.std.proofs.lemmas.Bool.{eqb-true, eq-eqb, ltb-true, ltb-false, lt-ltb
 use Rattle.std.proofs.lemmas.List.{get_or_past, get_or-set_same, get_or-set_other, length-set}
 use Rattle.model.specs.Lists.{has, first_some, map_index, update_at}
 use Rattle.model.specs.access.Access.{Params}
-use Rattle.model.specs.shown.Input.{value_of}
 use Rattle.model.specs.shown.Outcome.{value_written}
 use Rattle.model.specs.shown.Overlay.{resource_after, resources_after}
 use Rattle.model.specs.state.State.{Resource, World, no_resource}
@@ -111,22 +110,6 @@ still-writable params written n v l may able = record { count = length-set writt
     go : (m : ℕ) (w : ℤ) (b : Bool) → (m == n) ≡ b → written_at (set written n (Some v)) m ≡ Some w → has m params.res_mut ≡ true
     go m w true e h = ap (λ k. has k params.res_mut) (eqb-true m n e) ∙ may
     go m w false e h = able.each m w (sym (set-at written n m v l ∙ ap (λ b. cond b (Some v) (written_at written m)) e) ∙ h)
-
--- ---- the opening
-
--- the values of all resources, one by one
-pub values-all : (resources : List Resource) → length resources ≡ 8 → (a0 a1 a2 a3 a4 a5 a6 a7 : ℤ) →
-    a0 ≡ value_of resources 0 → a1 ≡ value_of resources 1 → a2 ≡ value_of resources 2 → a3 ≡ value_of resources 3 → a4 ≡ value_of resources 4 → a5 ≡ value_of resources 5 → a6 ≡ value_of resources 6 → a7 ≡ value_of resources 7 →
-    (n : ℕ) → value_at (a0 ∷ a1 ∷ a2 ∷ a3 ∷ a4 ∷ a5 ∷ a6 ∷ a7 ∷ []) n ≡ value_of resources n
-values-all resources l a0 a1 a2 a3 a4 a5 a6 a7 p0 p1 p2 p3 p4 p5 p6 p7 zero = p0
-values-all resources l a0 a1 a2 a3 a4 a5 a6 a7 p0 p1 p2 p3 p4 p5 p6 p7 (suc zero) = p1
-values-all resources l a0 a1 a2 a3 a4 a5 a6 a7 p0 p1 p2 p3 p4 p5 p6 p7 (suc (suc zero)) = p2
-values-all resources l a0 a1 a2 a3 a4 a5 a6 a7 p0 p1 p2 p3 p4 p5 p6 p7 (suc (suc (suc zero))) = p3
-values-all resources l a0 a1 a2 a3 a4 a5 a6 a7 p0 p1 p2 p3 p4 p5 p6 p7 (suc (suc (suc (suc zero)))) = p4
-values-all resources l a0 a1 a2 a3 a4 a5 a6 a7 p0 p1 p2 p3 p4 p5 p6 p7 (suc (suc (suc (suc (suc zero))))) = p5
-values-all resources l a0 a1 a2 a3 a4 a5 a6 a7 p0 p1 p2 p3 p4 p5 p6 p7 (suc (suc (suc (suc (suc (suc zero)))))) = p6
-values-all resources l a0 a1 a2 a3 a4 a5 a6 a7 p0 p1 p2 p3 p4 p5 p6 p7 (suc (suc (suc (suc (suc (suc (suc zero))))))) = p7
-values-all resources l a0 a1 a2 a3 a4 a5 a6 a7 p0 p1 p2 p3 p4 p5 p6 p7 (suc (suc (suc (suc (suc (suc (suc (suc n)))))))) = ap (λ (r : Resource). r.value) (sym (get_or_past resources (suc (suc (suc (suc (suc (suc (suc (suc n)))))))) no_resource (omega arith)))
 
 -- ---- the end
 

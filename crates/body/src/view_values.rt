@@ -118,14 +118,9 @@ fn values_of(world: &World) -> [i64; Res::COUNT]
 {
     // Tells how many resources there are.
     let _now = world.now();
-    [
-        world.res(Res::Round),
-        world.res(Res::Gravity),
-        world.res(Res::Total),
-        world.res(Res::Seed),
-        world.res(Res::Limit),
-        world.res(Res::Alarm),
-        world.res(Res::Mode),
-        world.res(Res::Step),
-    ]
+    let mut values = [0; Res::COUNT];
+    for number in 0..Res::COUNT {
+        values[number] = world.res(Res::ALL[number]);
+    }
+    values
 }

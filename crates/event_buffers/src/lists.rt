@@ -8,7 +8,7 @@ ghost use Rattle.model.specs.state.Events.{queue_of, unread, can_send, send_all}
 ghost use Rattle.model.specs.shown.Input.{unread_of};
 ghost use Rattle.model.specs.shown.Outcome.{events_sent};
 ghost use Rattle.model.specs.shown.Overlay.{queues_after, has_event_numbers};
-ghost use Rattle.event_buffers.specs.Lists.{ListValue, lists_of, place_in, with_event};
+ghost use Rattle.event_buffers.specs.Lists.{ListValue, lists_of, place_in, sent_in_turn, with_event};
 
 use crate::buffers::Events;
 use crate::queue::SendFault;
@@ -155,7 +155,7 @@ impl EventLists {
         if !self.can_send(events) {
             return Err(SendFault::NumbersSpent);
         }
-        match self.send_each(events) {
+        match self.send_every(events) {
             Ok(()) => Ok(()),
             Err(_) => Err(SendFault::Memory),
         }
@@ -184,14 +184,22 @@ impl EventLists {
     }
 
     // Sends the events of every kind.
-    fn send_each(&self, events: &mut Events) -> Result<(), SendFault>
+    fn send_every(&self, events: &mut Events) -> Result<(), SendFault>
         ensures { OnOk result (events.new ≡ queues_after (events_sent self.now.kinds self.now.values) events.old) }
     {
         events.prove_law();
-        self.send_of(Event::Hit, events)?;
-        self.send_of(Event::Heal, events)?;
-        self.send_of(Event::Spark, events)?;
-        self.send_of(Event::Done, events)
+        self.send_each(&Event::ALL, events)
+    }
+
+    // Sends the events of each of these kinds.
+    fn send_each(&self, kinds: &[Event], events: &mut Events) -> Result<(), SendFault>
+        ensures { OnOk result (events.new ≡ sent_in_turn (events_sent self.now.kinds self.now.values) (map event_number kinds.now) events.old) }
+    {
+        let Some((kind, others)) = kinds.split_first() else {
+            return Ok(());
+        };
+        self.send_of(*kind, events)?;
+        self.send_each(others, events)
     }
 
     // Sends the events of a kind.
