@@ -1,7 +1,9 @@
 -- The record of runs, one run after the other.
-use Rattle.std.proofs.Common.{◌≡◌, ◌≤◌, ℕ, ◌+◌, Bool, true, List, [], ◌∷◌, ◌++◌, length, map, reverse, refl, sym, ap, ◌∙◌, arith, length-append}
-use Rattle.std.proofs.lemmas.List.{length-map, map-append, reverse-reverse}
+use Rattle.std.proofs.Common.{◌≡◌, ◌≤◌, ℕ, ◌+◌, Bool, true, List, [], ◌∷◌, ◌++◌, length, map, reverse, refl, sym, ap, ◌∙◌, subst, arith, length-append}
+use Rattle.std.proofs.lemmas.List.{length-map, map-append, reverse-reverse, append_assoc, append-nil}
 use Rattle.model.specs.declared.steps.Step.{Step}
+use Rattle.executor_core.specs.declared.trace.Trace.{Trace}
+use Rattle.engine.specs.History.{history_of}
 use Rattle.model.specs.shown.Outcome.{BodyMeaning}
 use Rattle.model.specs.steps.Schedule.{Schedule}
 use Rattle.model.specs.state.State.{State}
@@ -30,6 +32,19 @@ record-more hs m steps old new many before after within = record {
   within = within;
 }
 
+-- no run more
+pub note-none : (traces : List Trace) (old : List ℕ) → traces ≡ [] → (hs : List (List Step)) → IsRecordOf hs old → IsRecordOf (hs ++ map history_of traces) old
+note-none traces old none hs kept = subst (λ xs. IsRecordOf xs old) (sym (append-nil hs) ∙ ap (λ (ts : List Trace). hs ++ map history_of ts) (sym none)) kept
+
+-- a run more, and others behind it
+pub note-next : (traces others : List Trace) (trace : Trace) (m k : ℕ) (old mid new : List ℕ) → traces ≡ trace ∷ others → k ≡ m + 1 → mid ≡ old ++ lines_text (run_lines k trace.steps.items) → length mid ≤ 67108864
+    → ((hs : List (List Step)) → length hs ≡ k → IsRecordOf hs mid → IsRecordOf (hs ++ map history_of others) new)
+    → (hs : List (List Step)) → length hs ≡ m → IsRecordOf hs old → IsRecordOf (hs ++ map history_of traces) new
+note-next traces others trace m k old mid new are next noted within more hs many kept =
+    subst (λ xs. IsRecordOf xs new) (append_assoc hs (history_of trace ∷ []) (map history_of others) ∙ ap (λ (ts : List Trace). hs ++ map history_of ts) (sym are))
+    (more (hs ++ history_of trace ∷ []) (omega (arith, next, many, length-append hs (history_of trace ∷ [])))
+    (record-more hs m trace.steps.items old mid many kept.same (noted ∙ ap (λ n. old ++ lines_text (run_lines n trace.steps.items)) next) within))
+
 -- nothing is recorded yet
 pub none-noted : (width : ℕ) (s : Schedule) (bodies : List BodyMeaning) (w : State) (recorded : Bool) (noted : List ℕ) → noted ≡ []
     → HaveNoted width s bodies w 0 recorded w noted
@@ -40,14 +55,14 @@ none-noted width s bodies w recorded noted none = record {
   kept = λ asked. record { same = none; within = omega (arith, ap length none) };
 }
 
--- one run more of the same schedule with bodies that mean the same
-pub next-noted : (width : ℕ) (s z : Schedule) (bodies others : List BodyMeaning) (w middle w' : State) (m k : ℕ) (recorded : Bool) (old new : List ℕ) (h : List Step)
-    → z ≡ s → others ≡ bodies → k ≡ m + 1 → HaveNoted width s bodies w m recorded middle old → HaveRun width z others middle (h ∷ []) w'
-    → ((hs : List (List Step)) → length hs ≡ m → (recorded ≡ true → IsRecordOf hs old) → recorded ≡ true → IsRecordOf (hs ++ h ∷ []) new)
+-- more runs of the same schedule with bodies that mean the same
+pub next-noted : (width : ℕ) (s z : Schedule) (bodies others : List BodyMeaning) (w middle w' : State) (m n k : ℕ) (recorded : Bool) (old new : List ℕ) (gs : List (List Step))
+    → z ≡ s → others ≡ bodies → length gs ≡ n → k ≡ m + n → HaveNoted width s bodies w m recorded middle old → HaveRun width z others middle gs w'
+    → ((hs : List (List Step)) → length hs ≡ m → (recorded ≡ true → IsRecordOf hs old) → recorded ≡ true → IsRecordOf (hs ++ gs) new)
     → HaveNoted width s bodies w k recorded w' new
-next-noted width s z bodies others w middle w' m k recorded old new h same_schedule same_bodies e noted more kept = record {
-  histories = noted.histories ++ h ∷ [];
-  many = omega (arith, e, length-append noted.histories (h ∷ []), noted.many);
-  runs = next-run width s z bodies others w middle w' noted.histories (h ∷ []) same_schedule same_bodies noted.runs more;
+next-noted width s z bodies others w middle w' m n k recorded old new gs same_schedule same_bodies count e noted more kept = record {
+  histories = noted.histories ++ gs;
+  many = omega (arith, e, count, length-append noted.histories gs, noted.many);
+  runs = next-run width s z bodies others w middle w' noted.histories gs same_schedule same_bodies noted.runs more;
   kept = kept noted.histories noted.many noted.kept;
 }

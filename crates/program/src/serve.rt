@@ -18,7 +18,7 @@ use crate::answer::Answer;
 use crate::checking::check_trace;
 use crate::fault::Fault;
 use crate::file::bytes_of;
-use crate::recording::note;
+use crate::recording::note_all;
 use crate::replaying::replay_trace;
 use crate::schedule::{bodies_of, declare, names_of};
 use crate::world::world_of;
@@ -170,8 +170,11 @@ fn run<'s, M: Mode<'s>>(
     })
 }
 
-// Runs a schedule so many times, one run after the other, and gives their record. The steps of a run are dropped before the next one
-// begins.
+// How many runs one call of the engine takes: its workers begin and end with the call, and the steps of these runs stand in memory.
+const RUNS_AT_ONCE: u32 = 256;
+
+// Runs a schedule so many times, one run after the other, and gives their record. The steps of runs are dropped before the next ones
+// begin.
 fn run_times<'s, M: Mode<'s>>(
     alloc: Global,
     engine: &mut Engine<ScriptBody>,
@@ -184,33 +187,35 @@ fn run_times<'s, M: Mode<'s>>(
     ensures stopped { IfErr result (IsStoppedRun recorded) }
 {
     let mut text = String::new(alloc);
-    for run in 0..times {
-        let trace = run_once(alloc, engine, mode)?;
+    let mut done = 0;
+    while done < times {
+        let count = (times - done).min(RUNS_AT_ONCE);
+        let traces = run_some(alloc, engine, count, mode)?;
         if recorded {
-            note(&mut text, run + 1, &trace)?;
+            note_all(&mut text, done, traces.as_slice())?;
         }
+        done += count;
     }
     Ok(text)
 }
 
-// Runs a schedule once.
-fn run_once<'s, M: Mode<'s>>(
+// Runs a schedule so many times.
+fn run_some<'s, M: Mode<'s>>(
     alloc: Global,
     engine: &mut Engine<ScriptBody>,
+    times: u32,
     mode: &M,
-) -> Result<Trace, Fault>
+) -> Result<Vec<Trace>, Fault>
     requires { IsFalse engine.old.spoiled }
-    ensures ran { IfOk result (λ trace. HaveRun (M.width mode.now) engine.old.schedule (meanings script_means engine.old.schedule engine.old.bodies) engine.old.state (history_of trace ∷ []) engine.new.state) }
+    ensures count { IfOk result (λ traces. length traces.items ≡ times) }
+    ensures ran { IfOk result (λ traces. HaveRun (M.width mode.now) engine.old.schedule (meanings script_means engine.old.schedule engine.old.bodies) engine.old.state (map history_of traces.items) engine.new.state) }
     ensures schedule { engine.new.schedule ≡ engine.old.schedule }
     ensures meant { OnOk result (meanings script_means engine.old.schedule engine.new.bodies ≡ meanings script_means engine.old.schedule engine.old.bodies) }
     ensures sound { OnOk result (IsFalse engine.new.spoiled) }
     ensures stopped { (recorded : Bool) → IfErr result (IsStoppedRun recorded) }
 {
-    match engine.run(alloc, 1, mode) {
-        Ok(mut traces) => match traces.pop() {
-            Some(trace) => Ok(trace),
-            None => unreachable!(),
-        },
+    match engine.run(alloc, times, mode) {
+        Ok(traces) => Ok(traces),
         Err(RunFault::Memory) => Err(Fault::Memory),
         Err(RunFault::ClockSpent) => Err(Fault::ClockSpent),
         Err(RunFault::IdsSpent) => Err(Fault::IdsSpent),

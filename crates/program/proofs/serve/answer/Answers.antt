@@ -16,7 +16,7 @@ use Rattle.program.specs.Setup.{AreScriptsOf, IsScheduleOf, declared_names, mean
 use Rattle.program.specs.Checked.{IsCheckOf}
 use Rattle.program.specs.Recorded.{IsTextOfRuns}
 use Rattle.program.specs.Replayed.{IsTextOfReplay}
-use Rattle.program.specs.Refused.{IsRefusedBy, IsStoppedRun, IsTraceUnread, IsUngiven, IsUnreplayed, IsUnscripted}
+use Rattle.program.specs.Refused.{IsRefusedBy, IsStoppedRun, IsTraceUnread, IsUnreplayed, IsUnscripted}
 use Rattle.program.specs.Served.{IsAnswerTo, IsTextOfReport}
 use Rattle.program.proofs.Fitting.{count-declared}
 use Rattle.program.specs.Fault.{fault_of_build, fault_of_file}

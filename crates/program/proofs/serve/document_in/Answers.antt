@@ -1,4 +1,4 @@
-use Rattle.std.proofs.Common.{◌≡◌, Err, ap, sym, ◌∙◌, subst, IfSome}
+use Rattle.std.proofs.Common.{◌≡◌, Err, ap, sym, subst, IfSome}
 use Rattle.program.specs.Fault.{fault_of_file}
 use Rattle.program.specs.Refused.{IsUnread}
 use Rattle.program.proofs.Serving.{document-unread, of-given}
