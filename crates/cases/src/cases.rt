@@ -48,7 +48,7 @@ pub struct Wanted<'a> {
 
 impl<'a> Given<'a> {
     /// What an entry gives, of some entries.
-    pub fn read(
+    pub(crate) fn read(
         alloc: Global,
         entry: &Entry<'a>,
         entries: &[Entry<'a>],
@@ -68,7 +68,7 @@ impl<'a> Given<'a> {
 
 impl<'a> Wanted<'a> {
     /// What an entry wants.
-    pub fn read(alloc: Global, entry: &Entry<'a>) -> Result<Wanted<'a>, CaseFault<'a>> {
+    pub(crate) fn read(alloc: Global, entry: &Entry<'a>) -> Result<Wanted<'a>, CaseFault<'a>> {
         let told = entry.words("told").unwrap_or("");
         let status = match entry.words("status") {
             Some(words) => words
@@ -91,7 +91,7 @@ impl<'a> Wanted<'a> {
     }
 
     /// Whether this is what is wanted, of writers that may fail.
-    pub fn is_met_by(&self, served: &Served, until: Until) -> bool {
+    pub(crate) fn is_met_by(&self, served: &Served, until: Until) -> bool {
         let out = self.out.as_bytes();
         let record = self.record.as_bytes();
         served.status == self.status

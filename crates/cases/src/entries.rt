@@ -103,7 +103,7 @@ impl<'a> Entry<'a> {
     }
 
     /// Its kind and its name.
-    pub fn head(&self) -> (&'a str, &'a str) {
+    pub(crate) fn head(&self) -> (&'a str, &'a str) {
         match self.parts.first() {
             Some(head) => (head.key, head.words),
             None => ("", ""),
@@ -111,7 +111,7 @@ impl<'a> Entry<'a> {
     }
 
     /// That it isn't as it is to be.
-    pub fn malformed(&self) -> CaseFault<'a> {
+    pub(crate) fn malformed(&self) -> CaseFault<'a> {
         match self.parts.first() {
             Some(head) => CaseFault::Malformed(head.line),
             None => CaseFault::Malformed(""),
@@ -119,7 +119,7 @@ impl<'a> Entry<'a> {
     }
 
     /// The words of the part with this key.
-    pub fn words(&self, key: &str) -> Option<&'a str> {
+    pub(crate) fn words(&self, key: &str) -> Option<&'a str> {
         for part in &self.parts {
             if part.key == key {
                 return Some(part.words);
@@ -129,7 +129,7 @@ impl<'a> Entry<'a> {
     }
 
     /// The text of the part with this key, empty where there is none.
-    pub fn text(&self, alloc: Global, key: &str) -> Result<String, CaseFault<'a>> {
+    pub(crate) fn text(&self, alloc: Global, key: &str) -> Result<String, CaseFault<'a>> {
         for (place, part) in self.parts.iter().enumerate() {
             if part.key == key {
                 return text_at(alloc, self.parts.as_slice(), place);
@@ -139,7 +139,7 @@ impl<'a> Entry<'a> {
     }
 
     /// The first line of a part that no case may have, or not so.
-    pub fn stray(&self) -> Option<&'a str> {
+    pub(crate) fn stray(&self) -> Option<&'a str> {
         let mut is_open = false;
         for part in self.parts.iter().skip(1) {
             let is_fit = if part.goes_on() {
@@ -157,7 +157,10 @@ impl<'a> Entry<'a> {
 }
 
 /// The entries of case files, whose texts stand behind a line end.
-pub fn entries_of<'a>(alloc: Global, text: &'a str) -> Result<Vec<Entry<'a>>, CaseFault<'a>> {
+pub(crate) fn entries_of<'a>(
+    alloc: Global,
+    text: &'a str,
+) -> Result<Vec<Entry<'a>>, CaseFault<'a>> {
     let mut entries = Vec::new(alloc);
     for text in text.split("\n== ").skip(1) {
         entries.push(Entry::read(alloc, text)?)?;
@@ -178,7 +181,7 @@ fn text_at<'a>(alloc: Global, parts: &[Part<'a>], place: usize) -> Result<String
 }
 
 /// The text of the program file of this name.
-pub fn file_named<'a>(
+pub(crate) fn file_named<'a>(
     alloc: Global,
     entries: &[Entry<'a>],
     name: &'a str,

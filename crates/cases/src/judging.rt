@@ -63,7 +63,7 @@ fn other_again<'a>(
 
 /// The first number of workers, 0 for one thread, with which a case's command leaves something else than the case says, and what. None
 /// where it never does.
-pub fn first_other<'a, R: Threads + Wait + Files + Copy + Send + Sync + 'static>(
+pub(crate) fn first_other<'a, R: Threads + Wait + Files + Copy + Send + Sync + 'static>(
     runtime: R,
     alloc: Global,
     given: &Given<'a>,

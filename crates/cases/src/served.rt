@@ -24,12 +24,12 @@ pub struct Served {
 
 impl Served {
     /// Whether the command ended well and told nothing.
-    pub fn is_well(&self) -> bool {
+    pub(crate) fn is_well(&self) -> bool {
         self.status == 0 && self.faults.is_empty()
     }
 
     /// Whether it ended well, recorded nothing, and printed what another one did.
-    pub fn is_same(&self, other: &Served) -> bool {
+    pub(crate) fn is_same(&self, other: &Served) -> bool {
         self.is_well() && self.record.is_empty() && self.out.as_slice() == other.out.as_slice()
     }
 }
@@ -53,7 +53,7 @@ pub const NEVER: Until = Until {
 };
 
 /// The words of a command line, with the program's own name before them.
-pub fn words_of(alloc: Global, line: &str) -> Result<Vec<String>, AllocError> {
+pub(crate) fn words_of(alloc: Global, line: &str) -> Result<Vec<String>, AllocError> {
     let mut words = Vec::new(alloc);
     words.push(String::from_str(alloc, "ecsrun")?)?;
     for word in line.split(' ') {
@@ -63,7 +63,7 @@ pub fn words_of(alloc: Global, line: &str) -> Result<Vec<String>, AllocError> {
 }
 
 /// What the words of a command line ask for.
-pub fn args_of<'w, 'a>(
+pub(crate) fn args_of<'w, 'a>(
     alloc: Global,
     words: &'w [String],
     line: &'a str,
@@ -105,7 +105,7 @@ fn serve_reader<F: Read>(
 }
 
 /// Serves a command over a file and a trace on one thread, where the readers and writers fail after so many calls.
-pub fn serve_text(
+pub(crate) fn serve_text(
     alloc: Global,
     args: &Args<'_>,
     file: &str,
@@ -117,7 +117,7 @@ pub fn serve_text(
 }
 
 /// Serves a command over the file of its path and a trace on one thread, where the writers fail after so many calls.
-pub fn serve_opened<R: Files>(
+pub(crate) fn serve_opened<R: Files>(
     runtime: &R,
     alloc: Global,
     args: &Args<'_>,
@@ -129,7 +129,7 @@ pub fn serve_opened<R: Files>(
 }
 
 /// Serves a command over a file and a trace with so many workers, where the readers and writers fail after so many calls.
-pub fn serve_workers<R: Threads + Wait + Copy + Send + Sync + 'static>(
+pub(crate) fn serve_workers<R: Threads + Wait + Copy + Send + Sync + 'static>(
     runtime: R,
     alloc: Global,
     workers: u8,

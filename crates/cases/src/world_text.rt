@@ -20,7 +20,7 @@ fn value_of<'a>(words: &'a str, name: &str) -> &'a str {
 }
 
 /// Whether each word gives a value to what a world's text tells. The first is the number of runs.
-pub fn are_values(words: &str) -> bool {
+pub(crate) fn are_values(words: &str) -> bool {
     words.split(' ').skip(1).all(|word| match word.split_once('=') {
         Some((name, _)) => name == "passed" || RESOURCES.contains(&name),
         None => false,
@@ -37,7 +37,7 @@ fn push_line(text: &mut String, name: &str, value: &str) -> Result<(), AllocErro
 }
 
 /// The text of a world with these entities, of which words tell the number of runs and what isn't 0.
-pub fn world_text(alloc: Global, words: &str, entities: &str) -> Result<String, AllocError> {
+pub(crate) fn world_text(alloc: Global, words: &str, entities: &str) -> Result<String, AllocError> {
     let runs = words.split(' ').next().unwrap_or("");
     let mut text = String::new(alloc);
     push_line(&mut text, "runs", runs)?;
