@@ -1,6 +1,6 @@
 // The columns that a query of a view holds: its own where it writes, shared ones where it reads.
 
-ghost use Rattle.std.specs.Prelude.{◌≡◌, ◌+◌, ◌<◌, ◌≤◌, ℕ, pos, true, Some, length, get_or, slice_get, option_map};
+ghost use Rattle.std.specs.Prelude.{◌≡◌, ◌+◌, ◌<◌, ◌≤◌, ℕ, pos, true, Some, length, take, get_or, slice_get, option_map};
 ghost use Rattle.column_store.specs.Cells.{changed_cell};
 ghost use Rattle.kinds.specs.Kind.{kind_number};
 ghost use Rattle.kinds.specs.Components.{widths};
@@ -61,7 +61,7 @@ impl Held {
         ensures words { option_map (λ c. c.words) (slice_get (held_seen self.now).cells place) ≡ Some result }
         ensures width { length result ≡ widths (held_seen self.now).kind }
     {
-        self.column().at(place).value.words()
+        self.column().fields(place)
     }
 
     // Replaces the component at a place, which counts as changed at this tick, also where the value stays.
@@ -73,6 +73,18 @@ impl Held {
     {
         match &mut self.cells {
             Cells::Written(column) => column.write(place, value, tick),
+            Cells::Read(_) => unreachable!(),
+        }
+    }
+
+    // Replaces the fields of the component at a place by the first ones of two words. It counts as changed at this tick.
+    fn set_words(&mut self, place: usize, pair: [i64; 2], tick: Tick)
+        requires written { (held_seen self.old).is_written ≡ true }
+        requires within { place < length (held_seen self.old).cells }
+        ensures { held_seen self.new ≡ with_cell place (changed_cell (take (widths (held_seen self.old).kind) pair) tick) (held_seen self.old) }
+    {
+        match &mut self.cells {
+            Cells::Written(column) => column.write_words(place, pair, tick),
             Cells::Read(_) => unreachable!(),
         }
     }
@@ -106,7 +118,7 @@ impl Held {
         ensures { held_seen self.new ≡ with_cell at (field_cell (widths (kind_number kind)) tick place value) (held_seen self.old) }
     {
         let words = self.words(at);
-        self.set(at, with_field(kind, &words, place, value), tick);
+        self.set_words(at, with_field(kind, &words, place, value), tick);
     }
 
     // Replaces a field of the components from a place on by these values, a value a component. They count as changed at this tick.

@@ -364,7 +364,8 @@ fn set_field(query: &mut ViewQuery, row: usize, kind: Kind, place: usize, value:
     ensures { query.new ≡ sheet_with_fields query.old (kind_number kind) place row (value ∷ []) }
 {
     let words = fields_at(query, row, kind);
-    query.write(row, with_field(kind, &words, place, value));
+    let pair = with_field(kind, &words, place, value);
+    query.write(row, Value::of(kind, &pair[..kind.width()]));
 }
 
 // Writes values into a field of a kind of the rows from one on, each found by itself.

@@ -1,6 +1,6 @@
 // A column without stamps: the components of one kind, packed by their shape.
 
-ghost use Rattle.std.specs.Prelude.{◌≡◌, ◌<◌, ◌≤◌, [], map, Some, length, insert, remove, slice_get, slice_set, IfOk, OnOk, OnErr};
+ghost use Rattle.std.specs.Prelude.{◌≡◌, ◌<◌, ◌≤◌, [], map, Some, length, insert, remove, slice_get, slice_set, take, IfOk, OnOk, OnErr};
 ghost use Rattle.std.specs.List.{AllByRecursion};
 ghost use Rattle.kinds.specs.Kind.{kind_number};
 ghost use Rattle.kinds.specs.Components.{widths};
@@ -10,7 +10,7 @@ ghost use Rattle.column_store.specs.Keeping.{kept_from};
 ghost use Rattle.column_store.specs.Arriving.{laid, Fit};
 
 use crate::packed::{Amount, Mark, Packed, Pair};
-use crate::packs::{copied, insert_in, keep_in, merged_in, remove_in, set_in};
+use crate::packs::{copied, insert_in, keep_in, merged_in, remove_in, set_in, set_words_in};
 use crate::stamped::StampedValue;
 use entity_table::Entity;
 use kinds::{Component, Fields, Kind, Shape, Value};
@@ -136,6 +136,18 @@ impl Column {
             Packs::Marks(items) => set_in(items, place, value),
             Packs::Amounts(items) => set_in(items, place, value),
             Packs::Pairs(items) => set_in(items, place, value),
+        }
+    }
+
+    // Replaces the fields of the component at a place by the first ones of two words.
+    pub(crate) fn set_words(&mut self, place: usize, pair: [i64; 2])
+        requires { place < length self.old.words }
+        ensures { self.new ≡ record self.old { words = slice_set self.old.words place (take (widths self.old.kind) pair) } }
+    {
+        match &mut self.packs {
+            Packs::Marks(items) => set_words_in(items, place, pair),
+            Packs::Amounts(items) => set_words_in(items, place, pair),
+            Packs::Pairs(items) => set_words_in(items, place, pair),
         }
     }
 

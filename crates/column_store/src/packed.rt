@@ -1,6 +1,6 @@
 // What a column holds for a row: the fields of a component, with no word more than its kind has.
 
-ghost use Rattle.std.specs.Prelude.{◌≡◌, ℕ, ℤ, List, length, refl};
+ghost use Rattle.std.specs.Prelude.{◌≡◌, ℕ, ℤ, List, length, take, refl};
 ghost use Rattle.kinds.specs.Components.{widths, one_word, two_words, no_words};
 ghost use Rattle.kinds.specs.Value.{value_number, value_words};
 ghost use Rattle.column_store.specs.Packed.{mark_words, amount_words, pair_words};
@@ -17,6 +17,10 @@ pub(crate) trait Packed: Copy {
     fn of(value: Value) -> Self
         requires { widths (value_number value) ≡ WIDTH }
         ensures { words result ≡ value_words value };
+
+    // The first ones of two words.
+    fn packed(pair: [i64; 2]) -> Self
+        ensures { words result ≡ take WIDTH pair };
 
     // As words, in order.
     fn fields(self) -> Fields
@@ -55,6 +59,10 @@ impl Packed for Mark {
         Mark
     }
 
+    fn packed(_pair: [i64; 2]) -> Self {
+        Mark
+    }
+
     fn fields(self) -> Fields {
         Fields::none()
     }
@@ -72,6 +80,10 @@ impl Packed for Amount {
         let words = value.words();
         let list = words.as_slice();
         Amount { v: list[0] }
+    }
+
+    fn packed(pair: [i64; 2]) -> Self {
+        Amount { v: pair[0] }
     }
 
     fn fields(self) -> Fields {
@@ -93,6 +105,13 @@ impl Packed for Pair {
         Pair {
             x: list[0],
             y: list[1],
+        }
+    }
+
+    fn packed(pair: [i64; 2]) -> Self {
+        Pair {
+            x: pair[0],
+            y: pair[1],
         }
     }
 

@@ -1,6 +1,6 @@
 // Lists of packed components, and what is done to one: written once for every shape.
 
-ghost use Rattle.std.specs.Prelude.{◌≡◌, ◌<◌, ◌≤◌, map, length, insert, remove, slice_set, IfOk, OnOk, OnErr};
+ghost use Rattle.std.specs.Prelude.{◌≡◌, ◌<◌, ◌≤◌, map, length, insert, remove, slice_set, take, IfOk, OnOk, OnErr};
 ghost use Rattle.std.specs.List.{AllByRecursion};
 ghost use Rattle.kinds.specs.Components.{widths};
 ghost use Rattle.kinds.specs.Value.{value_number, value_words};
@@ -31,6 +31,15 @@ pub(crate) fn set_in<P: Packed>(items: &mut Vec<P>, place: usize, value: Value)
     ensures { map P.words items.new.items ≡ slice_set (map P.words items.old.items) place (value_words value) }
 {
     items[place] = P::of(value);
+}
+
+// Replaces the fields of the component at a place by the first ones of two words.
+#[tactic(auto, using(crate::proofs::Lists::edits))]
+pub(crate) fn set_words_in<P: Packed>(items: &mut Vec<P>, place: usize, pair: [i64; 2])
+    requires { place < length items.old.items }
+    ensures { map P.words items.new.items ≡ slice_set (map P.words items.old.items) place (take P.WIDTH pair) }
+{
+    items[place] = P::packed(pair);
 }
 
 // Inserts a component before a place. Where an allocation fails the list stays as it was.

@@ -1,6 +1,6 @@
 // A column with the stamps of its components.
 
-ghost use Rattle.std.specs.Prelude.{◌≡◌, ◌<◌, ◌≤◌, [], Some, length, insert, remove, slice_get, option_map, IfOk, OnOk, OnErr};
+ghost use Rattle.std.specs.Prelude.{◌≡◌, ◌<◌, ◌≤◌, [], Some, length, insert, remove, slice_get, take, option_map, IfOk, OnOk, OnErr};
 ghost use Rattle.std.specs.List.{AllByRecursion};
 ghost use Rattle.kinds.specs.Kind.{kind_number};
 ghost use Rattle.kinds.specs.Value.{value_number, value_words};
@@ -16,7 +16,7 @@ use crate::keeping::keep;
 use crate::merging::merged;
 use change_ticks::{Stamp, Tick};
 use entity_table::Entity;
-use kinds::{Component, Kind, Value};
+use kinds::{Component, Fields, Kind, Value};
 use std::alloc::{AllocError, Global};
 use std::marker::Model;
 
@@ -109,6 +109,15 @@ impl StampedColumn {
         }
     }
 
+    /// The fields of the component at a place.
+    pub fn fields(&self, place: usize) -> Fields
+        requires { place < length self.now.cells }
+        ensures words { option_map (λ c. c.words) (slice_get self.now.cells place) ≡ Some result }
+        ensures width { length result ≡ widths self.now.kind }
+    {
+        self.column.fields(place)
+    }
+
     /// The component at a place, of the column's type.
     pub fn get<C: Component>(&self, place: usize) -> C
         requires kind { self.now.kind ≡ C.NUMBER }
@@ -135,6 +144,16 @@ impl StampedColumn {
         ensures { self.new ≡ record self.old { cells = update_at place (changed_cell (value_words value) tick) self.old.cells } }
     {
         self.column.set(place, value);
+        self.stamps[place].changed = tick;
+    }
+
+    /// Replaces the fields of the component at a place by the first ones of two words: as many as the kind has. It counts as changed at this
+    /// tick.
+    pub fn write_words(&mut self, place: usize, pair: [i64; 2], tick: Tick)
+        requires { place < length self.old.cells }
+        ensures { self.new ≡ record self.old { cells = update_at place (changed_cell (take (widths self.old.kind) pair) tick) self.old.cells } }
+    {
+        self.column.set_words(place, pair);
         self.stamps[place].changed = tick;
     }
 
