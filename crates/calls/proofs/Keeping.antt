@@ -8,8 +8,7 @@ use Rattle.model.specs.shown.Outcome.{Outcome, IsWithin, untouched}
 use Rattle.body.specs.Keeps.{KeepsWithin}
 use Rattle.body.specs.Seen.{Seen, with_resource}
 use Rattle.body.proofs.Keeps.{IsWithin-untouched, IsWithin-with_resource, IsWithin-with_register, keeps_ok, keeps_untouched, keeps_refusing}
-use Rattle.calls.specs.Tallied.{total, tallied}
-use Rattle.calls.specs.Rounds.{round, round_shown, counted, refused_after_one}
+use Rattle.calls.specs.Bodies.{total, read_over, answered, tallied, refused_at_one}
 
 -- a view with this outcome
 abbrev view_of : Params → Shown → Outcome → Seen
@@ -20,17 +19,13 @@ tallied_keeps params = keeps_ok params (tallied params) (λ seen can.
     let first = view_of params seen (untouched params seen) in
     IsWithin-with_register (view_of params seen (with_resource first total _).outcome) 0 _ (IsWithin-with_resource first total _ (IsWithin-untouched params seen can.rows can.registers)))
 
-pub answered_keeps : (params : Params) (refusal : Option ℕ) → KeepsWithin params (λ seen. elim refusal [ None ↦ Ok (untouched params seen) | Some number ↦ Err number ])
+pub answered_keeps : (params : Params) (refusal : Option ℕ) → KeepsWithin params (answered refusal params)
 answered_keeps params None = keeps_untouched params
 answered_keeps params (Some number) = keeps_refusing params number
 
-pub counted_keeps : (params : Params) → KeepsWithin params (λ seen. Ok (counted params seen))
-counted_keeps params = keeps_ok params (counted params) (λ seen can.
-    IsWithin-with_resource (view_of params seen (untouched params seen)) round _ (IsWithin-untouched params seen can.rows can.registers))
-
-pub refused_keeps : (params : Params) → KeepsWithin params (refused_after_one params)
+pub refused_keeps : (params : Params) → KeepsWithin params (refused_at_one params)
 unfolding KeepsWithin
-refused_keeps params seen o can e = go (int_eq (round_shown params seen) (pos 1)) e
+refused_keeps params seen o can e = go (int_eq (read_over params seen (untouched params seen).res_mut total) (pos 1)) e
   where
     go : (b : Bool) → cond b (Err 7) (Ok (untouched params seen)) ≡ Ok o → IsWithin widths params seen o
     go true h = absurd (cc)

@@ -3,6 +3,7 @@
 ghost use Rattle.std.specs.Prelude.{};
 ghost use Rattle.archetype_store.specs.Layout.{AreAllHome};
 
+use crate::bodies::TestBody;
 use access_set::Params;
 use archetype_store::World;
 use body::Body;
@@ -70,14 +71,44 @@ pub fn made<B: Body>(
     Some(Engine::new(alloc, built, bodies, state))
 }
 
-/// An engine of systems with these parameters and bodies, over a world.
-pub fn engine_of<B: Body>(
-    alloc: Global,
-    world: World,
+/// Systems of an engine: the parameters and the body of each.
+#[derive(Drop)]
+pub struct Systems {
     params: Vec<Params>,
-    bodies: Vec<B>,
-) -> Option<Engine<B>>
-    requires { AreAllHome world.layout }
-{
-    made(alloc, world, params, bodies)?.ok()
+    bodies: Vec<TestBody>,
+}
+
+impl Systems {
+    /// No system.
+    pub fn new(alloc: Global) -> Self {
+        Systems {
+            params: Vec::new(alloc),
+            bodies: Vec::new(alloc),
+        }
+    }
+
+    /// Adds a system. None where an allocation fails.
+    pub fn add(&mut self, params: Params, body: TestBody) -> Option<()> {
+        self.params.push(params).ok()?;
+        self.bodies.push(body).ok()
+    }
+
+    /// Adds a system with this query that follows a script.
+    pub fn follow(
+        &mut self,
+        alloc: Global,
+        params: Params,
+        rounds: Rounds,
+        instructions: &[&str],
+    ) -> Option<()> {
+        let script = script(alloc, &params, rounds, instructions)?;
+        self.add(params, TestBody::Follow(script))
+    }
+
+    /// The engine of these systems over a world.
+    pub fn engine(self, alloc: Global, world: World) -> Option<Engine<TestBody>>
+        requires { AreAllHome world.layout }
+    {
+        made(alloc, world, self.params, self.bodies)?.ok()
+    }
 }

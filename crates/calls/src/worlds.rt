@@ -10,6 +10,12 @@ use entity_table::Entity;
 use kinds::Component;
 use std::alloc::Global;
 
+/// The first entity of a world.
+pub const FIRST: Entity = Entity {
+    index: 0,
+    generation: 1,
+};
+
 /// A world at a clock in which one entity lives, without components, and that entity.
 pub fn world_of_one(alloc: Global, clock: Clock) -> Option<(World, Entity)>
     ensures clock { IfSome result (λ made. 1 ≤ made.0.state.clock) }
