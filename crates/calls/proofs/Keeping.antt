@@ -1,5 +1,5 @@
 -- What the bodies mean keeps within the parameters of their systems.
-use Rattle.std.proofs.Common.{◌≡◌, ℕ, pos, Bool, true, false, cond, [], Option, Some, None, Ok, Err}
+use Rattle.std.proofs.Common.{◌≡◌, ℕ, pos, Bool, true, false, cond, [], Option, Some, None, Result, Ok, Err}
 use Rattle.std.specs.Ordering.{int_eq}
 use Rattle.kinds.specs.Components.{widths}
 use Rattle.model.specs.access.Access.{Params}
@@ -27,6 +27,6 @@ pub refused_keeps : (params : Params) → KeepsWithin params (refused_at_one par
 unfolding KeepsWithin
 refused_keeps params seen o can e = go (int_eq (read_over params seen (untouched params seen).res_mut total) (pos 1)) e
   where
-    go : (b : Bool) → cond b (Err 7) (Ok (untouched params seen)) ≡ Ok o → IsWithin widths params seen o
+    go : (b : Bool) → cond {A = Result Outcome ℕ} b (Err 7) (Ok (untouched params seen)) ≡ Ok o → IsWithin widths params seen o
     go true h = absurd (cc)
     go false h = keeps_untouched params seen o can h
