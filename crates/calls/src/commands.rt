@@ -4,9 +4,10 @@ ghost use Rattle.std.specs.Prelude.{IfSome};
 ghost use Rattle.archetype_store.specs.Layout.{AreAllHome};
 
 use crate::bodies::TestBody;
-use crate::engines::{Systems, commanding};
+use crate::engines::{Systems, TestEngine, commanding};
 use crate::gates::{Rule, TestGate};
-use crate::runs::{Plan, run_on_threads, runs_are};
+use crate::runs::runs_are;
+use crate::threads::Trial;
 use crate::worlds::{FIRST, put, world_of_many, world_of_one};
 use archetype_store::World;
 use change_ticks::Clock;
@@ -14,11 +15,9 @@ use engine::{Engine, RunFault};
 use kinds::component::{Health, Score};
 use script::Rounds;
 use std::alloc::Global;
-use std::sync::Wait;
-use std::thread::Threads;
 
 // An engine of one system that is granted so many ids in a world in which all indices but one are taken, and spawns one.
-fn spawning(alloc: Global, spawns: u32) -> Option<Engine<TestBody>> {
+fn spawning(alloc: Global, spawns: u32) -> Option<TestEngine> {
     let params = commanding(alloc, "", spawns)?;
     let mut systems = Systems::new(alloc);
     systems.follow(alloc, params, Rounds::Once, &["spawn g0"])?;
@@ -40,16 +39,16 @@ pub fn spent_ids(alloc: Global) -> Option<bool> {
 }
 
 // A world in which one entity lives, with health.
-fn world(alloc: Global) -> Option<World>
-    ensures home { IfSome result (λ world. AreAllHome world.layout) }
+fn world(alloc: Global) -> Option<Box<World>>
+    ensures home { IfSome result (λ world. AreAllHome world.value.layout) }
 {
-    let (mut world, entity) = world_of_one(alloc, Clock::at(1))?;
-    put(&mut world, entity, Health { v: 1 })?;
+    let mut world = world_of_one(alloc, Clock::at(1))?;
+    put(&mut world, Health { v: 1 })?;
     Some(world)
 }
 
 // An engine of two systems of one level, each of which gives what has health a score.
-fn scoring(alloc: Global) -> Option<Engine<TestBody>> {
+fn scoring(alloc: Global) -> Option<TestEngine> {
     let mut systems = Systems::new(alloc);
     for instruction in ["insert row Score 1", "insert row Score 2"] {
         let params = commanding(alloc, "entity, read Health", 0)?;
@@ -58,17 +57,16 @@ fn scoring(alloc: Global) -> Option<Engine<TestBody>> {
     systems.engine(alloc, world(alloc)?)
 }
 
-/// The score of the second system stays, though one start is held until the other has left.
-pub fn schedule_order<R: Threads + Wait + Copy + Send + Sync + 'static>(
-    runtime: R,
-    alloc: Global,
-    held: u64,
-    awaited: u64,
-) -> Option<bool> {
-    let gate = TestGate::new(Rule::Hold(held, awaited));
-    let mut engine = scoring(alloc)?;
-    run_on_threads(runtime, &gate, alloc, Plan::once(2), &mut engine).ok()?;
-    Some(gate.faults() == 0 && score(&engine) == Some(Score { v: 2 }))
+/// Two starts on two threads, of which one is held until the other has left.
+pub fn schedule_order(alloc: Global, held: u64, awaited: u64) -> Option<Trial> {
+    let gate = TestGate::new(alloc, Rule::Hold(held, awaited))?;
+    Trial::once(gate, scoring(alloc)?, 2)
+}
+
+/// Whether the score of the second system stayed, and no start was held in vain.
+pub fn has_second_score(trial: Option<Trial>) -> Option<bool> {
+    let trial = trial?;
+    Some(trial.place.faults() == 0 && score(&trial.engine) == Some(Score { v: 2 }))
 }
 
 // The score of the first entity.

@@ -2,15 +2,17 @@
 
 ghost use Rattle.std.specs.Prelude.{};
 
+use std::alloc::Global;
+use std::sync::Arc;
 use std::sync::atomic::{AtomicU64, Ordering};
 use std::thread;
 use worker_pool::Gate;
 
-// How often a start that is held looks whether it may pass, at most: more than it takes until all others have come.
-const PATIENCE: u64 = 20_000_000;
+/// How often a start that is held looks whether it may pass, at most: more often than it takes until all others have come.
+pub const PATIENCE: u64 = 20_000_000;
 
 /// Which starts a gate holds, and how long.
-#[derive(Clone, Copy, PartialEq)]
+#[derive(Clone, Copy)]
 pub enum Rule {
     /// None.
     Open,
@@ -34,14 +36,18 @@ pub struct TestGate {
 }
 
 impl TestGate {
-    /// A gate that nobody has passed.
-    pub fn new(rule: Rule) -> Self {
-        TestGate::with_patience(rule, PATIENCE)
+    /// A gate that nobody has passed. None where an allocation fails.
+    pub fn new(alloc: Global, rule: Rule) -> Option<Arc<TestGate, Global>> {
+        TestGate::with_patience(alloc, rule, PATIENCE)
     }
 
     /// A gate of which a start that is held looks so often whether it may pass.
-    pub fn with_patience(rule: Rule, patience: u64) -> Self {
-        TestGate {
+    pub fn with_patience(
+        alloc: Global,
+        rule: Rule,
+        patience: u64,
+    ) -> Option<Arc<TestGate, Global>> {
+        let gate = TestGate {
             rule,
             patience,
             inside: AtomicU64::new(0),
@@ -49,7 +55,8 @@ impl TestGate {
             entered: AtomicU64::new(0),
             left: AtomicU64::new(0),
             faults: AtomicU64::new(0),
-        }
+        };
+        Arc::new(alloc, gate).ok()
     }
 
     /// How many starts were past the gate at once, at most.

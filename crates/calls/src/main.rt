@@ -15,7 +15,8 @@ mod store;
 mod threads;
 mod worlds;
 
-use crate::commands::{last_id, schedule_order, spent_ids};
+use crate::commands::{has_second_score, last_id, schedule_order, spent_ids};
+use crate::gates::PATIENCE;
 use crate::moving::{
     boxed, boxed_on_threads, kept_at_the_last_tick, kept_state, refused_engines, spent_clock,
     stamps,
@@ -23,8 +24,8 @@ use crate::moving::{
 use crate::resources::{kept_total, three_tallies};
 use crate::store::{buffers, entities, steps, texts, unions};
 use crate::threads::{
-    first_to_end_comes_back, gate_stands_round_bodies, gather, meet, not_met, refuse,
-    refuse_on_threads, repeat,
+    gather, has_no_fault, has_stood_round_five, has_traces, have_met, hold_first, meet, ran,
+    refuse, refuse_on_threads, repeat, watch,
 };
 use std::alloc::Global;
 use std::io::{self, Write};
@@ -90,8 +91,11 @@ fn kept(alloc: Global) -> [Test; 3] {
     ]
 }
 
-// The tests of what runs side by side.
-fn beside<R: Threads + Wait + Copy + Send + Sync + 'static>(rt: R, alloc: Global) -> [Test; 9] {
+// The tests of bodies on threads.
+fn bodies_on_threads<R: Threads + Wait + Copy + Send + Sync + 'static>(
+    rt: R,
+    alloc: Global,
+) -> [Test; 2] {
     [
         (
             "bodies of two types in boxes on threads",
@@ -101,42 +105,60 @@ fn beside<R: Threads + Wait + Copy + Send + Sync + 'static>(rt: R, alloc: Global
             "a refusal beside three others spoils an engine",
             refuse_on_threads(rt, alloc),
         ),
-        ("two starts meet", gather(rt, alloc, 2, 2, false)),
-        ("three starts meet", gather(rt, alloc, 3, 3, false)),
-        (
-            "sixty-four starts of many meet",
-            gather(rt, alloc, 256, 64, false),
-        ),
-        (
-            "two starts meet, a thread for each",
-            gather(rt, alloc, 2, 2, true),
-        ),
-        ("two bodies meet", meet(rt, alloc, 2)),
-        ("three bodies meet", meet(rt, alloc, 3)),
-        ("two bodies do not meet on one thread", not_met(rt, alloc)),
     ]
 }
 
-// The tests of gates, and of what comes back in which order.
-fn orders<R: Threads + Wait + Copy + Send + Sync + 'static>(rt: R, alloc: Global) -> [Test; 5] {
+// The tests of starts that meet.
+fn starts<R: Threads + Wait + Copy + Send + Sync + 'static>(rt: R, alloc: Global) -> [Test; 4] {
+    let two = ran(rt, alloc, gather(alloc, 2, 2, false));
+    let three = ran(rt, alloc, gather(alloc, 3, 3, false));
+    let many = ran(rt, alloc, gather(alloc, 256, 64, false));
+    let apart = ran(rt, alloc, gather(alloc, 2, 2, true));
     [
-        (
-            "who ends first comes back first",
-            first_to_end_comes_back(rt, alloc),
-        ),
+        ("two starts meet", have_met(two, 2)),
+        ("three starts meet", have_met(three, 3)),
+        ("sixty-four starts of many meet", have_met(many, 64)),
+        ("two starts meet, a thread for each", have_met(apart, 2)),
+    ]
+}
+
+// The tests of bodies that meet.
+fn bodies_that_meet<R: Threads + Wait + Copy + Send + Sync + 'static>(
+    rt: R,
+    alloc: Global,
+) -> [Test; 3] {
+    let two = ran(rt, alloc, meet(alloc, 2, 2, PATIENCE));
+    let three = ran(rt, alloc, meet(alloc, 3, 3, PATIENCE));
+    let alone = ran(rt, alloc, meet(alloc, 2, 1, 20_000));
+    [
+        ("two bodies meet", have_met(two, 2)),
+        ("three bodies meet", have_met(three, 3)),
+        ("two bodies do not meet on one thread", have_met(alone, 1)),
+    ]
+}
+
+// The tests of gates, and of many runs.
+fn orders<R: Threads + Wait + Copy + Send + Sync + 'static>(rt: R, alloc: Global) -> [Test; 5] {
+    let held = ran(rt, alloc, hold_first(alloc));
+    let watched = ran(rt, alloc, watch(alloc));
+    let first = ran(rt, alloc, schedule_order(alloc, 1, 2));
+    let second = ran(rt, alloc, schedule_order(alloc, 2, 1));
+    let repeated = ran(rt, alloc, repeat(alloc));
+    [
+        ("who ends first comes back first", has_no_fault(held)),
         (
             "a gate stands round each body",
-            gate_stands_round_bodies(rt, alloc),
+            has_stood_round_five(watched),
         ),
         (
             "commands in schedule order, the first start last",
-            schedule_order(rt, alloc, 1, 2),
+            has_second_score(first),
         ),
         (
             "commands in schedule order, the second start last",
-            schedule_order(rt, alloc, 2, 1),
+            has_second_score(second),
         ),
-        ("ten thousand runs on threads", repeat(rt, alloc)),
+        ("ten thousand runs on threads", has_traces(repeated)),
     ]
 }
 
@@ -144,6 +166,8 @@ fn main(rt: HostRuntime) -> io::Result<()> {
     tell(&mut rt.stdout(), &runs_alone(rt.alloc()))?;
     tell(&mut rt.stdout(), &parts(rt.alloc()))?;
     tell(&mut rt.stdout(), &kept(rt.alloc()))?;
-    tell(&mut rt.stdout(), &beside(rt, rt.alloc()))?;
+    tell(&mut rt.stdout(), &bodies_on_threads(rt, rt.alloc()))?;
+    tell(&mut rt.stdout(), &starts(rt, rt.alloc()))?;
+    tell(&mut rt.stdout(), &bodies_that_meet(rt, rt.alloc()))?;
     tell(&mut rt.stdout(), &orders(rt, rt.alloc()))
 }

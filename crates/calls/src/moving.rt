@@ -4,7 +4,7 @@ ghost use Rattle.std.specs.Prelude.{IfSome};
 ghost use Rattle.archetype_store.specs.Layout.{AreAllHome};
 
 use crate::bodies::TestBody;
-use crate::engines::{Systems, made, params, script};
+use crate::engines::{Systems, TestEngine, made, params, script};
 use crate::gates::{Rule, TestGate};
 use crate::runs::{Plan, kept_runs_are, run_on_threads, runs_are};
 use crate::worlds::{FIRST, put, world_of_one};
@@ -31,17 +31,17 @@ const MOVES: [&str; 2] = ["add Position.x Velocity.x", "add Position.y Velocity.
 const MOVED: Option<Position> = Some(Position { x: 3, y: -6 });
 
 // A world of one entity at a clock, loaded at tick 1.
-fn world(alloc: Global, clock: Clock) -> Option<World>
-    ensures home { IfSome result (λ world. AreAllHome world.layout) }
+fn world(alloc: Global, clock: Clock) -> Option<Box<World>>
+    ensures home { IfSome result (λ world. AreAllHome world.value.layout) }
 {
-    let (mut world, entity) = world_of_one(alloc, clock)?;
-    put(&mut world, entity, Position { x: 0, y: 0 })?;
-    put(&mut world, entity, Velocity { x: 1, y: -2 })?;
+    let mut world = world_of_one(alloc, clock)?;
+    put(&mut world, Position { x: 0, y: 0 })?;
+    put(&mut world, Velocity { x: 1, y: -2 })?;
     Some(world)
 }
 
 // The system that moves, alone, in such a world.
-fn moving(alloc: Global, clock: Clock) -> Option<Engine<TestBody>> {
+fn moving(alloc: Global, clock: Clock) -> Option<TestEngine> {
     let mut systems = Systems::new(alloc);
     systems.follow(alloc, params(alloc, MOVING)?, Rounds::EachRow(0), &MOVES)?;
     systems.engine(alloc, world(alloc, clock)?)
@@ -132,10 +132,15 @@ fn both_params(alloc: Global) -> Option<Vec<Params>> {
     Some(all)
 }
 
+// An engine of both with these two bodies.
+fn engine_of_both<B: Body>(alloc: Global, bodies: Vec<B>) -> Option<Box<Engine<B>>> {
+    let params = both_params(alloc)?;
+    made(alloc, world(alloc, Clock::at(1))?, params, bodies)?.ok()
+}
+
 // Where three runs of these two bodies on this thread move the first entity.
 fn alone<B: Body>(alloc: Global, bodies: Vec<B>) -> Option<Option<Position>> {
-    let world = world(alloc, Clock::at(1))?;
-    let mut engine = made(alloc, world, both_params(alloc)?, bodies)?.ok()?;
+    let mut engine = engine_of_both(alloc, bodies)?;
     engine.run(alloc, 3, &Single).ok()?;
     Some(position(engine.state()))
 }
@@ -146,9 +151,8 @@ fn on_threads<R: Threads + Wait + Copy + Send + Sync + 'static, B: Body + 'stati
     alloc: Global,
     bodies: Vec<B>,
 ) -> Option<Option<Position>> {
-    let world = world(alloc, Clock::at(1))?;
-    let mut engine = made(alloc, world, both_params(alloc)?, bodies)?.ok()?;
-    let gate = TestGate::new(Rule::Open);
+    let mut engine = engine_of_both(alloc, bodies)?;
+    let gate = TestGate::new(alloc, Rule::Open)?;
     let plan = Plan {
         times: 3,
         ..Plan::once(2)

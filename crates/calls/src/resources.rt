@@ -1,11 +1,12 @@
 // Bodies that write a resource and a register, and refuse where a resource has a value, over several runs.
 
-ghost use Rattle.std.specs.Prelude.{};
+ghost use Rattle.std.specs.Prelude.{IfSome};
 ghost use Rattle.archetype_store.specs.Layout.{AreAllHome};
 
 use crate::bodies::TestBody;
-use crate::engines::Systems;
+use crate::engines::{Systems, TestEngine};
 use crate::runs::{kept_runs_are, runs_are};
+use crate::worlds::empty_world;
 use access_set::Params;
 use archetype_store::World;
 use body::State;
@@ -15,12 +16,12 @@ use kinds::Res;
 use std::alloc::Global;
 
 // A world in which the step has a value.
-fn world(alloc: Global, step: i64) -> World
-    ensures { AreAllHome result.layout }
+fn world(alloc: Global, step: i64) -> Option<Box<World>>
+    ensures { IfSome result (λ world. AreAllHome world.value.layout) }
 {
-    let mut world = World::empty(alloc, Clock::at(1));
+    let mut world = empty_world(alloc, Clock::at(1))?;
     world.set_res(Res::Step, step, 1);
-    world
+    Some(world)
 }
 
 // The parameters of the system that tallies.
@@ -39,18 +40,18 @@ fn refusing(alloc: Global) -> Option<Params> {
 }
 
 // An engine of a system that adds 5 to the total.
-fn adding_five(alloc: Global) -> Option<Engine<TestBody>> {
+fn adding_five(alloc: Global) -> Option<TestEngine> {
     let mut systems = Systems::new(alloc);
     systems.add(tallying(alloc)?, TestBody::Tally)?;
-    systems.engine(alloc, world(alloc, 5))
+    systems.engine(alloc, world(alloc, 5)?)
 }
 
 // An engine of a system that refuses where the total is 1 and, after it, one that adds 1 to the total.
-fn refusing_at_one(alloc: Global) -> Option<Engine<TestBody>> {
+fn refusing_at_one(alloc: Global) -> Option<TestEngine> {
     let mut systems = Systems::new(alloc);
     systems.add(refusing(alloc)?, TestBody::Refuse)?;
     systems.add(tallying(alloc)?, TestBody::Tally)?;
-    systems.engine(alloc, world(alloc, 1))
+    systems.engine(alloc, world(alloc, 1)?)
 }
 
 /// After three runs the total is 15 since tick 9 and the step 5 since tick 1, and register 0 of the one system is 3.

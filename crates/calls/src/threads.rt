@@ -3,19 +3,73 @@
 ghost use Rattle.std.specs.Prelude.{};
 
 use crate::bodies::TestBody;
-use crate::engines::Systems;
+use crate::engines::{Systems, TestEngine};
 use crate::gates::{Rule, TestGate};
 use crate::runs::{Plan, run_on_threads, runs_are};
+use crate::worlds::empty_world;
 use access_set::Params;
-use archetype_store::World;
 use change_ticks::Clock;
-use engine::{Engine, RunFault};
+use engine::RunFault;
 use std::alloc::Global;
 use std::sync::{Arc, Wait};
 use std::thread::Threads;
 
+/// An engine that is to run on threads, how, and the gate of its workers.
+#[derive(Drop)]
+pub struct Trial {
+    /// The gate that is looked at afterwards: that of the workers, or one at which bodies meet.
+    pub place: Arc<TestGate, Global>,
+    gate: Arc<TestGate, Global>,
+    /// The engine.
+    pub engine: TestEngine,
+    plan: Plan,
+    traces: usize,
+}
+
+impl Trial {
+    /// One run on so many threads, which stand.
+    pub fn once(gate: Arc<TestGate, Global>, engine: TestEngine, workers: u32) -> Option<Self> {
+        let place = Arc::try_clone(&gate).ok()?;
+        Some(Trial {
+            place,
+            gate,
+            engine,
+            plan: Plan::once(workers),
+            traces: 0,
+        })
+    }
+
+    // Runs the engine on threads, and keeps how many traces there were. Answers the fault, none where all ran.
+    fn run<R: Threads + Wait + Copy + Send + Sync + 'static>(
+        &mut self,
+        runtime: R,
+        alloc: Global,
+    ) -> Option<RunFault> {
+        match run_on_threads(runtime, &self.gate, alloc, self.plan, &mut self.engine) {
+            Ok(traces) => {
+                self.traces = traces;
+                None
+            }
+            Err(fault) => Some(fault),
+        }
+    }
+}
+
+/// A trial that has run. None where there is none, or its run stopped.
+pub fn ran<R: Threads + Wait + Copy + Send + Sync + 'static>(
+    runtime: R,
+    alloc: Global,
+    trial: Option<Trial>,
+) -> Option<Trial> {
+    let mut trial = trial?;
+    match trial.run(runtime, alloc) {
+        None => Some(trial),
+        Some(_fault) => None,
+    }
+}
+
 // An engine of so many systems that touch nothing, and one more that refuses with 7 where one is to.
-fn answering(alloc: Global, count: u32, refuses: bool) -> Option<Engine<TestBody>> {
+fn answering(alloc: Global, count: u32, refuses: bool) -> Option<TestEngine> {
     let mut systems = Systems::new(alloc);
     for _ in 0..count {
         systems.add(Params::new(alloc), TestBody::Answer(None))?;
@@ -23,101 +77,76 @@ fn answering(alloc: Global, count: u32, refuses: bool) -> Option<Engine<TestBody
     if refuses {
         systems.add(Params::new(alloc), TestBody::Answer(Some(7)))?;
     }
-    systems.engine(alloc, World::empty(alloc, Clock::at(1)))
+    systems.engine(alloc, empty_world(alloc, Clock::at(1))?)
 }
 
 // An engine of so many systems that meet at a place.
-fn meeting(alloc: Global, count: u32, place: &Arc<TestGate, Global>) -> Option<Engine<TestBody>> {
+fn meeting(alloc: Global, count: u32, place: &Arc<TestGate, Global>) -> Option<TestEngine> {
     let mut systems = Systems::new(alloc);
     for _ in 0..count {
         let place = Arc::try_clone(place).ok()?;
         systems.add(Params::new(alloc), TestBody::Meet(place))?;
     }
-    systems.engine(alloc, World::empty(alloc, Clock::at(1)))
+    systems.engine(alloc, empty_world(alloc, Clock::at(1))?)
 }
 
-// An engine of five systems that look at a gate.
-fn watching(alloc: Global, gate: &Arc<TestGate, Global>) -> Option<Engine<TestBody>> {
+// An engine of so many systems that look at a gate.
+fn watching(alloc: Global, count: u32, gate: &Arc<TestGate, Global>) -> Option<TestEngine> {
     let mut systems = Systems::new(alloc);
-    for _ in 0..5 {
+    for _ in 0..count {
         let gate = Arc::try_clone(gate).ok()?;
         systems.add(Params::new(alloc), TestBody::Watch(gate))?;
     }
-    systems.engine(alloc, World::empty(alloc, Clock::at(1)))
+    systems.engine(alloc, empty_world(alloc, Clock::at(1))?)
 }
 
-/// As many bodies as there are threads find each other.
-pub fn meet<R: Threads + Wait + Copy + Send + Sync + 'static>(
-    runtime: R,
-    alloc: Global,
-    count: u32,
-) -> Option<bool> {
-    let place = TestGate::new(Rule::Gather(u64::from(count)));
-    Some(met(runtime, alloc, count, count, place)? == u64::from(count))
+/// So many bodies on so many threads, which wait for each other at a place, and so often look whether all are there.
+pub fn meet(alloc: Global, systems: u32, workers: u32, patience: u64) -> Option<Trial> {
+    let rule = Rule::Gather(u64::from(systems));
+    let place = TestGate::with_patience(alloc, rule, patience)?;
+    let gate = TestGate::new(alloc, Rule::Open)?;
+    let engine = meeting(alloc, systems, &place)?;
+    Some(Trial {
+        place,
+        ..Trial::once(gate, engine, workers)?
+    })
 }
 
-/// On one thread two bodies do not.
-pub fn not_met<R: Threads + Wait + Copy + Send + Sync + 'static>(
-    runtime: R,
-    alloc: Global,
-) -> Option<bool> {
-    let place = TestGate::with_patience(Rule::Gather(2), 20_000);
-    Some(met(runtime, alloc, 2, 1, place)? == 1)
+/// So many systems on so many threads, of which a gate holds each until as many are past it as there are threads.
+pub fn gather(alloc: Global, systems: u32, workers: u32, in_threads: bool) -> Option<Trial> {
+    let gate = TestGate::new(alloc, Rule::Gather(u64::from(workers)))?;
+    let mut trial = Trial::once(gate, answering(alloc, systems, false)?, workers)?;
+    trial.plan.in_threads = in_threads;
+    Some(trial)
 }
 
-// How many of so many bodies were at a place at once, on so many threads.
-fn met<R: Threads + Wait + Copy + Send + Sync + 'static>(
-    runtime: R,
-    alloc: Global,
-    systems: u32,
-    workers: u32,
-    place: TestGate,
-) -> Option<u64> {
-    let place = Arc::new(alloc, place).ok()?;
-    let mut engine = meeting(alloc, systems, &place)?;
-    let gate = TestGate::new(Rule::Open);
-    run_on_threads(runtime, &gate, alloc, Plan::once(workers), &mut engine).ok()?;
-    Some(place.most())
+/// Whether so many were past the gate at once, at most.
+pub fn have_met(trial: Option<Trial>, count: u64) -> Option<bool> {
+    Some(trial?.place.most() == count)
 }
 
-/// As many of so many systems as there are threads are past a gate at once, that holds each until so many are.
-pub fn gather<R: Threads + Wait + Copy + Send + Sync + 'static>(
-    runtime: R,
-    alloc: Global,
-    systems: u32,
-    workers: u32,
-    in_threads: bool,
-) -> Option<bool> {
-    let gate = TestGate::new(Rule::Gather(u64::from(workers)));
-    let plan = Plan {
-        in_threads,
-        ..Plan::once(workers)
-    };
-    let mut engine = answering(alloc, systems, false)?;
-    run_on_threads(runtime, &gate, alloc, plan, &mut engine).ok()?;
-    Some(gate.most() == u64::from(workers))
+/// Three starts on two threads, of which the first is held until the third has left.
+pub fn hold_first(alloc: Global) -> Option<Trial> {
+    let gate = TestGate::new(alloc, Rule::Hold(1, 3))?;
+    Trial::once(gate, answering(alloc, 3, false)?, 2)
 }
 
-/// While the first start is held, on two threads, the second comes back and the third begins and leaves.
-pub fn first_to_end_comes_back<R: Threads + Wait + Copy + Send + Sync + 'static>(
-    runtime: R,
-    alloc: Global,
-) -> Option<bool> {
-    let gate = TestGate::new(Rule::Hold(1, 3));
-    let mut engine = answering(alloc, 3, false)?;
-    run_on_threads(runtime, &gate, alloc, Plan::once(2), &mut engine).ok()?;
-    Some(gate.faults() == 0)
+/// Whether no start was held in vain.
+pub fn has_no_fault(trial: Option<Trial>) -> Option<bool> {
+    Some(trial?.place.faults() == 0)
 }
 
-/// The gate is entered before a body and left behind it, once for each start, with the numbers from 1 on.
-pub fn gate_stands_round_bodies<R: Threads + Wait + Copy + Send + Sync + 'static>(
-    runtime: R,
-    alloc: Global,
-) -> Option<bool> {
-    let gate = Arc::new(alloc, TestGate::new(Rule::Open)).ok()?;
-    let mut engine = watching(alloc, &gate)?;
-    run_on_threads(runtime, &gate, alloc, Plan::once(2), &mut engine).ok()?;
-    Some(gate.passed() == (62, 62) && gate.faults() == 0)
+/// Five bodies that look at the gate.
+pub fn watch(alloc: Global) -> Option<Trial> {
+    let gate = TestGate::new(alloc, Rule::Open)?;
+    let engine = watching(alloc, 5, &gate)?;
+    Trial::once(gate, engine, 2)
+}
+
+/// Whether the gate was entered before each of five bodies and left behind it, once for each start, with the numbers from 1 on.
+pub fn has_stood_round_five(trial: Option<Trial>) -> Option<bool> {
+    let trial = trial?;
+    Some(trial.place.passed() == (62, 62) && trial.place.faults() == 0)
 }
 
 /// A body that refuses stops its run, and the next one finds the engine spoiled.
@@ -130,29 +159,32 @@ pub fn refuse(alloc: Global) -> Option<bool> {
     Some(runs_are(&mut engine, alloc, &calls))
 }
 
+// Four starts at once on four threads, one of which refuses.
+fn refusing(alloc: Global) -> Option<Trial> {
+    let gate = TestGate::new(alloc, Rule::Gather(4))?;
+    Trial::once(gate, answering(alloc, 3, true)?, 4)
+}
+
 /// And so it does on four threads, while three others run beside it.
 pub fn refuse_on_threads<R: Threads + Wait + Copy + Send + Sync + 'static>(
     runtime: R,
     alloc: Global,
 ) -> Option<bool> {
-    let gate = TestGate::new(Rule::Gather(4));
-    let mut engine = answering(alloc, 3, true)?;
-    let first = run_on_threads(runtime, &gate, alloc, Plan::once(4), &mut engine).err();
-    let second = run_on_threads(runtime, &gate, alloc, Plan::once(4), &mut engine).err();
-    let are_told = first == Some(RunFault::BodyFault(7)) && second == Some(RunFault::Spoiled);
-    Some(are_told && gate.most() == 4)
+    let mut trial = refusing(alloc)?;
+    let is_refused = trial.run(runtime, alloc) == Some(RunFault::BodyFault(7));
+    let is_spoiled = trial.run(runtime, alloc) == Some(RunFault::Spoiled);
+    Some(is_refused && is_spoiled && trial.place.most() == 4)
 }
 
-/// Ten thousand runs of eight systems on eight threads leave as many traces.
-pub fn repeat<R: Threads + Wait + Copy + Send + Sync + 'static>(
-    runtime: R,
-    alloc: Global,
-) -> Option<bool> {
-    let gate = TestGate::new(Rule::Open);
-    let plan = Plan {
-        times: 10_000,
-        ..Plan::once(8)
-    };
-    let mut engine = answering(alloc, 8, false)?;
-    Some(run_on_threads(runtime, &gate, alloc, plan, &mut engine) == Ok(10_000))
+/// Ten thousand runs of eight systems on eight threads.
+pub fn repeat(alloc: Global) -> Option<Trial> {
+    let gate = TestGate::new(alloc, Rule::Open)?;
+    let mut trial = Trial::once(gate, answering(alloc, 8, false)?, 8)?;
+    trial.plan.times = 10_000;
+    Some(trial)
+}
+
+/// Whether ten thousand runs left as many traces.
+pub fn has_traces(trial: Option<Trial>) -> Option<bool> {
+    Some(trial?.traces == 10_000)
 }
