@@ -1,2 +1,1 @@
-pub mod Tallied
-pub mod Rounds
+pub mod Bodies

@@ -3,89 +3,73 @@
 ghost use Rattle.std.specs.Prelude.{IfSome};
 ghost use Rattle.archetype_store.specs.Layout.{AreAllHome};
 
-use crate::engines::{commanding, engine_of, script};
-use crate::gathering::Holding;
-use crate::threads::run_on_threads;
-use crate::worlds::{put, world_of_many, world_of_one};
+use crate::bodies::TestBody;
+use crate::engines::{Systems, TestEngine, commanding};
+use crate::gates::{Rule, TestGate};
+use crate::runs::runs_are;
+use crate::threads::Trial;
+use crate::worlds::{FIRST, put, world_of_many, world_of_one};
 use archetype_store::World;
 use change_ticks::Clock;
 use engine::{Engine, RunFault};
-use entity_table::Entity;
 use kinds::component::{Health, Score};
-use script::{Rounds, ScriptBody};
+use script::Rounds;
 use std::alloc::Global;
-use std::sync::Wait;
-use std::thread::Threads;
-use std::time::{Clock as Watch, Duration};
-use worker_pool::Single;
-
-const FIRST: Entity = Entity {
-    index: 0,
-    generation: 1,
-};
 
 // An engine of one system that is granted so many ids in a world in which all indices but one are taken, and spawns one.
-fn spawning(alloc: Global, spawns: u32) -> Option<Engine<ScriptBody>> {
-    let granted = commanding(alloc, "", spawns)?;
-    let mut bodies = Vec::new(alloc);
-    bodies
-        .push(script(alloc, &granted, Rounds::Once, &["spawn g0"])?)
-        .ok()?;
-    let mut params = Vec::new(alloc);
-    params.push(granted).ok()?;
-    let world = world_of_many(alloc, Clock::at(1), 1_048_575)?;
-    engine_of(alloc, world, params, bodies)
+fn spawning(alloc: Global, spawns: u32) -> Option<TestEngine> {
+    let params = commanding(alloc, "", spawns)?;
+    let mut systems = Systems::new(alloc);
+    systems.follow(alloc, params, Rounds::Once, &["spawn g0"])?;
+    systems.engine(alloc, world_of_many(alloc, Clock::at(1), 1_048_575)?)
 }
 
 /// The last id is granted, and the next one is refused.
 pub fn last_id(alloc: Global) -> Option<bool> {
     let mut engine = spawning(alloc, 1)?;
-    let first = engine.run(alloc, 1, &Single).is_ok();
-    let second = engine.run(alloc, 1, &Single).err();
-    Some(first && second == Some(RunFault::IdsSpent))
+    let calls = [(1, None), (1, Some(RunFault::IdsSpent))];
+    Some(runs_are(&mut engine, alloc, &calls))
 }
 
 /// Two ids where one is left are refused, and the engine is spoiled.
 pub fn spent_ids(alloc: Global) -> Option<bool> {
     let mut engine = spawning(alloc, 2)?;
-    let first = engine.run(alloc, 1, &Single).err();
-    let second = engine.run(alloc, 1, &Single).err();
-    Some(first == Some(RunFault::IdsSpent) && second == Some(RunFault::Spoiled))
+    let calls = [(1, Some(RunFault::IdsSpent)), (1, Some(RunFault::Spoiled))];
+    Some(runs_are(&mut engine, alloc, &calls))
 }
 
 // A world in which one entity lives, with health.
-fn world(alloc: Global) -> Option<World>
-    ensures home { IfSome result (λ world. AreAllHome world.layout) }
+fn world(alloc: Global) -> Option<Box<World>>
+    ensures home { IfSome result (λ world. AreAllHome world.value.layout) }
 {
-    let (mut world, entity) = world_of_one(alloc, Clock::at(1))?;
-    put(&mut world, entity, Health { v: 1 })?;
+    let mut world = world_of_one(alloc, Clock::at(1))?;
+    put(&mut world, Health { v: 1 })?;
     Some(world)
 }
 
 // An engine of two systems of one level, each of which gives what has health a score.
-fn scoring(alloc: Global) -> Option<Engine<ScriptBody>> {
-    let mut params = Vec::new(alloc);
-    let mut bodies = Vec::new(alloc);
+fn scoring(alloc: Global) -> Option<TestEngine> {
+    let mut systems = Systems::new(alloc);
     for instruction in ["insert row Score 1", "insert row Score 2"] {
-        let seen = commanding(alloc, "entity, read Health", 0)?;
-        bodies
-            .push(script(alloc, &seen, Rounds::EachRow(0), &[instruction])?)
-            .ok()?;
-        params.push(seen).ok()?;
+        let params = commanding(alloc, "entity, read Health", 0)?;
+        systems.follow(alloc, params, Rounds::EachRow(0), &[instruction])?;
     }
-    engine_of(alloc, world(alloc)?, params, bodies)
+    systems.engine(alloc, world(alloc)?)
 }
 
-/// The score of the second system stays, though one start is held until the other has left.
-pub fn schedule_order<R: Threads + Wait + Watch + Copy + Send + Sync + Drop + 'static>(
-    runtime: R,
-    alloc: Global,
-    held: u64,
-    awaited: u64,
-) -> Option<bool> {
-    let gate = Holding::new(runtime, held, awaited, Duration::from_millis(20_000));
-    let mut engine = scoring(alloc)?;
-    run_on_threads(runtime, &gate, alloc, 2, 1, &mut engine).ok()?;
-    let score = engine.state().world().get::<Score>(FIRST);
-    Some(gate.has_left() && score == Some(Score { v: 2 }))
+/// Two starts on two threads, of which one is held until the other has left.
+pub fn schedule_order(alloc: Global, held: u64, awaited: u64) -> Option<Trial> {
+    let gate = TestGate::new(alloc, Rule::Hold(held, awaited))?;
+    Trial::once(gate, scoring(alloc)?, 2)
+}
+
+/// Whether the score of the second system stayed, and no start was held in vain.
+pub fn has_second_score(trial: Option<Trial>) -> Option<bool> {
+    let trial = trial?;
+    Some(trial.place.faults() == 0 && score(&trial.engine) == Some(Score { v: 2 }))
+}
+
+// The score of the first entity.
+fn score(engine: &Engine<TestBody>) -> Option<Score> {
+    engine.state().world().get::<Score>(FIRST)
 }

@@ -3,9 +3,10 @@
 ghost use Rattle.std.specs.Prelude.{};
 ghost use Rattle.archetype_store.specs.Layout.{AreAllHome};
 
+use crate::bodies::TestBody;
 use access_set::Params;
 use archetype_store::World;
-use body::Body;
+use body::{Body, State};
 use engine::first_state::first_state;
 use engine::{Engine, NewFault};
 use query::Query;
@@ -35,49 +36,113 @@ pub fn script(
     rounds: Rounds,
     instructions: &[&str],
 ) -> Option<ScriptBody> {
-    let mut code = Vec::new(alloc);
-    for instruction in instructions {
-        code.push(Instruction::read(alloc, instruction).ok()?).ok()?;
-    }
+    let code = code(alloc, instructions)?;
     let mut blocks = Vec::new(alloc);
     blocks.push(Block { rounds, code }).ok()?;
     ScriptBody::check(alloc, params, blocks).ok()
 }
 
+// What these texts say.
+fn code(alloc: Global, instructions: &[&str]) -> Option<Vec<Instruction>> {
+    let mut code = Vec::new(alloc);
+    for instruction in instructions {
+        code.push(Instruction::read(alloc, instruction).ok()?).ok()?;
+    }
+    Some(code)
+}
+
 /// The schedule of systems with these parameters, in no order.
-pub fn built_of(alloc: Global, params: Vec<Params>) -> Option<Built> {
+pub fn built_of(alloc: Global, params: Vec<Params>) -> Option<Box<Built>> {
     let mut desc = ScheduleDesc::new(alloc);
     let mut number = 0u32;
     for params in params {
-        let name = format!(in alloc; "s{number}").ok()?;
-        desc.add_system(SystemDesc::new(alloc, name, params)).ok()?;
+        add_system(&mut desc, alloc, number, params)?;
         number = number.wrapping_add(1);
     }
-    build(alloc, desc).ok()
+    Box::new(alloc, build(alloc, desc).ok()?).ok()
 }
 
-/// An engine of systems with these parameters and bodies, over a world, or why there is none.
+// Adds a system that is named by a number.
+fn add_system(desc: &mut ScheduleDesc, alloc: Global, number: u32, params: Params) -> Option<()> {
+    let name = format!(in alloc; "s{number}").ok()?;
+    desc.add_system(SystemDesc::new(alloc, name, params)).ok()
+}
+
+// The state in which an engine of a schedule begins, over a world.
+fn begun(alloc: Global, built: &Built, world: Box<World>) -> Option<Box<State>>
+    requires { AreAllHome world.value.layout }
+{
+    Box::new(
+        alloc,
+        first_state(alloc, built, Box::into_inner(world)).ok()?,
+    )
+    .ok()
+}
+
+/// An engine of systems with these parameters and bodies, over a world, or why there is none. Engines, worlds and what they are made of stand in
+/// boxes in these tests, since each function that holds one by value is dear to prove.
 pub fn made<B: Body>(
     alloc: Global,
-    world: World,
+    world: Box<World>,
     params: Vec<Params>,
     bodies: Vec<B>,
-) -> Option<Result<Engine<B>, NewFault>>
-    requires { AreAllHome world.layout }
+) -> Option<Result<Box<Engine<B>>, NewFault>>
+    requires { AreAllHome world.value.layout }
 {
     let built = built_of(alloc, params)?;
-    let state = first_state(alloc, &built, world).ok()?;
-    Some(Engine::new(alloc, built, bodies, state))
+    let state = begun(alloc, &built, world)?;
+    match Engine::new(
+        alloc,
+        Box::into_inner(built),
+        bodies,
+        Box::into_inner(state),
+    ) {
+        Ok(engine) => Some(Ok(Box::new(alloc, engine).ok()?)),
+        Err(fault) => Some(Err(fault)),
+    }
 }
 
-/// An engine of systems with these parameters and bodies, over a world.
-pub fn engine_of<B: Body>(
-    alloc: Global,
-    world: World,
+/// An engine of a test.
+pub type TestEngine = Box<Engine<TestBody>>;
+
+/// Systems of an engine: the parameters and the body of each.
+#[derive(Drop)]
+pub struct Systems {
     params: Vec<Params>,
-    bodies: Vec<B>,
-) -> Option<Engine<B>>
-    requires { AreAllHome world.layout }
-{
-    made(alloc, world, params, bodies)?.ok()
+    bodies: Vec<TestBody>,
+}
+
+impl Systems {
+    /// No system.
+    pub fn new(alloc: Global) -> Self {
+        Systems {
+            params: Vec::new(alloc),
+            bodies: Vec::new(alloc),
+        }
+    }
+
+    /// Adds a system. None where an allocation fails.
+    pub fn add(&mut self, params: Params, body: TestBody) -> Option<()> {
+        self.params.push(params).ok()?;
+        self.bodies.push(body).ok()
+    }
+
+    /// Adds a system with this query that follows a script.
+    pub fn follow(
+        &mut self,
+        alloc: Global,
+        params: Params,
+        rounds: Rounds,
+        instructions: &[&str],
+    ) -> Option<()> {
+        let script = script(alloc, &params, rounds, instructions)?;
+        self.add(params, TestBody::Follow(script))
+    }
+
+    /// The engine of these systems over a world.
+    pub fn engine(self, alloc: Global, world: Box<World>) -> Option<TestEngine>
+        requires { AreAllHome world.value.layout }
+    {
+        made(alloc, world, self.params, self.bodies)?.ok()
+    }
 }

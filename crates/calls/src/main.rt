@@ -4,148 +4,170 @@
 
 ghost use Rattle.std.specs.Prelude.{};
 
+mod bodies;
 mod commands;
 mod engines;
-mod gathering;
+mod gates;
 mod moving;
 mod resources;
-mod rounds;
+mod runs;
 mod store;
 mod threads;
 mod worlds;
 
-use crate::commands::{last_id, schedule_order, spent_ids};
+use crate::commands::{has_second_score, last_id, schedule_order, spent_ids};
+use crate::gates::PATIENCE;
 use crate::moving::{
     boxed, boxed_on_threads, kept_at_the_last_tick, kept_state, refused_engines, spent_clock,
     stamps,
 };
-use crate::resources::three_tallies;
-use crate::rounds::kept_rounds;
+use crate::resources::{kept_total, three_tallies};
 use crate::store::{buffers, entities, steps, texts, unions};
 use crate::threads::{
-    first_to_end_comes_back, gate_stands_round_bodies, gather, meet, not_met, refuse,
-    refuse_on_threads, repeat,
+    gather, has_no_fault, has_stood_round_five, has_traces, have_met, hold_first, meet, ran,
+    refuse, refuse_on_threads, repeat, watch,
 };
 use std::alloc::Global;
 use std::io::{self, Write};
 use std::sync::Wait;
 use std::thread::Threads;
-use std::time::Clock;
 
-// Tells a test and whether it is as it is to be.
-fn tell<W: Write>(out: &mut W, name: &str, answer: Option<bool>) -> io::Result<()> {
-    let said = match answer {
-        Some(true) => "",
-        Some(false) => ": NO",
-        None => ": NOT DONE",
-    };
-    writeln!(out, "{name}{said}")
+// A test: what it is called, and whether it is as it is to be.
+type Test = (&'static str, Option<bool>);
+
+// Tells these tests.
+fn tell<W: Write>(out: &mut W, tests: &[Test]) -> io::Result<()> {
+    for (name, answer) in tests {
+        let said = match answer {
+            Some(true) => "",
+            Some(false) => ": NO",
+            None => ": NOT DONE",
+        };
+        writeln!(out, "{name}{said}")?;
+    }
+    Ok(())
 }
 
-// The tests of one thread.
-fn tell_alone<W: Write>(alloc: Global, out: &mut W) -> io::Result<()> {
-    tell(out, "stamps and ticks of three runs", stamps(alloc))?;
-    tell(out, "a spent clock spoils an engine", spent_clock(alloc))?;
-    tell(out, "engines that are refused", refused_engines(alloc))?;
-    tell(out, "bodies of two types in boxes", boxed(alloc))?;
-    tell(
-        out,
-        "a body that writes a resource and a register",
-        three_tallies(alloc),
-    )?;
-    tell(out, "the last id is granted", last_id(alloc))?;
-    tell(out, "spent ids spoil an engine", spent_ids(alloc))?;
-    tell(out, "a refusal spoils an engine", refuse(alloc))?;
-    tell(out, "entities of a store", entities(alloc))?;
-    tell(out, "events in two buffers", buffers(alloc))?;
-    tell(out, "what two systems touch together", unions(alloc))?;
-    tell(out, "steps of a core", steps(alloc))?;
-    tell(out, "texts of traces", texts(alloc))
+// The tests of engines on one thread.
+fn runs_alone(alloc: Global) -> [Test; 8] {
+    [
+        ("stamps and ticks of three runs", stamps(alloc)),
+        ("a spent clock spoils an engine", spent_clock(alloc)),
+        ("engines that are refused", refused_engines(alloc)),
+        ("bodies of two types in boxes", boxed(alloc)),
+        (
+            "a body that writes a resource and a register",
+            three_tallies(alloc),
+        ),
+        ("the last id is granted", last_id(alloc)),
+        ("spent ids spoil an engine", spent_ids(alloc)),
+        ("a refusal spoils an engine", refuse(alloc)),
+    ]
+}
+
+// The tests of what stands below engines.
+fn parts(alloc: Global) -> [Test; 5] {
+    [
+        ("entities of a store", entities(alloc)),
+        ("events in two buffers", buffers(alloc)),
+        ("what two systems touch together", unions(alloc)),
+        ("steps of a core", steps(alloc)),
+        ("texts of traces", texts(alloc)),
+    ]
 }
 
 // The tests of runs that leave no trace of a fault.
-fn tell_kept<W: Write>(alloc: Global, out: &mut W) -> io::Result<()> {
-    tell(
-        out,
-        "a spent clock spoils nothing in a run that is kept",
-        kept_at_the_last_tick(alloc),
-    )?;
-    tell(
-        out,
-        "a run that is kept leaves the state",
-        kept_state(alloc),
-    )?;
-    tell(
-        out,
-        "a refusal in a run that is kept leaves the resources",
-        kept_rounds(alloc),
-    )
+fn kept(alloc: Global) -> [Test; 3] {
+    [
+        (
+            "a spent clock spoils nothing in a run that is kept",
+            kept_at_the_last_tick(alloc),
+        ),
+        ("a run that is kept leaves the state", kept_state(alloc)),
+        (
+            "a refusal in a run that is kept leaves the resources",
+            kept_total(alloc),
+        ),
+    ]
 }
 
-// The tests of several threads.
-fn tell_threads<R: Threads + Wait + Clock + Copy + Send + Sync + Drop + 'static, W: Write>(
+// The tests of bodies on threads.
+fn bodies_on_threads<R: Threads + Wait + Copy + Send + Sync + 'static>(
     rt: R,
     alloc: Global,
-    out: &mut W,
-) -> io::Result<()> {
-    tell(
-        out,
-        "bodies of two types in boxes on threads",
-        boxed_on_threads(rt, alloc),
-    )?;
-    tell(
-        out,
-        "a refusal beside three others spoils an engine",
-        refuse_on_threads(rt, alloc),
-    )?;
-    tell(out, "two starts meet", gather(rt, alloc, 2, 2))?;
-    tell(out, "three starts meet", gather(rt, alloc, 3, 3))?;
-    tell(
-        out,
-        "sixty-four starts of many meet",
-        gather(rt, alloc, 256, 64),
-    )?;
-    tell(out, "two bodies meet", meet(rt, alloc, 2))?;
-    tell(out, "three bodies meet", meet(rt, alloc, 3))?;
-    tell(
-        out,
-        "two bodies do not meet on one thread",
-        not_met(rt, alloc),
-    )
+) -> [Test; 2] {
+    [
+        (
+            "bodies of two types in boxes on threads",
+            boxed_on_threads(rt, alloc),
+        ),
+        (
+            "a refusal beside three others spoils an engine",
+            refuse_on_threads(rt, alloc),
+        ),
+    ]
 }
 
-// The tests of gates, and of what comes back in which order.
-fn tell_gates<R: Threads + Wait + Clock + Copy + Send + Sync + Drop + 'static, W: Write>(
+// The tests of starts that meet.
+fn starts<R: Threads + Wait + Copy + Send + Sync + 'static>(rt: R, alloc: Global) -> [Test; 4] {
+    let two = ran(rt, alloc, gather(alloc, 2, 2, false));
+    let three = ran(rt, alloc, gather(alloc, 3, 3, false));
+    let many = ran(rt, alloc, gather(alloc, 256, 64, false));
+    let apart = ran(rt, alloc, gather(alloc, 2, 2, true));
+    [
+        ("two starts meet", have_met(two, 2)),
+        ("three starts meet", have_met(three, 3)),
+        ("sixty-four starts of many meet", have_met(many, 64)),
+        ("two starts meet, a thread for each", have_met(apart, 2)),
+    ]
+}
+
+// The tests of bodies that meet.
+fn bodies_that_meet<R: Threads + Wait + Copy + Send + Sync + 'static>(
     rt: R,
     alloc: Global,
-    out: &mut W,
-) -> io::Result<()> {
-    tell(
-        out,
-        "who ends first comes back first",
-        first_to_end_comes_back(rt, alloc),
-    )?;
-    tell(
-        out,
-        "a gate stands round each body",
-        gate_stands_round_bodies(rt, alloc),
-    )?;
-    tell(
-        out,
-        "commands in schedule order, the first start last",
-        schedule_order(rt, alloc, 1, 2),
-    )?;
-    tell(
-        out,
-        "commands in schedule order, the second start last",
-        schedule_order(rt, alloc, 2, 1),
-    )?;
-    tell(out, "ten thousand runs on threads", repeat(rt, alloc))
+) -> [Test; 3] {
+    let two = ran(rt, alloc, meet(alloc, 2, 2, PATIENCE));
+    let three = ran(rt, alloc, meet(alloc, 3, 3, PATIENCE));
+    let alone = ran(rt, alloc, meet(alloc, 2, 1, 20_000));
+    [
+        ("two bodies meet", have_met(two, 2)),
+        ("three bodies meet", have_met(three, 3)),
+        ("two bodies do not meet on one thread", have_met(alone, 1)),
+    ]
+}
+
+// The tests of gates, and of many runs.
+fn orders<R: Threads + Wait + Copy + Send + Sync + 'static>(rt: R, alloc: Global) -> [Test; 5] {
+    let held = ran(rt, alloc, hold_first(alloc));
+    let watched = ran(rt, alloc, watch(alloc));
+    let first = ran(rt, alloc, schedule_order(alloc, 1, 2));
+    let second = ran(rt, alloc, schedule_order(alloc, 2, 1));
+    let repeated = ran(rt, alloc, repeat(alloc));
+    [
+        ("who ends first comes back first", has_no_fault(held)),
+        (
+            "a gate stands round each body",
+            has_stood_round_five(watched),
+        ),
+        (
+            "commands in schedule order, the first start last",
+            has_second_score(first),
+        ),
+        (
+            "commands in schedule order, the second start last",
+            has_second_score(second),
+        ),
+        ("ten thousand runs on threads", has_traces(repeated)),
+    ]
 }
 
 fn main(rt: HostRuntime) -> io::Result<()> {
-    tell_alone(rt.alloc(), &mut rt.stdout())?;
-    tell_kept(rt.alloc(), &mut rt.stdout())?;
-    tell_threads(rt, rt.alloc(), &mut rt.stdout())?;
-    tell_gates(rt, rt.alloc(), &mut rt.stdout())
+    tell(&mut rt.stdout(), &runs_alone(rt.alloc()))?;
+    tell(&mut rt.stdout(), &parts(rt.alloc()))?;
+    tell(&mut rt.stdout(), &kept(rt.alloc()))?;
+    tell(&mut rt.stdout(), &bodies_on_threads(rt, rt.alloc()))?;
+    tell(&mut rt.stdout(), &starts(rt, rt.alloc()))?;
+    tell(&mut rt.stdout(), &bodies_that_meet(rt, rt.alloc()))?;
+    tell(&mut rt.stdout(), &orders(rt, rt.alloc()))
 }

@@ -1,11 +1,13 @@
 // Calls of the store, of event buffers, parameters, cores and traces that the program does not make by themselves.
 
 ghost use Rattle.std.specs.Prelude.{};
+ghost use Rattle.archetype_store.specs.Layout.{AreAllHome};
 
 use crate::engines::{built_of, params};
-use crate::worlds::{put, settle_used, world_of_one};
+use crate::worlds::{FIRST, put, settle_used, world_of_one};
+use access_set::Params;
 use access_set::conflict::conflicts;
-use archetype_store::StoreFault;
+use archetype_store::{StoreFault, World};
 use change_ticks::Clock;
 use entity_table::Entity;
 use event_buffers::{Events, Unread};
@@ -19,20 +21,42 @@ use trace_checker::write::text_of_traces;
 
 /// A component is there until it is removed, and an entity until it is despawned; its index is then granted at the next generation.
 pub fn entities(alloc: Global) -> Option<bool> {
-    let (mut world, first) = world_of_one(alloc, Clock::at(1))?;
-    put(&mut world, first, Health { v: 3 })?;
-    let is_there = world.has(first, Kind::Health) && world.next_living(0) == Some(first);
-    world.remove(first, Kind::Health).ok()?;
-    let is_bare = world.lives(first) && world.get::<Health>(first) == None;
-    world.despawn(first).ok()?;
-    let is_dead = world.remove(first, Kind::Health) == Err(StoreFault::NotAlive);
+    let mut world = world_of_one(alloc, Clock::at(1))?;
+    put(&mut world, Health { v: 3 })?;
+    Some(
+        is_removed(&mut world)?
+            && is_despawned(&mut world)?
+            && is_granted_again(alloc, &mut world)?,
+    )
+}
+
+// Whether the first entity has health until it is removed.
+fn is_removed(world: &mut World) -> Option<bool>
+    requires { AreAllHome world.old.layout }
+    ensures { AreAllHome world.new.layout }
+{
+    let is_there = world.has(FIRST, Kind::Health) && world.next_living(0) == Some(FIRST);
+    world.remove(FIRST, Kind::Health).ok()?;
+    Some(is_there && world.lives(FIRST) && world.get::<Health>(FIRST) == None)
+}
+
+// Whether the first entity has no component to be removed once it is despawned.
+fn is_despawned(world: &mut World) -> Option<bool>
+    requires { AreAllHome world.old.layout }
+{
+    world.despawn(FIRST).ok()?;
+    Some(world.remove(FIRST, Kind::Health) == Err(StoreFault::NotAlive))
+}
+
+// Whether the next id is that of the first entity at the next generation.
+fn is_granted_again(alloc: Global, world: &mut World) -> Option<bool> {
     let ids = world.grant(alloc, 1).ok()?;
-    settle_used(&mut world, ids.as_slice());
+    settle_used(world, ids.as_slice());
     let again = Entity {
         index: 0,
         generation: 2,
     };
-    Some(is_there && is_bare && is_dead && world.next_living(0) == Some(again))
+    Some(world.next_living(0) == Some(again))
 }
 
 // The values of two lists of events.
@@ -61,8 +85,12 @@ pub fn unions(alloc: Global) -> Option<bool> {
     let both = params(alloc, "mut Health")?
         .union(params(alloc, "read Score")?)
         .ok()?;
-    let (scores, teams) = (params(alloc, "mut Score")?, params(alloc, "mut Team")?);
-    Some(conflicts(&both, &scores) && !conflicts(&both, &teams))
+    Some(touches(alloc, &both, "mut Score")? && !touches(alloc, &both, "mut Team")?)
+}
+
+// Whether parameters conflict with those of a query.
+fn touches(alloc: Global, params: &Params, query: &str) -> Option<bool> {
+    Some(conflicts(params, &crate::engines::params(alloc, query)?))
 }
 
 /// What a core would answer to a step is what it answers.
@@ -71,10 +99,15 @@ pub fn steps(alloc: Global) -> Option<bool> {
     all.push(params(alloc, "mut Health")?).ok()?;
     all.push(params(alloc, "mut Health")?).ok()?;
     let built = built_of(alloc, all)?;
-    let mut core = Core::new(alloc, &built).ok()?;
+    let mut core = Box::new(alloc, Core::new(alloc, &built).ok()?).ok()?;
+    Some(conflict(&mut core))
+}
+
+// Whether the second system may not start while the first runs.
+fn conflict(core: &mut Core<'_>) -> bool {
     let first = core.may(Step::Start(0)).is_ok() && core.step(Step::Start(0)).is_ok();
     let second = core.may(Step::Start(1)) == Err(StepFault::Conflict);
-    Some(first && second && core.step(Step::Start(1)) == Err(StepFault::Conflict))
+    first && second && core.step(Step::Start(1)) == Err(StepFault::Conflict)
 }
 
 /// A list of runs is written as it is read, where its text is within the limit.

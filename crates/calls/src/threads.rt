@@ -1,215 +1,190 @@
 // Runs on threads: how many systems run at once, in which order they come back, what a refusal does, and many runs.
 
-ghost use Rattle.std.specs.Prelude.{◌≤◌};
+ghost use Rattle.std.specs.Prelude.{};
 
-use crate::engines::engine_of;
-use crate::gathering::{Answering, Counting, Gathering, Holding, Meeting, Watching};
+use crate::bodies::TestBody;
+use crate::engines::{Systems, TestEngine};
+use crate::gates::{Rule, TestGate};
+use crate::runs::{Plan, run_on_threads, runs_are};
+use crate::worlds::empty_world;
 use access_set::Params;
-use archetype_store::World;
-use body::Body;
 use change_ticks::Clock;
-use engine::{Engine, RunFault};
-use executor_core::Trace;
+use engine::RunFault;
 use std::alloc::Global;
 use std::sync::{Arc, Wait};
-use std::thread;
-use std::thread::{Scope, Threads};
-use std::time::{Clock as Watch, Duration};
-use worker_pool::{Gate, NoGate, Single, Workers};
+use std::thread::Threads;
 
-// Runs an engine so many times, on so many threads of a scope.
-fn run_in_scope<'s, E: 's, R: Threads + Wait + Copy + Send + 's, G: Gate + 's, B: Body + 's>(
-    scope: &Scope<'s, E>,
-    runtime: R,
-    gate: &'s G,
-    alloc: Global,
-    workers: usize,
-    times: u32,
-    engine: &mut Engine<B>,
-) -> Result<Vec<Trace>, RunFault>
-    requires some { 1 ≤ workers }
-    requires few { workers ≤ 64 }
-{
-    let mode = Workers::new(workers, scope, runtime, gate);
-    engine.run(alloc, times, &mode)
+/// An engine that is to run on threads, how, and the gate of its workers.
+#[derive(Drop)]
+pub struct Trial {
+    /// The gate that is looked at afterwards: that of the workers, or one at which bodies meet.
+    pub place: Arc<TestGate, Global>,
+    gate: Arc<TestGate, Global>,
+    /// The engine.
+    pub engine: TestEngine,
+    plan: Plan,
+    traces: usize,
 }
 
-/// Runs an engine so many times, on so many threads of a scope of its own.
-pub fn run_on_threads<
-    R: Threads + Wait + Copy + Send + Sync + 'static,
-    G: Gate + 'static,
-    B: Body + 'static,
->(
-    runtime: R,
-    gate: &G,
-    alloc: Global,
-    workers: usize,
-    times: u32,
-    engine: &mut Engine<B>,
-) -> Result<Vec<Trace>, RunFault>
-    requires some { 1 ≤ workers }
-    requires few { workers ≤ 64 }
-{
-    thread::scope(
-        thread::scope_env(),
-        &runtime,
-        |scope| -> Result<Vec<Trace>, RunFault>
-            requires some { 1 ≤ workers }
-            requires few { workers ≤ 64 }
-        { run_in_scope(scope, runtime, gate, alloc, workers, times, engine) },
-    )
-}
-
-// An engine of systems that touch nothing, with these bodies.
-fn idle_engine<B: Body>(alloc: Global, bodies: Vec<B>) -> Option<Engine<B>> {
-    let mut all = Vec::new(alloc);
-    for _ in 0..bodies.len() {
-        all.push(Params::new(alloc)).ok()?;
+impl Trial {
+    /// One run on so many threads, which stand.
+    pub fn once(gate: Arc<TestGate, Global>, engine: TestEngine, workers: u32) -> Option<Self> {
+        let place = Arc::try_clone(&gate).ok()?;
+        Some(Trial {
+            place,
+            gate,
+            engine,
+            plan: Plan::once(workers),
+            traces: 0,
+        })
     }
-    engine_of(alloc, World::empty(alloc, Clock::at(1)), all, bodies)
+
+    // Runs the engine on threads, and keeps how many traces there were. Answers the fault, none where all ran.
+    fn run<R: Threads + Wait + Copy + Send + Sync + 'static>(
+        &mut self,
+        runtime: R,
+        alloc: Global,
+    ) -> Option<RunFault> {
+        match run_on_threads(runtime, &self.gate, alloc, self.plan, &mut self.engine) {
+            Ok(traces) => {
+                self.traces = traces;
+                None
+            }
+            Err(fault) => Some(fault),
+        }
+    }
+}
+
+/// A trial that has run. None where there is none, or its run stopped.
+pub fn ran<R: Threads + Wait + Copy + Send + Sync + 'static>(
+    runtime: R,
+    alloc: Global,
+    trial: Option<Trial>,
+) -> Option<Trial> {
+    let mut trial = trial?;
+    match trial.run(runtime, alloc) {
+        None => Some(trial),
+        Some(_fault) => None,
+    }
 }
 
 // An engine of so many systems that touch nothing, and one more that refuses with 7 where one is to.
-fn answering(alloc: Global, count: u32, refuses: bool) -> Option<Engine<Answering>> {
-    let mut bodies = Vec::new(alloc);
+fn answering(alloc: Global, count: u32, refuses: bool) -> Option<TestEngine> {
+    let mut systems = Systems::new(alloc);
     for _ in 0..count {
-        bodies.push(Answering { refusal: None }).ok()?;
+        systems.add(Params::new(alloc), TestBody::Answer(None))?;
     }
     if refuses {
-        bodies.push(Answering { refusal: Some(7) }).ok()?;
+        systems.add(Params::new(alloc), TestBody::Answer(Some(7)))?;
     }
-    idle_engine(alloc, bodies)
+    systems.engine(alloc, empty_world(alloc, Clock::at(1))?)
 }
 
-// How long starts wait for others that come.
-fn patience() -> Duration {
-    Duration::from_millis(20_000)
-}
-
-/// As many bodies as there are threads find each other.
-pub fn meet<R: Threads + Wait + Watch + Copy + Send + Sync + Drop + 'static>(
-    runtime: R,
-    alloc: Global,
-    count: u32,
-) -> Option<bool>
-    requires some { 1 ≤ count }
-    requires few { count ≤ 64 }
-{
-    Some(met(runtime, alloc, count, count as usize, patience())? == u64::from(count))
-}
-
-/// On one thread two bodies do not.
-pub fn not_met<R: Threads + Wait + Watch + Copy + Send + Sync + Drop + 'static>(
-    runtime: R,
-    alloc: Global,
-) -> Option<bool> {
-    Some(met(runtime, alloc, 2, 1, Duration::from_millis(20))? == 1)
-}
-
-// How many of so many bodies ran at once, that wait so long for each other, on so many threads.
-fn met<R: Threads + Wait + Watch + Copy + Send + Sync + Drop + 'static>(
-    runtime: R,
-    alloc: Global,
-    systems: u32,
-    workers: usize,
-    patience: Duration,
-) -> Option<u64>
-    requires some { 1 ≤ workers }
-    requires few { workers ≤ 64 }
-{
-    let place = Arc::new(alloc, Gathering::new(runtime, u64::from(systems), patience)).ok()?;
-    let mut bodies = Vec::new(alloc);
-    for _ in 0..systems {
-        let place = Arc::try_clone(&place).ok()?;
-        bodies.push(Meeting { place }).ok()?;
+// An engine of so many systems that meet at a place.
+fn meeting(alloc: Global, count: u32, place: &Arc<TestGate, Global>) -> Option<TestEngine> {
+    let mut systems = Systems::new(alloc);
+    for _ in 0..count {
+        let place = Arc::try_clone(place).ok()?;
+        systems.add(Params::new(alloc), TestBody::Meet(place))?;
     }
-    let mut engine = idle_engine(alloc, bodies)?;
-    run_on_threads(runtime, &NoGate, alloc, workers, 1, &mut engine).ok()?;
-    Some(place.most())
+    systems.engine(alloc, empty_world(alloc, Clock::at(1))?)
 }
 
-/// As many of so many systems as there are threads are past a gate at once, that holds each until so many are.
-pub fn gather<R: Threads + Wait + Watch + Copy + Send + Sync + Drop + 'static>(
-    runtime: R,
-    alloc: Global,
-    systems: u32,
-    workers: u32,
-) -> Option<bool>
-    requires some { 1 ≤ workers }
-    requires few { workers ≤ 64 }
-{
-    let gate = Gathering::new(runtime, u64::from(workers), patience());
-    let mut engine = answering(alloc, systems, false)?;
-    run_on_threads(runtime, &gate, alloc, workers as usize, 1, &mut engine).ok()?;
-    Some(gate.most() == u64::from(workers))
-}
-
-/// While the first start is held, on two threads, the second comes back and the third begins and leaves.
-pub fn first_to_end_comes_back<R: Threads + Wait + Watch + Copy + Send + Sync + Drop + 'static>(
-    runtime: R,
-    alloc: Global,
-) -> Option<bool> {
-    let gate = Holding::new(runtime, 1, 3, patience());
-    let mut engine = answering(alloc, 3, false)?;
-    run_on_threads(runtime, &gate, alloc, 2, 1, &mut engine).ok()?;
-    Some(gate.has_left())
-}
-
-/// The gate is entered before a body and left behind it, once for each start, with the numbers from 1 on.
-pub fn gate_stands_round_bodies<R: Threads + Wait + Copy + Send + Sync + 'static>(
-    runtime: R,
-    alloc: Global,
-) -> Option<bool> {
-    let gate = Arc::new(alloc, Counting::new()).ok()?;
-    let mut bodies = Vec::new(alloc);
-    for _ in 0..5 {
-        let gate = Arc::try_clone(&gate).ok()?;
-        bodies.push(Watching { gate }).ok()?;
+// An engine of so many systems that look at a gate.
+fn watching(alloc: Global, count: u32, gate: &Arc<TestGate, Global>) -> Option<TestEngine> {
+    let mut systems = Systems::new(alloc);
+    for _ in 0..count {
+        let gate = Arc::try_clone(gate).ok()?;
+        systems.add(Params::new(alloc), TestBody::Watch(gate))?;
     }
-    let mut engine = idle_engine(alloc, bodies)?;
-    run_on_threads(runtime, &*gate, alloc, 2, 1, &mut engine).ok()?;
-    Some(gate.noted() == (62, 62, 0))
+    systems.engine(alloc, empty_world(alloc, Clock::at(1))?)
 }
 
-// The fault of a run, if it has one.
-fn fault_of(outcome: Result<Vec<Trace>, RunFault>) -> Option<RunFault> {
-    match outcome {
-        Ok(_traces) => None,
-        Err(fault) => Some(fault),
-    }
+/// So many bodies on so many threads, which wait for each other at a place, and so often look whether all are there.
+pub fn meet(alloc: Global, systems: u32, workers: u32, patience: u64) -> Option<Trial> {
+    let rule = Rule::Gather(u64::from(systems));
+    let place = TestGate::with_patience(alloc, rule, patience)?;
+    let gate = TestGate::new(alloc, Rule::Open)?;
+    let engine = meeting(alloc, systems, &place)?;
+    Some(Trial {
+        place,
+        ..Trial::once(gate, engine, workers)?
+    })
 }
 
-// Whether the faults of two runs are those of a body that refuses with 7.
-fn are_refusals(first: Option<RunFault>, second: Option<RunFault>) -> bool {
-    first == Some(RunFault::BodyFault(7)) && second == Some(RunFault::Spoiled)
+/// So many systems on so many threads, of which a gate holds each until as many are past it as there are threads.
+pub fn gather(alloc: Global, systems: u32, workers: u32, in_threads: bool) -> Option<Trial> {
+    let gate = TestGate::new(alloc, Rule::Gather(u64::from(workers)))?;
+    let mut trial = Trial::once(gate, answering(alloc, systems, false)?, workers)?;
+    trial.plan.in_threads = in_threads;
+    Some(trial)
+}
+
+/// Whether so many were past the gate at once, at most.
+pub fn have_met(trial: Option<Trial>, count: u64) -> Option<bool> {
+    Some(trial?.place.most() == count)
+}
+
+/// Three starts on two threads, of which the first is held until the third has left.
+pub fn hold_first(alloc: Global) -> Option<Trial> {
+    let gate = TestGate::new(alloc, Rule::Hold(1, 3))?;
+    Trial::once(gate, answering(alloc, 3, false)?, 2)
+}
+
+/// Whether no start was held in vain.
+pub fn has_no_fault(trial: Option<Trial>) -> Option<bool> {
+    Some(trial?.place.faults() == 0)
+}
+
+/// Five bodies that look at the gate.
+pub fn watch(alloc: Global) -> Option<Trial> {
+    let gate = TestGate::new(alloc, Rule::Open)?;
+    let engine = watching(alloc, 5, &gate)?;
+    Trial::once(gate, engine, 2)
+}
+
+/// Whether the gate was entered before each of five bodies and left behind it, once for each start, with the numbers from 1 on.
+pub fn has_stood_round_five(trial: Option<Trial>) -> Option<bool> {
+    let trial = trial?;
+    Some(trial.place.passed() == (62, 62) && trial.place.faults() == 0)
 }
 
 /// A body that refuses stops its run, and the next one finds the engine spoiled.
 pub fn refuse(alloc: Global) -> Option<bool> {
     let mut engine = answering(alloc, 1, true)?;
-    let first = fault_of(engine.run(alloc, 1, &Single));
-    let second = fault_of(engine.run(alloc, 1, &Single));
-    Some(are_refusals(first, second))
+    let calls = [
+        (1, Some(RunFault::BodyFault(7))),
+        (1, Some(RunFault::Spoiled)),
+    ];
+    Some(runs_are(&mut engine, alloc, &calls))
+}
+
+// Four starts at once on four threads, one of which refuses.
+fn refusing(alloc: Global) -> Option<Trial> {
+    let gate = TestGate::new(alloc, Rule::Gather(4))?;
+    Trial::once(gate, answering(alloc, 3, true)?, 4)
 }
 
 /// And so it does on four threads, while three others run beside it.
-pub fn refuse_on_threads<R: Threads + Wait + Watch + Copy + Send + Sync + Drop + 'static>(
+pub fn refuse_on_threads<R: Threads + Wait + Copy + Send + Sync + 'static>(
     runtime: R,
     alloc: Global,
 ) -> Option<bool> {
-    let gate = Gathering::new(runtime, 4, patience());
-    let mut engine = answering(alloc, 3, true)?;
-    let first = fault_of(run_on_threads(runtime, &gate, alloc, 4, 1, &mut engine));
-    let second = fault_of(run_on_threads(runtime, &gate, alloc, 4, 1, &mut engine));
-    Some(are_refusals(first, second) && gate.most() == 4)
+    let mut trial = refusing(alloc)?;
+    let is_refused = trial.run(runtime, alloc) == Some(RunFault::BodyFault(7));
+    let is_spoiled = trial.run(runtime, alloc) == Some(RunFault::Spoiled);
+    Some(is_refused && is_spoiled && trial.place.most() == 4)
 }
 
-/// Ten thousand runs of eight systems on eight threads leave as many traces.
-pub fn repeat<R: Threads + Wait + Copy + Send + Sync + 'static>(
-    runtime: R,
-    alloc: Global,
-) -> Option<bool> {
-    let mut engine = answering(alloc, 8, false)?;
-    let traces = run_on_threads(runtime, &NoGate, alloc, 8, 10_000, &mut engine).ok()?;
-    Some(traces.len() == 10_000)
+/// Ten thousand runs of eight systems on eight threads.
+pub fn repeat(alloc: Global) -> Option<Trial> {
+    let gate = TestGate::new(alloc, Rule::Open)?;
+    let mut trial = Trial::once(gate, answering(alloc, 8, false)?, 8)?;
+    trial.plan.times = 10_000;
+    Some(trial)
+}
+
+/// Whether ten thousand runs left as many traces.
+pub fn has_traces(trial: Option<Trial>) -> Option<bool> {
+    Some(trial?.traces == 10_000)
 }

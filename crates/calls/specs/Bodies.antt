@@ -1,5 +1,6 @@
--- What a body makes of what it is shown that adds one resource to another, and counts its runs in a register.
-use Rattle.std.specs.Prelude.{ℕ, ℤ, pos, ◌+ℤ◌, ◌&&◌, Bool, List, get_or, set, Option}
+-- What the bodies of the tests make of what they are shown, and for which parameters they may.
+use Rattle.std.specs.Prelude.{ℕ, ℤ, pos, ◌+ℤ◌, ◌&&◌, Bool, true, cond, List, get_or, set, Option, Some, None, Result, Ok, Err}
+use Rattle.std.specs.Ordering.{int_eq}
 use Rattle.std.specs.Int.{saturate_signed}
 use mir.Syntax.{w64}
 use Rattle.model.specs.Lists.{has}
@@ -30,10 +31,25 @@ tallied_over params shown o = record {
   registers = set o.registers 0 (saturate_signed w64 (get_or o.registers 0 (pos 0) +ℤ pos 1));
 }
 
--- the outcome, over nothing written
+-- the outcome of one that adds the step to the total, and counts its runs in a register, over nothing written
 abbrev pub tallied : Params → Shown → Outcome
 tallied params shown = tallied_over params shown (untouched params shown)
 
--- whether it may do so
+-- the answer of one that writes nothing, or refuses with a number
+abbrev pub answered : Option ℕ → Params → Shown → Result Outcome ℕ
+answered None params shown = Ok (untouched params shown)
+answered (Some number) params shown = Err number
+
+-- the answer of one that refuses with 7 where the total is 1
+abbrev pub refused_at_one : Params → Shown → Result Outcome ℕ
+refused_at_one params shown = cond (int_eq (read_over params shown (untouched params shown).res_mut total) (pos 1)) (Err 7) (Ok (untouched params shown))
+
+-- the parameters that they fit
+abbrev pub may_always : Params → Bool
+may_always params = true
+
+abbrev pub may_refuse : Params → Bool
+may_refuse params = names_resource params total
+
 abbrev pub may_tally : Params → Bool
 may_tally params = has total params.res_mut && names_resource params step

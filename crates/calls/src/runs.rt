@@ -1,0 +1,97 @@
+// Runs of engines: on this thread, and on threads of a scope.
+
+ghost use Rattle.std.specs.Prelude.{};
+
+use crate::bodies::TestBody;
+use crate::gates::TestGate;
+use body::Body;
+use engine::{Engine, RunFault};
+use std::alloc::Global;
+use std::sync::Wait;
+use std::thread;
+use std::thread::{Scope, Threads};
+use worker_pool::{Single, Workers};
+
+/// Whether runs on this thread, so many at each call, stop by these faults, or by none.
+pub fn runs_are(
+    engine: &mut Engine<TestBody>,
+    alloc: Global,
+    calls: &[(u32, Option<RunFault>)],
+) -> bool {
+    for (times, fault) in calls {
+        if engine.run(alloc, *times, &Single).err() != *fault {
+            return false;
+        }
+    }
+    true
+}
+
+/// Whether the same is so of runs that leave no trace of a fault.
+pub fn kept_runs_are(
+    engine: &mut Engine<TestBody>,
+    alloc: Global,
+    calls: &[(u32, Option<RunFault>)],
+) -> bool {
+    for (times, fault) in calls {
+        if engine.run_kept(alloc, *times, &Single).err() != *fault {
+            return false;
+        }
+    }
+    true
+}
+
+/// On how many threads an engine runs, how often, and whether each start has a thread of its own.
+#[derive(Clone, Copy)]
+pub struct Plan {
+    /// How many starts run at once, at least one and at most 64.
+    pub workers: usize,
+    /// How many runs there are.
+    pub times: u32,
+    /// Whether each start has a thread of its own.
+    pub in_threads: bool,
+}
+
+impl Plan {
+    /// One run on so many threads, which stand.
+    pub fn once(workers: u32) -> Self {
+        Plan {
+            workers: workers as usize,
+            times: 1,
+            in_threads: false,
+        }
+    }
+}
+
+// Runs an engine on threads of a scope. Answers how many traces there are.
+fn run_in_scope<'s, E: 's, R: Threads + Wait + Copy + Send + 's, B: Body + 's>(
+    scope: &Scope<'s, E>,
+    runtime: R,
+    gate: &'s TestGate,
+    alloc: Global,
+    plan: Plan,
+    engine: &mut Engine<B>,
+) -> Result<usize, RunFault> {
+    let workers = plan.workers.max(1).min(64);
+    let mut mode = Workers::new(workers, scope, runtime, gate);
+    if plan.in_threads {
+        mode = mode.each_in_a_thread();
+    }
+    Ok(engine.run(alloc, plan.times, &mode)?.len())
+}
+
+/// Runs an engine on threads of a scope of its own. Answers how many traces there are.
+pub fn run_on_threads<R: Threads + Wait + Copy + Send + Sync + 'static, B: Body + 'static>(
+    runtime: R,
+    gate: &TestGate,
+    alloc: Global,
+    plan: Plan,
+    engine: &mut Engine<B>,
+) -> Result<usize, RunFault> {
+    thread::scope(
+        thread::scope_env(),
+        &runtime,
+        |scope| -> Result<usize, RunFault> {
+            run_in_scope(scope, runtime, gate, alloc, plan, engine)
+        },
+    )
+}
