@@ -1,4 +1,5 @@
-use Rattle.std.proofs.Common.{◌≡◌, List, map, ap, sym, ◌∙◌, subst, string_bytes}
+use Rattle.std.proofs.Common.{◌≡◌, List, map, refl, ap, sym, ◌∙◌, subst, string_bytes}
+use denote.Param.Send.{sendable}
 use Rattle.model.specs.declarations.Declarations.{Declared}
 use Rattle.command_line.specs.declared.args.Work.{Work}
 use Rattle.command_line.specs.declared.args.Work.TheVariants.{Run, Check}
@@ -24,6 +25,11 @@ use Rattle.program.proofs.Serving.{build-refused, given-refused, is-file, of-err
 use Rattle.program.proofs.serve.answer.Goals as goal
 
 -- there are as many codes as systems of the schedule
+-- the mode may send what it sends, and there is a script for each system
+pub run-requires : goal.run-requires
+run-requires g c = λ lifetimes.
+    (search sendable depth 40, (search sendable depth 40, (search sendable depth 40, ((refl, tt), (c.in_ok-bodies.ensures.fitting, c.in_ok-world.ensures.home)))))
+
 pub bodies_of-requires : goal.bodies_of-requires
 bodies_of-requires g c = c.in_ok-desc.ensures.count ∙ sym (count-declared c.in_ok-desc.desc c.in_ok-built.built c.in_ok-built.ensures.systems)
 
