@@ -74,14 +74,11 @@ fn post_one<R: Wait>(rt: &R, lead: &mut Lead<Same>, times: &mut [u8], job: u64) 
 {
     let mut back = 0u64;
     for _ in rt.forever() {
-        let heard = lead.bell().heard();
         if lead.post(job).is_ok() {
             break;
         }
         if count_one(lead, times) {
             back = back.saturating_add(1);
-        } else {
-            lead.bell().sleep(rt, heard);
         }
     }
     back
