@@ -124,6 +124,9 @@ fn run_engine<'s, M: Mode<'s>, B: Body + 's>(
     engine.built.law();
     engine.state.shape();
     engine.spoiled = true;
+    let Ok(pool) = Pool::begin(alloc, mode.standing()) else {
+        return Err(RunFault::Memory);
+    };
     let state = mem::replace(&mut engine.state, State::empty(alloc)).into_open();
     let deferred = mem::replace(&mut engine.deferred, Deferred::none(alloc));
     let bodies = mem::replace(&mut engine.bodies, Bodies::none(alloc));
@@ -134,13 +137,14 @@ fn run_engine<'s, M: Mode<'s>, B: Body + 's>(
     };
     let mut jobs = Jobs {
         bodies,
-        pool: Pool::new(alloc),
+        pool,
         started: 0,
     };
     let traces = run_times(&engine.built, &mut run, &mut jobs, times, mode);
     runs_are_sound();
     wide_of_one_is_single();
     single_runs_are_one();
+    jobs.pool.end(mode);
     engine.bodies = jobs.bodies;
     let traces = traces?;
     engine.state = run.state.into_state();

@@ -6,7 +6,7 @@ use body::system_body::Body;
 /// Why a job isn't handed out, with the job where it isn't lost.
 #[derive(Drop)]
 pub enum HandFault<B: Body> {
-    /// An allocation failed: the job comes back.
+    /// An allocation failed, or no worker has room for it: the job comes back.
     Memory(Start<B>),
     /// No thread can be started: the job is lost with it.
     NoWorker,

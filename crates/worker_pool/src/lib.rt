@@ -1,11 +1,16 @@
 // Jobs of a run: a body that a system starts with, where it runs, and how it comes back. No other crate starts threads.
 #![tactic(auto)]
 
+mod desk;
 pub mod fault;
+mod hands;
 pub mod mode;
 pub mod pool;
 pub mod single;
+mod standing;
 pub mod start;
+mod task;
+mod threaded;
 pub mod workers;
 
 pub use fault::HandFault;

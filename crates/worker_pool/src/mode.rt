@@ -1,9 +1,10 @@
 // How the systems of a run are executed: on how many threads, and what these threads ask of who waits for them.
 
-ghost use Rattle.std.specs.Prelude.{◌≡◌, ℕ, ◌<◌, Bool, is_some, IfSome, IsSome, IsTrue};
+ghost use Rattle.std.specs.Prelude.{◌≡◌, ℕ, ◌<◌, Bool, true, is_some, IfSome, IsSome, IsTrue};
 
 use crossbeam_channel::{Receiver, Sender};
-use std::thread::{Promise, PromisedHandle, Scope};
+use job_board::Bell;
+use std::thread::{JoinHandle, Promise, PromisedHandle, Scope};
 
 /// What a worker passes before and after it runs a body. It is called with the number of the start.
 pub trait Gate: Send + Sync + Drop {
@@ -26,7 +27,7 @@ pub trait Hosts<'s> {
         ensures { is_some result ≡ has_scope self.now };
 }
 
-/// How a thread's result is waited for.
+/// How a thread's result is waited for, and how what workers do.
 pub trait Joins {
     ghost joins: { Self → Bool };
 
@@ -34,6 +35,17 @@ pub trait Joins {
     fn join<T: Drop, P: Promise<T>>(&self, child: PromisedHandle<T, P>) -> Option<T>
         ensures kept { IfSome result (λ r. P.kept_by child.promise r) }
         ensures joined { IsTrue (joins self.now) → IsSome result };
+
+    /// Waits until a worker that stood has left, where that can be waited for.
+    fn see_off(&self, worker: JoinHandle<()>);
+
+    /// Waits until a bell has rung after `heard`, or less. False where that can't be waited for.
+    fn listen(&self, bell: &Bell, heard: u64) -> bool
+        ensures { IsTrue (joins self.now) → result ≡ true };
+
+    /// Does not come back where threads can be waited for.
+    fn stand_still(&self)
+        ensures { IsTrue (joins self.now) → ⊥ };
 }
 
 /// How a worker tells that it is done, and how that is heard.
@@ -43,6 +55,9 @@ pub trait Line: Copy + Send {
 
     /// The number of a start that is done, none where none is heard.
     fn hear(&self, from: &Receiver<u64>) -> Option<u64>;
+
+    /// Waits until a bell has rung after `heard`, or less.
+    fn listen(&self, bell: &Bell, heard: u64);
 }
 
 /// How the systems of a run are executed.
@@ -58,6 +73,9 @@ pub trait Mode<'s>: Hosts<'s> + Joins {
     fn width(&self) -> usize
         ensures width { result ≡ width self.now }
         ensures some { 0 < result };
+
+    /// How many workers may stand until the end of a call, 0 where each start has a thread of its own, or none.
+    fn standing(&self) -> usize;
 
     /// The line of its workers.
     fn line(&self) -> Self::Line;

@@ -1,122 +1,80 @@
 // The jobs that are out, and how they are handed out and come back.
 
-ghost use Rattle.std.specs.Prelude.{◌≡◌, ℕ, ◌+◌, ◌<◌, true, Err, [], ◌∷◌, ◌++◌, ◌⊎◌, length, is_some, slice_get, remove, IfOk, IfSome, IfNone, IsSome, IsTrue, IsSomeAnd, OnOk, OnErr};
+ghost use Rattle.std.specs.Prelude.{◌≡◌, ℕ, ◌+◌, ◌<◌, true, Err, [], ◌∷◌, ◌++◌, ◌⊎◌, length, slice_get, remove, IfOk, IfSome, IfNone, IsSome, IsTrue, IsSomeAnd, OnOk, OnErr};
 ghost use Rattle.worker_pool.specs.Ran.{Ran};
 
 use crate::fault::HandFault;
-use crate::mode::{Gate, Joins, Line, Mode};
-use crate::start::{Done, DoneOf, Start, run_start};
+use crate::mode::Mode;
+use crate::standing::Standing;
+use crate::start::{Done, Start};
+use crate::threaded::Threaded;
 use body::system_body::Body;
-use crossbeam_channel::{Receiver, Sender};
 use std::alloc::{AllocError, Global};
 use std::marker::Model;
-use std::thread::{PromisedHandle, Scope};
 
-// How many notices a channel holds.
-const MOST_NOTICES: usize = 64;
-
-// A job that is out: kept to be run here, or in a thread.
+// Where the jobs run.
 #[derive(Drop)]
-enum Work<B: Body> {
-    Here(Start<B>),
-    There(PromisedHandle<Done<B>, DoneOf<B>>),
-}
-
-// A job that is out, with the number of its start.
-#[derive(Drop)]
-struct Out<B: Body> {
-    number: u64,
-    work: Work<B>,
-}
-
-impl<B: Body> Model for Out<B> {
-    ghost use Rattle.std.specs.Prelude.{true, false};
-    ghost use Rattle.worker_pool.specs.JobOut.{JobOut};
-    ghost use Rattle.worker_pool.specs.declared.pool.Work.TheVariants.{Here, There};
-
-    ghost Value = { JobOut B };
-
-    ghost view = { λ o. elim o.work [
-      | Here start ↦ record { number = start.number; system = start.system; body = start.body; view = start.view.value; there = false }
-      | There child ↦ record { number = child.promise.start.value.number; system = child.promise.start.value.system; body = child.promise.start.value.body; view = child.promise.start.value.view.value; there = true }
-    ] };
-}
-
-impl<B: Body> Out<B> {
-    // Whether a notice tells of this job.
-    fn is_told(&self, number: u64) -> bool {
-        self.number == number
-    }
-
-    // What comes of the job.
-    fn finish<J: Joins>(self, mode: &J) -> Option<Done<B>>
-        ensures ran { IfSome result (λ done. Ran B.meaning B.fits self.number self.system self.body self.view done.number done.system done.body done.view.value done.answer) }
-        ensures none { IfNone result (self.there ≡ true) }
-        ensures joins { IsTrue (J.joins mode.now) → IsSome result }
-    {
-        match self.work {
-            Work::Here(start) => Some(run_start(start)),
-            Work::There(child) => mode.join(child),
-        }
-    }
-}
-
-// Where threads tell that they are done.
-#[derive(Drop)]
-struct Notices {
-    bell: Sender<u64>,
-    heard: Receiver<u64>,
-}
-
-// What a thread rings when it is done. The first that is asked for makes the channel.
-fn bell_of(alloc: Global, notices: &mut Option<Notices>) -> Result<Sender<u64>, AllocError> {
-    if let Some(made) = notices {
-        return made.bell.clone();
-    }
-    let (bell, heard) = crossbeam_channel::bounded(alloc, MOST_NOTICES)?;
-    let rung = bell.clone()?;
-    *notices = Some(Notices { bell, heard });
-    Ok(rung)
+enum Form<B: Body> {
+    // Here, or each in a thread of its own.
+    Threads(Threaded<B>),
+    // In workers that stand.
+    Stands(Standing<B>),
 }
 
 /// The jobs that are out. Contracts see them as a list, in the order in which they were handed out.
 #[derive(Drop)]
 pub struct Pool<B: Body> {
-    alloc: Global,
-    out: Vec<Out<B>>,
-    notices: Option<Notices>,
+    form: Form<B>,
 }
 
 impl<B: Body> Model for Pool<B> {
     ghost use Rattle.std.specs.Prelude.{List};
     ghost use Rattle.worker_pool.specs.JobOut.{JobOut};
+    ghost use Rattle.worker_pool.specs.declared.pool.Form.TheVariants.{Threads, Stands};
 
     ghost Value = { List (JobOut B) };
 
-    ghost view = { λ p. p.out.items };
+    ghost view = { λ p. elim p.form [
+      | Threads jobs ↦ jobs
+      | Stands jobs ↦ jobs
+    ] };
 }
 
 impl<B: Body> Pool<B> {
-    /// A pool with no job out.
+    /// A pool with no job out, for which no worker stands.
     pub fn new(alloc: Global) -> Self
         ensures { result ≡ [] }
     {
         Pool {
-            alloc,
-            out: Vec::new(alloc),
-            notices: None,
+            form: Form::Threads(Threaded::new(alloc)),
         }
+    }
+
+    /// A pool with no job out, for a call: up to so many workers come to stand as jobs want them, until `end` sends them away. With 0 none does.
+    pub fn begin(alloc: Global, workers: usize) -> Result<Self, AllocError>
+        ensures { IfOk result (λ p. p ≡ []) }
+    {
+        let form = if workers == 0 {
+            Form::Threads(Threaded::new(alloc))
+        } else {
+            Form::Stands(Standing::open(alloc, workers)?)
+        };
+        Ok(Pool { form })
     }
 
     /// How many jobs are out.
     pub fn count(&self) -> usize
         ensures { result ≡ length self.now }
     {
-        self.out.len()
+        match &self.form {
+            Form::Threads(jobs) => jobs.count(),
+            Form::Stands(jobs) => jobs.count(),
+        }
     }
 
-    /// Hands a job out: to a thread where the mode has a scope, else it is kept to be run when it is brought back. After an error nothing
-    /// is handed out: where an allocation fails the job comes back, and it is lost where no thread can be started.
+    /// Hands a job out: to a worker that stands, or a thread of its own, where the mode has a scope, else it is kept to be run when it is brought
+    /// back. After an error nothing is handed out: where an allocation fails, or no worker has room for it, the job comes back, and it is lost where no
+    /// thread can be started.
     pub fn hand_out<'s, M: Mode<'s>>(
         &mut self,
         mode: &M,
@@ -128,70 +86,17 @@ impl<B: Body> Pool<B> {
         ensures err { OnErr result (self.new ≡ self.old) }
         ensures only { OnErr result ((result ≡ Err (HandFault.Memory start)) ⊎ ((result ≡ Err HandFault.NoWorker) × (M.has_scope mode.now ≡ true))) }
     {
-        self.give(mode.scope(), mode.line(), mode.gate(), start)
+        match &mut self.form {
+            Form::Threads(jobs) => jobs.give(mode.scope(), mode.line(), mode.gate(), start),
+            Form::Stands(jobs) => match mode.scope() {
+                Some(scope) => jobs.give(scope, mode.line(), mode.gate(), start),
+                None => Err(HandFault::Memory(start)),
+            },
+        }
     }
 
-    // The place of a job that is done, the first where none is told of.
-    fn place_of_done<N: Line>(&self, line: N) -> usize
-        requires { 0 < length self.now }
-        ensures { result < length self.now }
-    {
-        let Some(notices) = &self.notices else {
-            return 0;
-        };
-        let number = line.hear(&notices.heard).unwrap_or(0);
-        self.out
-            .iter()
-            .position(|out| out.is_told(number))
-            .unwrap_or(0)
-    }
-
-    // Hands a job out to a thread of the scope, or keeps it where there is none.
-    fn give<'s, E: 's, N: Line + 's, G: Gate>(
-        &mut self,
-        scope: Option<&Scope<'s, E>>,
-        line: N,
-        gate: &'s G,
-        start: Start<B>,
-    ) -> Result<(), HandFault<B>>
-    where
-        B: 's,
-        ensures ok { OnOk result (self.new ≡ self.old ++ record { number = start.number; system = start.system; body = start.body; view = start.view.value; there = is_some scope.entry } ∷ []) }
-        ensures err { OnErr result (self.new ≡ self.old) }
-        ensures only { OnErr result ((result ≡ Err (HandFault.Memory start)) ⊎ ((result ≡ Err HandFault.NoWorker) × (is_some scope.entry ≡ true))) }
-    {
-        let Ok(()) = self.out.reserve(1) else {
-            return Err(HandFault::Memory(start));
-        };
-        let number = start.number;
-        let work = match scope {
-            None => Work::Here(start),
-            Some(scope) => {
-                let Ok(bell) = bell_of(self.alloc, &mut self.notices) else {
-                    return Err(HandFault::Memory(start));
-                };
-                let promise = DoneOf::of(&start);
-                let job = move || {
-                    gate.enter(number);
-                    let done = run_start(start);
-                    gate.leave(number);
-                    line.ring(&bell, number);
-                    done
-                };
-                match scope.spawn_with(promise, job) {
-                    Ok(child) => Work::There(child),
-                    Err(_refused) => return Err(HandFault::NoWorker),
-                }
-            }
-        };
-        let Ok(()) = self.out.push(Out { number, work }) else {
-            unreachable!()
-        };
-        Ok(())
-    }
-
-    /// Brings one job back, that of whichever thread is done, once it is: what comes of it has the number of its start. None only where the
-    /// mode can't wait for a thread; that job is lost.
+    /// Brings one job back, that of whichever worker is done, once it is: what comes of it has the number of its start. None only where the
+    /// mode can't wait for a worker; that job is lost.
     pub fn bring_back<'s, M: Mode<'s>>(&mut self, mode: &M) -> Option<Done<B>>
     where
         B: 's,
@@ -201,7 +106,20 @@ impl<B: Body> Pool<B> {
         ensures joins { IsTrue (M.joins mode.now) → IsSome result }
         ensures shorter { length self.new + 1 ≡ length self.old }
     {
-        let at = self.place_of_done(mode.line());
-        self.out.remove(at).finish(mode)
+        match &mut self.form {
+            Form::Threads(jobs) => jobs.bring_back(mode.line(), mode),
+            Form::Stands(jobs) => jobs.bring_back(mode),
+        }
+    }
+
+    /// Ends a pool: workers that stand leave, and each is waited for.
+    pub fn end<'s, M: Mode<'s>>(self, mode: &M)
+    where
+        B: 's,
+    {
+        match self.form {
+            Form::Threads(_) => {}
+            Form::Stands(jobs) => jobs.end(mode),
+        }
     }
 }

@@ -4,7 +4,8 @@ ghost use Rattle.std.specs.Prelude.{false};
 
 use crate::mode::{Gate, Hosts, Joins, Line, Mode};
 use crossbeam_channel::{Receiver, Sender};
-use std::thread::{Promise, PromisedHandle, Scope};
+use job_board::Bell;
+use std::thread::{JoinHandle, Promise, PromisedHandle, Scope};
 
 /// One thread: each start is finished before anything else is done.
 #[derive(Clone, Copy, PartialEq, Eq, Debug, Default)]
@@ -33,6 +34,8 @@ impl Line for NoLine {
     fn hear(&self, _from: &Receiver<u64>) -> Option<u64> {
         None
     }
+
+    fn listen(&self, _bell: &Bell, _heard: u64) {}
 }
 
 impl<'s> Hosts<'s> for Single {
@@ -51,6 +54,14 @@ impl Joins for Single {
     fn join<T: Drop, P: Promise<T>>(&self, _child: PromisedHandle<T, P>) -> Option<T> {
         None
     }
+
+    fn see_off(&self, _worker: JoinHandle<()>) {}
+
+    fn listen(&self, _bell: &Bell, _heard: u64) -> bool {
+        false
+    }
+
+    fn stand_still(&self) {}
 }
 
 impl<'s> Mode<'s> for Single {
@@ -62,6 +73,10 @@ impl<'s> Mode<'s> for Single {
 
     fn width(&self) -> usize {
         1
+    }
+
+    fn standing(&self) -> usize {
+        0
     }
 
     fn line(&self) -> NoLine {

@@ -42,26 +42,6 @@ pub struct Done<B> {
     pub answer: Result<(), BodyFault>,
 }
 
-/// Runs the body of a start.
-pub fn run_start<B: Body>(start: Start<B>) -> Done<B>
-    ensures { Ran B.meaning B.fits start.number start.system start.body start.view.value result.number result.system result.body result.view.value result.answer }
-{
-    let Start {
-        number,
-        system,
-        mut body,
-        mut view,
-    } = start;
-    let answer = body.run(&mut view);
-    Done {
-        number,
-        system,
-        body,
-        view,
-        answer,
-    }
-}
-
 // What a thread promises of its result: the body of this start has run.
 #[derive(Drop)]
 pub(crate) struct DoneOf<B: Body> {

@@ -1,16 +1,18 @@
-// Threads of a scope: each body runs in one of its own.
+// Threads of a scope: workers that stand and take one job after the other, or a thread for each job.
 
 ghost use Rattle.std.specs.Prelude.{◌≡◌, ◌<◌, ◌≤◌, true};
 
 use crate::mode::{Gate, Hosts, Joins, Line, Mode};
 use crossbeam_channel::{Receiver, Sender};
+use job_board::Bell;
 use std::sync::Wait;
-use std::thread::{Promise, PromisedHandle, Scope, Threads};
+use std::thread::{JoinHandle, Promise, PromisedHandle, Scope, Threads};
 
-/// So many systems at once, each in a thread of a scope, through a gate.
+/// So many systems at once, in threads of a scope, through a gate.
 #[derive(Drop)]
 pub struct Workers<'a, 's, E, R, G> {
     count: usize,
+    stand: bool,
     scope: &'a Scope<'s, E>,
     runtime: R,
     gate: &'s G,
@@ -18,7 +20,8 @@ pub struct Workers<'a, 's, E, R, G> {
 }
 
 impl<'a, 's, E: 's, R, G> Workers<'a, 's, E, R, G> {
-    /// So many systems at once, at least one and at most 64, each in a thread of the scope, through the gate.
+    /// So many systems at once, at least one and at most 64, by as many workers, through the gate. Each is a thread of the scope, which stands from when
+    /// it is first wanted to the end of the pool, and takes one job after the other.
     pub fn new(count: usize, scope: &'a Scope<'s, E>, runtime: R, gate: &'s G) -> Self
         requires some { 1 ≤ count }
         requires few { count ≤ 64 }
@@ -26,10 +29,19 @@ impl<'a, 's, E: 's, R, G> Workers<'a, 's, E, R, G> {
     {
         Workers {
             count,
+            stand: true,
             scope,
             runtime,
             gate,
         }
+    }
+
+    /// As many systems at once, each in a thread of the scope that begins with it and ends with it.
+    pub fn each_in_a_thread(mut self) -> Self
+        ensures { result.count ≡ self.entry.count }
+    {
+        self.stand = false;
+        self
     }
 }
 
@@ -47,6 +59,10 @@ impl<R: Wait + Copy + Send> Line for Wire<R> {
     fn hear(&self, from: &Receiver<u64>) -> Option<u64> {
         from.recv(&self.runtime).ok()
     }
+
+    fn listen(&self, bell: &Bell, heard: u64) {
+        bell.sleep(&self.runtime, heard);
+    }
 }
 
 impl<'a, 's, E: 's, R: Threads, G> Hosts<'s> for Workers<'a, 's, E, R, G> {
@@ -59,11 +75,25 @@ impl<'a, 's, E: 's, R: Threads, G> Hosts<'s> for Workers<'a, 's, E, R, G> {
     }
 }
 
-impl<'a, 's, E: 's, R: Threads, G> Joins for Workers<'a, 's, E, R, G> {
+impl<'a, 's, E: 's, R: Threads + Wait, G> Joins for Workers<'a, 's, E, R, G> {
     ghost joins = { λ _. true };
 
     fn join<T: Drop, P: Promise<T>>(&self, child: PromisedHandle<T, P>) -> Option<T> {
         Some(child.join(&self.runtime))
+    }
+
+    fn see_off(&self, worker: JoinHandle<()>) {
+        worker.join(&self.runtime);
+    }
+
+    fn listen(&self, bell: &Bell, heard: u64) -> bool {
+        bell.sleep(&self.runtime, heard);
+        true
+    }
+
+    fn stand_still(&self) {
+        for _ in self.runtime.forever() {}
+        unreachable!()
     }
 }
 
@@ -77,6 +107,10 @@ impl<'a, 's, E: 's, R: Threads + Wait + Copy + Send + 's, G: Gate + 's> Mode<'s>
 
     fn width(&self) -> usize {
         self.count
+    }
+
+    fn standing(&self) -> usize {
+        if self.stand { self.count } else { 0 }
     }
 
     fn line(&self) -> Wire<R> {

@@ -34,7 +34,7 @@ run_times-traces-requires g c = λ lifetimes.
       home = c.into_open-state.ensures.home;
       deferred_for = subst (IsDeferredFor inside.built) (sym c.replace-deferred.ensures.value) held.2;
     } in
-    (c.type_bounds.send-B, (c.type_bounds.send-M-Line, (c.type_bounds.send-M-Gate, (c.type_bounds.sync-M-Gate, ((refl, tt), (rest, c.new.ensures))))))
+    (c.type_bounds.send-B, (c.type_bounds.send-M-Line, (c.type_bounds.send-M-Gate, (c.type_bounds.sync-M-Gate, ((refl, tt), (rest, c.in-Ok.ensures))))))
 
 pub returns-in_err-traces-clause-stopped : goal.returns-in_err-traces-clause-stopped
 returns-in_err-traces-clause-stopped g c =

@@ -1,0 +1,130 @@
+// Jobs that are posted on a board and not back: each has a ticket, by which its outcome is known.
+
+ghost use Rattle.std.specs.Prelude.{◌≡◌, ◌≢◌, ◌<◌, ◌++◌, ◌∷◌, ℕ, List, [], false, length, remove, slice_get, IfSome, IfNone, IfErr, OnOk, IsSome, IsSomeAnd, IsTrue, MatchOption};
+ghost use mathlib.Core.Option.{some};
+ghost use lib.ListN.{get_elem?};
+ghost use Rattle.job_board.specs.Ends.{lead_view};
+ghost use Rattle.job_board.specs.Views.{having_read, after_collect, HasPosted, Uncollected};
+ghost use Rattle.worker_pool.specs.AreOut.{AreOut};
+
+use crate::mode::Joins;
+use job_board::{JobNumber, Lead, Task};
+use std::snapshot::Snapshot;
+
+/// Under which number a job was posted.
+#[derive(Drop)]
+pub struct Ticket<J> {
+    pub(crate) number: JobNumber,
+    pub(crate) job: Snapshot<J>,
+}
+
+// Where the ticket of a number lies.
+fn place_of<J>(tickets: &[Ticket<J>], number: JobNumber) -> Option<usize>
+    ensures { MatchOption result ((at : ℕ) (t : _) → get_elem? tickets.now at ≡ some t → t.number ≢ number) (λ p. (t : _) × (get_elem? tickets.now p ≡ some t) × (t.number ≡ number)) }
+{
+    for place in 0..tickets.len() {
+        if tickets[place].number == number {
+            return Some(place);
+        }
+    }
+    None
+}
+
+// Waits for an outcome, where that can be waited for.
+fn collect_one<J: Joins, T: Task>(lead: &mut Lead<T>, mode: &J) -> Option<(JobNumber, T::Outcome)>
+    ensures collected { MatchOption result
+        ((gained : List (ℕ × ℕ)) × (lead_view lead.new ≡ having_read (lead_view lead.old) gained))
+        (λ t. (gained : List (ℕ × ℕ)) × (slot : ℕ) × (lead_view lead.new ≡ after_collect (having_read (lead_view lead.old) gained) t.0 t.1 slot) × Uncollected (lead_view lead.old) t.0 × ((j : T.Job) × HasPosted (lead_view lead.old) t.0 j × T.answers j t.1)) }
+    ensures joins { IsTrue (J.joins mode.now) → IsSome result }
+{
+    for _ in 0..u64::MAX {
+        let heard = lead.bell().heard();
+        if let Some(collected) = lead.try_collect() {
+            return Some(collected);
+        }
+        if !mode.listen(lead.bell(), heard) {
+            return None;
+        }
+    }
+    mode.stand_still();
+    None
+}
+
+// Waits for the outcome of a job that has a ticket, and gives the place of the ticket. What has none is dropped: its job was given up.
+fn collect_one_of<J: Joins, T: Task>(
+    lead: &mut Lead<T>,
+    tickets: &[Ticket<T::Job>],
+    mode: &J,
+) -> Option<(usize, T::Outcome)>
+    requires { AreOut tickets.now (lead_view lead.old) }
+    ensures some { IfSome result (λ r. (t : _) × (get_elem? tickets.now r.0 ≡ some t) × T.answers t.job.value r.1 × AreOut (remove tickets.now r.0) (lead_view lead.new)) }
+    ensures none { IfNone result (AreOut tickets.now (lead_view lead.new)) }
+    ensures open { (lead_view lead.new).closed ≡ (lead_view lead.old).closed }
+    ensures joins { IsTrue (J.joins mode.now) → IsSome result }
+{
+    for round in 0..u64::MAX {
+        lead.law();
+        let (number, outcome) = collect_one(lead, mode)?;
+        if let Some(place) = place_of(tickets, number) {
+            return Some((place, outcome));
+        }
+    }
+    lead.law();
+    unreachable!()
+}
+
+// Posts a job, for which there is a ticket then, behind the others. It comes back where an allocation fails, or the board has no room.
+pub(crate) fn post<T: Task>(
+    lead: &mut Lead<T>,
+    tickets: &mut Vec<Ticket<T::Job>>,
+    job: T::Job,
+) -> Result<(), T::Job>
+    requires open { (lead_view lead.old).closed ≡ false }
+    requires out { AreOut tickets.old.items (lead_view lead.old) }
+    ensures ok { OnOk result ((t : _) × (t.job.value ≡ job) × (tickets.new.items ≡ tickets.old.items ++ t ∷ [])) }
+    ensures err { IfErr result (λ back. (back ≡ job) × (tickets.new.items ≡ tickets.old.items)) }
+    ensures open { (lead_view lead.new).closed ≡ false }
+    ensures out { AreOut tickets.new.items (lead_view lead.new) }
+{
+    let Ok(()) = tickets.reserve(1) else {
+        return Err(job);
+    };
+    let posted = Snapshot::of(&job);
+    lead.law();
+    match lead.post(job) {
+        Ok(number) => {
+            tickets.push_reserved(Ticket {
+                number,
+                job: posted,
+            });
+            Ok(())
+        }
+        Err(job) => Err(job),
+    }
+}
+
+// Waits for the outcome of a job that has a ticket, of whichever is done. None only where that can't be waited for: the first job is given up.
+pub(crate) fn collect<J: Joins, T: Task>(
+    lead: &mut Lead<T>,
+    tickets: &mut Vec<Ticket<T::Job>>,
+    mode: &J,
+) -> Option<T::Outcome>
+    requires some { 0 < length tickets.old.items }
+    requires out { AreOut tickets.old.items (lead_view lead.old) }
+    ensures some { IfSome result (λ outcome. (i : ℕ) × (t : _) × (get_elem? tickets.old.items i ≡ some t) × T.answers t.job.value outcome × (tickets.new.items ≡ remove tickets.old.items i)) }
+    ensures none { IfNone result (tickets.new.items ≡ remove tickets.old.items 0) }
+    ensures open { (lead_view lead.new).closed ≡ (lead_view lead.old).closed }
+    ensures out { AreOut tickets.new.items (lead_view lead.new) }
+    ensures joins { IsTrue (J.joins mode.now) → IsSome result }
+{
+    match collect_one_of(lead, tickets.as_slice(), mode) {
+        Some((place, outcome)) => {
+            tickets.remove(place);
+            Some(outcome)
+        }
+        None => {
+            tickets.remove(0);
+            None
+        }
+    }
+}

@@ -1,0 +1,146 @@
+// Workers that stand, and the jobs that are posted for them.
+
+ghost use Rattle.std.specs.Prelude.{◌≡◌, ℕ, ◌+◌, ◌<◌, ◌⊎◌, true, Err, [], ◌∷◌, ◌++◌, length, slice_get, remove, IfOk, IfErr, IfSome, IfNone, IsSome, IsTrue, IsSomeAnd, OnOk, OnErr};
+ghost use Rattle.worker_pool.specs.Ran.{Ran};
+
+use crate::desk::{Ticket, collect, post};
+use crate::fault::HandFault;
+use crate::hands::start_worker;
+use crate::mode::{Gate, Joins, Line};
+use crate::start::{Done, Start};
+use crate::task::StartTask;
+use body::system_body::Body;
+use job_board::{Board, Hand, Lead};
+use std::alloc::{AllocError, Global};
+use std::marker::Model;
+use std::thread::{JoinHandle, Scope};
+
+/// Workers that stand, and the jobs that are out with them. Contracts see these as a list, in the order in which they were handed out.
+#[derive(Drop)]
+pub struct Standing<B: Body> {
+    lead: Lead<StartTask<B>>,
+    tickets: Vec<Ticket<Start<B>>>,
+    // The hands of workers that don't stand yet.
+    hands: Vec<Hand<StartTask<B>>>,
+    workers: Vec<JoinHandle<()>>,
+}
+
+impl<B: Body> Model for Standing<B> {
+    ghost use Rattle.std.specs.Prelude.{◌≡◌, List, map, true, false};
+    ghost use Rattle.job_board.specs.Ends.{lead_view};
+    ghost use Rattle.worker_pool.specs.JobOut.{JobOut};
+    ghost use Rattle.worker_pool.specs.AreOut.{AreOut};
+
+    ghost Value = { List (JobOut B) };
+
+    ghost view = { λ s. map (λ t. record { number = t.job.value.number; system = t.job.value.system; body = t.job.value.body; view = t.job.value.view.value; there = true }) s.tickets.items };
+
+    ghost invariant = { λ s. ((lead_view s.lead).closed ≡ false) × AreOut s.tickets.items (lead_view s.lead) };
+}
+
+impl<B: Body> Standing<B> {
+    // A board for so many workers, of which none stands yet.
+    pub(crate) fn open(alloc: Global, count: usize) -> Result<Self, AllocError>
+        ensures { IfOk result (λ s. s ≡ []) }
+    {
+        let (lead, hands) = Board::new(alloc, count, count)?;
+        Ok(Standing {
+            lead,
+            tickets: Vec::new(alloc),
+            hands,
+            workers: Vec::new(alloc),
+        })
+    }
+
+    // How many jobs are out.
+    pub(crate) fn count(&self) -> usize
+        ensures { result ≡ length self.now }
+    {
+        self.tickets.len()
+    }
+
+    // Sees that a worker has room for a job: one more stands in the scope, where each that stands has a job. The job comes back, but where no thread can be
+    // started.
+    fn find_room<'s, E: 's, N: Line + 's, G: Gate>(
+        &mut self,
+        scope: &Scope<'s, E>,
+        line: N,
+        gate: &'s G,
+        start: Start<B>,
+    ) -> Result<Start<B>, HandFault<B>>
+    where
+        B: 's,
+        ensures ok { IfOk result (λ kept. kept ≡ start) }
+        ensures same { self.new ≡ self.old }
+        ensures only { OnErr result ((result ≡ Err (HandFault.Memory start)) ⊎ (result ≡ Err HandFault.NoWorker)) }
+    {
+        if self.tickets.len() < self.workers.len() {
+            return Ok(start);
+        }
+        let Ok(()) = self.workers.reserve(1) else {
+            return Err(HandFault::Memory(start));
+        };
+        let Some(hand) = self.hands.pop() else {
+            return Err(HandFault::Memory(start));
+        };
+        let Some(worker) = start_worker(scope, line, gate, hand) else {
+            return Err(HandFault::NoWorker);
+        };
+        self.workers.push_reserved(worker);
+        Ok(start)
+    }
+
+    // Hands a job to the workers that stand. It comes back where an allocation fails, or the board has no room.
+    fn hand_over(&mut self, start: Start<B>) -> Result<(), Start<B>>
+        ensures ok { OnOk result (self.new ≡ self.old ++ record { number = start.number; system = start.system; body = start.body; view = start.view.value; there = true } ∷ []) }
+        ensures err { IfErr result (λ back. (back ≡ start) × (self.new ≡ self.old)) }
+    {
+        post(&mut self.lead, &mut self.tickets, start)
+    }
+
+    // Hands a job out to a worker: to one more, where each that stands has a job. It comes back where an allocation fails, or no worker has room for
+    // it, and is lost where no thread can be started.
+    pub(crate) fn give<'s, E: 's, N: Line + 's, G: Gate>(
+        &mut self,
+        scope: &Scope<'s, E>,
+        line: N,
+        gate: &'s G,
+        start: Start<B>,
+    ) -> Result<(), HandFault<B>>
+    where
+        B: 's,
+        ensures ok { OnOk result (self.new ≡ self.old ++ record { number = start.number; system = start.system; body = start.body; view = start.view.value; there = true } ∷ []) }
+        ensures err { OnErr result (self.new ≡ self.old) }
+        ensures only { OnErr result ((result ≡ Err (HandFault.Memory start)) ⊎ (result ≡ Err HandFault.NoWorker)) }
+    {
+        let start = self.find_room(scope, line, gate, start)?;
+        match self.hand_over(start) {
+            Ok(()) => Ok(()),
+            Err(start) => Err(HandFault::Memory(start)),
+        }
+    }
+
+    // Brings one job back, that of whichever worker is done with one, once it is. None only where the mode can't wait for one; that job is lost.
+    pub(crate) fn bring_back<J: Joins>(&mut self, mode: &J) -> Option<Done<B>>
+        requires { 0 < length self.old }
+        ensures ran { IfSome result (λ done. (i : ℕ) × IsSomeAnd (slice_get self.old i) (λ job. Ran B.meaning B.fits job.number job.system job.body job.view done.number done.system done.body done.view.value done.answer) × (self.new ≡ remove self.old i)) }
+        ensures none { IfNone result ((i : ℕ) × IsSomeAnd (slice_get self.old i) (λ job. job.there ≡ true)) }
+        ensures joins { IsTrue (J.joins mode.now) → IsSome result }
+        ensures shorter { length self.new + 1 ≡ length self.old }
+    {
+        collect(&mut self.lead, &mut self.tickets, mode)
+    }
+
+    // Sends the workers away, and waits until each has left.
+    pub(crate) fn end<J: Joins>(self, mode: &J) {
+        let Standing {
+            mut lead,
+            workers,
+            ..
+        } = self;
+        lead.close();
+        for worker in workers {
+            mode.see_off(worker);
+        }
+    }
+}

@@ -1,0 +1,55 @@
+// The jobs of a board: starts, and what comes of them.
+
+ghost use Rattle.worker_pool.specs.Ran.{Ran};
+
+use crate::start::{Done, Start};
+use body::system_body::Body;
+use job_board::Task;
+use std::marker::PhantomData;
+
+/// Jobs that are run, each with the number of its start.
+pub trait Runs: Task {
+    /// The number of the start, which a gate is told.
+    fn number(job: &Self::Job) -> u64;
+
+    /// Runs a job.
+    fn run(job: Self::Job) -> Self::Outcome
+        ensures { Self.answers job result };
+}
+
+/// Starts of systems with bodies of a type.
+#[derive(Drop)]
+pub struct StartTask<B: Body> {
+    body: PhantomData<B>,
+}
+
+impl<B: Body> Task for StartTask<B> {
+    type Job = Start<B>;
+
+    type Outcome = Done<B>;
+
+    ghost answers = { λ s d. Ran B.meaning B.fits s.number s.system s.body s.view.value d.number d.system d.body d.view.value d.answer };
+}
+
+impl<B: Body> Runs for StartTask<B> {
+    fn number(start: &Start<B>) -> u64 {
+        start.number
+    }
+
+    fn run(start: Start<B>) -> Done<B> {
+        let Start {
+            number,
+            system,
+            mut body,
+            mut view,
+        } = start;
+        let answer = body.run(&mut view);
+        Done {
+            number,
+            system,
+            body,
+            view,
+            answer,
+        }
+    }
+}
