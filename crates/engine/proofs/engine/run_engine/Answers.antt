@@ -1,5 +1,6 @@
 use Rattle.std.proofs.Common.{◌≡◌, ℕ, List, map, Option, refl, sym, ap, ◌∙◌, subst}
 use Rattle.std.proofs.lemmas.List.{length-map}
+use denote.Param.Send.{sendable}
 use Rattle.model.specs.state.Agreement.{AgreesWithAll}
 use Rattle.model.specs.state.State.{State}
 use Rattle.model.specs.runs.Causes.{Cause}
@@ -35,6 +36,10 @@ run_times-traces-requires g c = λ lifetimes.
       deferred_for = subst (IsDeferredFor inside.built) (sym c.replace-deferred.ensures.value) held.2;
     } in
     (c.type_bounds.send-B, (c.type_bounds.send-M-Line, (c.type_bounds.send-M-Gate, (c.type_bounds.sync-M-Gate, ((refl, tt), (rest, c.in-Ok.ensures))))))
+
+-- the mode may send what it sends
+pub end-requires : goal.end-requires
+end-requires g c = λ lifetimes. (search sendable depth 40, (search sendable depth 40, (search sendable depth 40, (search sendable depth 40, (refl, tt)))))
 
 pub returns-in_err-traces-clause-stopped : goal.returns-in_err-traces-clause-stopped
 returns-in_err-traces-clause-stopped g c =
