@@ -1,9 +1,9 @@
 -- Lists of events by kind.
-use Rattle.std.proofs.Common.{◌≡◌, ℕ, zero, suc, ◌+◌, ◌<◌, ◌≤◌, Bool, true, false, cond, ◌==◌, ◌||◌, ◌&&◌, ℤ, List, [], ◌∷◌, ◌++◌, length, get_or, set, drop, take, map, Option, Some, None, option_map, refl, sym, ap, ap₂, ◌∙◌, arith}
-use Rattle.std.proofs.lemmas.List.{map-append, take_more, take_all, drop_more, length-take, length-map}
+use Rattle.std.proofs.Common.{◌≡◌, ℕ, zero, suc, ◌+◌, ◌<◌, ◌≤◌, Bool, true, false, cond, ◌==◌, ◌||◌, ◌&&◌, ℤ, List, [], ◌∷◌, ◌++◌, length, get_or, set, drop, take, map, Option, Some, None, option_map, refl, sym, ap, ◌∙◌, arith}
+use Rattle.std.proofs.lemmas.List.{map-append, take_more, drop_more}
 use Rattle.kinds.specs.declared.res.Event.{Event}
 use Rattle.kinds.specs.Res.{event_number}
-use Rattle.model.specs.Lists.{has, head_or, tail_of, update_at}
+use Rattle.model.specs.Lists.{has, update_at}
 use Rattle.model.specs.state.State.{EventQueue}
 use Rattle.model.specs.state.Events.{queue_of, unread, can_send, send_all}
 use Rattle.model.specs.shown.Input.{unread_of}

@@ -1,6 +1,6 @@
 // The kept events of every kind.
 
-ghost use Rattle.std.specs.Prelude.{◌≡◌, ◌↔◌, ◌++◌, ◌≤◌, false, IsErrOf, OnOk, OnErr, map, replicate, length};
+ghost use Rattle.std.specs.Prelude.{◌≡◌, ◌↔◌, ◌++◌, ◌≤◌, false, IsErrOf, IfOk, OnOk, OnErr, map, replicate, length};
 ghost use Rattle.std.specs.List.{AllByRecursion};
 ghost use Rattle.kinds.specs.Res.{event_number};
 ghost use Rattle.model.specs.Lists.{update_at};
@@ -10,7 +10,7 @@ ghost use Rattle.model.specs.state.Shape.{IsQueue};
 
 use crate::queue::{Queue, SendFault, Unread};
 use kinds::res::Event;
-use std::alloc::Global;
+use std::alloc::{AllocError, Global};
 use std::marker::Model;
 
 /// The kept events of every kind. Contracts see the queue of each, by number.
@@ -43,6 +43,19 @@ impl Events {
                 Queue::new(alloc),
             ],
         }
+    }
+
+    /// The same events once more. Where an allocation fails there is no copy.
+    pub fn copy(&self, alloc: Global) -> Result<Self, AllocError>
+        ensures { IfOk result (λ copy. copy ≡ self.now) }
+    {
+        let hit = self.queues[0].copy(alloc)?;
+        let heal = self.queues[1].copy(alloc)?;
+        let spark = self.queues[2].copy(alloc)?;
+        let done = self.queues[3].copy(alloc)?;
+        Ok(Events {
+            queues: [hit, heal, spark, done],
+        })
     }
 
     /// There is a queue for each kind.

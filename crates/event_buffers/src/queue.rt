@@ -1,12 +1,12 @@
 // The kept events of one kind.
 
-ghost use Rattle.std.specs.Prelude.{◌≡◌, ◌↔◌, ◌++◌, ◌≤◌, ◌+◌, length, false, IsErrOf, OnOk, OnErr};
+ghost use Rattle.std.specs.Prelude.{◌≡◌, ◌↔◌, ◌++◌, ◌≤◌, ◌+◌, length, false, IsErrOf, IfOk, OnOk, OnErr};
 ghost use Rattle.model.specs.state.State.{empty_queue, last_tick};
 ghost use Rattle.model.specs.state.Events.{send, send_all, can_send, unread, updated_queue};
 ghost use Rattle.model.specs.state.Shape.{IsQueue};
 ghost use Rattle.event_buffers.specs.Queue.{values_from};
 
-use std::alloc::Global;
+use std::alloc::{AllocError, Global};
 use std::marker::Model;
 use std::mem;
 use thiserror::Error;
@@ -66,6 +66,19 @@ impl Queue {
             older: Vec::new(alloc),
             newer: Vec::new(alloc),
         }
+    }
+
+    /// The same queue once more. Where an allocation fails there is no copy.
+    pub fn copy(&self, alloc: Global) -> Result<Self, AllocError>
+        ensures { IfOk result (λ copy. copy ≡ self.now) }
+    {
+        let older = Vec::from_slice(alloc, self.older.as_slice())?;
+        let newer = Vec::from_slice(alloc, self.newer.as_slice())?;
+        Ok(Queue {
+            first: self.first,
+            older,
+            newer,
+        })
     }
 
     /// What holds of every queue: the kept events have the last numbers given.

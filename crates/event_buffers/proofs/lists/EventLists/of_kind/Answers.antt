@@ -1,4 +1,4 @@
-use Rattle.std.proofs.Common.{◌≡◌, List, length, get_or, map, sym, ap, ◌∙◌, subst, arith}
+use Rattle.std.proofs.Common.{List, length, map, sym, ap, ◌∙◌, arith}
 use Rattle.kinds.specs.Res.{event_number}
 use Rattle.model.specs.shown.Outcome.{events_sent}
 use Rattle.event_buffers.specs.Lists.{ListValue, ListsValue, place_in}

@@ -1,9 +1,9 @@
-use Rattle.std.proofs.Common.{◌≡◌, List, get_or, take, map, sym, ap, ◌∙◌, subst}
+use Rattle.std.proofs.Common.{get_or, ap, ◌∙◌}
 use Rattle.kinds.specs.Res.{event_number}
 use Rattle.model.specs.state.Events.{queue_of, unread}
 use Rattle.kinds.specs.declared.res.Event.TheVariants.{Hit}
 use Rattle.event_buffers.specs.Lists.{ListValue, lists_of}
-use Rattle.event_buffers.proofs.EventLists.{unread_lists, unread-more}
+use Rattle.event_buffers.proofs.EventLists.{unread-more}
 use Rattle.event_buffers.proofs.lists.EventLists.unread.Goals as goal
 
 pub loop-place-preserved : goal.loop-place-preserved
