@@ -54,6 +54,18 @@ impl Memory {
         })
     }
 
+    /// The same memory once more. Where an allocation fails there is no copy.
+    pub fn copy(&self, alloc: Global) -> Result<Self, AllocError>
+        ensures { IfOk result (λ copy. copy ≡ self.now) }
+    {
+        let cursors = Vec::from_slice(alloc, self.cursors.as_slice())?;
+        Ok(Memory {
+            last_run: self.last_run,
+            cursors,
+            registers: self.registers,
+        })
+    }
+
     /// The tick of the last run, 0 before the first.
     pub fn last_run(&self) -> Tick
         ensures { result ≡ self.now.last_run }
@@ -90,6 +102,20 @@ impl Memory {
         self.last_run = tick;
         move_to_ends(&mut self.cursors, reads, events);
     }
+}
+
+// The same memories once more.
+pub(crate) fn copied_memories(
+    alloc: Global,
+    memories: &[Memory],
+) -> Result<Vec<Memory>, AllocError>
+    ensures { IfOk result (λ copies. copies.items ≡ memories.now) }
+{
+    let mut copies = Vec::with_capacity(alloc, memories.len())?;
+    for memory in memories {
+        copies.push_reserved(memory.copy(alloc)?);
+    }
+    Ok(copies)
 }
 
 // So many cursors at the first event.

@@ -1,18 +1,18 @@
 // The state of an engine: the world, the kept events, and what systems and conditions remember.
 
-ghost use Rattle.std.specs.Prelude.{◌≡◌, ◌<◌, ◌≤◌, [], length, replicate, get_or};
+ghost use Rattle.std.specs.Prelude.{◌≡◌, ◌<◌, ◌≤◌, [], length, replicate, get_or, IfOk};
 ghost use Rattle.model.specs.state.State.{no_memory, event_count, empty_queue, most_passed_over};
 ghost use Rattle.archetype_store.specs.Layout.{AreAllHome};
 ghost use Rattle.archetype_store.specs.Store.{empty_world};
 ghost use Rattle.body.specs.Steps.{AreInTime, HasShape, counted_state, state_of};
 
-use crate::memory::Memory;
+use crate::memory::{Memory, copied_memories};
 use crate::open_state::OpenState;
 use archetype_store::store::World;
 use change_ticks::clock::Clock;
 use event_buffers::buffers::Events;
 use query_plan::row_room::RowRoom;
-use std::alloc::Global;
+use std::alloc::{AllocError, Global};
 use std::marker::Model;
 
 /// The memories of a schedule: of its systems, and of its conditions, each by number.
@@ -109,6 +109,25 @@ impl State {
             passed_over,
             room,
         }
+    }
+
+    /// The same state once more: the world, the kept events, the memories and the count of commands passed over. The copy shares nothing with
+    /// this one, so that a later write to one of the two leaves the other as it is. Where an allocation fails there is no copy.
+    pub fn copy(&self, alloc: Global) -> Result<Self, AllocError>
+        ensures { IfOk result (λ copy. copy ≡ self.now) }
+    {
+        let world = self.world.copy(alloc)?;
+        let events = self.events.copy(alloc)?;
+        let systems = copied_memories(alloc, &self.systems)?;
+        let conditions = copied_memories(alloc, &self.conditions)?;
+        Ok(State {
+            world,
+            events,
+            systems,
+            conditions,
+            passed_over: self.passed_over,
+            room: RowRoom::new(alloc),
+        })
     }
 
     /// The state to be run: while it is, its columns may leave it.

@@ -9,13 +9,18 @@ mod engines;
 mod gathering;
 mod moving;
 mod resources;
+mod rounds;
 mod store;
 mod threads;
 mod worlds;
 
 use crate::commands::{last_id, schedule_order, spent_ids};
-use crate::moving::{boxed, boxed_on_threads, refused_engines, spent_clock, stamps};
+use crate::moving::{
+    boxed, boxed_on_threads, kept_at_the_last_tick, kept_state, refused_engines, spent_clock,
+    stamps,
+};
 use crate::resources::three_tallies;
+use crate::rounds::kept_rounds;
 use crate::store::{buffers, entities, steps, texts, unions};
 use crate::threads::{
     first_to_end_comes_back, gate_stands_round_bodies, gather, meet, not_met, refuse,
@@ -56,6 +61,25 @@ fn tell_alone<W: Write>(alloc: Global, out: &mut W) -> io::Result<()> {
     tell(out, "what two systems touch together", unions(alloc))?;
     tell(out, "steps of a core", steps(alloc))?;
     tell(out, "texts of traces", texts(alloc))
+}
+
+// The tests of runs that leave no trace of a fault.
+fn tell_kept<W: Write>(alloc: Global, out: &mut W) -> io::Result<()> {
+    tell(
+        out,
+        "a spent clock spoils nothing in a run that is kept",
+        kept_at_the_last_tick(alloc),
+    )?;
+    tell(
+        out,
+        "a run that is kept leaves the state",
+        kept_state(alloc),
+    )?;
+    tell(
+        out,
+        "a refusal in a run that is kept leaves the resources",
+        kept_rounds(alloc),
+    )
 }
 
 // The tests of several threads.
@@ -121,6 +145,7 @@ fn tell_gates<R: Threads + Wait + Clock + Copy + Send + Sync + Drop + 'static, W
 
 fn main(rt: HostRuntime) -> io::Result<()> {
     tell_alone(rt.alloc(), &mut rt.stdout())?;
+    tell_kept(rt.alloc(), &mut rt.stdout())?;
     tell_threads(rt, rt.alloc(), &mut rt.stdout())?;
     tell_gates(rt, rt.alloc(), &mut rt.stdout())
 }

@@ -107,6 +107,26 @@ pub fn spent_clock(alloc: Global) -> Option<bool> {
     Some(is_told)
 }
 
+/// At a spent clock a run that is kept tells so as often as it is asked: the engine isn't spoiled.
+pub fn kept_at_the_last_tick(alloc: Global) -> Option<bool> {
+    let mut engine = moving(alloc, Clock::at(LAST_TICK))?;
+    let first = engine.run_kept(alloc, 1, &Single).err();
+    let second = engine.run_kept(alloc, 1, &Single).err();
+    Some(first == Some(RunFault::ClockSpent) && second == Some(RunFault::ClockSpent))
+}
+
+/// Two runs for which the clock has ticks for one leave no trace: position and clock are as they were, and one run may follow.
+pub fn kept_state(alloc: Global) -> Option<bool> {
+    let mut engine = moving(alloc, Clock::at(LAST_TICK - 5))?;
+    let both = engine.run_kept(alloc, 2, &Single).err();
+    let place = position(&engine);
+    let now = engine.state().world().now();
+    engine.run_kept(alloc, 1, &Single).ok()?;
+    let is_told = both == Some(RunFault::ClockSpent) && now == LAST_TICK - 5;
+    let stays = place == Some(Position { x: 0, y: 0 });
+    Some(is_told && stays && position(&engine) == Some(Position { x: 1, y: -2 }))
+}
+
 // Where three runs of these two bodies on this thread move the first entity.
 fn alone<B: Body>(alloc: Global, bodies: Vec<B>) -> Option<Option<Position>> {
     let mut engine = engine(alloc, Clock::at(1), &[MOVING, "read Health"], bodies)?.ok()?;

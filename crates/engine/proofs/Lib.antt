@@ -17,3 +17,4 @@ mod Turns
 pub mod Beginning
 pub mod Keeping
 pub mod Agreeing
+pub mod Kept

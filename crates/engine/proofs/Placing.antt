@@ -35,7 +35,7 @@ use Rattle.body.proofs.Outs.{written-away, written-back, lent-part, none-out}
 use Rattle.body.proofs.Gets.{same-by-get, each-in, each-from}
 use Rattle.worker_pool.specs.JobOut.{JobOut}
 use Rattle.engine.specs.Deferred.{DeferredValue, run_with, with_commands, with_grants}
-use Rattle.engine.specs.Meanings.{meaning_of, meanings_of, meanings, body_at, body_fits, HasMemories, Suits}
+use Rattle.engine.specs.Meanings.{meaning_of, meanings_of, meanings, body_at, body_fits, AreFit, HasMemories, Suits}
 use Rattle.engine.specs.Jobs.{running_of, systems_of, held_by, woven, AreDistinct, AreKept, HasBody, IsJob, IsPlaced, Placed}
 use Rattle.engine.proofs.Remembering.{memories_at, memories_noted, memories_laid, memories_slots}
 use Rattle.engine.specs.Starts.{granted_at_start, has_ids_at_start, ids_at_start}
@@ -506,6 +506,14 @@ module _ {B : Type 0} (meaning : B → Params → BodyMeaning) (fits : B → Par
             ∙ sym (slice_get-get_or bodies n (λ shown. Err 0) (omega arith))
         at n (inr past) =
             slice_get_past (meanings meaning s slots) n (let c = meanings_count slots kept.body_count in omega arith) ∙ sym (slice_get_past bodies n (omega arith))
+
+    -- and each fits
+    pub kept_fits : AreFit fits s slots
+    kept_fits = record { body_count = kept.body_count; fit = λ n known. fits-one n (body_at slots n) (kept.home n known) }
+      where
+        fits-one : (n : ℕ) (o : Option B) → IsPlaced meaning fits (params_of s n) (body_of bodies n) false o → body_fits fits o (params_of s n) ≡ true
+        fits-one n None h = h
+        fits-one n (Some body) h = h.2
 
   pub means_last : (bodies : List BodyMeaning) (slots : List (Option B)) (w : StateValue) → Placed meaning fits there s bodies slots [] w → length bodies ≡ length s.systems → meanings meaning s slots ≡ bodies
   means_last bodies slots w placed count = kept_last bodies slots (placed_kept meaning fits there s bodies slots [] w placed) count

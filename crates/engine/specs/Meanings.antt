@@ -63,6 +63,11 @@ pub record Suits {B : Type 0} (fits : B → Params → Bool) (s : Schedule) (slo
   pub memories : HasMemories s state
   pub fit : (n : ℕ) → n < length s.systems → fits_at fits s slots n ≡ true
 
+-- there is a body for each system, and each fits
+pub record AreFit {B : Type 0} (fits : B → Params → Bool) (s : Schedule) (slots : List (Option B)) : Type 0 where
+  pub body_count : length slots ≡ length s.systems
+  pub fit : (n : ℕ) → n < length s.systems → fits_at fits s slots n ≡ true
+
 -- the least system whose body doesn't fit, where the numbers are right
 pub record IsFirstMisfit {B : Type 0} (fits : B → Params → Bool) (s : Schedule) (slots : List (Option B)) (state : State) (n : ℕ) : Type 0 where
   pub body_count : length slots ≡ length s.systems

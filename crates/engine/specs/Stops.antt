@@ -1,5 +1,5 @@
 -- Why a run stops: what a stop within it means, and what is told of it once it has ended.
-use Rattle.std.specs.Prelude.{ℕ, ◌≡◌, Bool, true, List, Some, Result, Ok, Err}
+use Rattle.std.specs.Prelude.{ℕ, ◌≡◌, Bool, true, false, List, Some, Result, Ok, Err}
 use Rattle.model.specs.state.State.{State}
 use Rattle.model.specs.shown.Outcome.{BodyMeaning, events_sent}
 use Rattle.model.specs.shown.Overlay.{has_event_numbers}
@@ -65,6 +65,15 @@ fault_of stop.NoTick = fault.ClockSpent
 fault_of stop.NoIds = fault.IdsSpent
 fault_of stop.NoEventNumber = fault.ClockSpent
 fault_of (stop.Refused n) = fault.BodyFault n
+
+-- whether it tells of a worker that was wanting, with which a body may be lost
+abbrev pub lacks_worker : RunFault → Bool
+lacks_worker fault.NoWorker = true
+lacks_worker fault.Memory = false
+lacks_worker fault.ClockSpent = false
+lacks_worker fault.IdsSpent = false
+lacks_worker fault.Spoiled = false
+lacks_worker (fault.BodyFault n) = false
 
 -- which fault tells of a cause
 abbrev pub IsToldAs : Cause → RunFault → Type 0

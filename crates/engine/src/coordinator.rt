@@ -8,7 +8,7 @@ ghost use Rattle.model.specs.steps.Lawful.{May};
 ghost use Rattle.model.specs.runs.WideRuns.{IsWideRun, AreWideRuns, WideStops, IsWideStopped};
 ghost use Rattle.executor_core.specs.Stands.{Stands};
 ghost use Rattle.engine.specs.Jobs.{AreKept};
-ghost use Rattle.engine.specs.Meanings.{meanings};
+ghost use Rattle.engine.specs.Meanings.{meanings, AreFit};
 ghost use Rattle.engine.specs.History.{history_of};
 ghost use Rattle.engine.specs.Next.{IsAtRest, IsNext, IsTaken, KeepsNext, StopsNext};
 ghost use Rattle.engine.specs.Stops.{StopsBy};
@@ -39,6 +39,7 @@ pub(crate) fn run_times<'s, M: Mode<'s>, B: Body + 's>(
     ensures rest { OnOk result (IsAtRest B.meaning B.fits built.now jobs.new.bodies run.new.deferred run.new.state) }
     ensures stopped { IfErr result (StopsBy (M.has_scope mode.now) (IsWideStopped (M.width mode.now) built.now (meanings B.meaning built.now jobs.old.bodies) times run.old.state.state)) }
     ensures meanings { (result ≡ Err stop.NoWorker → ⊥) → meanings B.meaning built.now jobs.new.bodies ≡ meanings B.meaning built.now jobs.old.bodies }
+    ensures fit { (result ≡ Err stop.NoWorker → ⊥) → AreFit B.fits built.now jobs.new.bodies }
 {
     let mut traces = Vec::new(run.alloc);
     for _run in 0..times {

@@ -1,9 +1,11 @@
 // The engine: a built schedule with a body for each system, over a state.
 
 ghost use Rattle.std.specs.Prelude.{◌≡◌, ◌↔◌, ℕ, map, false, Some, Err, IfErr, IfOk, IsErr, IsErrOf, IsTrue};
-ghost use Rattle.engine.specs.Meanings.{meanings, Miscounts, IsFirstMisfit};
+ghost use Rattle.engine.specs.Meanings.{meanings, AreFit, Miscounts, IsFirstMisfit};
 ghost use Rattle.engine.specs.RunsAs.{RunsAs};
 ghost use Rattle.engine.specs.Stops.{StopsAs};
+
+mod kept;
 
 use crate::bodies::Bodies;
 use crate::coordinator::run_times;
@@ -117,6 +119,7 @@ fn run_engine<'s, M: Mode<'s>, B: Body + 's>(
     ensures unchanged { result ≡ Err RunFault.Spoiled → engine.new ≡ engine.old }
     ensures schedule { engine.new.schedule ≡ engine.old.schedule }
     ensures meanings { (result ≡ Err RunFault.NoWorker → ⊥) → meanings B.meaning engine.old.schedule engine.new.bodies ≡ meanings B.meaning engine.old.schedule engine.old.bodies }
+    ensures fit { (result ≡ Err RunFault.NoWorker → ⊥) → engine.old.spoiled ≡ false → AreFit B.fits engine.old.schedule engine.new.bodies }
 {
     if engine.spoiled {
         return Err(RunFault::Spoiled);

@@ -2,6 +2,7 @@
 
 ghost use Rattle.std.specs.Prelude.{◌≡◌};
 ghost use Rattle.engine.specs.declared.faults.NewFault.TheVariants as new_fault;
+ghost use Rattle.engine.specs.declared.faults.RunFault.TheVariants as run_fault;
 ghost use Rattle.engine.specs.Stops.{fault_of};
 
 use crate::stop::Stop;
@@ -22,7 +23,7 @@ pub enum NewFault {
     Memory,
 }
 
-/// Why a run stops. After each of these the engine is spoiled.
+/// Why a run stops. After each of these `run` leaves the engine spoiled.
 #[derive(Clone, Copy, PartialEq, Eq, Debug, Error)]
 pub enum RunFault {
     /// An allocation failed.
@@ -50,6 +51,14 @@ impl From<AllocError> for NewFault {
 
     fn from(_error: AllocError) -> Self {
         NewFault::Memory
+    }
+}
+
+impl From<AllocError> for RunFault {
+    ghost from_gives = { λ _ fault. fault ≡ run_fault.Memory };
+
+    fn from(_error: AllocError) -> Self {
+        RunFault::Memory
     }
 }
 

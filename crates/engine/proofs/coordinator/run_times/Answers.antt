@@ -7,7 +7,7 @@ use Rattle.worker_pool.specs.JobOut.{JobOut}
 use Rattle.engine.specs.History.{history_of}
 use Rattle.engine.specs.Jobs.{AreKept}
 use Rattle.engine.specs.Meanings.{meanings}
-use Rattle.engine.proofs.Placing.{kept_last, meanings_count}
+use Rattle.engine.proofs.Placing.{kept_last, kept_fits, meanings_count}
 use Rattle.engine.proofs.Staging.{runs_more, stopped}
 use Rattle.engine.specs.Stops.{StopsBy}
 use Rattle.engine.proofs.Stops.{either_way, handed_on, lost_or_kept, one_stop, stops_up}
@@ -127,3 +127,28 @@ returns-in-Err-clause-meanings g c = λ lost.
     let traces = c.loop-run.traces.items in
     let kept = c.in-Err.ensures.kept (λ e. lost (ap (λ x. Err x) (one_stop e))) in
     kept_last meaning fits there s now c.bring_home.new.jobs.bodies (c.in_ok-bring_home-in-Err.ensures.kept s now kept) (meanings_count meaning fits there s c.loop-run.jobs.bodies inv.rest.suits.body_count) ∙ inv.meant
+
+pub returns-in_err-push-in-Ok-clause-fit : goal.returns-in_err-push-in-Ok-clause-fit
+returns-in_err-push-in-Ok-clause-fit g c = λ lost.
+    let rest = c.in-Ok.ensures.rest in
+    record { body_count = rest.suits.body_count; fit = rest.suits.fit }
+
+pub returns-in_err-bring_home-in-Err-clause-fit : goal.returns-in_err-bring_home-in-Err-clause-fit
+returns-in_err-bring_home-in-Err-clause-fit g c =
+    lost_or_kept c.from_residual-in_err-bring_home-in-Err.result c.in_err-bring_home-in-Err.field-0.0 c.from_residual-in_err-bring_home-in-Err.ensures.1
+    (λ wanting. absurd (wanting c.in_err-bring_home-in-Err.ensures.lost.0))
+
+pub returns-in-Err-clause-fit : goal.returns-in-Err-clause-fit
+returns-in-Err-clause-fit g c = λ lost.
+    let meaning = g.B.Body.meaning in
+    let fits = g.B.Body.fits in
+    let there = g.M.Hosts.has_scope c.args.mode.now in
+    let s = c.args.built.now in
+    let now = meanings meaning s c.loop-run.jobs.bodies in
+    let kept = c.in-Err.ensures.kept (λ e. lost (ap (λ x. Err x) (one_stop e))) in
+    kept_fits meaning fits there s now c.bring_home.new.jobs.bodies (c.in_ok-bring_home-in-Err.ensures.kept s now kept)
+
+pub returns-clause-fit : goal.returns-clause-fit
+returns-clause-fit g c = λ lost.
+    let rest = c.loop-run.invariant.rest in
+    record { body_count = rest.suits.body_count; fit = rest.suits.fit }

@@ -8,7 +8,7 @@ use Rattle.kinds.specs.Components.{widths}
 use Rattle.engine.specs.Deferred.{IsDeferredFor}
 use Rattle.engine.specs.History.{history_of}
 use Rattle.engine.specs.EngineValue.{EngineValue}
-use Rattle.engine.specs.Meanings.{meanings, AllKeepWithin, Suits}
+use Rattle.engine.specs.Meanings.{meanings, AllKeepWithin, AreFit, Suits}
 use Rattle.engine.specs.Stops.{AreStopped, StopsAs, fault_of}
 use Rattle.engine.specs.Next.{IsAtRest}
 use Rattle.engine.proofs.Agreeing.{engine_agrees}
@@ -114,3 +114,16 @@ returns-clause-ran g c =
           (engine_agrees meaning width times before hs c.into_state.result c.law.ensures held.0.memories c.shape.ensures held.1
           (length-map c.in_ok-traces.traces.items history_of ∙ c.in_ok-traces.ensures.count) inner);
     }
+
+pub returns-in_err-traces-clause-fit : goal.returns-in_err-traces-clause-fit
+returns-in_err-traces-clause-fit g c = λ lost fresh.
+    let later = c.run_times-traces.new.jobs.bodies in
+    let told = c.in_err-traces.field-0.0 in
+    let fit = c.in_err-traces.ensures.fit (λ e. lost_told c.from_residual.result told c.from_residual.ensures.1 lost (one_stop e)) in
+    subst (λ (v : EngineValue g.row.B.Denot). AreFit g.B.Body.fits v.schedule later) c.engine.view_is fit
+
+pub returns-clause-fit : goal.returns-clause-fit
+returns-clause-fit g c = λ lost fresh.
+    let rest = c.in_ok-traces.ensures.rest in
+    let later = c.run_times-traces.new.jobs.bodies in
+    subst (λ (v : EngineValue g.row.B.Denot). AreFit g.B.Body.fits v.schedule later) c.engine.view_is (record { body_count = rest.suits.body_count; fit = rest.suits.fit })
