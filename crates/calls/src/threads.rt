@@ -164,9 +164,7 @@ fn run_each_in_a_thread<
 }
 
 /// Two starts are past a gate at once, each in a thread of its own.
-pub fn gather_each_in_a_thread<
-    R: Threads + Wait + Watch + Copy + Send + Sync + Drop + 'static,
->(
+pub fn gather_each_in_a_thread<R: Threads + Wait + Watch + Copy + Send + Sync + Drop + 'static>(
     runtime: R,
     alloc: Global,
 ) -> Option<bool> {
