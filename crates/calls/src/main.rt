@@ -18,8 +18,8 @@ use crate::moving::{boxed, boxed_on_threads, refused_engines, spent_clock, stamp
 use crate::resources::three_tallies;
 use crate::store::{buffers, entities, steps, texts, unions};
 use crate::threads::{
-    first_to_end_comes_back, gate_stands_round_bodies, gather, gather_each_in_a_thread, meet,
-    not_met, refuse, refuse_on_threads, repeat,
+    first_to_end_comes_back, gate_stands_round_bodies, gather, meet, not_met, refuse,
+    refuse_on_threads, repeat,
 };
 use std::alloc::Global;
 use std::io::{self, Write};
@@ -76,11 +76,6 @@ fn tell_threads<R: Threads + Wait + Clock + Copy + Send + Sync + Drop + 'static,
     )?;
     tell(out, "two starts meet", gather(rt, alloc, 2, 2))?;
     tell(out, "three starts meet", gather(rt, alloc, 3, 3))?;
-    tell(
-        out,
-        "two starts meet, each in a thread of its own",
-        gather_each_in_a_thread(rt, alloc),
-    )?;
     tell(
         out,
         "sixty-four starts of many meet",

@@ -145,38 +145,6 @@ pub fn gather<R: Threads + Wait + Watch + Copy + Send + Sync + Drop + 'static>(
     Some(gate.most() == u64::from(workers))
 }
 
-// Runs an engine once, at most two systems at a time, each in a thread of a scope that begins and ends with it.
-fn run_each_in_a_thread<
-    's,
-    E: 's,
-    R: Threads + Wait + Copy + Send + 's,
-    G: Gate + 's,
-    B: Body + 's,
->(
-    scope: &Scope<'s, E>,
-    runtime: R,
-    gate: &'s G,
-    alloc: Global,
-    engine: &mut Engine<B>,
-) -> Result<Vec<Trace>, RunFault> {
-    let mode = Workers::new(2, scope, runtime, gate).each_in_a_thread();
-    engine.run(alloc, 1, &mode)
-}
-
-/// Two starts are past a gate at once, each in a thread of its own.
-pub fn gather_each_in_a_thread<R: Threads + Wait + Watch + Copy + Send + Sync + Drop + 'static>(
-    runtime: R,
-    alloc: Global,
-) -> Option<bool> {
-    let gate = Gathering::new(runtime, 2, patience());
-    let mut engine = answering(alloc, 2, false)?;
-    thread::scope(thread::scope_env(), &runtime, |scope| {
-        run_each_in_a_thread(scope, runtime, &gate, alloc, &mut engine)
-    })
-    .ok()?;
-    Some(gate.most() == 2)
-}
-
 /// While the first start is held, on two threads, the second comes back and the third begins and leaves.
 pub fn first_to_end_comes_back<R: Threads + Wait + Watch + Copy + Send + Sync + Drop + 'static>(
     runtime: R,
