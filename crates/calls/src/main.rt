@@ -129,7 +129,7 @@ fn bodies_that_meet<R: Threads + Wait + Copy + Send + Sync + 'static>(
 ) -> [Test; 3] {
     let two = ran(rt, alloc, meet(alloc, 2, 2, PATIENCE));
     let three = ran(rt, alloc, meet(alloc, 3, 3, PATIENCE));
-    let alone = ran(rt, alloc, meet(alloc, 2, 1, 20_000));
+    let alone = ran(rt, alloc, meet(alloc, 2, 1, 200));
     [
         ("two bodies meet", have_met(two, 2)),
         ("three bodies meet", have_met(three, 3)),
