@@ -3,7 +3,8 @@
 ghost use Rattle.std.specs.Prelude.{◌≡◌, ◌==◌, [], ◌∷◌, ◌++◌, map, IfOk, OnOk, OnErr, Some};
 ghost use Rattle.kinds.specs.Res.{res_number, event_number};
 ghost use Rattle.std.specs.List.{list_any};
-ghost use Rattle.model.specs.access.Access.{no_params, names_resource, names_event};
+ghost use Rattle.model.specs.access.Access.{no_params, names_resource, names_event, has_filter};
+ghost use Rattle.model.specs.access.Query.{is_filter};
 ghost use Rattle.model.specs.Lists.{has};
 ghost use Rattle.access_set.specs.Footprints.{AreFootprints};
 ghost use Rattle.access_set.specs.Union.{union};
@@ -187,6 +188,13 @@ impl Params {
         self.spawns
     }
 
+    /// Whether some query has an `added` or `changed` term.
+    pub fn has_filter(&self) -> bool
+        ensures { result ≡ has_filter self.now }
+    {
+        any_filter(self.queries())
+    }
+
     /// Whether the resource is read or written.
     pub fn names_resource(&self, resource: Res) -> bool
         ensures { result ≡ names_resource self.now (res_number resource) }
@@ -227,6 +235,13 @@ impl Params {
         }
         has_event(self.writes(), event)
     }
+}
+
+// Whether some of the queries has an `added` or `changed` term.
+fn any_filter(queries: &[Query]) -> bool
+    ensures { result ≡ list_any (λ query. list_any is_filter query) queries.now }
+{
+    queries.iter().any(|query| query.has_filter())
 }
 
 /// Whether the resource is among these.

@@ -1,9 +1,10 @@
 -- When a schedule is settled.
-use Rattle.std.proofs.Common.{ℕ, ◌<◌, ◌≡◌, ◌≢◌, ◌↔◌, inl, inr, length, Bool, true, false, None, sym, arith}
+use Rattle.std.proofs.Common.{ℕ, ◌<◌, ◌≡◌, ◌≢◌, ◌↔◌, inl, inr, length, Bool, true, false, sym, arith}
+use Rattle.std.specs.Option.{is_some}
 use Rattle.std.proofs.lemmas.Bool.{cases_lt, both_ways}
 use Rattle.std.proofs.lemmas.Bool.Decides.{eqb_tells}
 use Rattle.model.specs.steps.Schedule.{Schedule, params_of}
-use Rattle.model.specs.steps.Ambiguity.{AmbiguousSystems, Settled}
+use Rattle.model.specs.steps.Ambiguity.{AmbiguousSystems, HasNoFilter, Settled}
 use Rattle.model.proofs.serial.Conflicts.{conflict_swap}
 use Rattle.ambiguity_report.specs.declared.races.Racer.{Racer}
 use Rattle.ambiguity_report.specs.declared.races.Racer.TheVariants.{System, Condition}
@@ -20,12 +21,13 @@ ambiguous_swap s m n a = record {
   not_after = a.not_before;
 }
 
--- a schedule is settled where nothing races with a system and none has commands
-pub settled_from : (s : Schedule) → ((r : Racer) (n : ℕ) → n < length s.systems → IsRace s r n → ⊥) → ((n : ℕ) → n < length s.systems → (params_of s n).spawns ≡ None) → Settled s
-settled_from s none quiet = record {
+-- a schedule is settled where nothing races with a system and, where one has commands, there is no filter
+pub settled_from : (s : Schedule) → ((r : Racer) (n : ℕ) → n < length s.systems → IsRace s r n → ⊥) →
+    ((n : ℕ) → n < length s.systems → is_some (params_of s n).spawns ≡ true → HasNoFilter s) → Settled s
+settled_from s none unfiltered = record {
   systems = apart;
   conditions = λ c n a. none (Condition c) n a.system_known a;
-  no_commands = quiet;
+  unfiltered = unfiltered;
 }
   where
     apart : (m n : ℕ) → AmbiguousSystems s m n → ⊥
@@ -39,6 +41,11 @@ settled_from s none quiet = record {
             none (System n) m a.first_known (low, ambiguous_swap s m n a)
       ]
     ]
+
+-- nothing races with a system of a settled schedule
+pub settled-apart : (s : Schedule) → Settled s → (r : Racer) (n : ℕ) → IsRace s r n → ⊥
+settled-apart s settled (System m) n race = settled.systems m n race.1
+settled-apart s settled (Condition c) n race = settled.conditions c n race
 
 -- what races with a system is a system or a condition
 pub race_of_either : (s : Schedule) (n : ℕ) (below asked : Bool) → below ≡ false → (below ≡ true) ↔ ((m : ℕ) × IsRace s (System m) n) → (asked ≡ true) ↔ ((c : ℕ) × IsRace s (Condition c) n) →

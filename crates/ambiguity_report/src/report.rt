@@ -1,10 +1,10 @@
 // The report: each two that race, and whether a schedule is settled.
 
-ghost use Rattle.std.specs.Prelude.{◌≡◌, ◌<◌, ◌+◌, ◌↔◌, ℕ, length, Some, IfOk, OnOk, MatchOption, IsTrue};
+ghost use Rattle.std.specs.Prelude.{◌≡◌, ◌<◌, ◌+◌, ◌↔◌, ℕ, true, length, Some, IfOk, OnOk, MatchOption, IsTrue};
 ghost use Rattle.std.specs.Option.{is_some};
 ghost use Rattle.model.specs.access.Conflict.{IsLeastDatum};
 ghost use Rattle.model.specs.steps.Schedule.{params_of};
-ghost use Rattle.model.specs.steps.Ambiguity.{Settled};
+ghost use Rattle.model.specs.steps.Ambiguity.{HasNoFilter, Settled};
 ghost use Rattle.access_set.specs.Datum.{datum_of};
 ghost use Rattle.ambiguity_report.specs.declared.races.Racer.{Racer};
 ghost use Rattle.ambiguity_report.specs.declared.races.Racer.TheVariants.{System, Condition};
@@ -14,8 +14,8 @@ ghost use Rattle.ambiguity_report.specs.Report.{IsReport, IsReportTo};
 
 use crate::before::{Paths, all_paths, paths_of};
 pub use crate::races::Racer;
+use access_set::Datum;
 use access_set::datum::why;
-use access_set::{Datum, Params};
 use schedule_builder::Built;
 use std::alloc::{AllocError, Global};
 
@@ -54,26 +54,59 @@ pub fn report(alloc: Global, built: &Built) -> Result<Vec<Pair>, AllocError>
     Ok(pairs)
 }
 
-/// Whether a schedule is settled: nothing races with any of its systems, and none of them has commands.
+/// Whether a schedule is settled: nothing races with any of its systems and, where a system has commands, no query of a system or
+/// condition has an `added` or `changed` term.
 pub fn is_settled(built: &Built) -> bool
     ensures { IsTrue result ↔ Settled built.now }
 {
+    if has_races(built) {
+        return false;
+    }
+    if !has_spawners(built) {
+        return true;
+    }
+    is_unfiltered(built)
+}
+
+// Whether something races with a system.
+fn has_races(built: &Built) -> bool
+    ensures { IsTrue result ↔ ((n : ℕ) × (n < length built.now.systems) × ((first : Racer) × IsRace built.now first n)) }
+{
     for system in 0..built.count() {
-        if has_commands(built.params(system)) {
+        if has_race(built, system) {
+            return true;
+        }
+    }
+    false
+}
+
+// Whether a system has commands.
+fn has_spawners(built: &Built) -> bool
+    ensures { IsTrue result ↔ ((n : ℕ) × (n < length built.now.systems) × (is_some (params_of built.now n).spawns ≡ true)) }
+{
+    for system in 0..built.count() {
+        if built.params(system).spawns().is_some() {
+            return true;
+        }
+    }
+    false
+}
+
+// Whether no query of a system or condition has an `added` or `changed` term.
+fn is_unfiltered(built: &Built) -> bool
+    ensures { IsTrue result ↔ HasNoFilter built.now }
+{
+    for system in 0..built.count() {
+        if built.params(system).has_filter() {
             return false;
         }
-        if has_race(built, system) {
+    }
+    for condition in 0..built.condition_count() {
+        if built.condition(condition).access().has_filter() {
             return false;
         }
     }
     true
-}
-
-// Whether a system has commands.
-fn has_commands(params: &Params) -> bool
-    ensures { result ≡ is_some params.now.spawns }
-{
-    params.spawns().is_some()
 }
 
 // Adds the pairs of what races with systems, where those ahead of it are there.

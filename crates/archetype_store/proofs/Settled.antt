@@ -17,7 +17,7 @@ use Rattle.column_store.specs.Kinds.{AreBelow}
 use Rattle.entity_table.proofs.WithRows.{status-with_rows, generation-with_rows}
 use Rattle.entity_table.specs.Ids.{slot_at, IsBook, IsGranted}
 use Rattle.entity_table.specs.Rows.{with_rows}
-use Rattle.model.proofs.agreement.WithoutCommands.{update_at-update_at as update_at-twice}
+use Rattle.model.proofs.agreement.Visits.{update_at-update_at as update_at-twice}
 use Rattle.archetype_store.specs.declared.change.Fate.{Fate}
 use Rattle.archetype_store.specs.declared.change.Fate.TheVariants as the
 use Rattle.archetype_store.specs.declared.change.EntityChange.{EntityChange}

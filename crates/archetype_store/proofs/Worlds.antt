@@ -1,5 +1,5 @@
 -- What keeps a world in its shape.
-use Rattle.std.proofs.Common.{◌≡◌, ℕ, ◌≤◌, Bool, true, false, cond, ◌==◌, ◌&&◌, ◌⊎◌, inl, inr, Result, Ok, Err, ℤ, pos, List, [], ◌∷◌, length, get_or, Some, None, refl, ap, sym, ◌∙◌, arith, eqb-true}
+use Rattle.std.proofs.Common.{◌≡◌, ℕ, ◌≤◌, Bool, true, false, cond, ◌==◌, ◌&&◌, ◌⊎◌, inl, inr, Result, Ok, Err, ℤ, pos, List, [], ◌∷◌, length, get_or, sum, Some, None, refl, ap, sym, subst, ◌∙◌, arith, eqb-true}
 use Rattle.std.specs.Prelude.{OnOk, OnErr, IsErrOf}
 use Rattle.std.specs.List.{AllByRecursion}
 use Rattle.kinds.specs.Components.{widths}
@@ -7,7 +7,7 @@ use Rattle.model.specs.declared.entities.Entity.{Entity}
 use Rattle.model.specs.Lists.{update_at}
 use Rattle.model.specs.state.State.{Slot, World, fresh_slot, most_indices}
 use Rattle.model.specs.state.Rows.{IsRising, insert_component, remove_component}
-use Rattle.model.specs.state.Ids.{has_ids, grant}
+use Rattle.model.specs.state.Ids.{has_ids, grant, has_ids_for_each, grant_each}
 use Rattle.model.specs.state.Commands.{is_alive, spawned, freed, with_row, release}
 use Rattle.model.specs.state.Loaded.{resource_given}
 use Rattle.model.specs.shown.Overlay.{resource_after}
@@ -16,6 +16,7 @@ use Rattle.model.proofs.lists.Each.{each-update_at, each-map_index}
 use Rattle.model.proofs.lists.Lists.{length-update_at, length-map_index}
 use Rattle.model.proofs.shape.Slots.{slot-spawned, slot-inserted, slot-removed, slot-freed, slots-grant, length-grant, slots-release, length-release}
 use Rattle.entity_table.specs.Ids.{spawned_all, settled}
+use Rattle.entity_table.proofs.Levels.{grant_each-is, has_ids_for_each-is}
 use Rattle.archetype_store.specs.declared.change.Fate.{Fate}
 use Rattle.archetype_store.specs.declared.change.Fate.TheVariants as the
 use Rattle.archetype_store.specs.declared.change.EntityChange.{EntityChange}
@@ -89,6 +90,11 @@ world-set W w n v t l p = record {
 
 pub world-grant : (W : ℕ → ℕ) (w : World) (n : ℕ) → has_ids n w.slots ≡ true → IsWorld W w → IsWorld W (with_slots (grant n) w)
 world-grant W w n h p = world-slots W w (grant n w.slots) (slots-grant W w.clock n w.slots p.slots) (length-grant n w.slots h) p
+
+pub world-grant_each : (W : ℕ → ℕ) (w : World) (ns : List ℕ) → has_ids_for_each ns w.slots ≡ true → IsWorld W w → IsWorld W (with_slots (grant_each ns) w)
+world-grant_each W w ns h p =
+    subst (λ (slots : List Slot). IsWorld W (with_slots (λ _. slots) w)) (sym (grant_each-is ns w.slots))
+    (world-grant W w (sum ns) (sym (has_ids_for_each-is ns w.slots p.few) ∙ h) p)
 
 pub world-release : (W : ℕ → ℕ) (w : World) (ids : List Entity) → IsWorld W w → IsWorld W (with_slots (release ids) w)
 world-release W w ids p = world-slots W w (release ids w.slots) (slots-release W w.clock ids w.slots p.slots) (let e = length-release ids w.slots in omega (arith, p.few)) p

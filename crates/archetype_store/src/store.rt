@@ -273,6 +273,23 @@ impl World {
         self.slots.grant(alloc, count)
     }
 
+    /// Grants several numbers of ids at once, as a grant of each after the others would: the least vacant indices, at their
+    /// generations, first those of the first number. It is refused where fewer indices are left than are asked for in all, and where an
+    /// allocation fails. After an error nothing has changed.
+    pub fn grant_level(
+        &mut self,
+        alloc: Global,
+        counts: &[u32],
+    ) -> Result<Vec<Vec<Entity>>, GrantFault>
+        ensures ok { IfOk result (λ granted. map (λ list. list.items) granted.items ≡ ids.ids_of_each counts.now self.old.state.slots) }
+        ensures granted { OnOk result (self.new.state ≡ with_slots (ids.grant_each counts.now) self.old.state) }
+        ensures spent { IsErrOf result GrantFault.IdsSpent ↔ (ids.has_ids_for_each counts.now self.old.state.slots ≡ false) }
+        ensures layout { self.new.layout ≡ self.old.layout }
+        ensures err { OnErr result (self.new ≡ self.old) }
+    {
+        self.slots.grant_level(alloc, counts)
+    }
+
     /// Makes the entity of a granted id live, without components.
     pub fn spawn_at(&mut self, e: Entity)
         requires { IsGranted self.old.state.slots e }

@@ -1,4 +1,4 @@
-// Commands in runs: ids that are spent, and the order in which the commands of a level are done.
+// Commands in runs: ids that are spent, and the order in which a level is granted its ids and its commands are done.
 
 ghost use Rattle.std.specs.Prelude.{IfSome};
 ghost use Rattle.archetype_store.specs.Layout.{AreAllHome};
@@ -8,10 +8,11 @@ use crate::engines::{Systems, TestEngine, commanding};
 use crate::gates::{Rule, TestGate};
 use crate::runs::runs_are;
 use crate::threads::Trial;
-use crate::worlds::{FIRST, put, world_of_many, world_of_one};
+use crate::worlds::{FIRST, empty_world, put, world_of_many, world_of_one};
 use archetype_store::World;
 use change_ticks::Clock;
 use engine::{Engine, RunFault};
+use entity_table::Entity;
 use kinds::component::{Health, Score};
 use script::Rounds;
 use std::alloc::Global;
@@ -66,10 +67,38 @@ pub fn schedule_order(alloc: Global, held: u64, awaited: u64) -> Option<Trial> {
 /// Whether the score of the second system stayed, and no start was held in vain.
 pub fn has_second_score(trial: Option<Trial>) -> Option<bool> {
     let trial = trial?;
-    Some(trial.place.faults() == 0 && score(&trial.engine) == Some(Score { v: 2 }))
+    Some(trial.place.faults() == 0 && score(&trial.engine, FIRST) == Some(Score { v: 2 }))
 }
 
-// The score of the first entity.
-fn score(engine: &Engine<TestBody>) -> Option<Score> {
-    engine.state().world().get::<Score>(FIRST)
+// The score of an entity.
+fn score(engine: &Engine<TestBody>, entity: Entity) -> Option<Score> {
+    engine.state().world().get::<Score>(entity)
+}
+
+// An engine of two systems of one level, each of which spawns an entity and gives it a score, over a world in which nothing lives.
+fn spawners(alloc: Global) -> Option<TestEngine> {
+    let mut systems = Systems::new(alloc);
+    for instruction in ["insert g0 Score 1", "insert g0 Score 2"] {
+        let params = commanding(alloc, "", 1)?;
+        systems.follow(alloc, params, Rounds::Once, &["spawn g0", instruction])?;
+    }
+    systems.engine(alloc, empty_world(alloc, Clock::at(1))?)
+}
+
+/// Two starts that spawn, on two threads, of which one is held until the other has left.
+pub fn ids_of_level(alloc: Global, held: u64, awaited: u64) -> Option<Trial> {
+    let gate = TestGate::new(alloc, Rule::Hold(held, awaited))?;
+    Trial::once(gate, spawners(alloc)?, 2)
+}
+
+/// Whether the first system spawned the lesser id and the second the greater, and no start was held in vain.
+pub fn has_ids_in_order(trial: Option<Trial>) -> Option<bool> {
+    let trial = trial?;
+    let second = Entity {
+        index: 1,
+        generation: 1,
+    };
+    let is_first = score(&trial.engine, FIRST) == Some(Score { v: 1 });
+    let is_second = score(&trial.engine, second) == Some(Score { v: 2 });
+    Some(trial.place.faults() == 0 && is_first && is_second)
 }

@@ -15,7 +15,9 @@ mod store;
 mod threads;
 mod worlds;
 
-use crate::commands::{has_second_score, last_id, schedule_order, spent_ids};
+use crate::commands::{
+    has_ids_in_order, has_second_score, ids_of_level, last_id, schedule_order, spent_ids,
+};
 use crate::gates::PATIENCE;
 use crate::moving::{
     boxed, boxed_on_threads, kept_at_the_last_tick, kept_state, refused_engines, spent_clock,
@@ -138,11 +140,9 @@ fn bodies_that_meet<R: Threads + Wait + Copy + Send + Sync + 'static>(
 }
 
 // The tests of gates, and of many runs.
-fn orders<R: Threads + Wait + Copy + Send + Sync + 'static>(rt: R, alloc: Global) -> [Test; 5] {
+fn orders<R: Threads + Wait + Copy + Send + Sync + 'static>(rt: R, alloc: Global) -> [Test; 3] {
     let held = ran(rt, alloc, hold_first(alloc));
     let watched = ran(rt, alloc, watch(alloc));
-    let first = ran(rt, alloc, schedule_order(alloc, 1, 2));
-    let second = ran(rt, alloc, schedule_order(alloc, 2, 1));
     let repeated = ran(rt, alloc, repeat(alloc));
     [
         ("who ends first comes back first", has_no_fault(held)),
@@ -150,6 +150,17 @@ fn orders<R: Threads + Wait + Copy + Send + Sync + 'static>(rt: R, alloc: Global
             "a gate stands round each body",
             has_stood_round_five(watched),
         ),
+        ("ten thousand runs on threads", has_traces(repeated)),
+    ]
+}
+
+// The tests of commands under both ends of two starts.
+fn levels<R: Threads + Wait + Copy + Send + Sync + 'static>(rt: R, alloc: Global) -> [Test; 4] {
+    let first = ran(rt, alloc, schedule_order(alloc, 1, 2));
+    let second = ran(rt, alloc, schedule_order(alloc, 2, 1));
+    let first_ids = ran(rt, alloc, ids_of_level(alloc, 1, 2));
+    let second_ids = ran(rt, alloc, ids_of_level(alloc, 2, 1));
+    [
         (
             "commands in schedule order, the first start last",
             has_second_score(first),
@@ -158,7 +169,14 @@ fn orders<R: Threads + Wait + Copy + Send + Sync + 'static>(rt: R, alloc: Global
             "commands in schedule order, the second start last",
             has_second_score(second),
         ),
-        ("ten thousand runs on threads", has_traces(repeated)),
+        (
+            "ids in schedule order, the first start last",
+            has_ids_in_order(first_ids),
+        ),
+        (
+            "ids in schedule order, the second start last",
+            has_ids_in_order(second_ids),
+        ),
     ]
 }
 
@@ -169,5 +187,6 @@ fn main(rt: HostRuntime) -> io::Result<()> {
     tell(&mut rt.stdout(), &bodies_on_threads(rt, rt.alloc()))?;
     tell(&mut rt.stdout(), &starts(rt, rt.alloc()))?;
     tell(&mut rt.stdout(), &bodies_that_meet(rt, rt.alloc()))?;
-    tell(&mut rt.stdout(), &orders(rt, rt.alloc()))
+    tell(&mut rt.stdout(), &orders(rt, rt.alloc()))?;
+    tell(&mut rt.stdout(), &levels(rt, rt.alloc()))
 }

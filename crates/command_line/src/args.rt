@@ -68,18 +68,26 @@ const MOST_TIMES: u32 = 1_000_000;
 
 const MOST_WORKERS: u8 = 64;
 
+const COMMANDS: [&str; 4] = ["run", "check", "replay", "ambiguities"];
+
 impl<'a> Args<'a> {
     /// Reads the words of a command line, of which the first is the program's own name: `run FILE [--times N] [--workers W] [--trace OUT]`,
     /// where N is from 0 to 1,000,000, and 1 if it is left out, and W from 0 to 64, and 0 if it is left out; `check FILE TRACE`;
-    /// `replay FILE TRACE`; or `ambiguities FILE`.
+    /// `replay FILE TRACE`; or `ambiguities FILE`. Where `--help` stands in a line it is asked for, whatever else is at fault there.
     pub fn read(alloc: Global, words: &'a [String]) -> Result<Args<'a>, LineFault>
         ensures { IfOk result (λ args. IsWithin args.work) }
     {
+        if asks_for_help(words) {
+            return Err(help_for(alloc, words)?);
+        }
         let matches = match command(alloc)?.try_get_matches_from(words) {
             Ok(matches) => matches,
             Err(error) => return Err(LineFault::of(alloc, &error)),
         };
         if let Some(run) = matches.subcommand_matches("run") {
+            if has_plus(run, "times") || has_plus(run, "workers") {
+                return Err(LineFault::usage(alloc, "error: a number has no plus\n"));
+            }
             let times = run.get_one::<u32>("times").unwrap_or(1).min(MOST_TIMES);
             let workers = run.get_one::<u8>("workers").unwrap_or(0).min(MOST_WORKERS);
             let recorded = run.get_str("record").is_some();
@@ -162,6 +170,39 @@ impl LineFault {
 impl From<AllocError> for LineFault {
     fn from(_error: AllocError) -> LineFault {
         LineFault::Memory
+    }
+}
+
+// Whether `--help` stands among some words, before the word that ends the options.
+fn asks_for_help(words: &[String]) -> bool {
+    words
+        .iter()
+        .skip(1)
+        .take_while(|word| word.as_str() != "--")
+        .any(|word| word.as_str() == "--help" || word.as_str() == "-h")
+}
+
+// The help for the command that some words name, or for the program where they name none.
+fn help_for(alloc: Global, words: &[String]) -> Result<LineFault, AllocError> {
+    let mut asked = Vec::new(alloc);
+    asked.push("ecsrun")?;
+    if let Some(name) = words.get(1) {
+        if COMMANDS.contains(&name.as_str()) {
+            asked.push(name.as_str())?;
+        }
+    }
+    asked.push("--help")?;
+    match command(alloc)?.try_get_matches_from(asked.as_slice()) {
+        Ok(_) => Ok(LineFault::usage(alloc, "error: no help is there\n")),
+        Err(error) => Ok(LineFault::of(alloc, &error)),
+    }
+}
+
+// Whether the value of an argument begins with a plus.
+fn has_plus(matches: &ArgMatches<'_>, name: &str) -> bool {
+    match matches.get_str(name) {
+        Some(value) => value.starts_with('+'),
+        None => false,
     }
 }
 

@@ -1,19 +1,84 @@
-// The words of the command line.
+// The words of the command line, as texts.
 
 use crate::args::LineFault;
-use std::env;
-use std::io::ErrorKind;
+use std::alloc::{AllocError, Global};
+use std::env::FillError;
 use std::rt::Env;
 
-/// The words of the command line, of which the first is the program's own name. A line with a word that is no text is outside what the
-/// program takes.
+// With how many bytes of room a word is first asked for, and how often that doubles.
+const FIRST_ROOM: usize = 256;
+
+const MOST_DOUBLINGS: u32 = 24;
+
+/// The words of the command line, of which the first is the program's own name, each as a text (`text_of_bytes`).
 pub fn words_of<R: Env + AllocGlobal>(rt: &R) -> Result<Vec<String>, LineFault> {
-    match env::args(rt) {
-        Ok(words) => Ok(words.collect(rt.alloc())?),
-        Err(error) if error.kind() == ErrorKind::InvalidData => Err(LineFault::usage(
-            rt.alloc(),
-            "error: a word of the command line is no text\n",
-        )),
-        Err(_) => Err(LineFault::Memory),
+    Ok(texts_of(rt)?)
+}
+
+// The words as texts.
+fn texts_of<R: Env + AllocGlobal>(rt: &R) -> Result<Vec<String>, AllocError> {
+    let mut words = Vec::new(rt.alloc());
+    for number in 0..usize::MAX {
+        let Some(bytes) = word_at(rt, number)? else {
+            break;
+        };
+        words.push(text_of_bytes(rt.alloc(), bytes.as_slice())?)?;
     }
+    Ok(words)
+}
+
+// The bytes of the word of this number. None where there are fewer words.
+fn word_at<R: Env + AllocGlobal>(rt: &R, number: usize) -> Result<Option<Vec<u8>>, AllocError> {
+    let mut room = FIRST_ROOM;
+    for _ in 0..MOST_DOUBLINGS {
+        let mut bytes = vec![in rt.alloc(); 0u8; room]?;
+        match rt.arg(number, bytes.as_mut_slice()) {
+            Ok(count) => {
+                bytes.truncate(count);
+                return Ok(Some(bytes));
+            }
+            Err(FillError::NotPresent) => return Ok(None),
+            Err(FillError::TooLong) => room = room.saturating_mul(2),
+        }
+    }
+    Err(AllocError)
+}
+
+/// Some bytes as a text: the text that they are, where they are one. Else each byte that is in no letter is written as a NUL, which stands in no
+/// word, and the letter of its number.
+pub fn text_of_bytes(alloc: Global, bytes: &[u8]) -> Result<String, AllocError> {
+    let mut text = String::new(alloc);
+    for chunk in bytes.utf8_chunks() {
+        text.push_str(chunk.valid())?;
+        for byte in chunk.invalid() {
+            text.push('\0')?;
+            text.push(char::from(*byte))?;
+        }
+    }
+    Ok(text)
+}
+
+/// Whether a word was written so, as it is no text.
+pub fn is_no_text(word: &str) -> bool {
+    word.contains('\0')
+}
+
+/// The bytes of which a word is the text.
+pub fn bytes_of_text(alloc: Global, word: &str) -> Result<Vec<u8>, AllocError> {
+    let mut bytes = Vec::new(alloc);
+    let mut is_marked = false;
+    for letter in word.chars() {
+        if letter == '\0' {
+            is_marked = true;
+            continue;
+        }
+        if is_marked {
+            bytes.push((u32::from(letter) & 255) as u8)?;
+        } else {
+            let mut room = [0u8; 4];
+            bytes.extend_from_slice(letter.encode_utf8(&mut room).as_bytes())?;
+        }
+        is_marked = false;
+    }
+    Ok(bytes)
 }

@@ -15,13 +15,6 @@ at_body (b ∷ bodies) (suc n) d known = at_body bodies n d (omega arith)
 pub unlike : (b : Bool) → b ≡ true → b ≡ false → ⊥
 unlike b e f = absurd (let g : true ≡ false = sym e ∙ f in cc)
 
--- the first misfit is one
-pub one_misfit : {B : Type 0} (fits : B → Params → Bool) (s : Schedule) (slots : List (Option B)) (state : State) (n m : ℕ) → IsFirstMisfit fits s slots state n → IsFirstMisfit fits s slots state m → n ≡ m
-one_misfit fits s slots state n m h k = go (n < m) (λ l. unlike (fits_at fits s slots n) (k.least n l) h.misfit) (λ l. unlike (fits_at fits s slots m) (h.least m l) k.misfit)
-  where
-    go : Type 0 → (n < m → ⊥) → (m < n → ⊥) → n ≡ m
-    go x below above = omega arith
-
 -- where the bodies and memories are those of the schedule there is no miscount, and no misfit
 pub suits_counts : {B : Type 0} (fits : B → Params → Bool) (s : Schedule) (slots : List (Option B)) (state : State) → Suits fits s slots state → Miscounts s slots state → ⊥
 suits_counts fits s slots state suits = counts_right s slots state suits.body_count suits.memories

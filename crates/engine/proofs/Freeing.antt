@@ -9,7 +9,7 @@ use Rattle.model.specs.state.Commands.{apply_buffer, release}
 use Rattle.model.specs.shown.Outcome.{Command}
 use Rattle.model.specs.steps.Schedule.{Schedule}
 use Rattle.model.specs.steps.Built.{IsBuilt}
-use Rattle.model.specs.runs.RunState.{next_tick, systems_of_level, after_sync}
+use Rattle.model.specs.runs.RunState.{next_tick, systems_of_level, after_commands}
 use Rattle.model.proofs.serial.Engine.{release-none, synced_state}
 use Rattle.command_queue.specs.Commands.{commands_of}
 use Rattle.body.specs.Steps.{StateValue, at_clock, target_in, with_slots_in, with_target}
@@ -52,10 +52,10 @@ state_synced ids commands before after h =
     ∙ ap (λ (s : StateValue). with_target (apply_buffer h.tick (target_in s.state) commands) s.state) h.ticked_is
     ∙ ap (λ (tick : ℕ). with_target (apply_buffer tick (target_in before.state) commands) (at_clock (next_tick before.state) before.state)) h.tick_is)
 
--- the run state after a sync point
+-- the run state after the commands of a level
 pub sync_is : (s : Schedule) (p : ℕ) (level : List ℕ) (deferred now : DeferredValue) (before after : StateValue) → IsBuilt s → IsDeferredFor s deferred → level ≡ systems_of_level s p →
     Synced (grants_of deferred.grants level) (commands_of deferred.commands level) before after → now ≡ without_systems level deferred →
-    run_with after.state now ≡ after_sync s p (run_with before.state deferred)
+    run_with after.state now ≡ after_commands s p (run_with before.state deferred)
 sync_is s p level deferred now before after built suits e h gone =
     ap (run_with after.state) gone
     ∙ ap (λ state. run_with state (without_systems level deferred)) (state_synced (grants_of deferred.grants level) (commands_of deferred.commands level) before after h)

@@ -1,20 +1,21 @@
 -- What is in hand: ids that are granted and commands that are kept, as ids are granted, entities written and systems end.
-use Rattle.std.proofs.Common.{◌≡◌, ◌≢◌, ℕ, ◌<◌, true, cond, ◌==◌, ◌⊎◌, inl, inr, List, [], length, get_or, set, Option, refl, ap, subst, sym, ◌∙◌}
+use Rattle.std.proofs.Common.{◌≡◌, ◌≢◌, ℕ, ◌<◌, true, cond, ◌==◌, ◌⊎◌, inl, inr, List, [], ◌∷◌, length, map, get_or, set, Option, refl, ap, subst, sym, ◌∙◌, arith}
 use Rattle.std.proofs.lemmas.Bool.{cases_eq, eq-eqb, ne_eqb, false≢true}
-use Rattle.std.proofs.lemmas.List.{get_or-set_same, get_or-set_other}
+use Rattle.std.proofs.lemmas.List.{get_or-set_same, get_or-set_other, length-set}
 use Rattle.std.proofs.lemmas.List.Elements.{recursion_from_All}
 use Rattle.model.specs.Lists.{IsIn, with_at}
 use Rattle.model.specs.declared.entities.Entity.{Entity}
 use Rattle.model.specs.state.State.{Slot, State, fresh_slot, is_vacant}
-use Rattle.model.specs.state.Ids.{granted_ids, grant}
+use Rattle.model.specs.state.Ids.{granted_ids, grant, ids_of_each, grant_each}
+use Rattle.model.specs.steps.Schedule.{Schedule}
 use Rattle.model.specs.shown.Outcome.{Command, AreSpawns, spawned_by}
 use Rattle.model.specs.shown.Overlay.{slot_after, slots_after}
-use Rattle.model.specs.runs.RunState.{between}
+use Rattle.model.specs.runs.RunState.{between, spawns_of, with_each}
 use Rattle.model.proofs.lists.Lists.{get_or-map_index-view}
 use Rattle.entity_table.specs.Ids.{slot_at, IsGranted}
 use Rattle.entity_table.proofs.Grants.{granted-each}
 use Rattle.body.proofs.Gets.{each-in}
-use Rattle.engine.specs.Deferred.{DeferredValue, commands_at, grants_at, run_with, with_commands, with_grants, IsNothingDeferred, AreInHand}
+use Rattle.engine.specs.Deferred.{DeferredValue, commands_at, grants_at, run_with, with_commands, with_grants, noted_each, with_each_grant, IsNothingDeferred, AreInHand}
 use Rattle.engine.proofs.GrantedIds.{granted-grant, ids-vacant}
 
 -- ---- lists with a place for each system
@@ -80,6 +81,18 @@ in_hand_grant k n slots deferred h none within = record {
     spawns-case m (inl same) = subst (λ cs. AreSpawns (get_or (set deferred.grants n (granted_ids k slots)) m []) (spawned_by cs)) (sym (ap (commands_at deferred) same ∙ none)) tt
     spawns-case m (inr other) = subst (λ ids. AreSpawns ids (spawned_by (commands_at deferred m))) (sym (get_or-set_other deferred.grants n m (granted_ids k slots) [] other)) (h.spawns m)
 
+-- so for systems one after the other
+pub in_hand_each : (s : Schedule) (ns : List ℕ) (slots : List Slot) (deferred : DeferredValue) → AreInHand slots deferred → ((n : ℕ) → IsIn n ns → commands_at deferred n ≡ []) →
+    ((n : ℕ) → IsIn n ns → n < length deferred.grants) → AreInHand (grant_each (map (spawns_of s) ns) slots) (with_each_grant ns (ids_of_each (map (spawns_of s) ns) slots) deferred)
+unfolding grant_each ids_of_each
+in_hand_each s [] slots deferred h none within = h
+in_hand_each s (n ∷ ns) slots deferred h none within =
+    let ids = granted_ids (spawns_of s n) slots in
+    in_hand_each s ns (grant (spawns_of s n) slots) (with_grants n ids deferred)
+    (in_hand_grant (spawns_of s n) n slots deferred h (none n (inl refl)) (within n (inl refl)))
+    (λ m i. none m (inr i))
+    (λ m i. let l = within m (inr i) in let e = length-set deferred.grants n ids in omega (arith, l, e))
+
 -- ---- slots that are alike
 
 -- indices of the same status and generation
@@ -117,20 +130,20 @@ in_hand_put n cs slots deferred within new h = record {
         (subst (λ x. AreSpawns (grants_at deferred n) (spawned_by x)) (sym (get_or-set_same deferred.commands n cs [] within)) new)
     spawns-case m (inr other) = subst (λ x. AreSpawns (grants_at deferred m) (spawned_by x)) (sym (get_or-set_other deferred.commands n m cs [] other)) (h.spawns m)
 
--- ---- nothing
-
-pub in_hand_nothing : (slots : List Slot) (deferred : DeferredValue) → IsNothingDeferred deferred → AreInHand slots deferred
-in_hand_nothing slots deferred h = record {
-  granted = λ n e i. absurd (subst (IsIn e) (h.no_grants n) i);
-  apart = λ n m e i j. absurd (subst (IsIn e) (h.no_grants n) i);
-  spawns = λ n. subst (λ cs. AreSpawns (grants_at deferred n) (spawned_by cs)) (sym (h.no_commands n)) tt;
-}
-
 -- ---- run states
 
-pub run_with_grants : (n : ℕ) (ids : List Entity) (state : State) (deferred : DeferredValue) → n < length deferred.grants →
-    run_with state (with_grants n ids deferred) ≡ record { state = state; buffers = commands_at deferred; grants = with_at n ids (grants_at deferred) }
-run_with_grants n ids state deferred within = λ i. record { state = state; buffers = commands_at deferred; grants = λ m. set-at deferred.grants n ids within m i }
+-- the ids of systems one after the other
+pub run_with_each : (ns : List ℕ) (given : List (List Entity)) (state : State) (deferred : DeferredValue) → ((n : ℕ) → IsIn n ns → n < length deferred.grants) →
+    run_with state (with_each_grant ns given deferred) ≡ record { state = state; buffers = commands_at deferred; grants = with_each ns given (grants_at deferred) }
+run_with_each ns given state deferred within = λ i. record { state = state; buffers = commands_at deferred; grants = λ m. go ns given deferred.grants within m i }
+  where
+    go : (ks : List ℕ) (xs : List (List Entity)) (grants : List (List Entity)) → ((n : ℕ) → IsIn n ks → n < length grants) → (m : ℕ) →
+        get_or (noted_each ks xs grants) m [] ≡ with_each ks xs (λ j. get_or grants j []) m
+    go [] xs grants known m = refl
+    go (k ∷ ks) [] grants known m = refl
+    go (k ∷ ks) (x ∷ xs) grants known m =
+        go ks xs (set grants k x) (λ n i. let l = known n (inr i) in let e = length-set grants k x in omega (arith, l, e)) m
+        ∙ ap (λ f. with_each ks xs f m) (λ i j. set-at grants k x (known k (inl refl)) j i)
 
 pub run_with_commands : (n : ℕ) (cs : List Command) (state : State) (deferred : DeferredValue) → n < length deferred.commands →
     run_with state (with_commands n cs deferred) ≡ record { state = state; buffers = with_at n cs (commands_at deferred); grants = grants_at deferred }

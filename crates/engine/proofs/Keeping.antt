@@ -2,13 +2,12 @@
 use Rattle.std.proofs.Common.{ℕ, zero, suc, ◌<◌, ◌≡◌, true, List, [], ◌∷◌, length, map, get_or, Some, sym, ap, ◌∙◌, subst, arith}
 use Rattle.std.proofs.lemmas.List.{length-map}
 use Rattle.model.specs.access.Access.{Params}
-use Rattle.model.specs.state.Ids.{granted_ids}
 use Rattle.model.specs.state.State.{Memory, no_memory, register_count}
 use Rattle.model.specs.state.Shape.{BodiesKeepWithin, AreMemoriesOfSystems}
 use Rattle.model.specs.shown.Input.{shown}
 use Rattle.model.specs.shown.Outcome.{BodyMeaning}
 use Rattle.model.specs.steps.Schedule.{Schedule, ScheduledSystem, params_of}
-use Rattle.model.specs.runs.RunState.{body_of, memory_of_system, spawns_of}
+use Rattle.model.specs.runs.RunState.{body_of, memory_of_system}
 use Rattle.kinds.specs.Components.{widths}
 use Rattle.body.specs.Keeps.{KeepsWithin}
 use Rattle.engine.specs.Meanings.{meaning_of, meanings, AllKeepWithin}
@@ -40,6 +39,6 @@ registers-there clock (x ∷ xs) (m ∷ ms) (suc n) known h = registers-there cl
 -- bodies that keep within their parameters do so on what a state of the schedule can show them
 pub bodies_keep : (s : Schedule) (bodies : List BodyMeaning) → AllKeepWithin s bodies → BodiesKeepWithin widths s bodies
 unfolding KeepsWithin
-bodies_keep s bodies keep n w o known shape ids e =
-    keep n known (shown (params_of s n) (memory_of_system w n) w (granted_ids (spawns_of s n) w.world.slots)) o
-    (can_be_shown (params_of s n) (memory_of_system w n) w (registers-there w.world.clock s.systems w.systems n known shape.systems)) e
+bodies_keep s bodies keep n w ids o known shape given e =
+    keep n known (shown (params_of s n) (memory_of_system w n) w ids) o
+    (can_be_shown s n (memory_of_system w n) w ids (registers-there w.world.clock s.systems w.systems n known shape.systems) given) e

@@ -2,6 +2,7 @@ pub mod AtHome
 pub mod Stops
 pub mod InHand
 pub mod GrantedIds
+pub mod LevelGrants
 pub mod Syncing
 mod Emptying
 mod Freeing

@@ -8,12 +8,12 @@ use Rattle.std.proofs.lemmas.List.{map-append, length-set, get_or-set_same, get_
 use Rattle.model.specs.declared.steps.Step.TheVariants.{Start, Finish}
 use Rattle.model.specs.Lists.{has, IsIn}
 use Rattle.model.specs.access.Access.{Params, no_params}
+use Rattle.model.specs.declared.entities.Entity.{Entity}
 use Rattle.model.specs.state.State.{State}
-use Rattle.model.specs.state.Ids.{grant}
 use Rattle.model.specs.shown.Input.{shown}
 use Rattle.model.specs.shown.Outcome.{BodyMeaning}
 use Rattle.model.specs.steps.Schedule.{ScheduledSystem, Schedule, params_of}
-use Rattle.model.specs.runs.RunState.{RunningSystem, has_tick, next_tick, memory_of_system, spawns_of, body_of}
+use Rattle.model.specs.runs.RunState.{RunningSystem, has_tick, next_tick, memory_of_system, body_of}
 use Rattle.model.specs.runs.Meaning.{running_system, without_system, interleaved_step}
 use Rattle.model.specs.runs.Causes.{cause_of_answer, cause_of_running, interleaved_cause_of}
 use Rattle.model.specs.runs.Causes.Cause.{Refused, NoEventNumber}
@@ -34,11 +34,10 @@ use Rattle.body.proofs.Lendings.{lent_in-append}
 use Rattle.body.proofs.Outs.{written-away, written-back, lent-part, none-out}
 use Rattle.body.proofs.Gets.{same-by-get, each-in, each-from}
 use Rattle.worker_pool.specs.JobOut.{JobOut}
-use Rattle.engine.specs.Deferred.{DeferredValue, run_with, with_commands, with_grants}
+use Rattle.engine.specs.Deferred.{DeferredValue, grants_at, run_with, with_commands}
 use Rattle.engine.specs.Meanings.{meaning_of, meanings_of, meanings, body_at, body_fits, AreFit, HasMemories, Suits}
 use Rattle.engine.specs.Jobs.{running_of, systems_of, held_by, woven, AreDistinct, AreKept, HasBody, IsJob, IsPlaced, Placed}
-use Rattle.engine.proofs.Remembering.{memories_at, memories_noted, memories_laid, memories_slots}
-use Rattle.engine.specs.Starts.{granted_at_start, has_ids_at_start, ids_at_start}
+use Rattle.engine.proofs.Remembering.{memories_at, memories_noted, memories_laid}
 use Rattle.engine.proofs.Weaving.{IsAnswered, numbers_of, start_woven, finish_woven, unsent_woven}
 
 -- ---- one of a list
@@ -142,24 +141,22 @@ module _ {B : Type 0} where
 -- ---- a start
 
 -- a job that was just handed out, of a system at a state
-pub record IsHanded {B : Type 0} (s : Schedule) (n : ℕ) (w : StateValue) (later : StateValue) (job : JobOut B) : Type 0 where
+pub record IsHanded {B : Type 0} (s : Schedule) (n : ℕ) (ids : List Entity) (w : StateValue) (later : StateValue) (job : JobOut B) : Type 0 where
   pub system : job.system ≡ n
   pub params : job.view.params ≡ params_of s n
-  pub shown_there : job.view.shown ≡ shown (params_of s n) (memory_of_system w.state n) w.state (ids_at_start s n w.state)
+  pub shown_there : job.view.shown ≡ shown (params_of s n) (memory_of_system w.state n) w.state ids
   pub tick : job.view.opening.tick ≡ next_tick w.state
   pub written : AllByRecursion (IsWrittenBy (params_of s n).queries w.layout) (lent_in job.view.opening.taken)
   pub held : (others : List (List Column)) → AreOut (store_of w) others → AreOut (store_of later) (others ++ job.view.opening.taken)
-  pub is_later : later ≡ record { state = noted n (params_of s n).reads (next_tick w.state) (ticked (granted_at_start s n w.state)); layout = with_away (lent_in job.view.opening.taken) w.layout }
+  pub is_later : later ≡ record { state = noted n (params_of s n).reads (next_tick w.state) (ticked w.state); layout = with_away (lent_in job.view.opening.taken) w.layout }
 
 module _ {B : Type 0} (meaning : B → Params → BodyMeaning) (fits : B → Params → Bool) (there : Bool) (s : Schedule) where
   -- the interleaved step
-  pub start_there : (bodies : List BodyMeaning) (n : ℕ) (w later : StateValue) (deferred : DeferredValue) (out : List (JobOut B)) (job : JobOut B) → n < length deferred.grants → has_tick w.state ≡ true → has_ids_at_start s n w.state ≡ true →
-      IsHanded s n w later job → interleaved_step s bodies (Start n) (woven w.state deferred out) ≡ Some (woven later.state (with_grants n (ids_at_start s n w.state) deferred) (out ++ job ∷ []))
-  start_there bodies n w later deferred out job known tick ids handed =
-      let granted = ids_at_start s n w.state in
-      let deferred_later = with_grants n granted deferred in
-      start_woven s bodies n w.state deferred (map running_of out) known tick ids
-      ∙ ap₂ (λ state running. Some (record { run = run_with state deferred_later; running_systems = running }))
+  pub start_there : (bodies : List BodyMeaning) (n : ℕ) (w later : StateValue) (deferred : DeferredValue) (out : List (JobOut B)) (job : JobOut B) → has_tick w.state ≡ true →
+      IsHanded s n (grants_at deferred n) w later job → interleaved_step s bodies (Start n) (woven w.state deferred out) ≡ Some (woven later.state deferred (out ++ job ∷ []))
+  start_there bodies n w later deferred out job tick handed =
+      start_woven s bodies n w.state deferred (map running_of out) tick
+      ∙ ap₂ (λ state running. Some (record { run = run_with state deferred; running_systems = running }))
       (sym (ap (λ (x : StateValue). x.state) handed.is_later))
       (ap (λ (p : RunningSystem). map running_of out ++ p ∷ []) (λ i. record { system = sym handed.system i; tick = sym handed.tick i; shown = sym handed.shown_there i })
       ∙ sym (map-append running_of out (job ∷ [])))
@@ -178,7 +175,7 @@ module _ {B : Type 0} (meaning : B → Params → BodyMeaning) (fits : B → Par
     body-fits n body known is =
         let h = subst (IsPlaced meaning fits (params_of s n) (body_of bodies n) (has n (systems_of out))) is (placed.home n known) in (h.1, h.2)
 
-    module _ (n : ℕ) (later : StateValue) (job : JobOut B) (known : n < length s.systems) (home : has n (systems_of out) ≡ false) (body_is : body_at slots n ≡ Some job.body) (handed : IsHanded s n w later job) (where_is : job.there ≡ there) where
+    module _ (n : ℕ) (later : StateValue) (job : JobOut B) (known : n < length s.systems) (home : has n (systems_of out) ≡ false) (body_is : body_at slots n ≡ Some job.body) (ids : List Entity) (handed : IsHanded s n ids w later job) (where_is : job.there ≡ there) where
       later-clock : w.state.world.clock ≤ later.state.world.clock
       later-clock = let e = ap (λ (x : StateValue). x.state.world.clock) handed.is_later in omega arith
 
@@ -235,7 +232,7 @@ module _ {B : Type 0} (meaning : B → Params → BodyMeaning) (fits : B → Par
       pub placed_start : Placed meaning fits there s bodies (set slots n None) (out ++ job ∷ []) later
       placed_start = record {
         body_count = length-set slots n None ∙ placed.body_count;
-        memories = subst (λ (x : StateValue). HasMemories s x.state) (sym handed.is_later) (memories_noted s (ticked (granted_at_start s n w.state)) (memories_at s (granted_at_start s n w.state) (memories_slots s w.state placed.memories (grant (spawns_of s n) w.state.world.slots)) (next_tick w.state)) n (next_tick w.state));
+        memories = subst (λ (x : StateValue). HasMemories s x.state) (sym handed.is_later) (memories_noted s (ticked w.state) (memories_at s w.state placed.memories (next_tick w.state)) n (next_tick w.state));
         home = home-more;
         jobs = λ j i. of-job j (IsIn-append j out (job ∷ []) i);
         distinct = subst AreDistinct (sym systems-more) (distinct-more (systems_of out) n placed.distinct home);

@@ -4,13 +4,13 @@ use Rattle.std.proofs.lemmas.Bool.{eq-eqb, eqb-true, false≢true}
 use Rattle.std.proofs.lemmas.List.{length-map}
 use Rattle.entity_table.proofs.Edits.{get_or-update_at}
 use Rattle.model.specs.Lists.{update_at}
-use Rattle.model.specs.state.State.{EventQueue, Memory, Slot, State, no_memory}
+use Rattle.model.specs.state.State.{EventQueue, Memory, State, no_memory}
 use Rattle.model.specs.state.Events.{queue_of}
 use Rattle.model.specs.steps.Schedule.{Schedule, params_of, access_of}
-use Rattle.model.specs.runs.RunState.{RunState, after_sync, memory_after_run, opening, with_registers}
+use Rattle.model.specs.runs.RunState.{RunState, after_opening, after_grant, after_commands, after_sync, memory_after_run, with_registers}
 use Rattle.model.proofs.lists.Lists.{length-update_at, get_or-update_at_other, get_or-update_at-view}
 use Rattle.body.specs.Seen.{Seen}
-use Rattle.body.specs.Steps.{asked_at, at_clock, laid, noted, with_slots_in}
+use Rattle.body.specs.Steps.{asked_at, at_clock, laid, noted}
 use Rattle.engine.specs.Deferred.{DeferredValue, run_with}
 use Rattle.engine.specs.Meanings.{HasMemories}
 
@@ -35,13 +35,15 @@ module _ (s : Schedule) (state : State) (has : HasMemories s state) where
   pub memories_at : (clock : ℕ) → HasMemories s (at_clock clock state)
   memories_at clock = record { systems = has.systems; conditions = has.conditions; system_readers = has.system_readers; condition_readers = has.condition_readers }
 
-  -- with other slots
-  pub memories_slots : (slots : List Slot) → HasMemories s (with_slots_in slots state)
-  memories_slots slots = record { systems = has.systems; conditions = has.conditions; system_readers = has.system_readers; condition_readers = has.condition_readers }
-
   -- after the opening of a run
-  pub memories_open : HasMemories s (opening state)
-  memories_open = record { systems = has.systems; conditions = has.conditions; system_readers = has.system_readers; condition_readers = has.condition_readers }
+  pub memories_opened : (deferred : DeferredValue) (later : State) → run_with later deferred ≡ after_opening s state → HasMemories s later
+  unfolding after_opening after_grant
+  memories_opened deferred later opened = subst (HasMemories s) (sym (ap (λ (run : RunState). run.state) opened)) (record {
+    systems = has.systems;
+    conditions = has.conditions;
+    system_readers = has.system_readers;
+    condition_readers = has.condition_readers;
+  })
 
   -- after a start
   pub memories_noted : (n tick : ℕ) → HasMemories s (noted n (params_of s n).reads tick state)
@@ -72,7 +74,7 @@ module _ (s : Schedule) (state : State) (has : HasMemories s state) where
 
   -- after a sync point
   pub memories_synced : (k : ℕ) (deferred deferred_later : DeferredValue) (later : State) → run_with later deferred_later ≡ after_sync s k (run_with state deferred) → HasMemories s later
-  unfolding after_sync
+  unfolding after_sync after_grant after_commands
   memories_synced k deferred deferred_later later synced = subst (HasMemories s) (sym (ap (λ (run : RunState). run.state) synced)) (record {
     systems = has.systems;
     conditions = has.conditions;

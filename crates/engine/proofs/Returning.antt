@@ -160,6 +160,7 @@ module _ {B : Type 0} (meaning : B → Params → BodyMeaning) (fits : B → Par
               grant_count = hand.suits.grant_count;
               level_count = hand.suits.level_count;
               levels_are = hand.suits.levels_are;
+              spawners_are = hand.suits.spawners_are;
             };
             ids = in_hand_put system after.outcome.commands later.state.world.slots deferred known (spawns-back deferred keep hand)
                 (in_hand_alike w.state.world.slots later.state.world.slots deferred (subst (λ (x : StateValue). AreAlike w.state.world.slots x.state.world.slots) (sym is_later) (alike_after after.opening.tick (words_written after.params.queries after.shown.rows after.outcome.cells) w.state.world.slots)) hand.ids);

@@ -13,7 +13,7 @@ use Rattle.model.specs.steps.Schedule.{Schedule, access_of}
 use Rattle.model.specs.steps.Lawful.{IsLawful, IsComplete, May, MaySync, NoneRuns, runs}
 use Rattle.model.specs.steps.Ready.{IsReady}
 use Rattle.model.specs.steps.Widths.{IsNextWide, without, running_after}
-use Rattle.model.specs.runs.RunState.{RunState, between, begin_run, has_tick, next_tick, after_sync, answer_of}
+use Rattle.model.specs.runs.RunState.{begin_run, has_tick, next_tick, can_sync, after_sync, answer_of}
 use Rattle.model.specs.runs.Meaning.{with_running_systems, interleaved, interleaved_step, IsTrueAnswer}
 use Rattle.model.specs.runs.Causes.{Cause, interleaved_cause, interleaved_cause_of, interleaved_cause_at}
 use Rattle.model.specs.runs.WideRuns.{IsWideRun, AreWideRuns, WideStops, IsWideStopped}
@@ -27,11 +27,10 @@ use Rattle.model.proofs.serial.Holding.{Holds, holds}
 use Rattle.executor_core.specs.Stands.{Stand, Stands, room}
 use Rattle.worker_pool.specs.JobOut.{JobOut}
 use Rattle.engine.specs.Jobs.{running_of, woven}
-use Rattle.engine.specs.Deferred.{DeferredValue, IsNothingDeferred, run_with}
+use Rattle.engine.specs.Deferred.{DeferredValue, run_with}
 use Rattle.body.specs.Steps.{asked_at, ticked}
 use Rattle.engine.specs.Stage.{Stage, IsTake}
-use Rattle.engine.specs.Stops.{LacksTick}
-use Rattle.engine.proofs.InHand.{run_with_nothing}
+use Rattle.engine.specs.Stops.{CannotOpen, CannotSync, LacksTick}
 use Rattle.engine.proofs.Weaving.{ask_woven, sync_woven}
 
 -- ---- numbers that run
@@ -48,9 +47,9 @@ length-without n (x ∷ xs) h = go (x == n) h (length-without n xs)
 
 module _ {B : Type 0} (width : ℕ) (s : Schedule) (bodies : List BodyMeaning) (start : State) where
   -- after the opening
-  pub stage_open : (state : State) (deferred : DeferredValue) (out : List (JobOut B)) → begin_run start ≡ Some (between state) → IsNothingDeferred deferred → out ≡ [] → Stage width s bodies start [] state deferred out
-  stage_open state deferred out e nothing none = subst (Stage width s bodies start [] state deferred) (sym none)
-      (record { wide = tt; running = refl; room = omega arith; answers = tt; meaning = ap (with_running_systems []) (e ∙ ap (λ (run : RunState). Some run) (sym (run_with_nothing state deferred nothing))) })
+  pub stage_open : (state : State) (deferred : DeferredValue) (out : List (JobOut B)) → begin_run s start ≡ Some (run_with state deferred) → out ≡ [] → Stage width s bodies start [] state deferred out
+  stage_open state deferred out e none = subst (Stage width s bodies start [] state deferred) (sym none)
+      (record { wide = tt; running = refl; room = omega arith; answers = tt; meaning = ap (with_running_systems []) e })
 
   module _ (h : List Step) (state : State) (deferred : DeferredValue) (out : List (JobOut B)) (stage : Stage width s bodies start h state deferred out) where
     lawful-there : IsLawful s h
@@ -121,14 +120,14 @@ module _ {B : Type 0} (width : ℕ) (s : Schedule) (bodies : List BodyMeaning) (
     }
 
     -- after a sync point
-    pub stage_sync : (k : ℕ) (state' : State) (deferred' : DeferredValue) → IsTake s h (length out) width (ready.Sync k) → has_tick state ≡ true →
+    pub stage_sync : (k : ℕ) (state' : State) (deferred' : DeferredValue) → IsTake s h (length out) width (ready.Sync k) → can_sync s k (run_with state deferred) ≡ true →
         run_with state' deferred' ≡ after_sync s k (run_with state deferred) → Stage width s bodies start (Sync k ∷ h) state' deferred' out
-    stage_sync k state' deferred' next tick synced = record {
+    stage_sync k state' deferred' next can synced = record {
       wide = (next.allowed false, next-sync k next.room next.is, stage.wide);
       running = stage.running;
       room = stage.room;
       answers = (tt, stage.answers);
-      meaning = ap (option_and_then (interleaved_step s bodies (Sync k))) stage.meaning ∙ sync_woven s bodies k state state' deferred deferred' (map running_of out) tick synced;
+      meaning = ap (option_and_then (interleaved_step s bodies (Sync k))) stage.meaning ∙ sync_woven s bodies k state state' deferred deferred' (map running_of out) can synced;
     }
 
     -- where a sync point may come no job is out
@@ -190,7 +189,7 @@ module _ {B : Type 0} (width : ℕ) (s : Schedule) (bodies : List BodyMeaning) (
         let answer = answer_of s c (run_with state deferred) in
         stops-at (Cond c answer) cause (next.allowed answer) (next-ask c answer next.room next.is) (subst (IsTrueAnswer s (Cond c answer)) (sym stage.meaning) refl) e
 
-    pub stops_sync : (k : ℕ) (cause : Cause) → IsTake s h (length out) width (ready.Sync k) → LacksTick state cause → WideStops width s bodies start cause
+    pub stops_sync : (k : ℕ) (cause : Cause) → IsTake s h (length out) width (ready.Sync k) → CannotSync s k (run_with state deferred) cause → WideStops width s bodies start cause
     stops_sync k cause next e = stops-at (Sync k) cause (next.allowed false) (next-sync k next.room next.is) tt e
 
     -- at a finish
@@ -198,7 +197,7 @@ module _ {B : Type 0} (width : ℕ) (s : Schedule) (bodies : List BodyMeaning) (
     stops_finish n cause waits runs-now e = stops-at (Finish n) cause (record { running = runs-now }) (next-finish n waits) tt e
 
 -- at the opening
-pub stops_open : (width : ℕ) (s : Schedule) (bodies : List BodyMeaning) (start : State) (cause : Cause) → LacksTick start cause → WideStops width s bodies start cause
+pub stops_open : (width : ℕ) (s : Schedule) (bodies : List BodyMeaning) (start : State) (cause : Cause) → CannotOpen s start cause → WideStops width s bodies start cause
 stops_open width s bodies start cause e = record { front = []; wide = tt; answers = tt; stops = e }
 
 -- ---- several runs

@@ -16,11 +16,11 @@ use Rattle.model.specs.shown.Outcome.{Command, AreSpawns, spawned_by}
 use Rattle.model.specs.shown.Outcome.Command.{Spawn, Insert, Remove, Despawn}
 use Rattle.model.specs.steps.Schedule.{Schedule, level_of}
 use Rattle.model.specs.steps.Built.{IsBuilt}
-use Rattle.model.specs.runs.RunState.{systems_of_level, without_level, after_sync}
+use Rattle.model.specs.runs.RunState.{systems_of_level, without_level, after_commands}
 use Rattle.model.proofs.lists.Lists.{map_index-map_index, map_index-same, get_or-map_index, has-IsIn, IsIn_from_has, IsIn_from_any, IsIn-append, same_tests}
 use Rattle.model.proofs.lists.Members.{in-filter, from-filter}
 use Rattle.model.proofs.lists.Searches.{has_middle}
-use Rattle.model.proofs.serial.Engine.{synced_state, after_sync-form}
+use Rattle.model.proofs.serial.Engine.{synced_state, after_commands-form}
 use Rattle.entity_table.proofs.Edits.{update_at-id}
 use Rattle.entity_table.specs.Ids.{slot_at, IsGranted, AreApart}
 use Rattle.entity_table.proofs.Releases.{granted-other, granted-lives, same_granted as same-granted, freed-granted}
@@ -239,16 +239,7 @@ length-emptied (n ∷ ns) xs = length-emptied ns (set xs n []) ∙ length-set xs
 
 -- with nothing deferred of these systems
 abbrev pub without_systems : List ℕ → DeferredValue → DeferredValue
-without_systems ns deferred = record { levels = deferred.levels; commands = emptied ns deferred.commands; grants = emptied ns deferred.grants }
-
--- what is deferred is for the schedule still
-pub left_for_without : (s : Schedule) (ns : List ℕ) (deferred : DeferredValue) → IsDeferredFor s deferred → IsDeferredFor s (without_systems ns deferred)
-left_for_without s ns deferred h = record {
-  command_count = length-emptied ns deferred.commands ∙ h.command_count;
-  grant_count = length-emptied ns deferred.grants ∙ h.grant_count;
-  level_count = h.level_count;
-  levels_are = h.levels_are;
-}
+without_systems ns deferred = record { levels = deferred.levels; spawners = deferred.spawners; commands = emptied ns deferred.commands; grants = emptied ns deferred.grants }
 
 -- ---- a sync point
 
@@ -319,12 +310,12 @@ level-nothing {A} s p built xs count n = go (cases_lt n (length s.systems))
 -- the whole step
 pub run_synced : (s : Schedule) (p : ℕ) (deferred : DeferredValue) (state : State) → IsBuilt s → IsDeferredFor s deferred →
     run_with (synced_state (flat_map (grants_at deferred) (systems_of_level s p)) (flat_map (commands_at deferred) (systems_of_level s p)) state) (without_systems (systems_of_level s p) deferred)
-    ≡ after_sync s p (run_with state deferred)
+    ≡ after_commands s p (run_with state deferred)
 run_synced s p deferred state built suits = (λ i. record {
   state = synced_state (flat_map (grants_at deferred) (systems_of_level s p)) (flat_map (commands_at deferred) (systems_of_level s p)) state;
   buffers = λ n. (emptied-at (systems_of_level s p) deferred.commands n ∙ level-nothing s p built deferred.commands suits.command_count n) i;
   grants = λ n. (emptied-at (systems_of_level s p) deferred.grants n ∙ level-nothing s p built deferred.grants suits.grant_count n) i;
-}) ∙ sym (after_sync-form s p (run_with state deferred))
+}) ∙ sym (after_commands-form s p (run_with state deferred))
 
 -- ---- the systems of a level
 

@@ -1,14 +1,19 @@
 -- A turn of the loop: what is next, and what is known once it is done.
-use Rattle.std.proofs.Common.{ℕ, ◌<◌, ◌≤◌, Bool, ◌≡◌, List, [], ◌∷◌, length, Option, Some, refl, sym, ap, subst, arith}
+use Rattle.std.proofs.Common.{ℕ, suc, ◌<◌, ◌≤◌, Bool, ◌≡◌, List, [], length, Option, Some, sym, ap, subst, arith}
+use Rattle.std.proofs.lemmas.Bool.{false_from_ne_true}
 use Rattle.std.specs.List.{AllByRecursion}
 use Rattle.model.specs.declared.steps.Step.{Step}
 use Rattle.model.specs.Lists.{has}
 use Rattle.model.specs.access.Access.{Params}
 use Rattle.model.specs.state.State.{State}
 use Rattle.model.specs.shown.Outcome.{BodyMeaning}
-use Rattle.model.specs.steps.Schedule.{Schedule, params_of, access_of}
-use Rattle.model.specs.steps.Lawful.{MayAsk, MayStart}
-use Rattle.model.specs.runs.RunState.{body_of, next_tick, opening}
+use Rattle.model.specs.steps.Schedule.{Schedule, params_of, access_of, level_of}
+use Rattle.model.specs.steps.Built.{IsBuilt}
+use Rattle.model.specs.steps.Lawful.{MayAsk, MayStart, MaySync, begun}
+use Rattle.model.specs.runs.RunState.{after_opening, begin_run, body_of, can_open, next_tick}
+use Rattle.model.proofs.lists.Lists.{provided-Some}
+use Rattle.model.proofs.order.Histories.{above_waits}
+use Rattle.model.proofs.shape.GivenIds.{ids-free, ids-interleaved}
 use Rattle.archetype_store.specs.Layout.{Archetype, AreAllHome, IsLayoutOf}
 use Rattle.body.specs.Lent.{lent_in}
 use Rattle.body.specs.Out.{IsWrittenBy}
@@ -19,15 +24,16 @@ use Rattle.executor_core.specs.Stands.{Stand, Stands}
 use Rattle.worker_pool.specs.JobOut.{JobOut}
 use Rattle.engine.specs.declared.turn.Turn.{Turn}
 use Rattle.engine.specs.Jobs.{systems_of, held_by, woven, CanBegin, InHand, IsPlaced, Placed}
-use Rattle.engine.specs.Deferred.{DeferredValue, AreInHand, IsDeferredFor}
+use Rattle.engine.specs.Deferred.{DeferredValue, AreInHand, IsDeferredFor, commands_at, run_with}
 use Rattle.engine.specs.Meanings.{body_at, meanings, AllKeepWithin, HasMemories, Suits}
 use Rattle.engine.specs.Next.{IsAtRest}
 use Rattle.engine.specs.Stage.{Stage, IsTurn}
 use Rattle.model.proofs.progress.Single.{wide_lawful}
 use Rattle.engine.proofs.Fresh.{interleaved_fresh}
+use Rattle.engine.proofs.LevelGrants.{no_elements}
 use Rattle.engine.proofs.Placing.{start-free, apart-held, placed_first, suits_last, means_last}
 use Rattle.engine.proofs.Staging.{holds_there}
-use Rattle.engine.proofs.Remembering.{memories_at, memories_open, memories_asked}
+use Rattle.engine.proofs.Remembering.{memories_at, memories_opened, memories_asked}
 
 -- ---- what is next, told of a core
 
@@ -39,19 +45,17 @@ module _ (core : Stand) (s : Schedule) (h : List Step) (running width : ℕ) (ne
   pub turn_next : (many room : ℕ) → running ≡ many → width ≡ room → IsTurn s h many room (Some next)
   turn_next many room e f = subst (λ (r : ℕ). IsTurn s h many r (Some next)) f (subst (λ (r : ℕ). IsTurn s h r width (Some next)) e there)
 
-pub no_elements : {A : Type 0} (xs : List A) → length xs ≡ 0 → xs ≡ []
-no_elements [] e = refl
-no_elements (x ∷ xs) e = absurd (omega (arith, e))
-
 -- ---- what a start asks
 
 module _ {B : Type 0} (meaning : B → Params → BodyMeaning) (fits : B → Params → Bool) (where_is : Bool) (s : Schedule) (bodies : List BodyMeaning) (slots : List (Option B)) (out : List (JobOut B)) (w : StateValue) (placed : Placed meaning fits where_is s bodies slots out w) where
-  pub start_allowed : (width : ℕ) (start : State) (h : List Step) (deferred : DeferredValue) (n : ℕ) → Stage width s bodies start h w.state deferred out → MayStart s h n → CanBegin s n deferred out w
-  start_allowed width start h deferred n stage may =
+  pub start_allowed : (width : ℕ) (start : State) (h : List Step) (deferred : DeferredValue) (n : ℕ) → IsBuilt s → Stage width s bodies start h w.state deferred out → MayStart s h n → CanBegin s n deferred out w
+  start_allowed width start h deferred n built stage may =
       let holds = holds_there width s bodies start h w.state deferred out stage in
       record {
         known = may.free.known;
         fresh = interleaved_fresh s bodies start h (woven w.state deferred out) (wide_lawful width s h stage.wide) stage.meaning n may.free.waits;
+        given = ids-free s h n (run_with w.state deferred) (wide_lawful width s h stage.wide) may.free
+            (ids-interleaved s bodies start h (woven w.state deferred out) built (wide_lawful width s h stage.wide) stage.meaning);
         home = start-free meaning fits where_is s bodies slots out w placed deferred h holds n may;
         apart = apart-held meaning fits where_is s bodies slots out w placed deferred h holds (params_of s n) may.apart;
       }
@@ -102,12 +106,12 @@ module _ {B : Type 0} (meaning : B → Params → BodyMeaning) (fits : B → Par
       (let e = ap (λ (x : StateValue). x.state.world.clock) is in omega arith)
       (ap (λ (x : StateValue). x.state.world.slots) is) (ap (λ (x : StateValue). x.layout) is)
 
-  -- after the opening
-  pub placed_opened : (later : StateValue) → later ≡ record { state = opening w.state; layout = w.layout } → Placed meaning fits where_is s bodies slots out later
-  placed_opened later is = placed_moved later
-      (subst (λ (x : StateValue). HasMemories s x.state) (sym is) (memories_open s w.state placed.memories))
-      (let e = ap (λ (x : StateValue). x.state.world.clock) is in omega arith)
-      (ap (λ (x : StateValue). x.state.world.slots) is) (ap (λ (x : StateValue). x.layout) is)
+  -- before a sync point the systems of the level above it have left nothing
+  pub sync_fresh : (width : ℕ) (start : State) (h : List Step) (deferred : DeferredValue) (k : ℕ) → Stage width s bodies start h w.state deferred out → MaySync s h k →
+      (n : ℕ) → level_of s n ≡ suc k → commands_at deferred n ≡ []
+  sync_fresh width start h deferred k stage may n above =
+      interleaved_fresh s bodies start h (woven w.state deferred out) (wide_lawful width s h stage.wide) stage.meaning n
+      (false_from_ne_true (begun h n) (above_waits s h k n (wide_lawful width s h stage.wide) may.fresh (omega (arith, above))))
 
   -- after a sync point, where none is out
   pub placed_synced : (later : StateValue) → length out ≡ 0 → HasMemories s later.state → AreAllHome later.layout → Placed meaning fits where_is s bodies slots out later
@@ -143,11 +147,14 @@ module _ {B : Type 0} (meaning : B → Params → BodyMeaning) (fits : B → Par
   }
 
 -- at the opening
-pub placed_open : {B : Type 0} (meaning : B → Params → BodyMeaning) (fits : B → Params → Bool) (where_is : Bool) (s : Schedule) (slots : List (Option B)) (out : List (JobOut B)) (w later : StateValue) → out ≡ [] →
-    later ≡ record { state = opening w.state; layout = w.layout } → Suits fits s slots w.state → AreAllHome w.layout → Placed meaning fits where_is s (meanings meaning s slots) slots out later
-placed_open meaning fits where_is s slots out w later none is suits home =
+pub placed_open : {B : Type 0} (meaning : B → Params → BodyMeaning) (fits : B → Params → Bool) (where_is : Bool) (s : Schedule) (slots : List (Option B)) (out : List (JobOut B)) (w later : StateValue) (deferred : DeferredValue) → out ≡ [] →
+    begin_run s w.state ≡ Some (run_with later.state deferred) → later.layout ≡ w.layout → Suits fits s slots w.state → AreAllHome w.layout → Placed meaning fits where_is s (meanings meaning s slots) slots out later
+placed_open meaning fits where_is s slots out w later deferred none opened same suits home =
+    let began : after_opening s w.state ≡ run_with later.state deferred = (provided-Some (can_open s w.state) (after_opening s w.state) (run_with later.state deferred) opened).1 in
     subst (λ xs. Placed meaning fits where_is s (meanings meaning s slots) slots xs later) (sym none)
-    (placed_opened meaning fits where_is s (meanings meaning s slots) slots [] w (placed_first meaning fits where_is s slots w suits home) later is)
+    (placed_first meaning fits where_is s slots later
+    (record { body_count = suits.body_count; memories = memories_opened s w.state suits.memories deferred later.state (sym began); fit = suits.fit })
+    (subst AreAllHome (sym same) home))
 
 -- what is in hand where none is out
 pub in_hand_none : {B : Type 0} (s : Schedule) (deferred : DeferredValue) (out : List (JobOut B)) (w : StateValue) → length out ≡ 0 → IsDeferredFor s deferred → AreInHand w.state.world.slots deferred → InHand s deferred out w

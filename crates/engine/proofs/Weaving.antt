@@ -1,28 +1,24 @@
 -- What a start, a finish, a sync point and a condition do to an interleaved run.
-use Rattle.std.proofs.Common.{ℕ, ◌<◌, Bool, true, false, ◌≡◌, ◌↔◌, ◌&&◌, List, [], ◌∷◌, ◌++◌, length, Option, Some, Result, Ok, refl, sym, ◌∙◌, ap, ap₂}
-use Rattle.std.proofs.lemmas.Bool.{true_from_ne_false}
+use Rattle.std.proofs.Common.{ℕ, ◌<◌, Bool, true, false, ◌≡◌, List, [], ◌∷◌, ◌++◌, length, Option, Some, Result, Ok, refl, sym, ◌∙◌, ap}
 use Rattle.std.specs.Option.{option_and_then}
 use Rattle.model.specs.declared.steps.Step.TheVariants.{Cond, Start, Finish, Sync}
 use Rattle.model.specs.Lists.{update_at, with_at, provided}
-use Rattle.model.specs.declared.entities.Entity.{Entity}
 use Rattle.model.specs.state.State.{Slot, Resource, EventQueue, Memory, State}
 use Rattle.model.specs.access.Access.{Params}
-use Rattle.model.specs.state.Ids.{grant}
 use Rattle.model.specs.shown.Input.{Shown, shown}
 use Rattle.model.specs.shown.Outcome.{Command, Outcome, BodyMeaning, words_written, value_written, events_sent}
 use Rattle.model.specs.shown.Overlay.{slots_after, resources_after, queues_after, has_event_numbers}
 use Rattle.model.specs.access.Condition.{holds}
 use Rattle.model.specs.steps.Schedule.{Schedule, params_of, access_of, condition_of}
-use Rattle.model.specs.runs.RunState.{RunState, RunningSystem, between, has_tick, next_tick, memory_of_condition, memory_of_system, with_registers, spawns_of, ids_of_start, can_start, has_ids_to_start, started_system, after_start, can_finish, overlaid, body_of, finish, finish_with, after_sync, after_condition, answer_of}
+use Rattle.model.specs.runs.RunState.{RunState, RunningSystem, between, has_tick, next_tick, memory_of_condition, memory_of_system, with_registers, started_system, after_start, can_finish, overlaid, body_of, finish, finish_with, can_sync, after_sync, after_condition, answer_of}
 use Rattle.model.specs.runs.Meaning.{Interleaved, running_system, without_system, with_running_systems, interleaved_step}
 use Rattle.model.specs.runs.Causes.{unless, cause_of_answer, cause_of_running, interleaved_cause_of}
 use Rattle.model.specs.runs.Causes.Cause.{NoEventNumber}
 use Rattle.model.proofs.serial.Engine.{started_run, memories_started, shown_with}
 use Rattle.body.specs.Seen.{Seen}
 use Rattle.body.specs.Steps.{asked_at, laid, noted, ticked}
-use Rattle.engine.specs.Deferred.{DeferredValue, commands_at, grants_at, run_with, with_commands, with_grants}
-use Rattle.engine.specs.Starts.{granted_at_start, has_ids_at_start, ids_at_start}
-use Rattle.engine.proofs.InHand.{run_with_commands, run_with_grants}
+use Rattle.engine.specs.Deferred.{DeferredValue, commands_at, grants_at, run_with, with_commands}
+use Rattle.engine.proofs.InHand.{run_with_commands}
 
 -- a run of a state with what is deferred and with these running systems
 abbrev pub over : DeferredValue → State → List RunningSystem → Interleaved
@@ -30,36 +26,24 @@ over deferred state running = record { run = run_with state deferred; running_sy
 
 -- ---- a start
 
--- an interleaved start, with its test, its slots, its memories and its ids as arguments
-abbrev pub start_form : Schedule → ℕ → State → DeferredValue → List RunningSystem → Bool → List Slot → List Memory → List Entity → Option Interleaved
-start_form s n state deferred running can slots memories ids = provided can (record {
-  run = started_run n slots memories ids (run_with state deferred);
-  running_systems = running ++ record { system = n; tick = next_tick state; shown = shown_with s n ids state } ∷ [];
+-- an interleaved start, with its test as an argument
+abbrev pub start_form : Schedule → ℕ → State → DeferredValue → List RunningSystem → Bool → Option Interleaved
+start_form s n state deferred running can = provided can (record {
+  run = started_run (memories_started s n state) (run_with state deferred);
+  running_systems = running ++ record { system = n; tick = next_tick state; shown = shown_with s n (grants_at deferred n) state } ∷ [];
 })
 
 start-form : (s : Schedule) (bodies : List BodyMeaning) (n : ℕ) (state : State) (deferred : DeferredValue) (running : List RunningSystem) → interleaved_step s bodies (Start n) (over deferred state running)
-    ≡ start_form s n state deferred running (can_start s n (run_with state deferred)) (grant (spawns_of s n) state.world.slots) (memories_started s n state) (ids_at_start s n state)
-unfolding started_system after_start ids_of_start
+    ≡ start_form s n state deferred running (has_tick state)
+unfolding started_system after_start
 start-form s bodies n state deferred running = refl
 
-can-start : (s : Schedule) (n : ℕ) (state : State) (deferred : DeferredValue) → can_start s n (run_with state deferred) ≡ (has_tick state && has_ids_at_start s n state)
-unfolding can_start has_ids_to_start
-can-start s n state deferred = refl
-
--- a start grants its ids, and notes the run of the system at the next tick, and the system runs
-pub start_woven : (s : Schedule) (bodies : List BodyMeaning) (n : ℕ) (state : State) (deferred : DeferredValue) (running : List RunningSystem) → n < length deferred.grants → has_tick state ≡ true → has_ids_at_start s n state ≡ true →
+-- a start notes the run of the system at the next tick, and the system runs, with the ids that it was granted
+pub start_woven : (s : Schedule) (bodies : List BodyMeaning) (n : ℕ) (state : State) (deferred : DeferredValue) (running : List RunningSystem) → has_tick state ≡ true →
     interleaved_step s bodies (Start n) (over deferred state running)
-    ≡ Some (over (with_grants n (ids_at_start s n state) deferred) (noted n (params_of s n).reads (next_tick state) (ticked (granted_at_start s n state)))
-    (running ++ record { system = n; tick = next_tick state; shown = shown (params_of s n) (memory_of_system state n) state (ids_at_start s n state) } ∷ []))
-start_woven s bodies n state deferred running known tick ids =
-    let slots = grant (spawns_of s n) state.world.slots in
-    let memories = memories_started s n state in
-    let granted = ids_at_start s n state in
-    let later = noted n (params_of s n).reads (next_tick state) (ticked (granted_at_start s n state)) in
-    let more = running ++ record { system = n; tick = next_tick state; shown = shown (params_of s n) (memory_of_system state n) state granted } ∷ [] in
-    start-form s bodies n state deferred running
-    ∙ ap (λ can. start_form s n state deferred running can slots memories granted) (can-start s n state deferred ∙ ap₂ ◌&&◌ tick ids)
-    ∙ ap (λ (run : RunState). Some (let w : Interleaved = record { run = run; running_systems = more } in w)) (sym (run_with_grants n granted later deferred known))
+    ≡ Some (over deferred (noted n (params_of s n).reads (next_tick state) (ticked state))
+    (running ++ record { system = n; tick = next_tick state; shown = shown (params_of s n) (memory_of_system state n) state (grants_at deferred n) } ∷ []))
+start_woven s bodies n state deferred running tick = start-form s bodies n state deferred running ∙ ap (start_form s n state deferred running) tick
 
 -- ---- a finish
 
@@ -136,7 +120,7 @@ unsent_woven s bodies n tick state deferred running seen is numbers found =
 
 -- ---- a sync point
 
-pub sync_woven : (s : Schedule) (bodies : List BodyMeaning) (k : ℕ) (state later : State) (deferred deferred_later : DeferredValue) (running : List RunningSystem) → has_tick state ≡ true →
+pub sync_woven : (s : Schedule) (bodies : List BodyMeaning) (k : ℕ) (state later : State) (deferred deferred_later : DeferredValue) (running : List RunningSystem) → can_sync s k (run_with state deferred) ≡ true →
     run_with later deferred_later ≡ after_sync s k (run_with state deferred) → interleaved_step s bodies (Sync k) (over deferred state running) ≡ Some (over deferred_later later running)
 sync_woven s bodies k state later deferred deferred_later running tick synced =
     ap (λ b. provided b (let w : Interleaved = record { run = after_sync s k (run_with state deferred); running_systems = running } in w)) tick
@@ -161,9 +145,3 @@ answer_woven s c state = refl
 pub answer_alike : (s : Schedule) (c : ℕ) (state : State) (deferred : DeferredValue) → answer_of s c (run_with state deferred) ≡ answer_of s c (between state)
 unfolding answer_of
 answer_alike s c state deferred = refl
-
--- ---- ticks
-
--- where a call didn't tell that the clock is spent there is a tick
-pub has_tick_from : (state : State) (failed : Bool) → (failed ≡ true) ↔ (has_tick state ≡ false) → failed ≡ false → has_tick state ≡ true
-has_tick_from state failed spent ok = true_from_ne_false (has_tick state) (λ e. let both : failed ≡ true = spent.1 e in absurd (cc))

@@ -8,6 +8,7 @@ use Rattle.model.specs.shown.Outcome.{BodyMeaning}
 use Rattle.model.specs.steps.Schedule.{Schedule, params_of}
 use Rattle.model.specs.runs.RunState.{RunningSystem, body_of}
 use Rattle.model.specs.runs.Meaning.{Interleaved}
+use Rattle.model.specs.state.Shape.{AreIdsFor}
 use Rattle.body.specs.Columns.{Column}
 use Rattle.body.specs.Keeps.{CanBeShown}
 use Rattle.body.specs.Lent.{lent_in}
@@ -84,10 +85,11 @@ pub record InHand {B : Type 0} (s : Schedule) (deferred : DeferredValue) (out : 
   pub granted : (job : JobOut B) → IsIn job out → job.view.shown.granted ≡ grants_at deferred job.system
   pub showing : (job : JobOut B) → IsIn job out → CanBeShown (params_of s job.system) job.view.shown
 
--- a system that may be started: it is one of the schedule, it isn't out and has deferred no commands, and none that is out holds a column that it
--- writes, or writes one that it reads
+-- a system that may be started: it is one of the schedule, it isn't out and has deferred no commands, it was granted what it can be given, and none
+-- that is out holds a column that it writes, or writes one that it reads
 pub record CanBegin {B : Type 0} (s : Schedule) (n : ℕ) (deferred : DeferredValue) (out : List (JobOut B)) (w : StateValue) : Type 0 where
   pub known : n < length s.systems
   pub home : has n (systems_of out) ≡ false
   pub fresh : commands_at deferred n ≡ []
+  pub given : AreIdsFor s n (grants_at deferred n)
   pub apart : AllByRecursion (IsApartFrom (params_of s n) w.layout) (lent_in (held_by out))

@@ -4,7 +4,6 @@ pub mod RunsAs
 pub mod Meanings
 pub mod EngineValue
 pub mod Deferred
-pub mod Starts
 pub mod Jobs
 pub mod Stage
 pub mod Next

@@ -1,5 +1,5 @@
 -- A run between two turns, and before and after it: what is known there.
-use Rattle.std.specs.Prelude.{ℕ, ◌≡◌, Bool, List, ◌∷◌, length, Option, Some}
+use Rattle.std.specs.Prelude.{ℕ, ◌≡◌, Bool, IsTrue, List, ◌∷◌, length, Option, Some}
 use Rattle.model.specs.declared.steps.Step.{Step}
 use Rattle.model.specs.access.Access.{Params}
 use Rattle.model.specs.state.State.{State}
@@ -49,7 +49,7 @@ abbrev pub StopsNext : {B : Type 0} → (B → Params → BodyMeaning) → (B �
 StopsNext meaning fits there width s slots deferred out w turn told =
     (bodies : List BodyMeaning) (start : State) (h : List Step) → IsNext meaning fits there width s bodies start h slots deferred out w turn → StopsBy there (WideStops width s bodies start) told
 
--- no body is lost by a turn, wherever this may be next, but where a worker was missing
-abbrev pub KeepsNext : {B : Type 0} → (B → Params → BodyMeaning) → (B → Params → Bool) → Bool → ℕ → Schedule → List (Option B) → DeferredValue → List (JobOut B) → StateValue → Turn → List (Option B) → List (JobOut B) → Stop → Type 0
-KeepsNext meaning fits there width s slots deferred out w turn slots_later out_later told = (told ≡ stop.NoWorker → ⊥) →
+-- no body is lost by a turn, wherever this may be next, but where a worker was missing and none stands
+abbrev pub KeepsNext : {B : Type 0} → (B → Params → BodyMeaning) → (B → Params → Bool) → Bool → Bool → ℕ → Schedule → List (Option B) → DeferredValue → List (JobOut B) → StateValue → Turn → List (Option B) → List (JobOut B) → Stop → Type 0
+KeepsNext meaning fits there stands width s slots deferred out w turn slots_later out_later told = (told ≡ stop.NoWorker → IsTrue stands) →
     (bodies : List BodyMeaning) (start : State) (h : List Step) → IsNext meaning fits there width s bodies start h slots deferred out w turn → AreKept meaning fits there s bodies slots_later out_later

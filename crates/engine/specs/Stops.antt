@@ -1,11 +1,11 @@
 -- Why a run stops: what a stop within it means, and what is told of it once it has ended.
-use Rattle.std.specs.Prelude.{ℕ, ◌≡◌, Bool, true, false, List, Some, Result, Ok, Err}
+use Rattle.std.specs.Prelude.{ℕ, ◌≡◌, Bool, true, List, Some, Result, Ok, Err}
 use Rattle.model.specs.state.State.{State}
 use Rattle.model.specs.shown.Outcome.{BodyMeaning, events_sent}
 use Rattle.model.specs.shown.Overlay.{has_event_numbers}
 use Rattle.model.specs.steps.Schedule.{Schedule}
-use Rattle.model.specs.runs.RunState.{has_tick}
-use Rattle.model.specs.runs.Causes.{Cause, unless}
+use Rattle.model.specs.runs.RunState.{RunState, has_tick}
+use Rattle.model.specs.runs.Causes.{Cause, unless, cause_of_opening, cause_of_sync}
 use Rattle.model.specs.runs.Causes.{Cause as cause}
 use Rattle.model.specs.runs.Runs.{HasRuns, IsStopped}
 use Rattle.model.specs.runs.WideRuns.{IsWideStopped}
@@ -49,6 +49,14 @@ StopsBy there Meets (stop.Refused n) = Meets (cause.Refused n)
 abbrev pub LacksTick : State → Cause → Type 0
 LacksTick w met = unless (has_tick w) cause.NoTick ≡ Some met
 
+-- an opening stops where there is no tick, or there are no ids for the first level
+abbrev pub CannotOpen : Schedule → State → Cause → Type 0
+CannotOpen s w met = cause_of_opening s w ≡ Some met
+
+-- a sync point stops where there is no tick, or there are no ids for the level above it
+abbrev pub CannotSync : Schedule → ℕ → RunState → Cause → Type 0
+CannotSync s k run met = cause_of_sync s k run ≡ Some met
+
 -- a finish stops where the body refuses, and where what it emitted gets no numbers
 abbrev pub IsNotLaid : Result (Unit {0}) BodyFault → Seen → State → Cause → Type 0
 IsNotLaid (Ok done) seen w met = unless (has_event_numbers (events_sent seen.params.writes seen.outcome.events) w.events) cause.NoEventNumber ≡ Some met
@@ -65,15 +73,6 @@ fault_of stop.NoTick = fault.ClockSpent
 fault_of stop.NoIds = fault.IdsSpent
 fault_of stop.NoEventNumber = fault.ClockSpent
 fault_of (stop.Refused n) = fault.BodyFault n
-
--- whether it tells of a worker that was wanting, with which a body may be lost
-abbrev pub lacks_worker : RunFault → Bool
-lacks_worker fault.NoWorker = true
-lacks_worker fault.Memory = false
-lacks_worker fault.ClockSpent = false
-lacks_worker fault.IdsSpent = false
-lacks_worker fault.Spoiled = false
-lacks_worker (fault.BodyFault n) = false
 
 -- which fault tells of a cause
 abbrev pub IsToldAs : Cause → RunFault → Type 0

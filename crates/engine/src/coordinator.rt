@@ -1,6 +1,6 @@
 // The turns of a run: what is ready is done while there is room for one more running system, else a job is waited for.
 
-ghost use Rattle.std.specs.Prelude.{◌≡◌, ◌<◌, ◌∷◌, [], ℕ, List, length, reverse, map, true, Some, Err, OnOk, IfErr, IfOk};
+ghost use Rattle.std.specs.Prelude.{◌≡◌, ◌<◌, ◌∷◌, [], ℕ, List, length, reverse, map, true, Some, Err, OnOk, IfErr, IfOk, IsTrue};
 ghost use Rattle.model.specs.declared.steps.Step.{Step as Action};
 ghost use Rattle.model.specs.state.State.{State};
 ghost use Rattle.model.specs.shown.Outcome.{BodyMeaning};
@@ -38,8 +38,8 @@ pub(crate) fn run_times<'s, M: Mode<'s>, B: Body + 's>(
     ensures ran { IfOk result (λ traces. AreWideRuns (M.width mode.now) built.now (meanings B.meaning built.now jobs.old.bodies) run.old.state.state (map history_of traces.items) run.new.state.state) }
     ensures rest { OnOk result (IsAtRest B.meaning B.fits built.now jobs.new.bodies run.new.deferred run.new.state) }
     ensures stopped { IfErr result (StopsBy (M.has_scope mode.now) (IsWideStopped (M.width mode.now) built.now (meanings B.meaning built.now jobs.old.bodies) times run.old.state.state)) }
-    ensures meanings { (result ≡ Err stop.NoWorker → ⊥) → meanings B.meaning built.now jobs.new.bodies ≡ meanings B.meaning built.now jobs.old.bodies }
-    ensures fit { (result ≡ Err stop.NoWorker → ⊥) → AreFit B.fits built.now jobs.new.bodies }
+    ensures meanings { (result ≡ Err stop.NoWorker → IsTrue (M.stands mode.now)) → meanings B.meaning built.now jobs.new.bodies ≡ meanings B.meaning built.now jobs.old.bodies }
+    ensures fit { (result ≡ Err stop.NoWorker → IsTrue (M.stands mode.now)) → AreFit B.fits built.now jobs.new.bodies }
 {
     let mut traces = Vec::new(run.alloc);
     for _run in 0..times {
@@ -67,14 +67,14 @@ fn run_turns<'s, M: Mode<'s>, B: Body + 's>(
     ensures rest { OnOk result (IsAtRest B.meaning B.fits built.now jobs.new.bodies run.new.deferred run.new.state) }
     ensures empty { OnOk result (jobs.new.pool ≡ []) }
     ensures stopped { IfErr result (StopsBy (M.has_scope mode.now) (WideStops (M.width mode.now) built.now (meanings B.meaning built.now jobs.old.bodies) run.old.state.state)) }
-    ensures kept { (result ≡ Err stop.NoWorker → ⊥) → AreKept B.meaning B.fits (M.has_scope mode.now) built.now (meanings B.meaning built.now jobs.old.bodies) jobs.new.bodies jobs.new.pool }
+    ensures kept { (result ≡ Err stop.NoWorker → IsTrue (M.stands mode.now)) → AreKept B.meaning B.fits (M.has_scope mode.now) built.now (meanings B.meaning built.now jobs.old.bodies) jobs.new.bodies jobs.new.pool }
 {
     let width = mode.width();
     let mut core = Core::new(run.alloc, built)?;
     let mut steps = Vec::new(run.alloc);
     jobs.started = 0;
     run.deferred.clear();
-    run.open()?;
+    run.open(built)?;
     while let Some(turn) = next_turn(&core, jobs.pool.count(), width) {
         let step = do_turn(built, run, jobs, mode, turn)?;
         take(&mut core, &mut steps, step)?;
@@ -94,7 +94,7 @@ fn do_turn<'s, M: Mode<'s>, B: Body + 's>(
     requires next { (bodies : List BodyMeaning) × (start : State) × (h : List Action) × IsNext B.meaning B.fits (M.has_scope mode.now) (M.width mode.now) built.now bodies start h jobs.old.bodies run.old.deferred jobs.old.pool run.old.state turn }
     ensures taken { IfOk result (λ step. (bodies : List BodyMeaning) → (start : State) → (h : List Action) → IsNext B.meaning B.fits (M.has_scope mode.now) (M.width mode.now) built.now bodies start h jobs.old.bodies run.old.deferred jobs.old.pool run.old.state turn → IsTaken B.meaning B.fits (M.has_scope mode.now) (M.width mode.now) built.now bodies start h jobs.new.bodies run.new.deferred jobs.new.pool run.new.state step) }
     ensures stopped { IfErr result (StopsNext B.meaning B.fits (M.has_scope mode.now) (M.width mode.now) built.now jobs.old.bodies run.old.deferred jobs.old.pool run.old.state turn) }
-    ensures kept { IfErr result (KeepsNext B.meaning B.fits (M.has_scope mode.now) (M.width mode.now) built.now jobs.old.bodies run.old.deferred jobs.old.pool run.old.state turn jobs.new.bodies jobs.new.pool) }
+    ensures kept { IfErr result (KeepsNext B.meaning B.fits (M.has_scope mode.now) (M.stands mode.now) (M.width mode.now) built.now jobs.old.bodies run.old.deferred jobs.old.pool run.old.state turn jobs.new.bodies jobs.new.pool) }
 {
     match turn {
         Turn::Collect => {
@@ -102,6 +102,7 @@ fn do_turn<'s, M: Mode<'s>, B: Body + 's>(
             Ok(Step::Finish(system))
         }
         Turn::Take(ready) => {
+            built.prove_law();
             run.state.prove_law();
             match ready {
                 Ready::Start(system) => {

@@ -1,16 +1,20 @@
 // What the systems of a schedule leave for the sync points of their levels: the commands of those that finished, and the ids that each was
 // granted.
 
-ghost use Rattle.std.specs.Prelude.{◌≡◌, ◌<◌, ℕ, [], true, false, length, get_or, All, IfErr, IfOk, OnOk};
+ghost use Rattle.std.specs.Prelude.{◌≡◌, ◌<◌, ◌↔◌, ℕ, [], suc, true, false, length, get_or, All, IfErr, IfOk, IsErrOf, OnOk};
+ghost use Rattle.model.specs.Lists.{IsIn};
 ghost use Rattle.model.specs.state.Commands.{release};
-ghost use Rattle.model.specs.steps.Schedule.{Schedule};
-ghost use Rattle.model.specs.runs.RunState.{after_sync, has_tick, systems_of_level};
+ghost use Rattle.model.specs.steps.Schedule.{Schedule, level_of};
+ghost use Rattle.model.specs.state.Ids.{grant_each, ids_of_each};
+ghost use Rattle.model.specs.runs.RunState.{after_commands, after_grant, after_sync, can_sync, counts_of_level, has_ids_for_level, has_tick, spawners_of_level, systems_of_level};
 ghost use Rattle.archetype_store.specs.Layout.{AreAllHome};
 ghost use Rattle.body.specs.Steps.{with_slots_in};
-ghost use Rattle.engine.specs.Deferred.{AreInHand, IsDeferredFor, IsNothingDeferred, commands_at, emptied, grants_of, run_with, with_commands, with_grants};
-ghost use Rattle.engine.specs.Stops.{LacksTick, StopsBy};
+ghost use Rattle.engine.specs.Deferred.{AreInHand, IsDeferredFor, IsNothingDeferred, commands_at, emptied, grants_at, grants_of, run_with, with_commands, with_each_grant};
+ghost use Rattle.engine.specs.Stops.{CannotSync, LacksTick, StopsBy};
 
+use crate::granting::{Spawners, note_grants, spawners_of};
 use crate::stop::Stop;
+use archetype_store::fault::GrantFault;
 use body::OpenState;
 use command_queue::CommandBuffer;
 use entity_table::Entity;
@@ -21,8 +25,8 @@ use std::mem;
 
 // The systems of a level, in schedule order. Contracts see their numbers.
 #[derive(Drop)]
-struct Level {
-    systems: Vec<u32>,
+pub(crate) struct Level {
+    pub(crate) systems: Vec<u32>,
 }
 
 impl Model for Level {
@@ -35,8 +39,8 @@ impl Model for Level {
 
 // The ids granted to a system. Contracts see them.
 #[derive(Drop)]
-struct Granted {
-    ids: Vec<Entity>,
+pub(crate) struct Granted {
+    pub(crate) ids: Vec<Entity>,
 }
 
 impl Model for Granted {
@@ -48,11 +52,13 @@ impl Model for Granted {
     ghost view = { λ g. g.ids.items };
 }
 
-/// What the systems of a schedule leave for the sync points of their levels. Contracts see the systems of each level in schedule order, and
-/// by system the commands and the ids granted. The room of a buffer is used again once its commands are done.
+/// What the systems of a schedule leave for the sync points of their levels. Contracts see the systems of each level in schedule order, those of
+/// them that have commands with how many ids each is granted, and by system the commands and the ids granted. The room of a buffer is used
+/// again once its commands are done.
 #[derive(Drop)]
 pub struct Deferred {
     levels: Vec<Level>,
+    spawners: Vec<Spawners>,
     commands: Vec<CommandBuffer>,
     grants: Vec<Granted>,
 }
@@ -62,7 +68,7 @@ impl Model for Deferred {
 
     ghost Value = { DeferredValue };
 
-    ghost view = { λ l. record { levels = l.levels.items; commands = l.commands.items; grants = l.grants.items } };
+    ghost view = { λ l. record { levels = l.levels.items; spawners = l.spawners.items; commands = l.commands.items; grants = l.grants.items } };
 }
 
 impl Deferred {
@@ -71,7 +77,9 @@ impl Deferred {
         ensures suits { IfOk result (IsDeferredFor built.now) }
         ensures nothing { IfOk result IsNothingDeferred }
     {
+        built.prove_law();
         let levels = levels_of(alloc, built)?;
+        let spawners = spawners_of(alloc, built, &levels)?;
         let mut commands = Vec::new(alloc);
         let mut grants = Vec::new(alloc);
         for _system in 0..built.count() {
@@ -82,6 +90,7 @@ impl Deferred {
         }
         Ok(Deferred {
             levels,
+            spawners,
             commands,
             grants,
         })
@@ -91,6 +100,7 @@ impl Deferred {
     pub(crate) fn none(alloc: Global) -> Self {
         Deferred {
             levels: Vec::new(alloc),
+            spawners: Vec::new(alloc),
             commands: Vec::new(alloc),
             grants: Vec::new(alloc),
         }
@@ -115,12 +125,40 @@ impl Deferred {
         mem::replace(&mut self.commands[system], CommandBuffer::new(alloc))
     }
 
-    /// Notes the ids that a system was granted.
-    pub fn note_grant(&mut self, system: usize, ids: Vec<Entity>)
-        requires known { system < length self.old.grants }
-        ensures { self.new ≡ with_grants system ids.items self.old }
+    /// The ids granted to a system, copied.
+    pub fn granted(&self, alloc: Global, system: usize) -> Result<Vec<Entity>, AllocError>
+        requires known { system < length self.now.grants }
+        ensures { IfOk result (λ ids. ids.items ≡ grants_at self.now system) }
     {
-        self.grants[system] = Granted { ids };
+        let granted = &self.grants[system];
+        Vec::from_slice(alloc, &granted.ids)
+    }
+
+    /// The grant for a level: its systems with commands, in schedule order, each take the least vacant indices at their generations. Where there
+    /// are too few nothing has changed.
+    pub(crate) fn grant(
+        &mut self,
+        alloc: Global,
+        built: &Built,
+        state: &mut OpenState,
+        level: u32,
+    ) -> Result<(), GrantFault>
+        requires suits { IsDeferredFor built.now self.old }
+        ensures granted { OnOk result (run_with state.new.state self.new ≡ after_grant built.now level (run_with state.old.state self.old)) }
+        ensures layout { OnOk result (state.new.layout ≡ state.old.layout) }
+        ensures has { OnOk result (has_ids_for_level built.now level (run_with state.old.state self.old) ≡ true) }
+        ensures suits { OnOk result (IsDeferredFor built.now self.new) }
+        ensures in_hand { OnOk result (AreInHand state.old.state.world.slots self.old → ((n : ℕ) → level_of built.now n ≡ level → commands_at self.old n ≡ []) → AreInHand state.new.state.world.slots self.new) }
+        ensures spent { IsErrOf result GrantFault.IdsSpent → has_ids_for_level built.now level (run_with state.old.state self.old) ≡ false }
+    {
+        built.prove_law();
+        if built.syncs() <= level {
+            return Ok(());
+        }
+        let spawners = &self.spawners[level as usize];
+        let given = state.grant_level(alloc, &spawners.counts)?;
+        note_grants(&mut self.grants, &spawners.systems, given);
+        Ok(())
     }
 
     /// Keeps the commands of a system that finished.
@@ -131,8 +169,8 @@ impl Deferred {
         self.commands[system] = commands;
     }
 
-    /// A sync point: the clock moves to the next tick, the commands of the systems of the level are done in schedule order at that tick, and
-    /// the ids granted to them that were not spawned are freed. After a stop the state is of no more use.
+    /// A sync point: the commands of the systems of the level are done, the ids granted to them that were not spawned are freed, and then the
+    /// systems of the level above it are granted theirs. After a stop the state is of no more use.
     pub(crate) fn sync(
         &mut self,
         alloc: Global,
@@ -144,7 +182,34 @@ impl Deferred {
         requires known { point < built.now.syncs }
         requires home { AreAllHome state.old.layout }
         requires in_hand { AreInHand state.old.state.world.slots self.old }
+        requires fresh { (n : ℕ) → level_of built.now n ≡ suc point → commands_at self.old n ≡ [] }
         ensures synced { OnOk result (run_with state.new.state self.new ≡ after_sync built.now point (run_with state.old.state self.old)) }
+        ensures can { OnOk result (can_sync built.now point (run_with state.old.state self.old) ≡ true) }
+        ensures home { OnOk result (AreAllHome state.new.layout) }
+        ensures suits { OnOk result (IsDeferredFor built.now self.new) }
+        ensures in_hand { OnOk result (AreInHand state.new.state.world.slots self.new) }
+        ensures stopped { IfErr result (StopsBy false (CannotSync built.now point (run_with state.old.state self.old))) }
+    {
+        built.prove_law();
+        self.finish_level(alloc, built, state, point)?;
+        self.grant(alloc, built, state, point + 1)?;
+        Ok(())
+    }
+
+    // The first part of a sync point: the clock moves to the next tick, the commands of the systems of the level are done in schedule order at
+    // that tick, and the ids granted to them that were not spawned are freed. After a stop the state is of no more use.
+    fn finish_level(
+        &mut self,
+        alloc: Global,
+        built: &Built,
+        state: &mut OpenState,
+        point: u32,
+    ) -> Result<(), Stop>
+        requires suits { IsDeferredFor built.now self.old }
+        requires known { point < built.now.syncs }
+        requires home { AreAllHome state.old.layout }
+        requires in_hand { AreInHand state.old.state.world.slots self.old }
+        ensures synced { OnOk result (run_with state.new.state self.new ≡ after_commands built.now point (run_with state.old.state self.old)) }
         ensures ticked { OnOk result (has_tick state.old.state ≡ true) }
         ensures home { OnOk result (AreAllHome state.new.layout) }
         ensures suits { OnOk result (IsDeferredFor built.now self.new) }

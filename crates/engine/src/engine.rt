@@ -117,8 +117,8 @@ fn run_engine<'s, M: Mode<'s>, B: Body + 's>(
     ensures spoils { IsTrue engine.new.spoiled ↔ IsErr result }
     ensures unchanged { result ≡ Err RunFault.Spoiled → engine.new ≡ engine.old }
     ensures schedule { engine.new.schedule ≡ engine.old.schedule }
-    ensures meanings { (result ≡ Err RunFault.NoWorker → ⊥) → meanings B.meaning engine.old.schedule engine.new.bodies ≡ meanings B.meaning engine.old.schedule engine.old.bodies }
-    ensures fit { (result ≡ Err RunFault.NoWorker → ⊥) → engine.old.spoiled ≡ false → AreFit B.fits engine.old.schedule engine.new.bodies }
+    ensures meanings { (result ≡ Err RunFault.NoWorker → IsTrue (M.stands mode.now)) → meanings B.meaning engine.old.schedule engine.new.bodies ≡ meanings B.meaning engine.old.schedule engine.old.bodies }
+    ensures fit { (result ≡ Err RunFault.NoWorker → IsTrue (M.stands mode.now)) → engine.old.spoiled ≡ false → AreFit B.fits engine.old.schedule engine.new.bodies }
 {
     if engine.spoiled {
         return Err(RunFault::Spoiled);

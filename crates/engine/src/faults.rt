@@ -32,7 +32,7 @@ pub enum RunFault {
     /// The clock gives no further tick, or the events of a kind no further number.
     #[error("the clock is spent")]
     ClockSpent,
-    /// There are fewer vacant indices than a system is granted ids at its start.
+    /// There are fewer vacant indices than the systems of a level are granted ids, at the opening of a run or at a sync point.
     #[error("the ids are spent")]
     IdsSpent,
     /// An earlier run stopped.

@@ -1,6 +1,6 @@
 // The bodies of a run, at home and out, and the jobs with which they are out: how a system starts, and how one ends.
 
-ghost use Rattle.std.specs.Prelude.{◌≡◌, ◌<◌, ◌+◌, [], ℕ, List, true, length, Some, Err, IfErr, IfOk, OnOk};
+ghost use Rattle.std.specs.Prelude.{◌≡◌, ◌<◌, ◌+◌, [], ℕ, List, true, length, Some, Err, IfErr, IfOk, IsTrue, OnOk};
 ghost use Rattle.model.specs.declared.steps.Step.TheVariants.{Start as Begin, Finish};
 ghost use Rattle.model.specs.Lists.{IsIn};
 ghost use Rattle.model.specs.shown.Outcome.{BodyMeaning};
@@ -32,7 +32,7 @@ pub(crate) struct Jobs<B: Body> {
     pub(crate) started: u64,
 }
 
-/// A start: the system is granted its ids and shown the state, and its body is handed out. It runs from then on.
+/// A start: the system is shown the state with the ids that it was granted, and its body is handed out. It runs from then on.
 pub(crate) fn start<'s, M: Mode<'s>, B: Body + 's>(
     built: &Built,
     run: &mut RunState,
@@ -48,7 +48,7 @@ pub(crate) fn start<'s, M: Mode<'s>, B: Body + 's>(
     ensures hand { OnOk result (InHand built.now run.new.deferred jobs.new.pool run.new.state) }
     ensures longer { OnOk result (length jobs.new.pool ≡ length jobs.old.pool + 1) }
     ensures stopped { IfErr result (StopsBy (M.has_scope mode.now) (λ met. (bodies : List BodyMeaning) → interleaved_cause_of built.now bodies (Begin system) (woven run.old.state.state run.old.deferred jobs.old.pool) ≡ Some met)) }
-    ensures kept { IfErr result (λ told. (told ≡ stop.NoWorker → ⊥) → (jobs.new.bodies ≡ jobs.old.bodies) × (jobs.new.pool ≡ jobs.old.pool)) }
+    ensures kept { IfErr result (λ told. (told ≡ stop.NoWorker → IsTrue (M.stands mode.now)) → (jobs.new.bodies ≡ jobs.old.bodies) × (jobs.new.pool ≡ jobs.old.pool)) }
 {
     run.state.prove_law();
     let shown = run.show(built, system)?;
@@ -71,7 +71,12 @@ pub(crate) fn start<'s, M: Mode<'s>, B: Body + 's>(
             jobs.bodies.put(system as usize, body);
             Err(Stop::Memory)
         }
-        Err(HandFault::NoWorker) => Err(Stop::NoWorker),
+        Err(HandFault::NoWorker(start)) => {
+            let Start { body, .. } = start;
+            jobs.bodies.put(system as usize, body);
+            Err(Stop::NoWorker)
+        }
+        Err(HandFault::Lost) => Err(Stop::NoWorker),
     }
 }
 
@@ -91,9 +96,10 @@ pub(crate) fn finish<'s, M: Mode<'s>, B: Body + 's>(
     ensures hand { OnOk result ((bodies : List BodyMeaning) → Placed B.meaning B.fits (M.has_scope mode.now) built.now bodies jobs.old.bodies jobs.old.pool run.old.state → AllKeepWithin built.now bodies → InHand built.now run.old.deferred jobs.old.pool run.old.state → InHand built.now run.new.deferred jobs.new.pool run.new.state) }
     ensures shorter { OnOk result (length jobs.new.pool + 1 ≡ length jobs.old.pool) }
     ensures stopped { IfErr result (λ told. (bodies : List BodyMeaning) → Placed B.meaning B.fits (M.has_scope mode.now) built.now bodies jobs.old.bodies jobs.old.pool run.old.state → StopsBy (M.has_scope mode.now) (λ met. (job : JobOut B) × IsIn job jobs.old.pool × (interleaved_cause_of built.now bodies (Finish job.system) (woven run.old.state.state run.old.deferred jobs.old.pool) ≡ Some met)) told) }
-    ensures kept { IfErr result (λ told. (told ≡ stop.NoWorker → ⊥) → (bodies : List BodyMeaning) → Placed B.meaning B.fits (M.has_scope mode.now) built.now bodies jobs.old.bodies jobs.old.pool run.old.state → AreKept B.meaning B.fits (M.has_scope mode.now) built.now bodies jobs.new.bodies jobs.new.pool) }
+    ensures kept { IfErr result (λ told. (bodies : List BodyMeaning) → Placed B.meaning B.fits (M.has_scope mode.now) built.now bodies jobs.old.bodies jobs.old.pool run.old.state → AreKept B.meaning B.fits (M.has_scope mode.now) built.now bodies jobs.new.bodies jobs.new.pool) }
 {
     let Some(done) = jobs.pool.bring_back(mode) else {
+        mode.prove_waits();
         return Err(Stop::NoWorker);
     };
     let Done {
@@ -114,10 +120,11 @@ pub(crate) fn bring_home<'s, M: Mode<'s>, B: Body + 's>(
     mode: &M,
 ) -> Result<(), Stop>
     ensures kept { OnOk result ((s : Schedule) (bodies : List BodyMeaning) → AreKept B.meaning B.fits (M.has_scope mode.now) s bodies jobs.old.bodies jobs.old.pool → AreKept B.meaning B.fits (M.has_scope mode.now) s bodies jobs.new.bodies []) }
-    ensures lost { IfErr result (λ told. (told ≡ stop.NoWorker) × ((s : Schedule) (bodies : List BodyMeaning) → AreKept B.meaning B.fits (M.has_scope mode.now) s bodies jobs.old.bodies jobs.old.pool → M.has_scope mode.now ≡ true)) }
+    ensures lost { IfErr result (λ told. (told ≡ stop.NoWorker) × ((s : Schedule) (bodies : List BodyMeaning) → AreKept B.meaning B.fits (M.has_scope mode.now) s bodies jobs.old.bodies jobs.old.pool → ⊥)) }
 {
     while jobs.pool.count() > 0 {
         let Some(done) = jobs.pool.bring_back(mode) else {
+            mode.prove_waits();
             return Err(Stop::NoWorker);
         };
         jobs.bodies.put(done.system as usize, done.body);

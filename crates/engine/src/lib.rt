@@ -8,7 +8,7 @@ pub mod engine;
 pub mod faults;
 pub mod first_state;
 pub mod fitting;
-pub mod granting;
+mod granting;
 mod jobs;
 pub mod run_state;
 pub mod stop;

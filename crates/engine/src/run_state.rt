@@ -1,14 +1,14 @@
 // The state within a run, and what the steps of a run do to it: its opening, a condition that is asked, a system that is shown what it may see, the
 // outcome of one that has run, and a sync point.
 
-ghost use Rattle.std.specs.Prelude.{◌≡◌, ◌<◌, ◌≤◌, ◌++◌, List, [], Some, Ok, true, false, length, IfErr, IfOk, OnOk};
+ghost use Rattle.std.specs.Prelude.{◌≡◌, ◌<◌, ◌≤◌, ◌++◌, ℕ, List, [], Some, Ok, suc, true, false, length, IfErr, IfOk, OnOk};
 ghost use Rattle.std.specs.List.{AllByRecursion};
 ghost use Rattle.model.specs.shown.Input.{shown};
 ghost use Rattle.model.specs.shown.Outcome.{events_sent, untouched};
 ghost use Rattle.model.specs.shown.Overlay.{has_event_numbers};
-ghost use Rattle.model.specs.steps.Schedule.{access_of, params_of};
-ghost use Rattle.model.specs.runs.RunState.{after_sync, answer_of, between, begin_run, has_tick, memory_of_system, next_tick, opening};
-ghost use Rattle.model.specs.runs.Causes.{cause_of_start};
+ghost use Rattle.model.specs.steps.Schedule.{access_of, level_of, params_of};
+ghost use Rattle.model.specs.runs.RunState.{after_sync, answer_of, begin_run, can_sync, has_tick, memory_of_system, next_tick};
+ghost use Rattle.model.specs.state.Shape.{AreIdsFor};
 ghost use Rattle.archetype_store.specs.Layout.{AreAllHome};
 ghost use Rattle.query_plan.specs.Standing.{ArePickedHome};
 ghost use Rattle.body.specs.Columns.{Column};
@@ -16,13 +16,11 @@ ghost use Rattle.body.specs.Keeps.{CanBeShown};
 ghost use Rattle.body.specs.Lent.{AreLent, lent_in, with_away, with_back};
 ghost use Rattle.body.specs.Out.{AreOut, IsWrittenBy};
 ghost use Rattle.body.specs.Steps.{asked_at, laid, noted, store_of, ticked};
-ghost use Rattle.engine.specs.Deferred.{AreInHand, IsDeferredFor, commands_at, run_with, with_commands, with_grants};
+ghost use Rattle.engine.specs.Deferred.{AreInHand, IsDeferredFor, IsNothingDeferred, commands_at, grants_at, run_with, with_commands};
 ghost use Rattle.engine.specs.Meanings.{HasMemories};
-ghost use Rattle.engine.specs.Starts.{granted_at_start, has_ids_at_start, ids_at_start};
-ghost use Rattle.engine.specs.Stops.{IsNotLaid, LacksTick, StopsBy};
+ghost use Rattle.engine.specs.Stops.{CannotOpen, CannotSync, IsNotLaid, LacksTick, StopsBy};
 
 use crate::deferred::Deferred;
-use crate::granting::grant_to;
 use crate::stop::Stop;
 use body::{BodyFault, OpenState, View};
 use schedule_builder::Built;
@@ -41,14 +39,18 @@ pub struct RunState {
 }
 
 impl RunState {
-    /// The opening of a run.
-    pub fn open(&mut self) -> Result<(), Stop>
-        ensures opened { OnOk result (begin_run self.old.state.state ≡ Some (between self.new.state.state)) }
-        ensures moved { OnOk result (self.new.state ≡ record { state = opening self.old.state.state; layout = self.old.state.layout }) }
-        ensures deferred { self.new.deferred ≡ self.old.deferred }
-        ensures stopped { IfErr result (StopsBy false (LacksTick self.old.state.state)) }
+    /// The opening of a run: the clock moves to the next tick, the event buffers turn, and the systems of the first level are granted their ids.
+    pub fn open(&mut self, built: &Built) -> Result<(), Stop>
+        requires suits { IsDeferredFor built.now self.old.deferred }
+        requires nothing { IsNothingDeferred self.old.deferred }
+        ensures opened { OnOk result (begin_run built.now self.old.state.state ≡ Some (run_with self.new.state.state self.new.deferred)) }
+        ensures layout { OnOk result (self.new.state.layout ≡ self.old.state.layout) }
+        ensures suits { OnOk result (IsDeferredFor built.now self.new.deferred) }
+        ensures in_hand { OnOk result (AreInHand self.new.state.state.world.slots self.new.deferred) }
+        ensures stopped { IfErr result (StopsBy false (CannotOpen built.now self.old.state.state)) }
     {
         self.state.begin()?;
+        self.deferred.grant(self.alloc, built, &mut self.state, 0)?;
         Ok(())
     }
 
@@ -76,7 +78,7 @@ impl RunState {
         Ok(answer)
     }
 
-    /// What a system is shown as it starts, with the ids that it is granted, and a buffer for its commands: its run is noted at the tick to come,
+    /// What a system is shown as it starts, with the ids that it was granted, and a buffer for its commands: its run is noted at the tick to come,
     /// which becomes the clock.
     pub fn show(&mut self, built: &Built, system: u32) -> Result<View, Stop>
         requires known { system < length built.now.systems }
@@ -84,25 +86,24 @@ impl RunState {
         requires home { AllByRecursion (λ query. ArePickedHome query self.old.state.layout) (params_of built.now system).queries }
         requires suits { IsDeferredFor built.now self.old.deferred }
         requires fresh { commands_at self.old.deferred system ≡ [] }
+        requires given { AreIdsFor built.now system (grants_at self.old.deferred system) }
         ensures params { IfOk result (λ view. view.params ≡ params_of built.now system) }
-        ensures shown { IfOk result (λ view. view.shown ≡ shown (params_of built.now system) (memory_of_system self.old.state.state system) self.old.state.state (ids_at_start built.now system self.old.state.state)) }
+        ensures shown { IfOk result (λ view. view.shown ≡ shown (params_of built.now system) (memory_of_system self.old.state.state system) self.old.state.state (grants_at self.old.deferred system)) }
         ensures showing { IfOk result (λ view. CanBeShown view.params view.shown) }
         ensures untouched { IfOk result (λ view. view.outcome ≡ untouched view.params view.shown) }
         ensures tick { IfOk result (λ view. view.opening.tick ≡ next_tick self.old.state.state) }
         ensures written { IfOk result (λ view. AllByRecursion (IsWrittenBy (params_of built.now system).queries self.old.state.layout) (lent_in view.opening.taken)) }
         ensures held { IfOk result (λ view. (others : List (List Column)) → AreOut (store_of self.old.state) others → AreOut (store_of self.new.state) (others ++ view.opening.taken)) }
-        ensures noted { IfOk result (λ view. self.new.state ≡ record { state = noted system (params_of built.now system).reads (next_tick self.old.state.state) (ticked (granted_at_start built.now system self.old.state.state)); layout = with_away (lent_in view.opening.taken) self.old.state.layout }) }
-        ensures deferred { OnOk result (self.new.deferred ≡ with_grants system (ids_at_start built.now system self.old.state.state) self.old.deferred) }
-        ensures has { OnOk result ((has_tick self.old.state.state ≡ true) × (has_ids_at_start built.now system self.old.state.state ≡ true)) }
-        ensures stopped { IfErr result (StopsBy false (λ met. cause_of_start built.now system (run_with self.old.state.state self.old.deferred) ≡ Some met)) }
+        ensures noted { IfOk result (λ view. self.new.state ≡ record { state = noted system (params_of built.now system).reads (next_tick self.old.state.state) (ticked self.old.state.state); layout = with_away (lent_in view.opening.taken) self.old.state.layout }) }
+        ensures deferred { self.new.deferred ≡ self.old.deferred }
+        ensures has { OnOk result (has_tick self.old.state.state ≡ true) }
+        ensures stopped { IfErr result (StopsBy false (LacksTick self.old.state.state)) }
     {
         let params = built.params(system);
         built.prove_apart();
         self.state.prove_law();
         let tick = self.state.coming()?;
-        let granted = grant_to(self.alloc, params, &mut self.state)?;
-        self.deferred
-            .note_grant(system as usize, Vec::from_slice(self.alloc, &granted)?);
+        let granted = self.deferred.granted(self.alloc, system as usize)?;
         let commands = self.deferred.take_buffer(self.alloc, system as usize);
         let view = self.state.open(self.alloc, params, system as usize, tick, granted, commands)?;
         let Ok(_) = self.state.next() else {
@@ -136,19 +137,20 @@ impl RunState {
         Ok(())
     }
 
-    /// A sync point: the clock moves to the next tick, the commands of the systems of the level are done in schedule order at that tick, and
-    /// the ids granted to them that were not spawned are freed.
+    /// A sync point: the clock moves to the next tick, the commands of the systems of the level are done in schedule order at that tick, the ids
+    /// granted to them that were not spawned are freed, and the systems of the level above it are granted theirs.
     pub fn sync(&mut self, built: &Built, point: u32) -> Result<(), Stop>
         requires suits { IsDeferredFor built.now self.old.deferred }
         requires known { point < built.now.syncs }
         requires home { AreAllHome self.old.state.layout }
         requires in_hand { AreInHand self.old.state.state.world.slots self.old.deferred }
+        requires fresh { (n : ℕ) → level_of built.now n ≡ suc point → commands_at self.old.deferred n ≡ [] }
         ensures synced { OnOk result (run_with self.new.state.state self.new.deferred ≡ after_sync built.now point (run_with self.old.state.state self.old.deferred)) }
-        ensures ticked { OnOk result (has_tick self.old.state.state ≡ true) }
+        ensures can { OnOk result (can_sync built.now point (run_with self.old.state.state self.old.deferred) ≡ true) }
         ensures home { OnOk result (AreAllHome self.new.state.layout) }
         ensures suits { OnOk result (IsDeferredFor built.now self.new.deferred) }
         ensures in_hand { OnOk result (AreInHand self.new.state.state.world.slots self.new.deferred) }
-        ensures stopped { IfErr result (StopsBy false (LacksTick self.old.state.state)) }
+        ensures stopped { IfErr result (StopsBy false (CannotSync built.now point (run_with self.old.state.state self.old.deferred))) }
     {
         self.deferred
             .sync(self.alloc, built, &mut self.state, point)

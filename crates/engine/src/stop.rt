@@ -19,7 +19,7 @@ pub enum Stop {
     NoWorker,
     /// The clock gives no further tick.
     NoTick,
-    /// There are fewer vacant indices than the system is granted ids.
+    /// There are fewer vacant indices than the systems of a level are granted ids.
     NoIds,
     /// The events of a kind get no further number.
     NoEventNumber,

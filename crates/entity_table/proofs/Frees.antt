@@ -14,7 +14,8 @@ above b c [] l = tt
 above b c (x ∷ xs) l = cond_both (is_vacant x.status) (c ∷ vacant_from (suc c) xs) (vacant_from (suc c) xs) (AllByRecursion (λ n. b ≤ n))
     (λ e. (l, above b (suc c) xs (omega arith))) (λ e. above b (suc c) xs (omega arith))
 
-length-vacant_from : (b : ℕ) (xs : List Slot) → length (vacant_from b xs) ≤ length xs
+-- no more are vacant than there are
+pub length-vacant_from : (b : ℕ) (xs : List Slot) → length (vacant_from b xs) ≤ length xs
 length-vacant_from b [] = omega arith
 length-vacant_from b (x ∷ xs) = let few = length-vacant_from (suc b) xs in
     cond_both (is_vacant x.status) (b ∷ vacant_from (suc b) xs) (vacant_from (suc b) xs) (λ ns. length ns ≤ suc (length xs)) (λ e. omega arith) (λ e. omega arith)

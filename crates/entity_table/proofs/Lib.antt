@@ -2,6 +2,7 @@ pub mod Ascending
 pub mod Edits
 pub mod Grants
 pub mod Frees
+pub mod Levels
 pub mod Releases
 pub mod Keeping
 pub mod Living

@@ -1,15 +1,16 @@
 -- Who lives goes on living, at the same generation, until its index is freed.
-use Rattle.std.proofs.Common.{◌≡◌, ◌≢◌, ℕ, zero, suc, ◌-◌, Bool, true, false, cond, ◌==◌, ◌&&◌, List, [], ◌∷◌, length, refl, sym, ap, ◌∙◌}
+use Rattle.std.proofs.Common.{◌≡◌, ◌≢◌, ℕ, zero, suc, ◌-◌, Bool, true, false, cond, ◌==◌, ◌&&◌, List, [], ◌∷◌, length, sum, refl, sym, ap, ◌∙◌}
 use Rattle.std.proofs.lemmas.Bool.{and_parts, false≢true}
 use Rattle.model.specs.declared.entities.Entity.{Entity}
 use Rattle.model.specs.Lists.{update_at}
 use Rattle.model.specs.state.State.{Slot, Status, fresh_slot, is_living, is_granted, is_vacant}
 use Rattle.model.specs.state.State.Status.{Vacant, Granted, Living, Retired}
-use Rattle.model.specs.state.Ids.{vacant_indices, with_room, grant, granted_slot}
+use Rattle.model.specs.state.Ids.{vacant_indices, with_room, grant, granted_slot, grant_each}
 use Rattle.model.specs.state.Commands.{is_alive, freed, spawned, release}
 use Rattle.model.proofs.lists.Lists.{get_or-append_replicate, get_or-update_at_other}
 use Rattle.entity_table.specs.Ids.{slot_at, lives_at, spawned_all, settled}
 use Rattle.entity_table.proofs.Grants.{first_granted, grant-is}
+use Rattle.entity_table.proofs.Levels.{grant_each-is}
 use Rattle.entity_table.proofs.Releases.{living-release}
 
 -- where a living slot is left its entity lives on
@@ -53,6 +54,10 @@ alive-grant n xs e h = alive-kept xs (grant n xs) e kept h
     kept : lives_at xs e.index ≡ true → slot_at (grant n xs) e.index ≡ slot_at xs e.index
     kept lives = ap (λ ys. slot_at ys e.index) (grant-is n xs)
         ∙ living-first_granted n (with_room n xs) e.index (ap (λ (s : Slot). is_living s.status) same ∙ lives) ∙ same
+
+-- several grants
+pub alive-grant_each : (ns : List ℕ) (xs : List Slot) (e : Entity) → is_alive xs e ≡ true → is_alive (grant_each ns xs) e ≡ true
+alive-grant_each ns xs e h = rw (grant_each-is ns xs) (alive-grant (sum ns) xs e h)
 
 -- ---- a spawn
 

@@ -1,7 +1,7 @@
 -- A release is that of one id after the other, and what stays granted while others are spawned.
 use Rattle.std.proofs.Common.{◌≡◌, ◌≢◌, ℕ, zero, suc, ◌+◌, ◌<◌, Bool, true, false, cond, ◌==◌, ◌&&◌, ◌||◌, ◌⊎◌, inl, inr, List, [], ◌∷◌, ◌++◌, length, get_or, take, refl, ap, sym, ◌∙◌, arith}
 use Rattle.std.specs.Prelude.{All}
-use Rattle.std.proofs.lemmas.Bool.{and_right, cond_both, cases_eq, eq-eqb, ne_eqb, or_right, false≢true}
+use Rattle.std.proofs.lemmas.Bool.{cond_both, cases_eq, eq-eqb, ne_eqb, or_right, false≢true}
 use Rattle.std.proofs.lemmas.List.{ext_get_or, take_more, get_or_append_left, length-append}
 use Rattle.std.proofs.lemmas.List.Folds.{list_any-append}
 use Rattle.model.specs.declared.entities.Entity.{Entity}
@@ -9,7 +9,7 @@ use Rattle.model.specs.Lists.{update_at}
 use Rattle.model.specs.state.State.{Slot, fresh_slot, is_granted, last_generation, Status, is_living}
 use Rattle.model.specs.state.State.Status.{Vacant, Granted, Living, Retired}
 use Rattle.model.specs.state.Commands.{freed, spawned, names_index, release}
-use Rattle.model.proofs.lists.Lists.{map_index-id, get_or-map_index, length-update_at, get_or-update_at_other}
+use Rattle.model.proofs.lists.Lists.{get_or-map_index, length-update_at, get_or-update_at_other}
 use Rattle.model.proofs.shape.Slots.{length-release}
 use Rattle.entity_table.specs.Ids.{slot_at, lives_at, IsGranted, AreApart, spawned_all}
 use Rattle.entity_table.proofs.Edits.{get_or-update_at, update_at-same, update_at-id}

@@ -6,13 +6,13 @@ use Rattle.model.specs.Lists.{update_at, with_at}
 use Rattle.model.specs.state.State.{Component, Slot, fresh_slot, is_vacant, is_granted, is_living, last_generation, most_indices}
 use Rattle.model.specs.state.State.Status.{Vacant, Living, Retired}
 use Rattle.model.specs.state.Rows.{row_at}
-use Rattle.model.specs.state.Ids.{vacant_indices, with_room, has_ids, granted_ids, granted_slot, grant}
+use Rattle.model.specs.state.Ids.{vacant_indices, with_room, has_ids, granted_ids, granted_slot, grant, has_ids_for_each, ids_of_each, grant_each}
 use Rattle.model.specs.state.Commands.{is_alive, spawned, freed, with_row, names_index, release}
 use Rattle.model.proofs.lists.Lists.{map_index-same, map_index-map_index, map_index-replicate, length-map_index, get_or-map_index-view}
 use Rattle.model.proofs.serial.Grants.{vacant_from-map_index}
 use Rattle.entity_table.specs.Ids.{slot_at, lives_at, IsGranted, spawned_all, settled}
 use Rattle.entity_table.specs.Rows.{with_rows}
-use Rattle.entity_table.proofs.Grants.{first_granted, first_ids, grant-is, granted_ids-is, has_ids-is}
+use Rattle.entity_table.proofs.Grants.{first_granted, first_ids, grant-is, granted_ids-is, has_ids-is, length-grant}
 
 -- ---- what rows don't change
 
@@ -102,6 +102,33 @@ grant-with_rows n rows slots h =
     ∙ ap (first_granted n) (with_rows-append_fresh rows slots (n - length (vacant_indices slots)) h)
     ∙ first_granted-with_rows n rows (with_room n slots)
     ∙ ap (with_rows rows) (sym (grant-is n slots))
+
+-- ---- several grants
+
+-- past the end of the slots after a grant rows are empty too
+past_grant : (n : ℕ) (rows : ℕ → List Component) (slots : List Slot) → ((i : ℕ) → length slots ≤ i → rows i ≡ []) → (i : ℕ) → length (grant n slots) ≤ i → rows i ≡ []
+past_grant n rows slots h i l = h i (omega (arith, length-grant n slots))
+
+pub has_ids_for_each-with_rows : (ns : List ℕ) (rows : ℕ → List Component) (slots : List Slot) → ((i : ℕ) → length slots ≤ i → rows i ≡ []) →
+    has_ids_for_each ns (with_rows rows slots) ≡ has_ids_for_each ns slots
+unfolding has_ids_for_each
+has_ids_for_each-with_rows [] rows slots h = refl
+has_ids_for_each-with_rows (n ∷ ns) rows slots h = ap₂ ◌&&◌ (has_ids-with_rows n rows slots)
+    (ap (has_ids_for_each ns) (grant-with_rows n rows slots h) ∙ has_ids_for_each-with_rows ns rows (grant n slots) (past_grant n rows slots h))
+
+pub ids_of_each-with_rows : (ns : List ℕ) (rows : ℕ → List Component) (slots : List Slot) → ((i : ℕ) → length slots ≤ i → rows i ≡ []) →
+    ids_of_each ns (with_rows rows slots) ≡ ids_of_each ns slots
+unfolding ids_of_each
+ids_of_each-with_rows [] rows slots h = refl
+ids_of_each-with_rows (n ∷ ns) rows slots h = ap₂ ◌∷◌ (granted_ids-with_rows n rows slots)
+    (ap (ids_of_each ns) (grant-with_rows n rows slots h) ∙ ids_of_each-with_rows ns rows (grant n slots) (past_grant n rows slots h))
+
+pub grant_each-with_rows : (ns : List ℕ) (rows : ℕ → List Component) (slots : List Slot) → ((i : ℕ) → length slots ≤ i → rows i ≡ []) →
+    grant_each ns (with_rows rows slots) ≡ with_rows rows (grant_each ns slots)
+unfolding grant_each
+grant_each-with_rows [] rows slots h = refl
+grant_each-with_rows (n ∷ ns) rows slots h =
+    ap (grant_each ns) (grant-with_rows n rows slots h) ∙ grant_each-with_rows ns rows (grant n slots) (past_grant n rows slots h)
 
 -- ---- a change of one slot
 

@@ -2,3 +2,4 @@ pub mod Status
 pub mod Rising
 pub mod Ids
 pub mod Rows
+pub mod Granting

@@ -3,6 +3,7 @@
 
 mod entity_meta;
 pub mod fault;
+mod granting;
 mod min_heap;
 pub mod status;
 pub mod table;

@@ -1,10 +1,9 @@
 // The id book.
 
-ghost use Rattle.std.specs.Prelude.{◌≡◌, ◌++◌, ◌+◌, ◌-◌, ◌≤◌, ◌<◌, ◌↔◌, ℕ, true, false, [], ◌∷◌, length, vec_len, vec_capacity, All, IsTrue, IfSome, IfNone, IfOk, OnOk, OnErr, IsErrOf};
+ghost use Rattle.std.specs.Prelude.{◌≡◌, ◌++◌, ◌≤◌, ◌<◌, ◌↔◌, ℕ, true, false, [], length, map, All, IsTrue, IfSome, IfNone, IfOk, OnOk, OnErr, IsErrOf};
 ghost use Rattle.model.specs.Lists.{update_at};
 ghost use Rattle.model.specs.state.State.{most_indices, is_vacant, is_granted};
 ghost use Rattle.model.specs.state.Ids as ids;
-ghost use Rattle.model.specs.state.Ids.{vacant_indices, granted_ids};
 ghost use Rattle.model.specs.state.Commands.{is_alive, spawned, freed};
 ghost use Rattle.model.specs.state.Commands as commands;
 ghost use Rattle.entity_table.specs.Status.{status_of};
@@ -12,6 +11,7 @@ ghost use Rattle.entity_table.specs.Ids.{slot_at, lives_at, IsGranted, AreApart,
 
 use crate::entity_meta::EntityMeta;
 use crate::fault::GrantFault;
+use crate::granting::{grant_each, grant_lists, lists_for, sum_of};
 use crate::min_heap::MinHeap;
 use crate::status::Status;
 use model::Entity;
@@ -141,6 +141,32 @@ impl EntityTable {
         Ok(granted)
     }
 
+    /// Grants several numbers of ids at once, as a grant of each after the others would: the least vacant indices, at their
+    /// generations, first those of the first number. It makes the room that `settle`, `release` and `despawn` need later. It is
+    /// refused where fewer indices are left than are asked for in all, and where an allocation fails. After an error nothing has
+    /// changed.
+    pub fn grant_level(
+        &mut self,
+        alloc: Global,
+        counts: &[u32],
+    ) -> Result<Vec<Vec<Entity>>, GrantFault>
+        ensures ok { IfOk result (λ granted. map (λ list. list.items) granted.items ≡ ids.ids_of_each counts.now self.old) }
+        ensures granted { OnOk result (self.new ≡ ids.grant_each counts.now self.old) }
+        ensures spent { IsErrOf result GrantFault.IdsSpent ↔ (ids.has_ids_for_each counts.now self.old ≡ false) }
+        ensures err { OnErr result (self.new ≡ self.old) }
+    {
+        let had = self.places.len();
+        let missing = sum_of(counts).saturating_sub(self.vacant.len());
+        if MOST_INDICES < had.saturating_add(missing) {
+            return Err(GrantFault::IdsSpent);
+        }
+        let mut granted = lists_for(alloc, counts)?;
+        self.places.reserve(missing)?;
+        self.vacant.make_room(had + missing)?;
+        grant_lists(&mut self.places, &mut self.vacant, &mut granted, counts);
+        Ok(granted)
+    }
+
     /// Makes the entity of a granted id live.
     pub fn spawn_at(&mut self, e: Entity)
         requires { IsGranted self.old e }
@@ -235,61 +261,4 @@ fn next_living_in(places: &[EntityMeta], from: u32) -> Option<Entity>
         }
     }
     None
-}
-
-// Grants so many ids one after the other, for which there is room.
-fn grant_each(
-    places: &mut Vec<EntityMeta>,
-    vacant: &mut MinHeap,
-    granted: &mut Vec<Entity>,
-    count: u32,
-)
-    requires kept { vacant.old.rising ≡ vacant_indices places.old.items }
-    requires few { length places.old.items + (count - length vacant.old.rising) ≤ most_indices }
-    requires room { vec_len places.old + (count - length vacant.old.rising) ≤ vec_capacity places.old }
-    requires granted_room { vec_len granted.old + count ≤ vec_capacity granted.old }
-    ensures grants { places.new.items ≡ ids.grant count places.old.items }
-    ensures ids { granted.new.items ≡ granted.old.items ++ granted_ids count places.old.items }
-    ensures kept { vacant.new.rising ≡ vacant_indices places.new.items }
-    ensures room { vacant.old.room ≤ vacant.new.room }
-{
-    for _ in 0..count {
-        let e = grant_one(places, vacant);
-        let _ = granted.push(e);
-    }
-}
-
-// Grants one id: the least vacant index, or else the next after the last, for which there is room.
-fn grant_one(places: &mut Vec<EntityMeta>, vacant: &mut MinHeap) -> Entity
-    requires kept { vacant.old.rising ≡ vacant_indices places.old.items }
-    requires few { length places.old.items + (1 - length vacant.old.rising) ≤ most_indices }
-    requires room { vec_len places.old + (1 - length vacant.old.rising) ≤ vec_capacity places.old }
-    ensures grants { places.new.items ≡ ids.grant 1 places.old.items }
-    ensures id { granted_ids 1 places.old.items ≡ result ∷ [] }
-    ensures kept { vacant.new.rising ≡ vacant_indices places.new.items }
-    ensures len { length vacant.new.rising ≡ length vacant.old.rising - 1 }
-    ensures places { vec_len places.new ≡ vec_len places.old + (1 - length vacant.old.rising) }
-    ensures capacity { vec_capacity places.old ≤ vec_capacity places.new }
-    ensures room { vacant.new.room ≡ vacant.old.room }
-{
-    match vacant.pop() {
-        Some(index) => {
-            let place = &mut places[index as usize];
-            place.grant();
-            Entity {
-                index,
-                generation: place.generation(),
-            }
-        }
-        None => {
-            let index = places.len() as u32;
-            let mut place = EntityMeta::fresh();
-            place.grant();
-            let _ = places.push(place);
-            Entity {
-                index,
-                generation: 1,
-            }
-        }
-    }
 }

@@ -8,6 +8,7 @@ pub mod ShownAlike
 pub mod SerialSteps
 pub mod Places
 pub mod Timed
-pub mod WithoutCommands
+pub mod Commands
+pub mod Levels
 pub mod SerialRuns
 pub mod OneWithAll

@@ -10,6 +10,7 @@ pub mod Lawful
 pub mod Orders
 pub mod Levels
 pub mod Agreement
+pub mod LevelIds
 pub mod Single
 pub mod One
 pub mod Askings

@@ -5,5 +5,6 @@ pub mod Queues
 pub mod Outcomes
 pub mod Memories
 pub mod RunStates
+pub mod GivenIds
 pub mod Runs
 pub mod Loaded

@@ -4,7 +4,7 @@ ghost use Rattle.std.specs.Prelude.{◌≡◌, [], ◌∷◌, ◌++◌, map, OnO
 ghost use Rattle.std.specs.List.{list_any};
 ghost use Rattle.kinds.specs.Kind.{kind_number};
 ghost use Rattle.model.specs.Lists.{is_number};
-ghost use Rattle.model.specs.access.Query.{touched, written, touches, writes};
+ghost use Rattle.model.specs.access.Query.{touched, written, touches, writes, is_filter};
 ghost use Rattle.model.specs.access.QueryFaults.{required};
 ghost use Rattle.query.specs.Term.{term_of};
 
@@ -80,6 +80,14 @@ impl Query {
     {
         any_writes(self.terms(), kind)
     }
+
+    /// Whether some term is an `added` or `changed` term.
+    #[tactic(auto, using(crate::proofs::Terms::any_of_terms))]
+    pub fn has_filter(&self) -> bool
+        ensures { result ≡ list_any is_filter self.now }
+    {
+        any_filter(self.terms())
+    }
 }
 
 // Whether some of the terms touches the kind.
@@ -94,6 +102,13 @@ fn any_writes(terms: &[Term], kind: Kind) -> bool
     ensures { result ≡ list_any (λ t. is_number (kind_number kind) (written (term_of t))) terms.now }
 {
     terms.iter().any(|term| term.writes(kind))
+}
+
+// Whether some of the terms is an `added` or `changed` term.
+fn any_filter(terms: &[Term]) -> bool
+    ensures { result ≡ list_any (λ t. is_filter (term_of t)) terms.now }
+{
+    terms.iter().any(|term| term.is_filter())
 }
 
 // Whether some of the terms requires the kind.

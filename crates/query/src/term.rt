@@ -4,7 +4,7 @@ ghost use Rattle.std.specs.Prelude.{◌≡◌, ℕ, Bool};
 ghost use Rattle.std.specs.Option.{option_map};
 ghost use Rattle.kinds.specs.Kind.{kind_number};
 ghost use Rattle.model.specs.Lists.{is_number};
-ghost use Rattle.model.specs.access.Query.{admits, touched, written};
+ghost use Rattle.model.specs.access.Query.{admits, touched, written, is_filter};
 ghost use Rattle.model.specs.access.Conflict.{choice};
 ghost use Rattle.model.specs.access.QueryFaults.{required, excluded, optional, fetched, is_or, is_misnumbered};
 ghost use Rattle.query.specs.Alternative.{alternatives_of};
@@ -166,6 +166,13 @@ impl Term {
             }
             _ => false,
         }
+    }
+
+    /// Whether it compares a stamp with the last run: an `added` or `changed` term.
+    pub fn is_filter(self) -> bool
+        ensures { result ≡ is_filter (term_of self) }
+    {
+        matches!(self, Term::Added(_) | Term::Changed(_))
     }
 
     /// Whether the term touches the kind.

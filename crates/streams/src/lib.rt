@@ -1,4 +1,4 @@
-// Streams: readers read to their end, and texts written whole. Nothing is tried twice: the first failure answers.
+// Streams: readers read to their end, and texts written whole. A call that was interrupted is taken up again; else the first failure answers.
 #![tactic(auto)]
 
 pub mod reading;

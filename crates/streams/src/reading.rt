@@ -3,7 +3,7 @@
 ghost use Rattle.std.specs.Prelude.{◌≡◌, ◌<◌, ◌≤◌, length, vec_len, IfOk, IfSome, IsErrOf};
 
 use std::alloc::Global;
-use std::io::Read;
+use std::io::{ErrorKind, Read};
 use thiserror::Error;
 
 /// Why a reader is not read to its end.
@@ -22,7 +22,7 @@ pub enum ReadFault {
 
 /// All bytes of a reader, at most `limit`.
 ///
-/// A reader that fails is `Failed`. After an error the reader may stand anywhere.
+/// A reader that fails is `Failed`; a read that was interrupted is taken up again. After an error the reader may stand anywhere.
 pub fn read_whole<R: Read>(
     alloc: Global,
     reader: &mut R,
@@ -37,6 +37,7 @@ pub fn read_whole<R: Read>(
     for _ in 0..u64::MAX {
         let count = match reader.read(&mut buffer) {
             Ok(count) => count,
+            Err(error) if error.kind() == ErrorKind::Interrupted => continue,
             Err(_) => return Err(ReadFault::Failed),
         };
         if count == 0 {

@@ -1,9 +1,10 @@
 // Texts written whole.
 
-ghost use Rattle.std.specs.Prelude.{◌≡◌};
+ghost use Rattle.std.specs.Prelude.{◌≡◌, ◌<◌, ◌≤◌, length, take, IfOk, MatchResult};
+ghost use Rattle.std.specs.Io.KnownBytes.{Appends, Keeps};
 ghost use Rattle.streams.specs.Writing.{WritesWhole, first_line_of, line_of};
 
-use std::io::Write;
+use std::io::{ErrorKind, Write};
 use thiserror::Error;
 
 /// A writer that refused a text, or a part of one.
@@ -11,22 +12,48 @@ use thiserror::Error;
 #[error("the output can't be written")]
 pub struct WriteFault;
 
-/// Writes a text and flushes the writer. A writer that fails, or takes nothing, is a fault, and then it holds a beginning of the text.
+/// Writes a text and flushes the writer. A call that was interrupted is taken up again. A writer that fails, or takes nothing, is a fault,
+/// and then it holds a beginning of the text.
 pub fn write_whole<W: Write>(writer: &mut W, text: &str) -> Result<(), WriteFault>
     ensures { WritesWhole (W.contents writer.old) (W.contents writer.new) result text.now }
 {
     let mut rest = text.as_bytes();
     while !rest.is_empty() {
-        match writer.write(rest) {
+        let count = write_part(writer, rest)?;
+        rest = &rest[count..];
+    }
+    flush(writer)
+}
+
+// Writes some of these bytes, at least one, and tells how many.
+fn write_part<W: Write>(writer: &mut W, bytes: &[u8]) -> Result<usize, WriteFault>
+    ensures some { IfOk result (λ count. 0 < count) }
+    ensures within { IfOk result (λ count. count ≤ length bytes.now) }
+    ensures taken { MatchResult result (λ count. Appends (W.contents writer.old) (W.contents writer.new) (take count bytes.now)) (λ _. Keeps (W.contents writer.old) (W.contents writer.new)) }
+{
+    for _ in 0..u64::MAX {
+        match writer.write(bytes) {
             Ok(0) => return Err(WriteFault),
-            Ok(count) => rest = &rest[count..],
+            Ok(count) => return Ok(count),
+            Err(error) if error.kind() == ErrorKind::Interrupted => {}
             Err(_) => return Err(WriteFault),
         }
     }
-    match writer.flush() {
-        Ok(()) => Ok(()),
-        Err(_) => Err(WriteFault),
+    Err(WriteFault)
+}
+
+// Sees that what a writer took is written.
+fn flush<W: Write>(writer: &mut W) -> Result<(), WriteFault>
+    ensures { Keeps (W.contents writer.old) (W.contents writer.new) }
+{
+    for _ in 0..u64::MAX {
+        match writer.flush() {
+            Ok(()) => return Ok(()),
+            Err(error) if error.kind() == ErrorKind::Interrupted => {}
+            Err(_) => return Err(WriteFault),
+        }
     }
+    Err(WriteFault)
 }
 
 /// Writes the first line of a text, ends the line, and flushes the writer. A writer that fails, or takes nothing, is a fault, and then

@@ -1,33 +1,33 @@
 -- The steps of a replay, one after the other.
-use Rattle.std.proofs.Common.{◌≡◌, ◌<◌, ◌≤◌, ◌+◌, ℕ, suc, true, false, refl, List, [], ◌∷◌, ◌++◌, length, Some, drop, take, get_or, reverse, sym, ap, subst, ◌∙◌, append-nil, arith}
-use Rattle.std.proofs.lemmas.Bool.{false≢true}
+use Rattle.std.proofs.Common.{◌≡◌, ◌<◌, ◌≤◌, ◌+◌, ℕ, suc, false, refl, List, [], ◌∷◌, ◌++◌, length, Some, drop, take, get_or, reverse, sym, ap, subst, ◌∙◌, append-nil, arith}
+use Rattle.std.proofs.lemmas.Bool.{false≢true, false_from_ne_true}
 use Rattle.std.proofs.lemmas.List.{length-reverse, length-take-le, take_all}
 use Rattle.model.specs.declared.steps.Step.{Step}
 use Rattle.model.specs.declared.steps.Step.TheVariants.{Cond, Start, Skip, Finish, Sync}
-use Rattle.model.specs.Lists.{provided}
 use Rattle.model.specs.state.State.{State}
 use Rattle.model.specs.shown.Outcome.{BodyMeaning}
-use Rattle.model.specs.steps.Schedule.{Schedule}
-use Rattle.model.specs.steps.Lawful.{IsLawful, IsComplete, May}
-use Rattle.model.specs.runs.RunState.{RunState, begin_run, between, can_open, opening}
-use Rattle.model.proofs.lists.Lists.{provided-Some}
+use Rattle.model.specs.steps.Schedule.{Schedule, level_of}
+use Rattle.model.specs.steps.Lawful.{IsLawful, IsComplete, May, begun}
+use Rattle.model.specs.runs.RunState.{RunState}
+use Rattle.model.specs.state.Shape.{AreIdsFor}
+use Rattle.model.specs.steps.Built.{IsBuilt}
 use Rattle.model.specs.runs.Causes.{Cause, serial_cause_of}
 use Rattle.model.specs.runs.Causes.{Cause as cause}
 use Rattle.engine.specs.declared.faults.RunFault.{RunFault}
 use Rattle.engine.specs.declared.faults.RunFault.TheVariants.{Memory, ClockSpent, IdsSpent, Spoiled, NoWorker, BodyFault as Refusal}
-use Rattle.engine.specs.Deferred.{DeferredValue, IsNothingDeferred, run_with}
-use Rattle.engine.specs.Stops.{LacksTick, StopsBy, fault_of}
+use Rattle.engine.specs.Stops.{CannotOpen, StopsBy, fault_of}
 use Rattle.engine.specs.declared.stop.Stop.{Stop}
 use Rattle.engine.specs.declared.stop.Stop.TheVariants as stop
 use Rattle.engine.proofs.Fresh.{serial_fresh}
-use Rattle.engine.proofs.InHand.{run_with_nothing}
 use Rattle.trace_checker.specs.declared.replay.ReplayFault.{ReplayFault}
 use Rattle.trace_checker.specs.declared.replay.ReplayFault.TheVariants as replay
 use Rattle.model.specs.runs.Replays.{IsReplayed, IsWrongAnswer, IsReplayStopped}
 use Rattle.model.specs.runs.Replays.{IsReached, IsStepTaken}
 use Rattle.trace_checker.specs.ReplayFaults.{IsKnown, IsReplayFault, IsStepFault, IsStoppedHere}
-use Rattle.trace_checker.proofs.Verdicts.{history_at, history_more, cut_at, may_at}
-use Rattle.model.proofs.serial.Replaying.{reached_open, reached_more, reached_end, wrong_at, stopped_at}
+use Rattle.trace_checker.proofs.Verdicts.{history_at, history_more, cut_at, may_at, lawful_at}
+use Rattle.model.proofs.order.Histories.{above_waits}
+use Rattle.model.proofs.shape.GivenIds.{ids-free, ids-serial}
+use Rattle.model.proofs.serial.Replaying.{reached_more, reached_end, wrong_at, stopped_at}
 
 -- what is told of a step that stops
 pub step_told : (s : Schedule) (bodies : List BodyMeaning) (run : RunState) (step : Step) (Meets : Cause → Type 0) (told : Stop) → ((met : Cause) → Meets met → serial_cause_of s bodies step run ≡ Some met) →
@@ -38,10 +38,6 @@ step_told s bodies run step Meets stop.NoTick is h = (cause.NoTick, tt, is cause
 step_told s bodies run step Meets stop.NoIds is h = (cause.NoIds, tt, is cause.NoIds h)
 step_told s bodies run step Meets stop.NoEventNumber is h = (cause.NoEventNumber, tt, is cause.NoEventNumber h)
 step_told s bodies run step Meets (stop.Refused n) is h = (cause.Refused n, refl, is (cause.Refused n) h)
-
--- a run that has begun could
-pub can_begin : (w later : State) → begin_run w ≡ Some (between later) → can_open w ≡ true
-can_begin w later e = (provided-Some (can_open w) (between (opening w)) (between later) e).0
 
 known-of : (s : Schedule) (h : List Step) (step : Step) → May s h step → IsKnown s step
 known-of s h (Cond c answer) may = may.known
@@ -72,6 +68,21 @@ module _ (s : Schedule) (bodies : List BodyMeaning) (start : State) (steps : Lis
         let may = subst (May s (reverse (take i steps))) e (may_at s steps (take i steps) (get_or steps i d) (drop (suc i) steps) (cut_at steps i d below) lawful) in
         serial_fresh s bodies start (reverse (take i steps)) run is.meaning n may.free.waits
 
+    -- the system that starts there was granted what it can be given
+    pub given_at : (n : ℕ) (run : RunState) → IsBuilt s → IsLawful s (reverse steps) → IsReached s bodies start (reverse (take i steps)) run → get_or steps i d ≡ Start n → AreIdsFor s n (run.grants n)
+    given_at n run built lawful is e =
+        let front = lawful_at s steps (take i steps) (get_or steps i d) (drop (suc i) steps) (cut_at steps i d below) lawful in
+        let may = subst (May s (reverse (take i steps))) e (may_at s steps (take i steps) (get_or steps i d) (drop (suc i) steps) (cut_at steps i d below) lawful) in
+        ids-free s (reverse (take i steps)) n run front may.free (ids-serial s bodies start (reverse (take i steps)) run built front is.meaning)
+
+    -- before a sync point the systems of the level above it have left nothing
+    pub waits_at : (k n : ℕ) (run : RunState) → IsLawful s (reverse steps) → IsReached s bodies start (reverse (take i steps)) run → get_or steps i d ≡ Sync k → level_of s n ≡ suc k → run.buffers n ≡ []
+    waits_at k n run lawful is e above =
+        let front = lawful_at s steps (take i steps) (get_or steps i d) (drop (suc i) steps) (cut_at steps i d below) lawful in
+        let may = subst (May s (reverse (take i steps))) e (may_at s steps (take i steps) (get_or steps i d) (drop (suc i) steps) (cut_at steps i d below) lawful) in
+        serial_fresh s bodies start (reverse (take i steps)) run is.meaning n
+        (false_from_ne_true (begun (reverse (take i steps)) n) (above_waits s (reverse (take i steps)) k n front may.fresh (omega (arith, above))))
+
     stopped-by : (run : RunState) (cause : Cause) → IsReached s bodies start (reverse (take i steps)) run → serial_cause_of s bodies (get_or steps i d) run ≡ Some cause → IsReplayStopped s bodies start (reverse steps) cause
     stopped-by run cause is e =
         subst (λ x. IsReplayStopped s bodies start x cause) (sym around) (stopped_at s bodies start (reverse (take i steps)) (reverse (drop (suc i) steps)) (get_or steps i d) run cause is e)
@@ -96,13 +107,8 @@ module _ (s : Schedule) (bodies : List BodyMeaning) (start : State) (steps : Lis
     fault_at run number (replay.Bad n fault) count lawful complete is h = absurd h
     fault_at run number replay.Unfinished count lawful complete is h = absurd h
 
-  at-once : (met : Cause) → LacksTick start met → IsReplayStopped s bodies start (reverse steps) met
+  at-once : (met : Cause) → CannotOpen s start met → IsReplayStopped s bodies start (reverse steps) met
   at-once met e = record { later = reverse steps; front = []; whole = sym (append-nil (reverse steps)); answers = tt; stops = e }
-
-  -- after the opening, where nothing is deferred
-  pub reached_begun : (deferred : DeferredValue) → IsNothingDeferred deferred → can_open start ≡ true → IsReached s bodies start [] (run_with (opening start) deferred)
-  reached_begun deferred none tick =
-      reached_open s bodies start (run_with (opening start) deferred) (ap (λ b. provided b (between (opening start))) tick ∙ ap Some (sym (run_with_nothing (opening start) deferred none)))
 
   -- all steps
   pub reached_all : (i : ℕ) (run : RunState) → length steps ≤ i → IsLawful s (reverse steps) → IsComplete s (reverse steps) → IsReached s bodies start (reverse (take i steps)) run → IsReplayed s bodies start (reverse steps) run.state
@@ -110,7 +116,7 @@ module _ (s : Schedule) (bodies : List BodyMeaning) (start : State) (steps : Lis
       reached_end s bodies start (reverse steps) run lawful complete (subst (λ x. IsReached s bodies start (reverse x) run) (take_all i steps over) is)
 
   -- what stops the opening
-  pub opening_told : (told : Stop) → IsLawful s (reverse steps) → IsComplete s (reverse steps) → StopsBy false (LacksTick start) told → IsReplayFault s bodies start steps (replay.Run (fault_of told))
+  pub opening_told : (told : Stop) → IsLawful s (reverse steps) → IsComplete s (reverse steps) → StopsBy false (CannotOpen s start) told → IsReplayFault s bodies start steps (replay.Run (fault_of told))
   opening_told stop.Memory lawful complete h = tt
   opening_told stop.NoWorker lawful complete h = absurd (false≢true h)
   opening_told stop.NoTick lawful complete h = ((lawful, complete), (cause.NoTick, tt, at-once cause.NoTick h))

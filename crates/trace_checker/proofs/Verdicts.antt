@@ -27,6 +27,11 @@ may_at s steps front step rest e lawful =
     let k = subst (λ h. IsLawful s h) (ap reverse e ∙ history_at front step rest) lawful in
     histories.may_at s (reverse rest) (reverse front) step k
 
+-- and those before it are lawful
+pub lawful_at : (s : Schedule) (steps front : List Step) (step : Step) (rest : List Step) → steps ≡ front ++ step ∷ rest → IsLawful s (reverse steps) → IsLawful s (reverse front)
+lawful_at s steps front step rest e lawful =
+    (histories.lawful_before s (reverse rest) (step ∷ reverse front) (subst (λ h. IsLawful s h) (ap reverse e ∙ history_at front step rest) lawful)).1
+
 -- steps that are lawful have none that is refused
 lawful_refutes : (s : Schedule) (steps : List Step) (n : ℕ) (fault : StepFault) → IsRefusedAt s steps n fault → IsLawful s (reverse steps) → ⊥
 lawful_refutes s steps n fault (front, step, rest, e, before, first, count) lawful =

@@ -1,21 +1,20 @@
 -- A start that is taken whole: what it makes of the run state, what stops it, and the bodies after it. And the other steps of a replay.
-use Rattle.std.proofs.Common.{ℕ, zero, suc, ◌<◌, Bool, true, false, not, ◌≡◌, ◌&&◌, ◌⊎◌, inl, inr, List, [], ◌∷◌, length, map, set, slice_get, get_or, cond, Option, Some, None, option_and_then, Result, Ok, Err, IfErr, IsErrAnd, refl, sym, ◌∙◌, ap, ap₂, subst, arith}
+use Rattle.std.proofs.Common.{ℕ, zero, suc, ◌<◌, Bool, true, false, not, ◌≡◌, List, [], ◌∷◌, length, map, set, slice_get, get_or, cond, Option, Some, None, option_and_then, Result, Ok, Err, refl, sym, ◌∙◌, ap, ap₂, subst, arith}
 use Rattle.std.proofs.Math.Bool.{beq}
-use Rattle.std.proofs.lemmas.Bool.{eq-eqb, false≢true}
-use Rattle.std.proofs.lemmas.List.{get_or-set_same, length-map, length-set}
-use Rattle.model.specs.declared.entities.Entity.{Entity}
+use Rattle.std.proofs.lemmas.Bool.{eq-eqb}
+use Rattle.std.proofs.lemmas.List.{length-map, length-set}
 use Rattle.model.specs.declared.steps.Step.TheVariants.{Cond, Start}
 use Rattle.model.specs.Lists.{provided, first_some}
 use Rattle.model.specs.access.Access.{Params}
-use Rattle.model.specs.state.Ids.{grant}
+use Rattle.model.specs.state.Shape.{AreIdsFor}
 use Rattle.model.specs.state.State.{State}
 use Rattle.model.specs.shown.Input.{shown}
 use Rattle.model.specs.shown.Outcome.{AreSpawns, BodyMeaning, Command, spawned_by, words_written}
 use Rattle.model.specs.steps.Schedule.{ScheduledSystem, Schedule, params_of, access_of}
-use Rattle.model.specs.runs.RunState.{RunState, RunningSystem, after_condition, after_start, after_sync, answer_of, body_of, can_start, finish, has_ids_to_start, has_tick, memory_of_system, next_tick, spawns_of, started_system}
+use Rattle.model.specs.runs.RunState.{RunningSystem, after_condition, after_start, after_sync, answer_of, body_of, can_start, finish, has_tick, memory_of_system, next_tick, started_system}
 use Rattle.model.specs.runs.Meaning.{Interleaved, running_system, without_system, with_running_systems}
-use Rattle.model.specs.runs.Causes.{Cause, unless, cause_of_answer, cause_of_finish, cause_of_running, cause_of_start, serial_cause_of}
-use Rattle.model.specs.runs.Causes.Cause.{NoTick, NoIds, Refused, NoEventNumber}
+use Rattle.model.specs.runs.Causes.{Cause, unless, cause_of_answer, cause_of_finish, cause_of_running, serial_cause_of}
+use Rattle.model.specs.runs.Causes.Cause.{NoTick, Refused, NoEventNumber}
 use Rattle.model.proofs.faults.Causes.{with_running_systems-parts}
 use Rattle.model.proofs.lists.Lists.{provided-Some}
 use Rattle.body.specs.Answers.{Answers}
@@ -24,15 +23,14 @@ use Rattle.body.specs.Steps.{HasShape, asked_at, laid, noted, ticked}
 use Rattle.body.specs.declared.system_body.BodyFault.{BodyFault}
 use Rattle.body.specs.declared.system_body.BodyFault.TheVariants.{Memory, Refused as Refusing}
 use Rattle.engine.specs.Jobs.{IsPlaced}
-use Rattle.engine.specs.Deferred.{DeferredValue, AreInHand, IsDeferredFor, commands_at, grants_at, run_with, with_commands, with_grants}
+use Rattle.engine.specs.Deferred.{DeferredValue, AreInHand, IsDeferredFor, grants_at, run_with, with_commands}
 use Rattle.engine.specs.Meanings.{meanings_of, meanings, body_at, body_fits, fits_at, AllKeepWithin, HasMemories, Suits}
-use Rattle.engine.specs.Starts.{granted_at_start, has_ids_at_start, ids_at_start}
-use Rattle.engine.specs.Stops.{IsNotLaid}
+use Rattle.engine.specs.Stops.{IsNotLaid, LacksTick}
 use Rattle.engine.proofs.Agreeing.{state_of_schedule}
-use Rattle.engine.proofs.InHand.{AreAlike, alike_after, in_hand_alike, in_hand_grant, in_hand_put}
+use Rattle.engine.proofs.InHand.{AreAlike, alike_after, in_hand_alike, in_hand_put}
 use Rattle.engine.proofs.Keeping.{bodies_keep}
 use Rattle.engine.proofs.Placing.{placed_first}
-use Rattle.engine.proofs.Remembering.{memories_asked, memories_at, memories_laid, memories_noted, memories_slots, memories_synced}
+use Rattle.engine.proofs.Remembering.{memories_asked, memories_at, memories_laid, memories_noted, memories_synced}
 use Rattle.engine.proofs.Weaving.{over, IsAnswered, numbers_of, ask_woven, finish_woven, start_woven, unsent_woven}
 use Rattle.model.specs.runs.Replays.{IsStepTaken}
 use Rattle.trace_checker.specs.ReplayFaults.{HasRun}
@@ -116,73 +114,56 @@ module _ {B : Type 0} (meaning : B → Params → BodyMeaning) (fits : B → Par
     is_refused k refused = meant ∙ subst (Answers (meaning ran.body before.params before.shown) after) refused ran.answered
 
 -- the memories after a start that was noted, and after one that was taken whole
-memories_started : (s : Schedule) (state : State) (n clock : ℕ) → HasMemories s state → HasMemories s (noted n (params_of s n).reads clock (ticked (granted_at_start s n state)))
-memories_started s state n clock memories =
-    let granted = granted_at_start s n state in
-    let held = memories_slots s state memories (grant (spawns_of s n) state.world.slots) in
-    let moved = memories_at s granted held (next_tick granted) in
-    memories_noted s (ticked granted) moved n clock
+memories_started : (s : Schedule) (state : State) (n clock : ℕ) → HasMemories s state → HasMemories s (noted n (params_of s n).reads clock (ticked state))
+memories_started s state n clock memories = memories_noted s (ticked state) (memories_at s state memories (next_tick state)) n clock
 
-pub memories_after : (s : Schedule) (state : State) (n tick clock : ℕ) (seen : Seen) → HasMemories s state → HasMemories s (laid n tick seen (noted n (params_of s n).reads clock (ticked (granted_at_start s n state))))
+pub memories_after : (s : Schedule) (state : State) (n tick clock : ℕ) (seen : Seen) → HasMemories s state → HasMemories s (laid n tick seen (noted n (params_of s n).reads clock (ticked state)))
 memories_after s state n tick clock seen memories =
-    memories_laid s (noted n (params_of s n).reads clock (ticked (granted_at_start s n state))) (memories_started s state n clock memories) n tick seen
+    memories_laid s (noted n (params_of s n).reads clock (ticked state)) (memories_started s state n clock memories) n tick seen
 
 -- there is a memory of the system once the start is noted
-pub noted_known : (s : Schedule) (state later : State) (n clock : ℕ) → HasMemories s state → n < length s.systems → later ≡ noted n (params_of s n).reads clock (ticked (granted_at_start s n state)) → n < length later.systems
+pub noted_known : (s : Schedule) (state later : State) (n clock : ℕ) → HasMemories s state → n < length s.systems → later ≡ noted n (params_of s n).reads clock (ticked state) → n < length later.systems
 noted_known s state later n clock memories known is =
     let count : length later.systems ≡ length s.systems = ap (λ (x : State). length x.systems) is ∙ (memories_started s state n clock memories).systems in
     omega (arith, known, count)
 
 -- ---- what it makes of the run state
 
--- where it has its tick and its ids nothing stops a start before its body
-no-cause_of_start : (s : Schedule) (n : ℕ) (run : RunState) → can_start s n run ≡ true → cause_of_start s n run ≡ None
-unfolding can_start
-no-cause_of_start s n run e = go (has_tick run.state) (has_ids_to_start s n run) e
-  where
-    go : (b c : Bool) → b && c ≡ true → first_some (unless b NoTick) (unless c NoIds) ≡ None
-    go true true h = refl
-    go true false h = absurd (false≢true h)
-    go false c h = absurd (false≢true h)
-
 module _ (s : Schedule) (bodies : List BodyMeaning) (n : ℕ) (w : State) (deferred : DeferredValue) where
-  -- the state in which the start is noted, what is deferred with the ids of the start, and the system as it runs
+  -- the state in which the start is noted, and the system as it runs
   abbrev mid : State
-  mid = noted n (params_of s n).reads (next_tick w) (ticked (granted_at_start s n w))
-
-  abbrev held : DeferredValue
-  held = with_grants n (ids_at_start s n w) deferred
+  mid = noted n (params_of s n).reads (next_tick w) (ticked w)
 
   abbrev runner : RunningSystem
-  runner = record { system = n; tick = next_tick w; shown = shown (params_of s n) (memory_of_system w n) w (ids_at_start s n w) }
+  runner = record { system = n; tick = next_tick w; shown = shown (params_of s n) (memory_of_system w n) w (grants_at deferred n) }
 
   -- what its finish meets comes after what stops it before its body
-  pub start_cause : (cause : Cause) → cause_of_start s n (run_with w deferred) ≡ Some cause → serial_cause_of s bodies (Start n) (run_with w deferred) ≡ Some cause
+  pub start_cause : (cause : Cause) → LacksTick w cause → serial_cause_of s bodies (Start n) (run_with w deferred) ≡ Some cause
   start_cause cause e = ap (λ o. first_some o (cause_of_finish s bodies (started_system s n (run_with w deferred)) (after_start s n (run_with w deferred)))) e
 
-  module _ (place : n < length deferred.grants) (tick : has_tick w ≡ true) (ids : has_ids_at_start s n w ≡ true) where
-    woven-parts : (can_start s n (run_with w deferred) ≡ true) × ((after_start s n (run_with w deferred) ≡ run_with mid held) × (started_system s n (run_with w deferred) ≡ runner))
+  module _ (tick : has_tick w ≡ true) where
+    woven-parts : (can_start (run_with w deferred) ≡ true) × ((after_start s n (run_with w deferred) ≡ run_with mid deferred) × (started_system s n (run_with w deferred) ≡ runner))
     woven-parts =
         let made : Interleaved = record { run = after_start s n (run_with w deferred); running_systems = started_system s n (run_with w deferred) ∷ [] } in
-        let p = provided-Some (can_start s n (run_with w deferred)) made (over held mid (runner ∷ [])) (start_woven s bodies n w deferred [] place tick ids) in
+        let p = provided-Some (can_start (run_with w deferred)) made (over deferred mid (runner ∷ [])) (start_woven s bodies n w deferred [] tick) in
         (p.0, (ap (λ (x : Interleaved). x.run) p.1, ap (λ (x : Interleaved). get_or x.running_systems 0 runner) p.1))
 
     -- the cause of its finish is its own
-    whole-cause : (cause : Cause) → cause_of_finish s bodies runner (run_with mid held) ≡ Some cause → serial_cause_of s bodies (Start n) (run_with w deferred) ≡ Some cause
+    whole-cause : (cause : Cause) → cause_of_finish s bodies runner (run_with mid deferred) ≡ Some cause → serial_cause_of s bodies (Start n) (run_with w deferred) ≡ Some cause
     whole-cause cause e =
-        ap (λ o. first_some o (cause_of_finish s bodies (started_system s n (run_with w deferred)) (after_start s n (run_with w deferred)))) (no-cause_of_start s n (run_with w deferred) woven-parts.0)
+        ap (λ o. first_some o (cause_of_finish s bodies (started_system s n (run_with w deferred)) (after_start s n (run_with w deferred)))) (ap (λ b. unless b NoTick) tick)
         ∙ ap₂ (cause_of_finish s bodies) woven-parts.1.1 woven-parts.1.0
         ∙ e
 
     -- a body that refuses
     refusal-stops : (seen : Seen) (k : ℕ) → seen.shown ≡ runner.shown → body_of bodies n seen.shown ≡ Err k → serial_cause_of s bodies (Start n) (run_with w deferred) ≡ Some (Refused k)
     refusal-stops seen k same e =
-        whole-cause (Refused k) (ap (λ answer. cause_of_answer s runner answer (run_with mid held)) (ap (body_of bodies n) (sym same) ∙ e))
+        whole-cause (Refused k) (ap (λ answer. cause_of_answer s runner answer (run_with mid deferred)) (ap (body_of bodies n) (sym same) ∙ e))
 
     module _ (seen : Seen) (same : seen.shown ≡ runner.shown) (is : IsAnswered s bodies n seen) where
       -- what is deferred with its commands
       abbrev kept : DeferredValue
-      kept = with_commands n seen.outcome.commands held
+      kept = with_commands n seen.outcome.commands deferred
 
       alone-found : running_system n (runner ∷ []) ≡ Some (record { system = n; tick = next_tick w; shown = seen.shown })
       alone-found = ap (λ b. cond b (Some runner) None) (eq-eqb n n refl) ∙ ap (λ x. Some (record { system = n; tick = next_tick w; shown = x })) (sym same)
@@ -193,7 +174,7 @@ module _ (s : Schedule) (bodies : List BodyMeaning) (n : ℕ) (w : State) (defer
       -- an event without a number
       unsent-stops : numbers_of seen mid ≡ false → serial_cause_of s bodies (Start n) (run_with w deferred) ≡ Some NoEventNumber
       unsent-stops none =
-          whole-cause NoEventNumber (sym (ap (λ o. cause_of_running s bodies o (run_with mid held)) found) ∙ unsent_woven s bodies n (next_tick w) mid held (runner ∷ []) seen is none alone-found)
+          whole-cause NoEventNumber (sym (ap (λ o. cause_of_running s bodies o (run_with mid deferred)) found) ∙ unsent_woven s bodies n (next_tick w) mid deferred (runner ∷ []) seen is none alone-found)
 
       -- the whole start
       pub start_taken : (later : State) → n < length deferred.commands → numbers_of seen mid ≡ true → later ≡ laid n (next_tick w) seen mid →
@@ -206,28 +187,26 @@ module _ (s : Schedule) (bodies : List BodyMeaning) (n : ℕ) (w : State) (defer
         answer = tt;
       }
         where
-          finished : finish s bodies runner (run_with mid held) ≡ Some (run_with (laid n (next_tick w) seen mid) kept)
+          finished : finish s bodies runner (run_with mid deferred) ≡ Some (run_with (laid n (next_tick w) seen mid) kept)
           finished =
               let others = without_system n (runner ∷ []) in
-              let done : with_running_systems others (finish s bodies runner (run_with mid held)) ≡ Some (over kept (laid n (next_tick w) seen mid) others) =
-              sym (ap (option_and_then (λ p. with_running_systems others (finish s bodies p (run_with mid held)))) found) ∙ finish_woven s bodies n (next_tick w) mid held (runner ∷ []) seen known is numbers alone-found in
-              let p = with_running_systems-parts others (finish s bodies runner (run_with mid held)) (over kept (laid n (next_tick w) seen mid) others) done in
+              let done : with_running_systems others (finish s bodies runner (run_with mid deferred)) ≡ Some (over kept (laid n (next_tick w) seen mid) others) =
+              sym (ap (option_and_then (λ p. with_running_systems others (finish s bodies p (run_with mid deferred)))) found) ∙ finish_woven s bodies n (next_tick w) mid deferred (runner ∷ []) seen known is numbers alone-found in
+              let p = with_running_systems-parts others (finish s bodies runner (run_with mid deferred)) (over kept (laid n (next_tick w) seen mid) others) done in
               p.1 ∙ ap (λ (x : Interleaved). Some x.run) (sym p.2)
 
       -- the commands that it keeps spawn ids of its own, and the ids stay in hand
-      spawns-own : n < length s.systems → AllKeepWithin s bodies → HasMemories s w → HasShape w → AreSpawns (grants_at held n) (spawned_by seen.outcome.commands)
+      spawns-own : n < length s.systems → AreIdsFor s n (grants_at deferred n) → AllKeepWithin s bodies → HasMemories s w → HasShape w → AreSpawns (grants_at deferred n) (spawned_by seen.outcome.commands)
       unfolding shown
-      spawns-own known keep has shape =
-          let within = bodies_keep s bodies keep n w seen.outcome known (state_of_schedule s w has shape) ids (ap (body_of bodies n) (sym same) ∙ is.answered) in
-          subst (λ granted. AreSpawns granted (spawned_by seen.outcome.commands)) (sym (get_or-set_same deferred.grants n (ids_at_start s n w) [] place)) within.spawns
+      spawns-own known given keep has shape =
+          (bodies_keep s bodies keep n w (grants_at deferred n) seen.outcome known (state_of_schedule s w has shape) given (ap (body_of bodies n) (sym same) ∙ is.answered)).spawns
 
-      pub in_hand_kept : (later : State) (tick : ℕ) → n < length s.systems → n < length deferred.commands → AllKeepWithin s bodies → HasMemories s w → HasShape w → commands_at deferred n ≡ [] →
+      pub in_hand_kept : (later : State) (tick : ℕ) → n < length s.systems → n < length deferred.commands → AreIdsFor s n (grants_at deferred n) → AllKeepWithin s bodies → HasMemories s w → HasShape w →
           AreInHand w.world.slots deferred → later ≡ laid n tick seen mid → AreInHand later.world.slots kept
-      in_hand_kept later tick known room keep has shape fresh hand e =
+      in_hand_kept later tick known room given keep has shape hand e =
           let words = words_written seen.params.queries seen.shown.rows seen.outcome.cells in
-          let granted = in_hand_grant (spawns_of s n) n w.world.slots deferred hand fresh place in
           let alike = subst (λ (x : State). AreAlike mid.world.slots x.world.slots) (sym e) (alike_after tick words mid.world.slots) in
-          in_hand_put n seen.outcome.commands later.world.slots held room (spawns-own known keep has shape) (in_hand_alike mid.world.slots later.world.slots held alike granted)
+          in_hand_put n seen.outcome.commands later.world.slots deferred room (spawns-own known given keep has shape) (in_hand_alike mid.world.slots later.world.slots deferred alike hand)
 
     -- what isn't laid over the state
     pub close_stops : (seen : Seen) (answer : Result (Unit {0}) BodyFault) → seen.shown ≡ runner.shown → (answer ≡ Ok tt → IsAnswered s bodies n seen) → ((k : ℕ) → answer ≡ Err (Refusing k) → body_of bodies n seen.shown ≡ Err k) →
@@ -241,12 +220,13 @@ module _ (s : Schedule) (bodies : List BodyMeaning) (n : ℕ) (w : State) (defer
     close_stops seen (Err (Refusing k)) same answered refused met e = refusal-stops seen k same (refused k refl) ∙ ap (λ x. Some x) (sym e)
 
 -- what is deferred after a start is for the schedule still
-pub deferred_for_start : (s : Schedule) (n : ℕ) (ids : List Entity) (commands : List Command) (deferred : DeferredValue) → IsDeferredFor s deferred → IsDeferredFor s (with_commands n commands (with_grants n ids deferred))
-deferred_for_start s n ids commands deferred suits = record {
+pub deferred_for_start : (s : Schedule) (n : ℕ) (commands : List Command) (deferred : DeferredValue) → IsDeferredFor s deferred → IsDeferredFor s (with_commands n commands deferred)
+deferred_for_start s n commands deferred suits = record {
   command_count = length-set deferred.commands n commands ∙ suits.command_count;
-  grant_count = length-set deferred.grants n ids ∙ suits.grant_count;
+  grant_count = suits.grant_count;
   level_count = suits.level_count;
   levels_are = suits.levels_are;
+  spawners_are = suits.spawners_are;
 }
 
 -- ---- the other steps

@@ -1,18 +1,20 @@
 // A recorded run taken again on one thread, each system whole at its start.
 
-ghost use Rattle.std.specs.Prelude.{◌≡◌, ◌⊎◌, ◌<◌, ℕ, [], Result, length, map, reverse, slice_get, false, Some, Err, IfOk, IfErr, OnOk, IsTrue};
+ghost use Rattle.std.specs.Prelude.{◌≡◌, ◌⊎◌, ◌<◌, ℕ, [], suc, Result, length, map, reverse, slice_get, false, Some, Err, IfOk, IfErr, OnOk, IsTrue};
 ghost use Rattle.model.specs.state.Agreement.{AgreesWithAll};
 ghost use Rattle.model.specs.state.State.{State as Now};
 ghost use Rattle.model.specs.shown.Input.{shown};
 ghost use Rattle.model.specs.shown.Outcome.{untouched};
 ghost use Rattle.model.specs.steps.Lawful.{IsLawful, IsComplete};
-ghost use Rattle.model.specs.declared.steps.Step.TheVariants.{Start as Begin};
+ghost use Rattle.model.specs.declared.steps.Step.TheVariants.{Start as Begin, Sync};
+ghost use Rattle.model.specs.steps.Schedule.{level_of};
+ghost use Rattle.model.specs.state.Shape.{AreIdsFor};
 ghost use Rattle.kinds.specs.Components.{widths};
 ghost use Rattle.body.specs.Keeps.{CanBeShown};
 ghost use Rattle.body.specs.Out.{AreOut};
 ghost use Rattle.body.specs.Steps.{store_of};
 ghost use Rattle.engine.specs.declared.faults.RunFault.TheVariants.{Memory};
-ghost use Rattle.engine.specs.Deferred.{AreInHand, IsDeferredFor, IsNothingDeferred, commands_at, run_with};
+ghost use Rattle.engine.specs.Deferred.{AreInHand, IsDeferredFor, IsNothingDeferred, commands_at, grants_at, run_with};
 ghost use Rattle.engine.specs.Meanings.{meanings, AllKeepWithin, Suits};
 ghost use Rattle.engine.specs.Stops.{StopsBy, fault_of};
 ghost use Rattle.trace_checker.specs.declared.replay.ReplayFault.TheVariants.{Run};
@@ -119,7 +121,9 @@ fn take_steps<B: Body>(
     ensures out { OnOk result (AreOut (store_of run.new.state) []) }
     ensures meanings { meanings B.meaning built.now (map Some bodies.new) ≡ meanings B.meaning built.now (map Some bodies.old) }
 {
-    run.open()?;
+    built.prove_law();
+    run.state.prove_law();
+    run.open(built)?;
     let mut number = 0;
     for step in steps {
         number += 1;
@@ -128,7 +132,8 @@ fn take_steps<B: Body>(
     Ok(())
 }
 
-// Takes the step of this number. A system that starts has deferred nothing.
+// Takes the step of this number. A system that starts has deferred nothing and was granted what it can be given, and so have those of the level
+// above a sync point deferred nothing.
 fn take<B: Body>(
     built: &Built,
     bodies: &mut [B],
@@ -143,6 +148,8 @@ fn take<B: Body>(
     requires hand { AreInHand run.old.state.state.world.slots run.old.deferred }
     requires known { IsKnown built.now step }
     requires fresh { (n : ℕ) → step ≡ Begin n → commands_at run.old.deferred n ≡ [] }
+    requires given { (n : ℕ) → step ≡ Begin n → AreIdsFor built.now n (grants_at run.old.deferred n) }
+    requires waits { (k n : ℕ) → step ≡ Sync k → level_of built.now n ≡ suc k → commands_at run.old.deferred n ≡ [] }
     ensures taken { OnOk result (IsStepTaken built.now (meanings B.meaning built.now (map Some bodies.old)) (run_with run.old.state.state run.old.deferred) step (run_with run.new.state.state run.new.deferred)) }
     ensures stopped { IfErr result (IsStepFault built.now (meanings B.meaning built.now (map Some bodies.old)) (run_with run.old.state.state run.old.deferred) step number) }
     ensures suits { OnOk result (Suits B.fits built.now (map Some bodies.new) run.new.state.state) }
@@ -186,6 +193,7 @@ fn start<B: Body>(
     requires deferred { IsDeferredFor built.now run.old.deferred }
     requires hand { AreInHand run.old.state.state.world.slots run.old.deferred }
     requires fresh { commands_at run.old.deferred system ≡ [] }
+    requires given { AreIdsFor built.now system (grants_at run.old.deferred system) }
     ensures taken { OnOk result (IsStepTaken built.now (meanings B.meaning built.now (map Some bodies.old)) (run_with run.old.state.state run.old.deferred) (Begin system) (run_with run.new.state.state run.new.deferred)) }
     ensures stopped { IfErr result (StopsBy false (λ met. serial_cause_of built.now (meanings B.meaning built.now (map Some bodies.old)) (Begin system) (run_with run.old.state.state run.old.deferred) ≡ Some met)) }
     ensures suits { OnOk result (Suits B.fits built.now (map Some bodies.new) run.new.state.state) }

@@ -8,6 +8,8 @@ use body::Body;
 pub enum HandFault<B: Body> {
     /// An allocation failed, or no worker has room for it: the job comes back.
     Memory(Start<B>),
-    /// No thread can be started: the job is lost with it.
-    NoWorker,
+    /// No thread can be started in which a worker would stand: the job comes back.
+    NoWorker(Start<B>),
+    /// No thread can be started for this job alone: the job is lost with it.
+    Lost,
 }

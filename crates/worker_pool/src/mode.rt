@@ -1,6 +1,6 @@
 // How the systems of a run are executed: on how many threads, and what these threads ask of who waits for them.
 
-ghost use Rattle.std.specs.Prelude.{◌≡◌, ℕ, ◌<◌, Bool, true, is_some, IfSome, IsSome, IsTrue};
+ghost use Rattle.std.specs.Prelude.{◌≡◌, ℕ, ◌<◌, Bool, true, is_some, IfSome, IsSome, IsTrue, MatchBool};
 
 use crossbeam_channel::{Receiver, Sender};
 use job_board::Bell;
@@ -61,7 +61,7 @@ pub trait Line: Copy + Send {
 }
 
 /// How the systems of a run are executed.
-pub trait Mode<'s>: Hosts<'s> + Joins {
+pub trait Mode<'s>: Hosts<'s> + Joins + Drop {
     /// How its workers tell that they are done.
     type Line: Line + 's;
     /// What its workers pass.
@@ -69,17 +69,30 @@ pub trait Mode<'s>: Hosts<'s> + Joins {
 
     ghost width: { Self → ℕ };
 
+    ghost stands: { Self → Bool };
+
     /// How many systems may run at once, at least one.
     fn width(&self) -> usize
         ensures width { result ≡ width self.now }
         ensures some { 0 < result };
 
     /// How many workers may stand until the end of a call, 0 where each start has a thread of its own, or none.
-    fn standing(&self) -> usize;
+    fn standing(&self) -> usize
+        ensures { MatchBool (stands self.now) (0 < result) (result ≡ 0) };
 
     /// The line of its workers.
     fn line(&self) -> Self::Line;
 
     /// The gate of its workers.
     fn gate(&self) -> &'s Self::Gate;
+
+    /// The same mode, but with workers that stand wherever it has threads: a job that none of them can take comes back.
+    fn keeping(&self) -> Self
+        ensures stands { stands result ≡ Self.has_scope result }
+        ensures scope { Self.has_scope result ≡ Self.has_scope self.now }
+        ensures width { width result ≡ width self.now };
+
+    /// Proves that threads can be waited for where they are started.
+    fn prove_waits(&self)
+        ensures { IsTrue (Self.has_scope self.now) → IsTrue (Self.joins self.now) };
 }

@@ -1,6 +1,6 @@
 // The jobs that are out, and how they are handed out and come back.
 
-ghost use Rattle.std.specs.Prelude.{◌≡◌, ℕ, ◌+◌, ◌<◌, true, Err, [], ◌∷◌, ◌++◌, ◌⊎◌, length, slice_get, remove, IfOk, IfSome, IfNone, IsSome, IsTrue, IsSomeAnd, OnOk, OnErr};
+ghost use Rattle.std.specs.Prelude.{◌≡◌, ℕ, ◌+◌, ◌<◌, true, false, Err, [], ◌∷◌, ◌++◌, ◌⊎◌, length, slice_get, remove, IfOk, IfSome, IfNone, IsSome, IsTrue, IsSomeAnd, OnOk, OnErr};
 ghost use Rattle.worker_pool.specs.Ran.{Ran};
 
 use crate::fault::HandFault;
@@ -73,8 +73,8 @@ impl<B: Body> Pool<B> {
     }
 
     /// Hands a job out: to a worker that stands, or a thread of its own, where the mode has a scope, else it is kept to be run when it is brought
-    /// back. After an error nothing is handed out: where an allocation fails, or no worker has room for it, the job comes back, and it is lost where no
-    /// thread can be started.
+    /// back. After an error nothing is handed out, and the job comes back: where an allocation fails, no worker has room for it, or no thread can be
+    /// started in which one would stand. It is lost only where a thread of its own can't be started, so never in a mode in which workers stand.
     pub fn hand_out<'s, M: Mode<'s>>(
         &mut self,
         mode: &M,
@@ -84,10 +84,16 @@ impl<B: Body> Pool<B> {
         B: 's,
         ensures ok { OnOk result (self.new ≡ self.old ++ record { number = start.number; system = start.system; body = start.body; view = start.view.value; there = M.has_scope mode.now } ∷ []) }
         ensures err { OnErr result (self.new ≡ self.old) }
-        ensures only { OnErr result ((result ≡ Err (HandFault.Memory start)) ⊎ ((result ≡ Err HandFault.NoWorker) × (M.has_scope mode.now ≡ true))) }
+        ensures only { OnErr result ((result ≡ Err (HandFault.Memory start)) ⊎ (((result ≡ Err (HandFault.NoWorker start)) × (M.has_scope mode.now ≡ true)) ⊎ ((result ≡ Err HandFault.Lost) × (M.has_scope mode.now ≡ true) × (M.stands mode.now ≡ false)))) }
     {
         match &mut self.form {
-            Form::Threads(jobs) => jobs.give(mode.scope(), mode.line(), mode.gate(), start),
+            Form::Threads(jobs) => {
+                let scope = mode.scope();
+                if scope.is_some() && mode.standing() > 0 {
+                    return Err(HandFault::NoWorker(start));
+                }
+                jobs.give(scope, mode.line(), mode.gate(), start)
+            }
             Form::Stands(jobs) => match mode.scope() {
                 Some(scope) => jobs.give(scope, mode.line(), mode.gate(), start),
                 None => Err(HandFault::Memory(start)),

@@ -71,6 +71,8 @@ impl<'s> Mode<'s> for Single {
 
     ghost width = { λ _. 1 };
 
+    ghost stands = { λ _. false };
+
     fn width(&self) -> usize {
         1
     }
@@ -86,4 +88,10 @@ impl<'s> Mode<'s> for Single {
     fn gate(&self) -> &'s NoGate {
         &NO_GATE
     }
+
+    fn keeping(&self) -> Self {
+        *self
+    }
+
+    fn prove_waits(&self) {}
 }

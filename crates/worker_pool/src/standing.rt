@@ -59,8 +59,7 @@ impl<B: Body> Standing<B> {
         self.tickets.len()
     }
 
-    // Sees that a worker has room for a job: one more stands in the scope, where each that stands has a job. The job comes back, but where no thread can be
-    // started.
+    // Sees that a worker has room for a job: one more stands in the scope, where each that stands has a job. The job comes back, whatever the answer.
     fn find_room<'s, E: 's, N: Line + 's, G: Gate>(
         &mut self,
         scope: &Scope<'s, E>,
@@ -72,7 +71,7 @@ impl<B: Body> Standing<B> {
         B: 's,
         ensures ok { IfOk result (λ kept. kept ≡ start) }
         ensures same { self.new ≡ self.old }
-        ensures only { OnErr result ((result ≡ Err (HandFault.Memory start)) ⊎ (result ≡ Err HandFault.NoWorker)) }
+        ensures only { OnErr result ((result ≡ Err (HandFault.Memory start)) ⊎ (result ≡ Err (HandFault.NoWorker start))) }
     {
         if self.tickets.len() < self.workers.len() {
             return Ok(start);
@@ -84,7 +83,7 @@ impl<B: Body> Standing<B> {
             return Err(HandFault::Memory(start));
         };
         let Some(worker) = start_worker(scope, line, gate, hand) else {
-            return Err(HandFault::NoWorker);
+            return Err(HandFault::NoWorker(start));
         };
         self.workers.push_reserved(worker);
         Ok(start)
@@ -98,8 +97,8 @@ impl<B: Body> Standing<B> {
         post(&mut self.lead, &mut self.tickets, start)
     }
 
-    // Hands a job out to a worker: to one more, where each that stands has a job. It comes back where an allocation fails, or no worker has room for
-    // it, and is lost where no thread can be started.
+    // Hands a job out to a worker: to one more, where each that stands has a job. It comes back where an allocation fails, no worker has room for it,
+    // or no thread can be started.
     pub(crate) fn give<'s, E: 's, N: Line + 's, G: Gate>(
         &mut self,
         scope: &Scope<'s, E>,
@@ -111,7 +110,7 @@ impl<B: Body> Standing<B> {
         B: 's,
         ensures ok { OnOk result (self.new ≡ self.old ++ record { number = start.number; system = start.system; body = start.body; view = start.view.value; there = true } ∷ []) }
         ensures err { OnErr result (self.new ≡ self.old) }
-        ensures only { OnErr result ((result ≡ Err (HandFault.Memory start)) ⊎ (result ≡ Err HandFault.NoWorker)) }
+        ensures only { OnErr result ((result ≡ Err (HandFault.Memory start)) ⊎ (result ≡ Err (HandFault.NoWorker start))) }
     {
         let start = self.find_room(scope, line, gate, start)?;
         match self.hand_over(start) {

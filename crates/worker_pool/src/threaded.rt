@@ -144,7 +144,7 @@ impl<B: Body> Threaded<B> {
         B: 's,
         ensures ok { OnOk result (self.new ≡ self.old ++ record { number = start.number; system = start.system; body = start.body; view = start.view.value; there = is_some scope.entry } ∷ []) }
         ensures err { OnErr result (self.new ≡ self.old) }
-        ensures only { OnErr result ((result ≡ Err (HandFault.Memory start)) ⊎ ((result ≡ Err HandFault.NoWorker) × (is_some scope.entry ≡ true))) }
+        ensures only { OnErr result ((result ≡ Err (HandFault.Memory start)) ⊎ ((result ≡ Err HandFault.Lost) × (is_some scope.entry ≡ true))) }
     {
         let Ok(()) = self.out.reserve(1) else {
             return Err(HandFault::Memory(start));
@@ -166,7 +166,7 @@ impl<B: Body> Threaded<B> {
                 };
                 match scope.spawn_with(promise, job) {
                     Ok(child) => Work::There(child),
-                    Err(_refused) => return Err(HandFault::NoWorker),
+                    Err(_refused) => return Err(HandFault::Lost),
                 }
             }
         };

@@ -105,6 +105,8 @@ impl<'a, 's, E: 's, R: Threads + Wait + Copy + Send + 's, G: Gate + 's> Mode<'s>
 
     ghost width = { λ w. w.count };
 
+    ghost stands = { λ w. w.stand };
+
     fn width(&self) -> usize {
         self.count
     }
@@ -122,4 +124,16 @@ impl<'a, 's, E: 's, R: Threads + Wait + Copy + Send + 's, G: Gate + 's> Mode<'s>
     fn gate(&self) -> &'s G {
         self.gate
     }
+
+    fn keeping(&self) -> Self {
+        Workers {
+            count: self.count,
+            stand: true,
+            scope: self.scope,
+            runtime: self.runtime,
+            gate: self.gate,
+        }
+    }
+
+    fn prove_waits(&self) {}
 }

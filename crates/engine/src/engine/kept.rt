@@ -1,10 +1,10 @@
 // Runs that leave no trace of a fault: a copy of the state is taken first, and put back where they stop.
 
-ghost use Rattle.std.specs.Prelude.{◌≡◌, ◌↔◌, ◌⊎◌, false, Err, IfErr, IfOk, IsErrOf, IsTrue, OnErr};
+ghost use Rattle.std.specs.Prelude.{◌≡◌, ◌↔◌, false, Err, IfErr, IfOk, IsErrOf, IsTrue, OnErr};
 ghost use Rattle.engine.specs.Deferred.{IsDeferredFor};
 ghost use Rattle.engine.specs.Meanings.{meanings, AllKeepWithin, Suits};
 ghost use Rattle.engine.specs.RunsAs.{RunsAs};
-ghost use Rattle.engine.specs.Stops.{StopsAs, lacks_worker};
+ghost use Rattle.engine.specs.Stops.{StopsAs};
 
 use crate::deferred::Deferred;
 use crate::engine::{Engine, run_engine};
@@ -25,8 +25,8 @@ struct SpareParts {
 impl<B: Body> Engine<B> {
     /// Runs the schedule so many times, as `run` does where it answers `Ok`. A fault leaves no trace: the state is as it was at the call, the
     /// bodies are home and mean what they meant, and the engine isn't spoiled, so that runs may go on. A copy of the state is taken first:
-    /// `Memory` also where an allocation fails for it. After `NoWorker` alone the engine is spoiled, as a body may be lost with its
-    /// thread; the state is as it was then too. On an engine that is spoiled already the answer is `Spoiled`, and nothing changes.
+    /// `Memory` also where an allocation fails for it. Where the mode has threads the bodies run in workers that stand, also in a mode with a
+    /// thread for each start: so none is lost. On an engine that is spoiled already the answer is `Spoiled`, and nothing changes.
     pub fn run_kept<'s, M: Mode<'s>>(
         &mut self,
         alloc: Global,
@@ -39,19 +39,20 @@ impl<B: Body> Engine<B> {
         ensures stopped { IfErr result (StopsAs (M.has_scope mode.now) (M.width mode.now) self.old.schedule (meanings B.meaning self.old.schedule self.old.bodies) times self.old.state) }
         ensures kept { OnErr result (self.new.state ≡ self.old.state) }
         ensures spoiled { IsErrOf result RunFault.Spoiled ↔ IsTrue self.old.spoiled }
-        ensures spoils { IsTrue self.new.spoiled ↔ (IsTrue self.old.spoiled ⊎ IsErrOf result RunFault.NoWorker) }
+        ensures spoils { self.new.spoiled ≡ self.old.spoiled }
         ensures unchanged { result ≡ Err RunFault.Spoiled → self.new ≡ self.old }
         ensures schedule { self.new.schedule ≡ self.old.schedule }
-        ensures meanings { (result ≡ Err RunFault.NoWorker → ⊥) → meanings B.meaning self.old.schedule self.new.bodies ≡ meanings B.meaning self.old.schedule self.old.bodies }
+        ensures meanings { meanings B.meaning self.old.schedule self.new.bodies ≡ meanings B.meaning self.old.schedule self.old.bodies }
     {
         if self.is_spoiled() {
             return Err(RunFault::Spoiled);
         }
         let spare = self.spare_parts(alloc)?;
-        match run_engine(self, alloc, times, mode) {
+        let keeping = mode.keeping();
+        match run_engine(self, alloc, times, &keeping) {
             Ok(traces) => Ok(traces),
             Err(fault) => {
-                self.put_back(spare, lacks_worker(fault));
+                self.put_back(spare);
                 Err(fault)
             }
         }
@@ -76,23 +77,16 @@ impl<B: Body> Engine<B> {
         Ok(SpareParts { state, deferred })
     }
 
-    // Puts the engine back. It is spoiled where its bodies aren't known to be there.
-    fn put_back(&mut self, spare: SpareParts, spoiled: bool)
-        requires suits { spoiled ≡ false → Suits B.fits self.old.schedule self.old.bodies spare.state }
-        requires keep { spoiled ≡ false → AllKeepWithin self.old.schedule (meanings B.meaning self.old.schedule self.old.bodies) }
+    // Puts the engine back, whose bodies are there.
+    fn put_back(&mut self, spare: SpareParts)
+        requires suits { Suits B.fits self.old.schedule self.old.bodies spare.state }
+        requires keep { AllKeepWithin self.old.schedule (meanings B.meaning self.old.schedule self.old.bodies) }
         requires deferred { IsDeferredFor self.old.schedule spare.deferred }
-        ensures { self.new ≡ record { schedule = self.old.schedule; bodies = self.old.bodies; state = spare.state; spoiled = spoiled } }
+        ensures { self.new ≡ record { schedule = self.old.schedule; bodies = self.old.bodies; state = spare.state; spoiled = false } }
     {
         let SpareParts { state, deferred } = spare;
         self.state = state;
         self.deferred = deferred;
-        self.spoiled = spoiled;
+        self.spoiled = false;
     }
-}
-
-// Whether a fault tells of a worker that was wanting.
-fn lacks_worker(fault: RunFault) -> bool
-    ensures { result ≡ lacks_worker fault }
-{
-    matches!(fault, RunFault::NoWorker)
 }

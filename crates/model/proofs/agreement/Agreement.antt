@@ -23,7 +23,7 @@ use Rattle.model.proofs.serial.Conflicts.{unseen, unread_resource}
 use Rattle.model.proofs.serial.Writes.{kinds_of-slots_after, within_same}
 use Rattle.model.proofs.agreement.Swaps.{AreApart}
 use Rattle.model.proofs.agreement.Visits.{Effect, Fits, visit, come, values_of, without_stamps-visit, visit-swap}
-use Rattle.model.proofs.agreement.Stamps.{IsKnown, is_own, own-same, IsTimed, test_after, passes_after, passes-visit, newer-visit, never-visit, timed-visit}
+use Rattle.model.proofs.agreement.Stamps.{IsKnown, is_own, own-same, IsTimed, in_time-later, test_after, passes_after, passes-visit, newer-visit, never-visit, timed-visit}
 use Rattle.model.proofs.shape.RunStates.{length-resources_after}
 
 -- ---- what states that are equal but for stamps have in common
@@ -269,31 +269,14 @@ agrees-swap s a b e f w ka kb timed h g fit other = record {
 
 -- ---- the clock
 
--- a state at the next tick
-abbrev pub ticked : State → State
-ticked w = record w { world = record w.world { clock = suc w.world.clock } }
-
--- states that agree do so a tick later
-pub agrees-ticked : (s : Schedule) (v w : State) → Agrees s v w → Agrees s (ticked v) (ticked w)
-agrees-ticked s v w h = record { same = ap ticked h.same; never = h.never; terms = h.terms; newer = h.newer }
-
--- and at the opening of a run
+-- states that agree do so at the opening of a run
 pub agrees-opening : (s : Schedule) (v w : State) → Agrees s v w → Agrees s (opening v) (opening w)
 agrees-opening s v w h = record { same = ap opening h.same; never = h.never; terms = h.terms; newer = h.newer }
 
--- a later clock keeps the time
-pub timed-ticked : (s : Schedule) (w : State) → IsTimed s w → IsTimed s (ticked w)
-timed-ticked s w timed = record {
-  cells = λ e k c h. let p = timed.cells e k c h in (omega arith, omega arith);
-  resources = λ n. let p = timed.resources n in omega arith;
-  runs = λ a. let p = timed.runs a in omega arith;
-  systems = timed.systems;
-  conditions = timed.conditions;
-}
-
+-- the opening of a run keeps the time
 pub timed-opening : (s : Schedule) (w : State) → IsTimed s w → IsTimed s (opening w)
 timed-opening s w timed = record {
-  cells = λ e k c h. let p = timed.cells e k c h in (omega arith, omega arith);
+  cells = in_time-later w.world.clock (suc w.world.clock) w.world.slots (omega arith) timed.cells;
   resources = λ n. let p = timed.resources n in omega arith;
   runs = λ a. let p = timed.runs a in omega arith;
   systems = timed.systems;

@@ -5,6 +5,7 @@ use Rattle.std.specs.List.{list_all}
 use Rattle.std.proofs.lemmas.Bool.{or_left, or_right, and_parts, and_left}
 use Rattle.model.specs.Lists.{IsIn, head_or}
 use Rattle.model.specs.state.State.{Slot, Component, Cell, Resource, EventQueue, Memory, State, fresh_slot, no_resource, no_memory, is_living}
+use Rattle.model.specs.state.State as states
 use Rattle.model.specs.state.Rows.{row_at, cell_at, kinds_of}
 use Rattle.model.specs.state.Events.{queue_of, unread}
 use Rattle.model.specs.access.Query.{Term, matches}
@@ -107,18 +108,18 @@ pub record LooksSame (s : Schedule) (a : Observer) (v w : State) : Type 0 where
   pub cursors : (memory_of v a).cursors ≡ (memory_of w a).cursors
   pub registers : (memory_of v a).registers ≡ (memory_of w a).registers
 
--- what a system is shown, without ids
-abbrev pub shown_at : Schedule → ℕ → State → Shown
-shown_at s n w = shown (params_of s n) (memory_of_system w n) w []
+-- what a system is shown, with these ids
+abbrev pub shown_at : Schedule → ℕ → List states.Entity → State → Shown
+shown_at s n ids w = shown (params_of s n) (memory_of_system w n) w ids
 
 -- what a condition is asked about
 abbrev pub asked_at : Schedule → ℕ → State → Asked
 asked_at s c w = asked (condition_of s c) (memory_of_condition w c).last_run (memory_of_condition w c).cursors w
 
 -- states that look the same to a system show it the same
-pub shown-same : (s : Schedule) (n : ℕ) (v w : State) → LooksSame s (OfSystem n) v w → shown_at s n v ≡ shown_at s n w
+pub shown-same : (s : Schedule) (n : ℕ) (ids : List states.Entity) (v w : State) → LooksSame s (OfSystem n) v w → shown_at s n ids v ≡ shown_at s n ids w
 unfolding shown
-shown-same s n v w h = λ i. record {
+shown-same s n ids v w h = λ i. record {
   rows = map-same (λ query. rows_of query (last_run_of v (OfSystem n)) v.world.slots) (λ query. rows_of query (last_run_of w (OfSystem n)) w.world.slots)
       (params_of s n).queries h.rows i;
   res = map-same (value_of v.world.resources) (value_of w.world.resources) (params_of s n).res
@@ -128,7 +129,7 @@ shown-same s n v w h = λ i. record {
   unread = (unread_of-same v.events w.events (params_of s n).reads (memory_of_system v n).cursors h.queues
       ∙ ap (unread_of w.events (params_of s n).reads) h.cursors) i;
   registers = h.registers i;
-  granted = [];
+  granted = ids;
 }
 
 -- what a condition is asked about, part by part

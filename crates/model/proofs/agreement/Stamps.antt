@@ -1,19 +1,21 @@
 -- What an observer's comparisons of stamps give after a visit. No stamp is above the clock, so what a visitor sees after its
 -- own visit is old, and what another visitor writes is new.
 use Rattle.std.proofs.Common.{ℕ, zero, suc, ◌<◌, ◌≤◌, ℤ, Bool, true, false, not, ◌&&◌, ◌||◌, cond, ◌==◌, nat_lt, ◌≡◌, ◌⊎◌, inl, inr, List, [], ◌∷◌, length, get_or, Option, Some, None, is_some, refl, sym, ap, ap₂, ◌∙◌, subst, arith, lt-ltb, le-ltb}
+use Rattle.std.specs.List.{AllByRecursion}
 use Rattle.std.proofs.lemmas.Bool.{eqb-true, both_ways, ne_eqb, eq-eqb, cases_lt}
 use Rattle.std.proofs.lemmas.List.{get_or_past}
 use Rattle.model.specs.Lists.{update_at}
-use Rattle.model.specs.state.State.{Slot, Cell, Resource, Memory, State, no_memory, no_resource, fresh_slot}
+use Rattle.model.specs.state.State.{Slot, Component, Cell, Resource, Memory, State, no_memory, no_resource, fresh_slot}
 use Rattle.model.specs.state.Rows.{row_at, cell_at, kinds_of}
 use Rattle.model.specs.access.Query.{Term}
 use Rattle.model.specs.access.Query.Term.{Entity, Read, Mut, Opt, With, Without, Added, Changed, AnyOf}
 use Rattle.model.specs.shown.Input.{passes, added_since, changed_since}
-use Rattle.model.specs.shown.Overlay.{slot_after, slots_after, resource_after, resources_after}
+use Rattle.model.specs.shown.Overlay.{cell_after, component_after, slot_after, slots_after, resource_after, resources_after}
 use Rattle.model.specs.steps.Schedule.{Schedule}
 use Rattle.model.specs.state.Agreement.{Observer, last_run_of, changed_of}
 use Rattle.model.specs.state.Agreement.Observer.{OfSystem, OfCondition}
 use Rattle.model.proofs.lists.Lists.{get_or-update_at_other, get_or-map_index, length-update_at}
+use Rattle.model.proofs.lists.Each.{each-weaker, each-map, each-map_index, each-get_or}
 use Rattle.model.proofs.serial.Writes.{lookup_after, cell_at-row_after}
 use Rattle.model.proofs.shape.RunStates.{length-resources_after}
 use Rattle.model.proofs.agreement.Visits.{Effect, visit, come, systems_after, conditions_after, values_of}
@@ -46,13 +48,49 @@ own-differ (OfSystem m) (OfCondition n) d = refl
 own-differ (OfCondition c) (OfSystem n) d = refl
 own-differ (OfCondition c) (OfCondition n) d = ne_eqb c n (λ e. d (ap OfCondition e))
 
+-- no stamp of a component is above a tick
+pub record IsInTime (t : ℕ) (c : Component) : Type 0 where
+  pub added : c.cell.added ≤ t
+  pub changed : c.cell.changed ≤ t
+
+-- none of a row
+abbrev pub IsRowInTime : ℕ → List Component → Type 0
+IsRowInTime t row = AllByRecursion (IsInTime t) row
+
+-- none of slots
+abbrev pub AreInTime : ℕ → List Slot → Type 0
+AreInTime t slots = AllByRecursion (λ (slot : Slot). IsRowInTime t slot.row) slots
+
 -- a state in which no stamp and no last run is above the clock, with a memory for each system and condition
 pub record IsTimed (s : Schedule) (w : State) : Type 0 where
-  pub cells : (e kind : ℕ) (c : Cell) → cell_at (row_at w.world.slots e) kind ≡ Some c → (c.added ≤ w.world.clock) × (c.changed ≤ w.world.clock)
+  pub cells : AreInTime w.world.clock w.world.slots
   pub resources : (n : ℕ) → changed_of w n ≤ w.world.clock
   pub runs : (a : Observer) → last_run_of w a ≤ w.world.clock
   pub systems : length w.systems ≡ length s.systems
   pub conditions : length w.conditions ≡ length s.conditions
+
+-- ---- no stamp above a tick
+
+-- at a later tick too
+pub in_time-later : (t u : ℕ) (slots : List Slot) → t ≤ u → AreInTime t slots → AreInTime u slots
+in_time-later t u slots later h =
+    each-weaker (λ (slot : Slot). IsRowInTime t slot.row) (λ (slot : Slot). IsRowInTime u slot.row)
+    (λ slot k. each-weaker (IsInTime t) (IsInTime u) (λ c i. let a = i.added in let b = i.changed in record { added = omega arith; changed = omega arith }) slot.row k)
+    slots h
+
+-- the cell of a kind in a row
+cell-in_row : (t : ℕ) (row : List Component) (kind : ℕ) (cell : Cell) → IsRowInTime t row → cell_at row kind ≡ Some cell → (cell.added ≤ t) × (cell.changed ≤ t)
+cell-in_row t [] kind cell h e = absurd (cc)
+cell-in_row t (c ∷ cs) kind cell h e = go (c.kind == kind) e (cell-in_row t cs kind cell h.1)
+  where
+    go : (b : Bool) → cond b (Some c.cell) (cell_at cs kind) ≡ Some cell → (cell_at cs kind ≡ Some cell → (cell.added ≤ t) × (cell.changed ≤ t)) → (cell.added ≤ t) × (cell.changed ≤ t)
+    go true p rest = subst (λ (x : Cell). (x.added ≤ t) × (x.changed ≤ t)) (let q : c.cell ≡ cell = cc in q) ((h.0).added, (h.0).changed)
+    go false p rest = rest p
+
+-- the cell of a kind of an index
+cell-in_time : (t : ℕ) (slots : List Slot) (index kind : ℕ) → AreInTime t slots → (c : Cell) → cell_at (row_at slots index) kind ≡ Some c → (c.added ≤ t) × (c.changed ≤ t)
+cell-in_time t slots index kind h c e =
+    cell-in_row t (row_at slots index) kind c (each-get_or (λ (slot : Slot). IsRowInTime t slot.row) slots index fresh_slot tt h) e
 
 -- ---- last runs
 
@@ -131,11 +169,11 @@ pub passes-visit : (s : Schedule) (a : Observer) (e : Effect) (w : State) (b : O
 passes-visit s a e w b index (Added k) known timed =
     ap₂ added_since (last_run-visit (suc w.world.clock) s a e w b known timed) (cell_at-slots_after (suc w.world.clock) e.words w.world.slots index k)
     ∙ added-after (is_own a b) (suc w.world.clock) (last_run_of w b) w.world.clock (e.words index k) (cell_at (row_at w.world.slots index) k)
-    (omega arith) (timed.runs b) (timed.cells index k)
+    (omega arith) (timed.runs b) (cell-in_time w.world.clock w.world.slots index k timed.cells)
 passes-visit s a e w b index (Changed k) known timed =
     ap₂ changed_since (last_run-visit (suc w.world.clock) s a e w b known timed) (cell_at-slots_after (suc w.world.clock) e.words w.world.slots index k)
     ∙ changed-after (is_own a b) (suc w.world.clock) (last_run_of w b) w.world.clock (e.words index k) (cell_at (row_at w.world.slots index) k)
-    (omega arith) (timed.runs b) (timed.cells index k)
+    (omega arith) (timed.runs b) (cell-in_time w.world.clock w.world.slots index k timed.cells)
 passes-visit s a e w b index Entity known timed = refl
 passes-visit s a e w b index (Read k) known timed = refl
 passes-visit s a e w b index (Mut k) known timed = refl
@@ -210,17 +248,20 @@ never-visit s a e w b known timed = ap (λ last. last == 0) (last_run-visit (suc
 
 -- ---- a visit keeps the time
 
--- a cell after a write has no stamp above the tick
-cell-timed : (t clock : ℕ) (v : Option (List ℤ)) (o : Option Cell) → clock ≤ t
-    → ((c : Cell) → o ≡ Some c → (c.added ≤ clock) × (c.changed ≤ clock))
-    → (c : Cell) → lookup_after t v o ≡ Some c → (c.added ≤ t) × (c.changed ≤ t)
-cell-timed t clock v None later old c e = absurd (cc)
-cell-timed t clock None (Some d) later old c e =
-    subst (λ (x : Cell). (x.added ≤ t) × (x.changed ≤ t)) (let f : d ≡ c = cc in f) (let h = old d refl in (omega arith, omega arith))
-cell-timed t clock (Some x) (Some d) later old c e =
-    subst (λ (y : Cell). (y.added ≤ t) × (y.changed ≤ t))
-    (let z : Cell = record { words = x; added = d.added; changed = t } in let f : z ≡ c = cc in f)
-    (let h = old d refl in (omega arith, omega arith))
+-- a component after a write has no stamp above the tick
+component-timed : (t clock : ℕ) (f : ℕ → Option (List ℤ)) (c : Component) → clock ≤ t → IsInTime clock c → IsInTime t (component_after t f c)
+component-timed t clock f c later h = go (f c.kind) h.added h.changed
+  where
+    go : (v : Option (List ℤ)) → c.cell.added ≤ clock → c.cell.changed ≤ clock → IsInTime t (record { kind = c.kind; cell = cell_after t v c.cell })
+    go None a b = record { added = omega arith; changed = omega arith }
+    go (Some words) a b = record { added = omega arith; changed = omega arith }
+
+-- so have slots
+slots-timed : (t clock : ℕ) (f : ℕ → ℕ → Option (List ℤ)) (slots : List Slot) → clock ≤ t → AreInTime clock slots → AreInTime t (slots_after t f slots)
+unfolding slots_after
+slots-timed t clock f slots later h =
+    each-map_index (λ (slot : Slot). IsRowInTime clock slot.row) (λ (slot : Slot). IsRowInTime t slot.row) (λ index. slot_after t (f index))
+    (λ index slot k. each-map (IsInTime clock) (IsInTime t) (component_after t (f index)) (λ c i. component-timed t clock (f index) c later i) slot.row k) slots h
 
 -- so has a resource
 resource-timed : (t clock : ℕ) (v : Option ℤ) (r : Resource) → clock ≤ t → r.changed ≤ clock → (resource_after t v r).changed ≤ t
@@ -244,8 +285,7 @@ length-conditions_after t s (OfCondition c) w = length-update_at c _ w.condition
 -- a visit keeps the time
 pub timed-visit : (s : Schedule) (a : Observer) (e : Effect) (w : State) → IsKnown s a → IsTimed s w → IsTimed s (come s a e w)
 timed-visit s a e w known timed = record {
-  cells = λ index kind c h. cell-timed (suc w.world.clock) w.world.clock (e.words index kind) (cell_at (row_at w.world.slots index) kind)
-      (omega arith) (timed.cells index kind) c (sym (cell_at-slots_after (suc w.world.clock) e.words w.world.slots index kind) ∙ h);
+  cells = slots-timed (suc w.world.clock) w.world.clock e.words w.world.slots (omega arith) timed.cells;
   resources = λ n. go n (cases_lt n (length w.world.resources));
   runs = λ b. subst (λ k. k ≤ suc w.world.clock) (sym (last_run-visit (suc w.world.clock) s a e w b known timed))
       (cond-below (is_own a b) (suc w.world.clock) (last_run_of w b) (suc w.world.clock) (omega arith) (let h = timed.runs b in omega arith));

@@ -1,25 +1,19 @@
 -- In a state of the right shape no stamp and no last run is above the clock.
-use Rattle.std.proofs.Common.{ℕ, zero, suc, ◌≤◌, Bool, true, false, cond, ◌==◌, ◌≡◌, List, [], ◌∷◌, length, get_or, Some, refl, ap, subst, arith}
+use Rattle.std.proofs.Common.{ℕ, zero, suc, ◌≤◌, ◌≡◌, List, [], ◌∷◌, length, get_or, refl, ap, arith}
 use Rattle.std.specs.List.{AllByRecursion}
-use Rattle.model.specs.state.State.{Component, Cell, Slot, Resource, Memory, State, fresh_slot, no_resource, no_memory}
-use Rattle.model.specs.state.Rows.{row_at, cell_at}
+use Rattle.model.specs.state.State.{Slot, Resource, Memory, State, no_resource, no_memory}
 use Rattle.model.specs.steps.Schedule.{Schedule, ScheduledSystem, ScheduledCondition}
 use Rattle.model.specs.state.Shape.{IsComponent, IsSlot, AreMemoriesOfSystems, AreMemoriesOfConditions, IsStateOf}
 use Rattle.model.specs.state.Agreement.{Observer, last_run_of}
 use Rattle.model.specs.state.Agreement.Observer.{OfSystem, OfCondition}
 use Rattle.model.proofs.lists.Each.{each-weaker, each-get_or}
-use Rattle.model.proofs.agreement.Stamps.{IsTimed}
+use Rattle.model.proofs.agreement.Stamps.{IsInTime, IsRowInTime, AreInTime, IsTimed}
 
--- the cell of a kind in a row has no stamp above the clock
-cell-from_shape : (widths : ℕ → ℕ) (clock : ℕ) (row : List Component) (kind : ℕ) (cell : Cell) → AllByRecursion (IsComponent widths clock) row → cell_at row kind ≡ Some cell
-    → (cell.added ≤ clock) × (cell.changed ≤ clock)
-cell-from_shape widths clock [] kind cell h e = absurd (cc)
-cell-from_shape widths clock (c ∷ cs) kind cell h e = go (c.kind == kind) e (cell-from_shape widths clock cs kind cell h.1)
-  where
-    go : (b : Bool) → cond b (Some c.cell) (cell_at cs kind) ≡ Some cell → (cell_at cs kind ≡ Some cell → (cell.added ≤ clock) × (cell.changed ≤ clock))
-        → (cell.added ≤ clock) × (cell.changed ≤ clock)
-    go true p rest = subst (λ (x : Cell). (x.added ≤ clock) × (x.changed ≤ clock)) (let q : c.cell ≡ cell = cc in q) ((h.0).added, (h.0).changed)
-    go false p rest = rest p
+-- the slots of a state of the right shape have no stamp above the clock
+cells-from_shape : (widths : ℕ → ℕ) (clock : ℕ) (slots : List Slot) → AllByRecursion (IsSlot widths clock) slots → AreInTime clock slots
+cells-from_shape widths clock slots h =
+    each-weaker (IsSlot widths clock) (λ (slot : Slot). IsRowInTime clock slot.row)
+    (λ slot k. each-weaker (IsComponent widths clock) (IsInTime clock) (λ c i. record { added = i.added; changed = i.changed }) slot.row k.components) slots h
 
 -- a memory's last run isn't above the clock
 system-from_shape : (clock : ℕ) (xs : List ScheduledSystem) (ms : List Memory) (n : ℕ) → AreMemoriesOfSystems clock xs ms → (get_or ms n no_memory).last_run ≤ clock
@@ -52,9 +46,7 @@ conditions-length clock (x ∷ xs) (m ∷ ms) h = ap suc (conditions-length cloc
 -- the time of a state of the right shape
 pub timed_from_shape : (widths : ℕ → ℕ) (s : Schedule) (w : State) → IsStateOf widths s w → IsTimed s w
 timed_from_shape widths s w h = record {
-  cells = λ e kind c found. cell-from_shape widths w.world.clock (row_at w.world.slots e) kind c
-      (each-get_or (λ (slot : Slot). AllByRecursion (IsComponent widths w.world.clock) slot.row) w.world.slots e fresh_slot tt
-      (each-weaker (IsSlot widths w.world.clock) _ (λ slot k. k.components) w.world.slots h.world.slots)) found;
+  cells = cells-from_shape widths w.world.clock w.world.slots h.world.slots;
   resources = λ n. each-get_or (λ (r : Resource). r.changed ≤ w.world.clock) w.world.resources n no_resource (omega arith) h.world.resources;
   runs = runs;
   systems = systems-length w.world.clock s.systems w.systems h.systems;

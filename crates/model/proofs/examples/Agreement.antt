@@ -1,25 +1,26 @@
 -- Two systems that share nothing, run in two orders: the schedule is built and settled, the bodies keep within their parameters, both
 -- lists are runs from a state of the right shape, their ends differ in stamps, and they agree.
-use Rattle.std.proofs.Common.{option_map, ◌≡◌, ◌≢◌, ℕ, zero, suc, ◌<◌, ℤ, pos, true, false, List, [], ◌∷◌, ◌++◌, length, get_or, Some, None, Ok, Result, inl, inr, refl, sym, subst, arith, true≢false}
+use Rattle.std.specs.Option.{is_some}
+use Rattle.std.proofs.Common.{option_map, ◌≡◌, ◌≢◌, ℕ, zero, suc, ◌<◌, ℤ, pos, true, false, List, [], ◌∷◌, ◌++◌, length, get_or, Some, Ok, Result, inl, inr, refl, sym, subst, arith, true≢false}
 use Rattle.model.specs.declared.steps.Step.{Step}
 use Rattle.model.specs.declared.steps.Step.TheVariants.{Start, Finish, Sync}
 use Rattle.model.specs.Lists.{has}
-use Rattle.model.specs.state.State.{State, Resource, Memory, no_memory}
-use Rattle.model.specs.runs.RunState.{body_of, memory_of_system, spawns_of}
-use Rattle.model.specs.state.Ids.{granted_ids}
+use Rattle.model.specs.state.State.{Entity as Id, State, Resource, Memory, no_memory}
+use Rattle.model.specs.runs.RunState.{body_of, memory_of_system}
 use Rattle.model.specs.access.Access.{Params, no_params}
-use Rattle.model.specs.access.Conflict.{Conflict}
+use Rattle.model.specs.access.Conflict.{Conflict, conflicts}
 use Rattle.model.specs.shown.Input.{Shown, shown}
 use Rattle.model.specs.shown.Outcome.{Outcome, BodyMeaning, IsWithin, untouched}
 use Rattle.model.specs.steps.Schedule.{Schedule, ScheduledSystem, params_of, has_edge, level_of}
 use Rattle.model.specs.steps.Built.{IsBuilt}
-use Rattle.model.specs.steps.Ambiguity.{Settled}
+use Rattle.model.specs.steps.Ambiguity.{HasNoFilter, AmbiguousSystems, Settled}
 use Rattle.model.specs.state.Shape.{IsStateOf, IsRunStateOf, BodiesKeepWithin, AreMemoriesOfSystems}
 use Rattle.model.specs.runs.Meaning.{Interleaved, interleaved}
 use Rattle.model.specs.state.Agreement.{IsRun, Agrees, after_runs}
 use Rattle.model.specs.state.Loaded.{loaded}
 use Rattle.model.proofs.order.Histories.{same_or}
 use Rattle.model.proofs.faults.Judging.{lists_are_computed}
+use Rattle.model.proofs.agreement.Agreement.{agrees_refl}
 use Rattle.model.proofs.agreement.SerialRuns.{runs_agree}
 use Rattle.model.proofs.shape.Runs.{interleaved-keeps}
 use Rattle.model.proofs.shape.Loaded.{loaded-shape}
@@ -32,8 +33,12 @@ first = record no_params { res_mut = round ∷ [] }
 abbrev second : Params
 second = record no_params { res_mut = total ∷ [] }
 
+-- two systems without an order
+abbrev pub of_two : Params → Params → Schedule
+of_two a b = plain (system a ∷ system b ∷ []) (0 ∷ 1 ∷ [])
+
 abbrev apart : Schedule
-apart = plain (system first ∷ system second ∷ []) (0 ∷ 1 ∷ [])
+apart = of_two first second
 
 abbrev setters : List BodyMeaning
 setters = sets (pos 1) first ∷ sets (pos 2) second ∷ []
@@ -45,7 +50,7 @@ abbrev widths : ℕ → ℕ
 widths kind = 0
 
 -- a property of 0 and 1 is one of each number below two
-each_below_two : (P : ℕ → Type 0) → P 0 → P 1 → (n : ℕ) → n < 2 → P n
+pub each_below_two : (P : ℕ → Type 0) → P 0 → P 1 → (n : ℕ) → n < 2 → P n
 each_below_two P zero_case one_case zero l = zero_case
 each_below_two P zero_case one_case (suc zero) l = one_case
 each_below_two P zero_case one_case (suc (suc n)) l = absurd (omega arith)
@@ -73,38 +78,40 @@ in_order n e = elim (same_or 0 n (has n (1 ∷ [])) e) [
 ]
 
 -- no system has a predecessor
-no_edge : (m n : ℕ) → has_edge apart m n ≡ true → ⊥
-no_edge m zero e = true≢false (sym e)
-no_edge m (suc zero) e = true≢false (sym e)
-no_edge m (suc (suc n)) e = true≢false (sym e)
+no_edge : (a b : Params) (m n : ℕ) → has_edge (of_two a b) m n ≡ true → ⊥
+no_edge a b m zero e = true≢false (sym e)
+no_edge a b m (suc zero) e = true≢false (sym e)
+no_edge a b m (suc (suc n)) e = true≢false (sym e)
 
-apart_built : IsBuilt apart
-apart_built = record {
+-- two systems without an order are a built schedule
+pub two_built : (a b : Params) → IsBuilt (of_two a b)
+two_built a b = record {
   few_systems = omega arith;
   few_conditions = omega arith;
   few_syncs = omega arith;
-  sources = λ m n e. absurd (no_edge m n e);
-  rising = λ m n e. absurd (no_edge m n e);
-  levels = each_below_two (λ n. level_of apart n < 1) (omega arith) (omega arith);
+  sources = λ m n e. absurd (no_edge a b m n e);
+  rising = λ m n e. absurd (no_edge a b m n e);
+  levels = each_below_two (λ n. level_of (of_two a b) n < 1) (omega arith) (omega arith);
   listed = each_below_two (λ n. has n (0 ∷ 1 ∷ []) ≡ true) refl refl;
   known = in_order;
   once = none_twice;
-  after = λ front rest n e m edge. absurd (no_edge m n edge);
+  after = λ front rest n e m edge. absurd (no_edge a b m n edge);
   covered = λ c n e. absurd (true≢false (sym e));
   reading = λ c query among kind. absurd among;
 }
 
-pairs_apart : (m n : ℕ) → m < 2 → n < 2 → m ≢ n → Conflict (params_of apart m) (params_of apart n) → ⊥
-pairs_apart m n l k = each_below_two (λ i. i ≢ n → Conflict (params_of apart i) (params_of apart n) → ⊥)
-    (each_below_two (λ j. 0 ≢ j → Conflict first (params_of apart j) → ⊥) (λ differ conflict. differ refl) (λ differ. no_conflict first second refl) n k)
-    (each_below_two (λ j. 1 ≢ j → Conflict second (params_of apart j) → ⊥) (λ differ. no_conflict second first refl) (λ differ conflict. differ refl) n k)
-    m l
+-- two systems that the computed test keeps apart are no pair
+pub none_ambiguous : (a b : Params) (m n : ℕ) → conflicts a b ≡ false → conflicts b a ≡ false → AmbiguousSystems (of_two a b) m n → ⊥
+none_ambiguous a b m n one other pair = each_below_two (λ i. i ≢ n → Conflict (params_of (of_two a b) i) (params_of (of_two a b) n) → ⊥)
+    (each_below_two (λ j. 0 ≢ j → Conflict a (params_of (of_two a b) j) → ⊥) (λ differ conflict. differ refl) (λ differ. no_conflict a b one) n pair.second_known)
+    (each_below_two (λ j. 1 ≢ j → Conflict b (params_of (of_two a b) j) → ⊥) (λ differ. no_conflict b a other) (λ differ conflict. differ refl) n pair.second_known)
+    m pair.first_known pair.differ pair.conflict
 
 apart_settled : Settled apart
 apart_settled = record {
-  systems = λ m n pair. pairs_apart m n pair.first_known pair.second_known pair.differ pair.conflict;
+  systems = λ m n. none_ambiguous first second m n refl refl;
   conditions = λ c n pair. absurd (omega (arith, pair.condition_known));
-  no_commands = each_below_two (λ n. (params_of apart n).spawns ≡ None) refl refl;
+  unfiltered = each_below_two (λ n. is_some (params_of apart n).spawns ≡ true → HasNoFilter apart) (λ e. absurd (true≢false (sym e))) (λ e. absurd (true≢false (sym e)));
 }
 
 -- the outcome of a setter keeps within its parameters
@@ -124,28 +131,28 @@ start_shape : IsStateOf widths apart start
 start_shape = loaded-shape widths apart [] zeros tt (omega arith) refl
 
 -- the memory of each of two systems has eight registers
-registers_of : (clock : ℕ) (x y : ScheduledSystem) (ms : List Memory) → AreMemoriesOfSystems clock (x ∷ y ∷ []) ms →
+pub registers_of : (clock : ℕ) (x y : ScheduledSystem) (ms : List Memory) → AreMemoriesOfSystems clock (x ∷ y ∷ []) ms →
     (length (get_or ms 0 no_memory).registers ≡ 8) × (length (get_or ms 1 no_memory).registers ≡ 8)
 registers_of clock x y [] h = absurd h
 registers_of clock x y (m ∷ []) h = absurd h.1
 registers_of clock x y (m ∷ n ∷ ms) h = (h.0.registers, h.1.0.registers)
 
 -- what a system is shown of a state
-abbrev seen_by : State → ℕ → Shown
-seen_by w n = shown (params_of apart n) (memory_of_system w n) w (granted_ids (spawns_of apart n) w.world.slots)
+abbrev pub seen_by : Schedule → State → List Id → ℕ → Shown
+seen_by s w ids n = shown (params_of s n) (memory_of_system w n) w ids
 
 -- what a body answers is what it computes
-same_outcome : (answer : Result Outcome ℕ) (o p : Outcome) → answer ≡ Ok o → answer ≡ Ok p → o ≡ p
+pub same_outcome : (answer : Result Outcome ℕ) (o p : Outcome) → answer ≡ Ok o → answer ≡ Ok p → o ≡ p
 same_outcome answer o p e f = cc
 
 setters_within : BodiesKeepWithin widths apart setters
 unfolding shown
-setters_within n w o l shape ids = each_below_two
-    (λ i. body_of setters i (seen_by w i) ≡ Ok o → IsWithin widths (params_of apart i) (seen_by w i) o)
-    (λ e. subst (IsWithin widths first (seen_by w 0)) (same_outcome _ _ o refl e)
-    (setter_within (pos 1) round (seen_by w 0) refl (registers_of w.world.clock (system first) (system second) w.systems shape.systems).0))
-    (λ e. subst (IsWithin widths second (seen_by w 1)) (same_outcome _ _ o refl e)
-    (setter_within (pos 2) total (seen_by w 1) refl (registers_of w.world.clock (system first) (system second) w.systems shape.systems).1))
+setters_within n w ids o l shape given = each_below_two
+    (λ i. body_of setters i (seen_by apart w ids i) ≡ Ok o → IsWithin widths (params_of apart i) (seen_by apart w ids i) o)
+    (λ e. subst (IsWithin widths first (seen_by apart w ids 0)) (same_outcome _ _ o refl e)
+    (setter_within (pos 1) round (seen_by apart w ids 0) refl (registers_of w.world.clock (system first) (system second) w.systems shape.systems).0))
+    (λ e. subst (IsWithin widths second (seen_by apart w ids 1)) (same_outcome _ _ o refl e)
+    (setter_within (pos 2) total (seen_by apart w ids 1) refl (registers_of w.world.clock (system first) (system second) w.systems shape.systems).1))
     n l
 
 -- ---- the two lists
@@ -196,14 +203,10 @@ other_end : after_runs apart setters start (history other_way ∷ []) ≡ Some (
 unfolding computed
 other_end = refl
 
--- a state agrees with itself
-start_agrees : Agrees apart start start
-start_agrees = record { same = refl; never = λ a. refl; terms = λ a query term e in_access in_query lives matches. refl; newer = λ c number e. refl }
-
 -- the two ends differ in stamps and agree
 ends_agree : Agrees apart (end_at 3 4) (end_at 4 3)
 ends_agree = runs_agree widths apart setters start start (history one_way ∷ []) (history other_way ∷ []) (end_at 3 4) (end_at 4 3)
-    apart_built apart_settled setters_within start_shape start_shape start_agrees refl
+    (two_built first second) apart_settled setters_within start_shape start_shape (agrees_refl apart start) refl
     (one_run, λ end e. tt) (other_run, λ end e. tt) one_end other_end
 
 -- the end of a run keeps the shape of a state: the law of shape at one run
@@ -211,7 +214,7 @@ abbrev woven_end : Type 0
 woven_end = (w : Interleaved) → interleaved apart setters start (history other_way) ≡ Some w → IsRunStateOf widths apart w.run
 
 end_has_shape : woven_end
-end_has_shape w e = interleaved-keeps widths apart setters start (history other_way) w setters_within start_shape other_run.lawful e
+end_has_shape w e = interleaved-keeps widths apart setters start (history other_way) w (two_built first second) setters_within start_shape other_run.lawful e
 
 -- the clock of the other end: an opening, two starts and a sync point after clock 1
 other_clock : option_map (λ (w : State). w.world.clock) (after_runs apart setters start (history other_way ∷ [])) ≡ Some 5

@@ -13,9 +13,9 @@ use Rattle.model.specs.runs.Meaning.{serial, interleaved}
 use Rattle.model.specs.state.Loaded.{Given}
 use Rattle.model.specs.shown.Input.{shown, rows_from}
 use Rattle.model.specs.shown.Overlay.{slots_after, resources_after, queues_after, has_event_numbers}
-use Rattle.model.specs.state.Ids.{with_room, has_ids, granted_ids, grant}
+use Rattle.model.specs.state.Ids.{with_room, has_ids, granted_ids, grant, has_ids_for_each, ids_of_each, grant_each}
 use Rattle.model.specs.state.Commands.{release}
-use Rattle.model.specs.runs.RunState.{can_start, has_ids_to_start, ids_of_start, started_system, after_start, can_finish, overlaid, asked_of, answer_of, after_condition, after_sync}
+use Rattle.model.specs.runs.RunState.{has_ids_for_level, after_grant, has_ids_to_open, can_open, after_opening, started_system, after_start, can_finish, overlaid, asked_of, answer_of, after_condition, after_commands, has_ids_to_sync, can_sync, after_sync}
 
 -- ---- numbers of kinds, resources, events
 
@@ -118,7 +118,7 @@ entities_of shown = map (λ (row : ShownRow). row.entity) (head_or [] shown.rows
 
 -- named on an `unfolding` line, it opens all that a run computes with
 unfoldable pub computed : Unit {0}
-unfolding shown rows_from slots_after resources_after queues_after has_event_numbers with_room has_ids granted_ids grant release can_start has_ids_to_start ids_of_start started_system after_start can_finish overlaid asked_of answer_of after_condition after_sync
+unfolding shown rows_from slots_after resources_after queues_after has_event_numbers with_room has_ids granted_ids grant has_ids_for_each ids_of_each grant_each release has_ids_for_level after_grant has_ids_to_open can_open after_opening started_system after_start can_finish overlaid asked_of answer_of after_condition after_commands has_ids_to_sync can_sync after_sync
 computed = tt
 
 -- the history of a list of steps

@@ -16,13 +16,13 @@ use Rattle.model.specs.state.Loaded.{loaded}
 use Rattle.model.proofs.examples.Bodies.{health, score, frozen, total, asks, system, system_after, plain, given, zeros, adds, issues, first_granted, entities_of, serially, woven, runs_from, computed}
 
 -- what an example compares: the slots and the count
-abbrev seen : State → List Slot × ℕ
+abbrev pub seen : State → List Slot × ℕ
 seen w = (w.world.slots, w.passed_over)
 
-abbrev living : ℕ → List Component → Slot
+abbrev pub living : ℕ → List Component → Slot
 living generation row = record { generation = generation; status = Living; row = row }
 
-abbrev vacant : ℕ → Slot
+abbrev pub vacant : ℕ → Slot
 vacant generation = record { generation = generation; status = Vacant; row = [] }
 
 abbrev pub granting : ℕ → Params
@@ -31,7 +31,7 @@ granting n = record no_params { spawns = Some n }
 abbrev alone : Params → Schedule
 alone params = plain (system params ∷ []) (0 ∷ [])
 
-abbrev one_run : List Step
+abbrev pub one_run : List Step
 one_run = Start 0 ∷ Finish 0 ∷ Sync 0 ∷ []
 
 -- ---- an insert on a granted id before its spawn is passed over

@@ -200,7 +200,7 @@ one_kept = record (loaded asking [] zeros) {
   conditions = record { last_run = 1; cursors = 0 ∷ 1 ∷ []; registers = zeros } ∷ [];
 }
 
-own_cursors : option_map (answer_of asking 0) (begin_run one_kept) ≡ Some true
+own_cursors : option_map (answer_of asking 0) (begin_run asking one_kept) ≡ Some true
 unfolding computed
 own_cursors = refl
 

@@ -1,13 +1,13 @@
 -- A settled schedule with a condition and an event, run twice in two orders: one system sends, a second one counts, and a third one counts where
 -- a condition hears what was sent. What the two runs leave in one order differs in stamps and last runs from what they leave in the
 -- other, and agrees with it.
+use Rattle.std.specs.Option.{is_some}
 use Rattle.std.proofs.Common.{option_map, ◌≡◌, ◌≢◌, ◌⊎◌, ℕ, zero, suc, ◌<◌, ℤ, pos, true, false, List, [], ◌∷◌, ◌++◌, length, get_or, Option, Some, None, Ok, Result, inl, inr, refl, sym, subst, arith, true≢false}
 use Rattle.model.specs.declared.steps.Step.{Step}
 use Rattle.model.specs.declared.steps.Step.TheVariants.{Cond, Start, Finish, Sync}
 use Rattle.model.specs.Lists.{has, IsIn}
-use Rattle.model.specs.state.State.{State, Resource, Memory, EventQueue, empty_queue, no_memory}
-use Rattle.model.specs.runs.RunState.{body_of, memory_of_system, spawns_of}
-use Rattle.model.specs.state.Ids.{granted_ids}
+use Rattle.model.specs.state.State.{Entity as Id, State, Resource, Memory, EventQueue, empty_queue, no_memory}
+use Rattle.model.specs.runs.RunState.{body_of, memory_of_system}
 use Rattle.model.specs.access.Access.{Params, no_params}
 use Rattle.model.specs.access.Query.{Term, writes}
 use Rattle.model.specs.access.Condition.Condition.{OnEvent}
@@ -16,7 +16,7 @@ use Rattle.model.specs.shown.Input.{Shown, shown}
 use Rattle.model.specs.shown.Outcome.{Outcome, BodyMeaning, IsWithin, untouched}
 use Rattle.model.specs.steps.Schedule.{Schedule, ScheduledSystem, params_of, access_of, has_edge, level_of, covers}
 use Rattle.model.specs.steps.Built.{IsBuilt}
-use Rattle.model.specs.steps.Ambiguity.{IsMember, AmbiguousCondition, Before, Settled}
+use Rattle.model.specs.steps.Ambiguity.{HasNoFilter, IsMember, AmbiguousCondition, Before, Settled}
 use Rattle.model.specs.steps.Ambiguity.Reaches.{Edge}
 use Rattle.model.specs.steps.Ambiguity.Before.{ByPath}
 use Rattle.model.specs.state.Shape.{IsStateOf, BodiesKeepWithin, AreMemoriesOfSystems}
@@ -158,7 +158,7 @@ heard_settled : Settled heard
 heard_settled = record {
   systems = λ m n pair. systems_apart m n pair.first_known pair.second_known pair.differ pair.conflict;
   conditions = conditions_settled;
-  no_commands = each_below_three (λ n. (params_of heard n).spawns ≡ None) refl refl refl;
+  unfiltered = each_below_three (λ n. is_some (params_of heard n).spawns ≡ true → HasNoFilter heard) (λ e. absurd (true≢false (sym e))) (λ e. absurd (true≢false (sym e))) (λ e. absurd (true≢false (sym e)));
 }
 
 -- ---- its bodies keep within
@@ -185,8 +185,8 @@ registers_of clock x y z (m ∷ o ∷ []) h = absurd h.1.1
 registers_of clock x y z (m ∷ o ∷ p ∷ ms) h = each_below_three (λ n. length (get_or (m ∷ o ∷ p ∷ ms) n no_memory).registers ≡ 8) h.0.registers h.1.0.registers h.1.1.0.registers
 
 -- what a system is shown of a state
-abbrev seen_by : State → ℕ → Shown
-seen_by w n = shown (params_of heard n) (memory_of_system w n) w (granted_ids (spawns_of heard n) w.world.slots)
+abbrev seen_by : State → List Id → ℕ → Shown
+seen_by w ids n = shown (params_of heard n) (memory_of_system w n) w ids
 
 -- what a body answers is what it computes
 same_outcome : (answer : Result Outcome ℕ) (o p : Outcome) → answer ≡ Ok o → answer ≡ Ok p → o ≡ p
@@ -194,13 +194,13 @@ same_outcome answer o p e f = cc
 
 bodies_within : BodiesKeepWithin widths heard bodies
 unfolding shown
-bodies_within n w o l shape ids =
+bodies_within n w ids o l shape given =
     let registers = registers_of w.world.clock (system sending) (system turning) (system_after (0 ∷ []) hearing) w.systems shape.systems in
     each_below_three
-    (λ i. body_of bodies i (seen_by w i) ≡ Ok o → IsWithin widths (params_of heard i) (seen_by w i) o)
-    (λ e. subst (IsWithin widths sending (seen_by w 0)) (same_outcome _ _ o refl e) (plain_within sending (seen_by w 0) [] ((pos 4 ∷ []) ∷ []) refl refl refl refl (registers 0 (omega arith))))
-    (λ e. subst (IsWithin widths turning (seen_by w 1)) (same_outcome _ _ o refl e) (plain_within turning (seen_by w 1) _ [] refl refl refl refl (registers 1 (omega arith))))
-    (λ e. subst (IsWithin widths hearing (seen_by w 2)) (same_outcome _ _ o refl e) (plain_within hearing (seen_by w 2) _ [] refl refl refl refl (registers 2 (omega arith))))
+    (λ i. body_of bodies i (seen_by w ids i) ≡ Ok o → IsWithin widths (params_of heard i) (seen_by w ids i) o)
+    (λ e. subst (IsWithin widths sending (seen_by w ids 0)) (same_outcome _ _ o refl e) (plain_within sending (seen_by w ids 0) [] ((pos 4 ∷ []) ∷ []) refl refl refl refl (registers 0 (omega arith))))
+    (λ e. subst (IsWithin widths turning (seen_by w ids 1)) (same_outcome _ _ o refl e) (plain_within turning (seen_by w ids 1) _ [] refl refl refl refl (registers 1 (omega arith))))
+    (λ e. subst (IsWithin widths hearing (seen_by w ids 2)) (same_outcome _ _ o refl e) (plain_within hearing (seen_by w ids 2) _ [] refl refl refl refl (registers 2 (omega arith))))
     n l
 
 -- ---- the runs

@@ -8,8 +8,8 @@ use Rattle.model.specs.state.Events.{can_send}
 use Rattle.model.specs.state.Ids.{granted_ids}
 use Rattle.model.specs.state.Commands.{CommandTarget, apply_command, freed, is_alive}
 use Rattle.model.specs.steps.Schedule.{Schedule}
-use Rattle.model.specs.runs.RunState.{RunState, has_tick, has_ids_to_start}
-use Rattle.model.specs.runs.Causes.{unless, cause_of_start}
+use Rattle.model.specs.runs.RunState.{RunState, has_tick, has_ids_to_open, has_ids_to_sync}
+use Rattle.model.specs.runs.Causes.{unless, cause_of_opening, cause_of_sync}
 use Rattle.model.specs.runs.Causes.Cause.{NoTick, NoIds}
 use Rattle.model.specs.state.Agreement.{Agrees}
 use Rattle.model.specs.state.Loaded.{loaded}
@@ -73,11 +73,18 @@ greatest_count = refl
 
 -- ---- a missing tick comes before missing ids
 
-tick_first : (s : Schedule) (n : ℕ) (run : RunState) → has_tick run.state ≡ false → has_ids_to_start s n run ≡ false → cause_of_start s n run ≡ Some NoTick
-tick_first s n run e f = ap (λ b. first_some (unless b NoTick) (unless (has_ids_to_start s n run) NoIds)) e
+tick_first : (s : Schedule) (k : ℕ) (run : RunState) → has_tick run.state ≡ false → has_ids_to_sync s k run ≡ false → cause_of_sync s k run ≡ Some NoTick
+tick_first s k run e f = ap (λ b. first_some (unless b NoTick) (unless (has_ids_to_sync s k run) NoIds)) e
 
-ids_then : (s : Schedule) (n : ℕ) (run : RunState) → has_tick run.state ≡ true → has_ids_to_start s n run ≡ false → cause_of_start s n run ≡ Some NoIds
-ids_then s n run e f = ap (λ b. first_some (unless b NoTick) (unless (has_ids_to_start s n run) NoIds)) e ∙ ap (λ b. unless b NoIds) f
+ids_then : (s : Schedule) (k : ℕ) (run : RunState) → has_tick run.state ≡ true → has_ids_to_sync s k run ≡ false → cause_of_sync s k run ≡ Some NoIds
+ids_then s k run e f = ap (λ b. first_some (unless b NoTick) (unless (has_ids_to_sync s k run) NoIds)) e ∙ ap (λ b. unless b NoIds) f
+
+-- so at an opening
+tick_first_to_open : (s : Schedule) (state : State) → has_tick state ≡ false → has_ids_to_open s state ≡ false → cause_of_opening s state ≡ Some NoTick
+tick_first_to_open s state e f = ap (λ b. first_some (unless b NoTick) (unless (has_ids_to_open s state) NoIds)) e
+
+ids_then_to_open : (s : Schedule) (state : State) → has_tick state ≡ true → has_ids_to_open s state ≡ false → cause_of_opening s state ≡ Some NoIds
+ids_then_to_open s state e f = ap (λ b. first_some (unless b NoTick) (unless (has_ids_to_open s state) NoIds)) e ∙ ap (λ b. unless b NoIds) f
 
 -- the last tick can be taken, and is the last
 last_tick_taken : (has_tick (record (loaded (plain [] []) [] zeros) { world = record { slots = []; resources = []; clock = 4611686018427387903 } }) ≡ true)

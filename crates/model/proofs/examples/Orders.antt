@@ -1,11 +1,12 @@
 -- Which schedules are settled: a writer beside a condition that reads the same, and two systems that share nothing, run in two orders.
-use Rattle.std.proofs.Common.{◌≡◌, ◌≢◌, ℕ, zero, suc, ◌<◌, pos, true, false, List, [], ◌∷◌, None, ◌⊎◌, inl, inr, refl, sym, subst, arith, true≢false}
+use Rattle.std.specs.Option.{is_some}
+use Rattle.std.proofs.Common.{◌≡◌, ◌≢◌, ℕ, zero, suc, ◌<◌, pos, true, false, List, [], ◌∷◌, ◌⊎◌, inl, inr, refl, sym, subst, arith, true≢false}
 use Rattle.std.proofs.lemmas.Bool.{both_ways}
 use Rattle.model.specs.access.Access.{Params, no_params}
 use Rattle.model.specs.access.Conflict.{Conflict, conflicts}
 use Rattle.model.specs.access.Condition.Condition.{ResourceAtLeast}
 use Rattle.model.specs.steps.Schedule.{Schedule, ScheduledSystem, params_of, access_of}
-use Rattle.model.specs.steps.Ambiguity.{Reaches, Before, IsMember, AmbiguousCondition, Settled}
+use Rattle.model.specs.steps.Ambiguity.{HasNoFilter, Reaches, Before, IsMember, AmbiguousCondition, Settled}
 use Rattle.model.specs.steps.Ambiguity.Reaches.{Edge, Onward}
 use Rattle.model.specs.steps.Ambiguity.Before.{ByPath, ByLevel}
 use Rattle.model.proofs.serial.ConflictTests.{conflict-found, conflict-tested}
@@ -105,5 +106,5 @@ before_the_set : Settled ordered
 before_the_set = record {
   systems = λ m n pair. ordered_pairs m n pair.first_known pair.second_known pair.differ pair.conflict;
   conditions = λ c n pair. ordered_conditions n (subst (λ d. AmbiguousCondition ordered d n) (only_condition c pair.condition_known) pair);
-  no_commands = each_below_three (λ n. (params_of ordered n).spawns ≡ None) refl refl refl;
+  unfiltered = each_below_three (λ n. is_some (params_of ordered n).spawns ≡ true → HasNoFilter ordered) (λ e. absurd (true≢false (sym e))) (λ e. absurd (true≢false (sym e))) (λ e. absurd (true≢false (sym e)));
 }

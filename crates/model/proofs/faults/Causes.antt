@@ -8,9 +8,9 @@ use Rattle.model.specs.state.State.{State}
 use Rattle.model.specs.shown.Outcome.{BodyMeaning, Outcome}
 use Rattle.model.specs.steps.Schedule.{Schedule}
 use Rattle.model.specs.steps.Lawful.{IsLawful, May, runs, started, finished}
-use Rattle.model.specs.runs.RunState.{RunState, RunningSystem, has_tick, has_ids_to_start, can_start, started_system, body_of, can_finish, after_start, after_condition, after_sync, overlaid, finish, finish_with, between, opening}
+use Rattle.model.specs.runs.RunState.{RunState, RunningSystem, has_tick, has_ids_to_open, can_open, after_opening, begin_run, can_start, started_system, body_of, can_finish, after_start, after_condition, has_ids_to_sync, can_sync, after_sync, overlaid, finish, finish_with}
 use Rattle.model.specs.runs.Meaning.{Interleaved, running_system, without_system, with_running_systems, serial, interleaved, serial_step, serial_start, interleaved_step}
-use Rattle.model.specs.runs.Causes.{Cause, unless, cause_of_start, cause_of_answer, cause_of_finish, serial_cause_of, serial_cause_at, serial_cause, cause_of_running, interleaved_cause_of, interleaved_cause_at, interleaved_cause}
+use Rattle.model.specs.runs.Causes.{Cause, unless, cause_of_opening, cause_of_start, cause_of_sync, cause_of_answer, cause_of_finish, serial_cause_of, serial_cause_at, serial_cause, cause_of_running, interleaved_cause_of, interleaved_cause_at, interleaved_cause}
 use Rattle.model.proofs.serial.Holding.{system_of-started}
 use Rattle.model.proofs.lists.Lists.{provided-Some}
 use Rattle.model.specs.runs.Causes.Cause.{NoTick, NoIds, NoEventNumber}
@@ -46,15 +46,24 @@ pub lacks-provided_both : {A : Type 0} (b c : Bool) (x : A) (first second : Caus
 lacks-provided_both true c x first second = lacks-provided c x second
 lacks-provided_both false c x first second = (λ e. refl, λ h. refl)
 
--- a start lacks for its tick or its ids
-pub lacks-start : {A : Type 0} (s : Schedule) (n : ℕ) (run : RunState) (x : A) → LacksFor (provided (can_start s n run) x) (cause_of_start s n run)
-unfolding can_start
-lacks-start s n run x = lacks-provided_both (has_tick run.state) (has_ids_to_start s n run) x NoTick NoIds
+-- an opening lacks for its tick or its ids
+pub lacks-opening : {A : Type 0} (s : Schedule) (start : State) (x : A) → LacksFor (provided (can_open s start) x) (cause_of_opening s start)
+unfolding can_open
+lacks-opening s start x = lacks-provided_both (has_tick start) (has_ids_to_open s start) x NoTick NoIds
+
+-- so does a sync point
+pub lacks-sync : {A : Type 0} (s : Schedule) (k : ℕ) (run : RunState) (x : A) → LacksFor (provided (can_sync s k run) x) (cause_of_sync s k run)
+unfolding can_sync
+lacks-sync s k run x = lacks-provided_both (has_tick run.state) (has_ids_to_sync s k run) x NoTick NoIds
+
+-- a start lacks for its tick
+pub lacks-start : {A : Type 0} (run : RunState) (x : A) → LacksFor (provided (can_start run) x) (cause_of_start run)
+lacks-start run x = lacks-provided (has_tick run.state) x NoTick
 
 -- a whole start lacks for its start, then for its finish
 pub lacks-whole_start : (s : Schedule) (bodies : List BodyMeaning) (n : ℕ) (run : RunState)
-    → LacksFor (serial_start s bodies n run) (first_some (cause_of_start s n run) (cause_of_finish s bodies (started_system s n run) (after_start s n run)))
-lacks-whole_start s bodies n run = go (can_start s n run) (cause_of_start s n run) (lacks-start s n run (after_start s n run))
+    → LacksFor (serial_start s bodies n run) (first_some (cause_of_start run) (cause_of_finish s bodies (started_system s n run) (after_start s n run)))
+lacks-whole_start s bodies n run = go (can_start run) (cause_of_start run) (lacks-start run (after_start s n run))
   where
     finished_whole : LacksFor (finish s bodies (started_system s n run) (after_start s n run)) (cause_of_finish s bodies (started_system s n run) (after_start s n run))
     finished_whole = lacks-finish_with s (body_of bodies (started_system s n run).system (started_system s n run).shown) (started_system s n run) (after_start s n run)
@@ -73,11 +82,11 @@ lacks-serial_step s bodies (Cond c answer) run = lacks-provided (has_tick run.st
 lacks-serial_step s bodies (Start n) run = lacks-whole_start s bodies n run
 lacks-serial_step s bodies (Skip n) run = lacks-Some run
 lacks-serial_step s bodies (Finish n) run = lacks-Some run
-lacks-serial_step s bodies (Sync k) run = lacks-provided (has_tick run.state) (after_sync s k run) NoTick
+lacks-serial_step s bodies (Sync k) run = lacks-sync s k run (after_sync s k run)
 
 -- a serial meaning lacks exactly where it meets a cause
 pub lacks-serial : (s : Schedule) (bodies : List BodyMeaning) (start : State) (h : List Step) → LacksFor (serial s bodies start h) (serial_cause s bodies start h)
-lacks-serial s bodies start [] = lacks-provided (has_tick start) (between (opening start)) NoTick
+lacks-serial s bodies start [] = lacks-opening s start (after_opening s start)
 lacks-serial s bodies start (step ∷ h) = lacks-then (serial s bodies start h) (serial_step s bodies step) (serial_cause s bodies start h) (serial_cause_at s bodies step) refl
     (lacks-serial s bodies start h) (λ run e. lacks-serial_step s bodies step run)
 
@@ -159,7 +168,7 @@ listed-step s bodies (Cond c answer) h v w n e before r =
     let p = provided-Some (has_tick v.run.state) (record { run = after_condition s c v.run; running_systems = v.running_systems }) w e in
     subst (λ x. IsThere n x.running_systems) p.1 (before r)
 listed-step s bodies (Start m) h v w n e before r =
-    let p = provided-Some (can_start s m v.run) (record { run = after_start s m v.run; running_systems = v.running_systems ++ started_system s m v.run ∷ [] }) w e in
+    let p = provided-Some (can_start v.run) (record { run = after_start s m v.run; running_systems = v.running_systems ++ started_system s m v.run ∷ [] }) w e in
     subst (λ x. IsThere n x.running_systems) p.1 (go (runs-longer (m == n) false (started h n) (finished h n) r).1)
   where
     go : ((m == n) ≡ true) ⊎ ((started h n && not (finished h n)) ≡ true) → IsThere n (v.running_systems ++ started_system s m v.run ∷ [])
@@ -176,7 +185,7 @@ listed-step s bodies (Finish m) h v w n e before r =
     go (inl bad) = absurd (false≢true bad)
     go (inr more) = more
 listed-step s bodies (Sync k) h v w n e before r =
-    let p = provided-Some (has_tick v.run.state) (record { run = after_sync s k v.run; running_systems = v.running_systems }) w e in
+    let p = provided-Some (can_sync s k v.run) (record { run = after_sync s k v.run; running_systems = v.running_systems }) w e in
     subst (λ x. IsThere n x.running_systems) p.1 (before r)
 
 -- each system that runs in a history is there among the running systems
@@ -202,19 +211,15 @@ lacks-finish s bodies ps run (Some q) p e = lacks-with ps (finish s bodies q run
 lacks-interleaved_step : (s : Schedule) (bodies : List BodyMeaning) (step : Step) (w : Interleaved)
     → ((n : ℕ) → step ≡ Finish n → IsThere n w.running_systems) → LacksFor (interleaved_step s bodies step w) (interleaved_cause_of s bodies step w)
 lacks-interleaved_step s bodies (Cond c answer) w there = lacks-provided (has_tick w.run.state) (record { run = after_condition s c w.run; running_systems = w.running_systems }) NoTick
-lacks-interleaved_step s bodies (Start n) w there = lacks-start s n w.run (record { run = after_start s n w.run; running_systems = w.running_systems ++ started_system s n w.run ∷ [] })
+lacks-interleaved_step s bodies (Start n) w there = lacks-start w.run (record { run = after_start s n w.run; running_systems = w.running_systems ++ started_system s n w.run ∷ [] })
 lacks-interleaved_step s bodies (Skip n) w there = lacks-Some w
 lacks-interleaved_step s bodies (Finish n) w there =
     lacks-finish s bodies (without_system n w.running_systems) w.run (running_system n w.running_systems) (there n refl).0 (there n refl).1
-lacks-interleaved_step s bodies (Sync k) w there = lacks-provided (has_tick w.run.state) (record { run = after_sync s k w.run; running_systems = w.running_systems }) NoTick
-
--- the opening of a run lacks for its tick
-lacks-opening : (b : Bool) (run : RunState) → LacksFor (with_running_systems [] (provided b run)) (unless b NoTick)
-lacks-opening b run = lacks-with [] (provided b run) (unless b NoTick) (lacks-provided b run NoTick)
+lacks-interleaved_step s bodies (Sync k) w there = lacks-sync s k w.run (record { run = after_sync s k w.run; running_systems = w.running_systems })
 
 -- an interleaved meaning of a lawful list lacks exactly where it meets a cause
 pub lacks-interleaved : (s : Schedule) (bodies : List BodyMeaning) (start : State) (h : List Step) → IsLawful s h → LacksFor (interleaved s bodies start h) (interleaved_cause s bodies start h)
-lacks-interleaved s bodies start [] lawful = lacks-opening (has_tick start) (between (opening start))
+lacks-interleaved s bodies start [] lawful = lacks-with [] (begin_run s start) (cause_of_opening s start) (lacks-opening s start (after_opening s start))
 lacks-interleaved s bodies start (step ∷ h) lawful =
     lacks-then (interleaved s bodies start h) (interleaved_step s bodies step) (interleaved_cause s bodies start h) (interleaved_cause_at s bodies step) refl
     (lacks-interleaved s bodies start h lawful.1)

@@ -1,5 +1,5 @@
 -- The single-threaded list is one: one thing is ready, one answer is true, and nothing comes after a complete list.
-use Rattle.std.proofs.Common.{ℕ, ◌<◌, Bool, true, false, ◌≡◌, ◌⊎◌, inl, inr, List, [], ◌∷◌, ◌++◌, length, Option, Some, None, IsSome, is_some, option_and_then, refl, sym, ap, ap₂, ◌∙◌, subst, arith}
+use Rattle.std.proofs.Common.{ℕ, ◌<◌, Bool, true, ◌≡◌, ◌⊎◌, inl, inr, List, [], ◌∷◌, ◌++◌, length, Option, Some, None, IsSome, is_some, option_and_then, refl, sym, ap, ap₂, ◌∙◌, subst, arith}
 use Rattle.std.proofs.Math.Seq.{append_snoc}
 use Rattle.std.proofs.lemmas.List.{append-nil}
 use Rattle.std.proofs.lemmas.Bool.{both_ways, cases_order, false≢true}
@@ -7,17 +7,16 @@ use Rattle.model.specs.declared.steps.Step.{Step}
 use Rattle.model.specs.declared.steps.Step.TheVariants.{Cond, Start, Skip, Finish, Sync}
 use Rattle.model.specs.declared.steps.Ready.{Ready}
 use Rattle.model.specs.declared.steps.Ready.TheVariants as ready
-use Rattle.model.specs.Lists.{provided, first_some}
+use Rattle.model.specs.Lists.{first_some}
 use Rattle.model.specs.state.State.{State}
 use Rattle.model.specs.shown.Outcome.{BodyMeaning}
 use Rattle.model.specs.steps.Schedule.{Schedule}
 use Rattle.model.specs.steps.Lawful.{IsFree, May, MaySync, IsLawful, IsComplete, was_asked}
 use Rattle.model.specs.steps.Ready.{IsAskable, Offers, IsReadySync, IsReadyAmong, step_of}
 use Rattle.model.specs.steps.Widths.{just_started, IsNextSingle, IsSingle}
-use Rattle.model.specs.runs.RunState.{RunState, between, opening, can_open}
+use Rattle.model.specs.runs.RunState.{RunState, opening}
 use Rattle.model.specs.runs.Meaning.{Interleaved, interleaved, interleaved_step, with_running_systems, serial, serial_step, IsTrueAnswer, HasTrueAnswers}
-use Rattle.model.specs.runs.Causes.{Cause, unless, serial_cause_of, serial_cause_at, serial_cause}
-use Rattle.model.specs.runs.Causes.Cause.{NoTick}
+use Rattle.model.specs.runs.Causes.{Cause, cause_of_opening, serial_cause_of, serial_cause_at, serial_cause}
 use Rattle.model.specs.runs.Runs.{IsSingleRun, AreSingleRuns}
 use Rattle.model.specs.runs.Laws.{SingleRunIsOne, SingleRunsAreOne, DefinedRunsGoThrough, StopsAreOne}
 use Rattle.model.proofs.order.Histories.{may_at, ended_begun, idle_at_end, answered_asked, one_answer}
@@ -262,12 +261,8 @@ record StopsAt (s : Schedule) (bodies : List BodyMeaning) (w : State) (list : Li
 
 -- what a list meets first, it meets at its opening or at such a step
 stops_at : (s : Schedule) (bodies : List BodyMeaning) (w : State) (list : List Step) (cause : Cause) → serial_cause s bodies w list ≡ Some cause →
-    ((serial s bodies w [] ≡ None) × (cause ≡ NoTick)) ⊎ StopsAt s bodies w list cause
-stops_at s bodies w [] cause e = go (can_open w) e
-  where
-    go : (b : Bool) → unless b NoTick ≡ Some cause → ((provided b (between (opening w)) ≡ None) × (cause ≡ NoTick)) ⊎ StopsAt s bodies w [] cause
-    go true f = absurd (let bad : None ≡ Some cause = f in cc)
-    go false f = inl (refl, cc)
+    (cause_of_opening s w ≡ Some cause) ⊎ StopsAt s bodies w list cause
+stops_at s bodies w [] cause e = inl e
 stops_at s bodies w (x ∷ h) cause e = go (serial_cause s bodies w h) refl (serial s bodies w h) refl (lacks-serial s bodies w h) e (λ f. stops_at s bodies w h cause f)
   where
     later_stop : StopsAt s bodies w h cause → StopsAt s bodies w (x ∷ h) cause
@@ -283,8 +278,8 @@ stops_at s bodies w (x ∷ h) cause e = go (serial_cause s bodies w h) refl (ser
 
     go : (o : Option Cause) → serial_cause s bodies w h ≡ o → (m : Option RunState) → serial s bodies w h ≡ m → LacksFor (serial s bodies w h) (serial_cause s bodies w h)
         → first_some o (serial_cause_at s bodies x (serial s bodies w h)) ≡ Some cause
-        → (serial_cause s bodies w h ≡ Some cause → ((serial s bodies w [] ≡ None) × (cause ≡ NoTick)) ⊎ StopsAt s bodies w h cause)
-        → ((serial s bodies w [] ≡ None) × (cause ≡ NoTick)) ⊎ StopsAt s bodies w (x ∷ h) cause
+        → (serial_cause s bodies w h ≡ Some cause → (cause_of_opening s w ≡ Some cause) ⊎ StopsAt s bodies w h cause)
+        → (cause_of_opening s w ≡ Some cause) ⊎ StopsAt s bodies w (x ∷ h) cause
     go (Some d) q m p lacks f rest = elim (rest (q ∙ f)) [ inl opening ↦ inl opening | inr r ↦ inr (later_stop r) ]
     go None q None p lacks f rest = absurd (false≢true (subst (λ c. is_some c ≡ true) q (lacks.0 p)))
     go None q (Some run) p lacks f rest = inr (record {
@@ -387,11 +382,14 @@ one_cause : (s : Schedule) (bodies : List BodyMeaning) (w : State) (f g : List S
     → HasTrueAnswers s bodies w f → HasTrueAnswers s bodies w g → serial_cause s bodies w f ≡ Some cause → serial_cause s bodies w g ≡ Some other → cause ≡ other
 one_cause s bodies w f g cause other single_f single_g answers_f answers_g stops_f stops_g = go (stops_at s bodies w f cause stops_f) (stops_at s bodies w g other stops_g)
   where
-    go : ((serial s bodies w [] ≡ None) × (cause ≡ NoTick)) ⊎ StopsAt s bodies w f cause → ((serial s bodies w [] ≡ None) × (other ≡ NoTick)) ⊎ StopsAt s bodies w g other
+    unopened : (c : Cause) → cause_of_opening s w ≡ Some c → serial s bodies w [] ≡ None
+    unopened c e = (lacks-serial s bodies w []).1 (subst IsSome (sym e) refl)
+
+    go : (cause_of_opening s w ≡ Some cause) ⊎ StopsAt s bodies w f cause → (cause_of_opening s w ≡ Some other) ⊎ StopsAt s bodies w g other
         → cause ≡ other
-    go (inl p) (inl q) = p.1 ∙ sym q.1
-    go (inl p) (inr q) = absurd (opened s bodies w q.front q.run q.meaning p.0)
-    go (inr p) (inl q) = absurd (opened s bodies w p.front p.run p.meaning q.0)
+    go (inl p) (inl q) = let same : Some cause ≡ Some other = sym p ∙ q in cc
+    go (inl p) (inr q) = absurd (opened s bodies w q.front q.run q.meaning (unopened cause p))
+    go (inr p) (inl q) = absurd (opened s bodies w p.front p.run p.meaning (unopened other q))
     go (inr p) (inr q) =
         let a = stopped_list s bodies w f cause single_f answers_f p in
         let b = stopped_list s bodies w g other single_g answers_g q in

@@ -10,10 +10,9 @@ use Rattle.model.specs.shown.Outcome.{BodyMeaning}
 use Rattle.model.specs.steps.Schedule.{Schedule}
 use Rattle.model.specs.steps.Lawful.{runs, NoneRuns, May, IsLawful}
 use Rattle.model.specs.steps.Widths.{IsChosen, just_started, IsNextSingle, IsSingle, running_after, IsNextWide}
-use Rattle.model.specs.runs.RunState.{RunState, can_open, can_start, started_system, after_start}
+use Rattle.model.specs.runs.RunState.{RunState, can_start, started_system, after_start}
 use Rattle.model.specs.runs.Meaning.{Interleaved, running_system, with_running_systems, interleaved, interleaved_step, serial}
-use Rattle.model.specs.runs.Causes.{Cause, unless, cause_of_start, cause_of_finish, cause_of_running, serial_cause_at, serial_cause, interleaved_cause_at, interleaved_cause}
-use Rattle.model.specs.runs.Causes.Cause.{NoTick}
+use Rattle.model.specs.runs.Causes.{Cause, cause_of_opening, cause_of_start, cause_of_finish, cause_of_running, serial_cause_at, serial_cause, interleaved_cause_at, interleaved_cause}
 use Rattle.model.specs.runs.Runs.{IsSingleRun}
 use Rattle.model.specs.runs.WideRuns.{IsWideRun}
 use Rattle.model.specs.runs.Laws.{WideOfOneIsSingle, WideRunsOfOneAreSingle, WideStopsOfOneAreSingle}
@@ -126,21 +125,21 @@ finish_none : (s : Schedule) (bodies : List BodyMeaning) (n : ℕ) (o : Option R
 finish_none s bodies n None = refl
 finish_none s bodies n (Some run) = refl
 
--- where a start has its tick and ids, its finish meets the cause that was still to come
+-- where a start has its tick, its finish meets the cause that was still to come
 finish_there : (s : Schedule) (bodies : List BodyMeaning) (n : ℕ) (run : RunState) →
     cause_of_running s bodies (running_system n (started_system s n run ∷ [])) (after_start s n run) ≡ finish_cause s bodies n (Some run)
 finish_there s bodies n run = ap (λ o. cause_of_running s bodies o (after_start s n run))
     (cond-true ((started_system s n run).system == n) (Some (started_system s n run)) None (eq-eqb _ n (system_of-started s n run)))
 
 -- the finish of what was just started meets the cause that was still to come, where the list so far meets none
-finish_late : (s : Schedule) (bodies : List BodyMeaning) (n : ℕ) (run : RunState) → cause_of_start s n run ≡ None →
+finish_late : (s : Schedule) (bodies : List BodyMeaning) (n : ℕ) (run : RunState) → cause_of_start run ≡ None →
     interleaved_cause_at s bodies (Finish n) (interleaved_step s bodies (Start n) (record { run = run; running_systems = [] })) ≡ finish_cause s bodies n (Some run)
-finish_late s bodies n run none = go (can_start s n run) (lacks-start s n run (after_start s n run))
+finish_late s bodies n run none = go (can_start run) (lacks-start run (after_start s n run))
   where
-    go : (b : Bool) → LacksFor (provided b (after_start s n run)) (cause_of_start s n run) →
+    go : (b : Bool) → LacksFor (provided b (after_start s n run)) (cause_of_start run) →
         interleaved_cause_at s bodies (Finish n) (provided b (record { run = after_start s n run; running_systems = started_system s n run ∷ [] })) ≡ finish_cause s bodies n (Some run)
     go true lacks = finish_there s bodies n run
-    go false lacks = absurd (let some : IsSome (cause_of_start s n run) = lacks.0 refl in false≢true (ap is_some (sym none) ∙ some))
+    go false lacks = absurd (let some : IsSome (cause_of_start run) = lacks.0 refl in false≢true (ap is_some (sym none) ∙ some))
 
 -- the causes of a list whose latest step is the finish of what was just started
 finish_causes : (s : Schedule) (bodies : List BodyMeaning) (n : ℕ) (before : Option Cause) (o : Option RunState) → LacksFor o before →
@@ -149,9 +148,9 @@ finish_causes : (s : Schedule) (bodies : List BodyMeaning) (n : ℕ) (before : O
     ≡ first_some before (serial_cause_at s bodies (Start n) o)
 finish_causes s bodies n (Some c) o lacks = refl
 finish_causes s bodies n None None lacks = absurd (false≢true (lacks.0 refl))
-finish_causes s bodies n None (Some run) lacks = go (cause_of_start s n run) refl
+finish_causes s bodies n None (Some run) lacks = go (cause_of_start run) refl
   where
-    go : (cause : Option Cause) → cause_of_start s n run ≡ cause →
+    go : (cause : Option Cause) → cause_of_start run ≡ cause →
         first_some cause (interleaved_cause_at s bodies (Finish n) (interleaved_step s bodies (Start n) (record { run = run; running_systems = [] })))
         ≡ first_some cause (cause_of_finish s bodies (started_system s n run) (after_start s n run))
     go (Some c) e = refl
@@ -224,7 +223,7 @@ same_finish s bodies w h n single lawful none before =
 -- interleaved and then late, the causes of a list of one thread are those of one thread
 causes_same : (s : Schedule) (bodies : List BodyMeaning) (w : State) (h : List Step) → IsSingle s h → IsLawful s h →
     first_some (interleaved_cause s bodies w h) (late_cause s bodies w h) ≡ serial_cause s bodies w h
-causes_same s bodies w [] single lawful = first_some-none (unless (can_open w) NoTick)
+causes_same s bodies w [] single lawful = first_some-none (cause_of_opening s w)
 causes_same s bodies w (Cond c answer ∷ h) single lawful =
     same_step s bodies w h (Cond c answer) single.1 lawful.1 (quiet s h (Cond c answer) (just_started h) (λ n e. cc) single.0) (cond_causes s bodies c answer)
     (causes_same s bodies w h single.1 lawful.1)

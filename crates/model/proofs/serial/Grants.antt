@@ -1,11 +1,18 @@
--- Grants of ids and writes to components don't see each other.
-use Rattle.std.proofs.Common.{ℕ, zero, suc, ◌-◌, ℤ, Bool, true, false, cond, nat_le, ◌≡◌, List, [], ◌∷◌, ◌++◌, length, map, take, replicate, get_or, Option, refl, sym, ap, ap₂, ◌∙◌}
+-- Grants of ids and changes of slots that keep status and generation don't see each other.
+use Rattle.std.proofs.Common.{ℕ, zero, suc, ◌-◌, Bool, true, false, cond, ◌&&◌, nat_le, ◌≡◌, List, [], ◌∷◌, ◌++◌, length, map, take, replicate, get_or, refl, sym, ap, ap₂, ◌∙◌}
 use Rattle.model.specs.Lists.{has, map_index}
 use Rattle.model.specs.state.State.{Status, Slot, fresh_slot, is_vacant, most_indices}
-use Rattle.model.specs.state.Rows.{row_at}
-use Rattle.model.specs.shown.Overlay.{slot_after, slots_after}
-use Rattle.model.specs.state.Ids.{vacant_from, vacant_indices, with_room, has_ids, id_at, least_vacant, granted_ids, granted_slot, grant}
-use Rattle.model.proofs.lists.Lists.{map_index-comm, length-map_index, get_or-map_index-view, map_index-append_replicate, get_or-append_replicate, map-same}
+use Rattle.model.specs.state.Ids.{vacant_from, vacant_indices, with_room, has_ids, id_at, least_vacant, granted_ids, granted_slot, grant, has_ids_for_each, ids_of_each, grant_each}
+use Rattle.model.proofs.lists.Lists.{map_index-comm, length-map_index, get_or-map_index-view, map_index-append_replicate, map-same}
+
+-- a change of slots that no grant sees: status and generation stay, a fresh slot stays, and a granted slot is the changed slot, granted
+pub record IsUnseen (f : ℕ → Slot → Slot) : Type 0 where
+  pub status : (i : ℕ) (slot : Slot) → (f i slot).status ≡ slot.status
+  pub generation : (i : ℕ) (slot : Slot) → (f i slot).generation ≡ slot.generation
+  pub fresh : (i : ℕ) → f i fresh_slot ≡ fresh_slot
+  pub granted : (i : ℕ) (slot : Slot) → granted_slot (f i slot) ≡ f i (granted_slot slot)
+
+-- ---- one grant
 
 -- the vacant indices stay where no status is changed
 pub vacant_from-map_index : (f : ℕ → Slot → Slot) (index : ℕ) (slots : List Slot) → ((i : ℕ) (slot : Slot) → (f i slot).status ≡ slot.status) →
@@ -14,70 +21,73 @@ vacant_from-map_index f index [] h = refl
 vacant_from-map_index f index (slot ∷ slots) h =
     ap₂ (λ (status : Status) (xs : List ℕ). cond (is_vacant status) (index ∷ xs) xs) (h zero slot) (vacant_from-map_index (λ i. f (suc i)) (suc index) slots (λ i. h (suc i)))
 
--- the vacant indices stay after writes
-pub vacant_indices-slots_after : (tick : ℕ) (f : ℕ → ℕ → Option (List ℤ)) (slots : List Slot) → vacant_indices (slots_after tick f slots) ≡ vacant_indices slots
-unfolding slots_after
-vacant_indices-slots_after tick f slots = vacant_from-map_index (λ i. slot_after tick (f i)) 0 slots (λ i slot. refl)
-
--- the slots with room after writes are those with room, written
-pub with_room-slots_after : (n tick : ℕ) (f : ℕ → ℕ → Option (List ℤ)) (slots : List Slot) → with_room n (slots_after tick f slots) ≡ slots_after tick f (with_room n slots)
-unfolding with_room slots_after
-with_room-slots_after n tick f slots =
-    ap (λ xs. slots_after tick f slots ++ replicate (n - length xs) fresh_slot) (vacant_indices-slots_after tick f slots)
-    ∙ sym (map_index-append_replicate (λ i. slot_after tick (f i)) slots (n - length (vacant_indices slots)) fresh_slot (λ i. refl))
+-- the slots with room after a change are those with room, changed
+with_room-unseen : (n : ℕ) (f : ℕ → Slot → Slot) (slots : List Slot) → IsUnseen f → with_room n (map_index f slots) ≡ map_index f (with_room n slots)
+unfolding with_room
+with_room-unseen n f slots h =
+    ap (λ xs. map_index f slots ++ replicate (n - length xs) fresh_slot) (vacant_from-map_index f 0 slots h.status)
+    ∙ sym (map_index-append_replicate f slots (n - length (vacant_indices slots)) fresh_slot h.fresh)
 
 -- whether there are ids stays
-pub has_ids-slots_after : (n tick : ℕ) (f : ℕ → ℕ → Option (List ℤ)) (slots : List Slot) → has_ids n (slots_after tick f slots) ≡ has_ids n slots
-unfolding has_ids slots_after
-has_ids-slots_after n tick f slots =
-    ap (λ (xs : List Slot). nat_le (length xs) most_indices) (with_room-slots_after n tick f slots)
-    ∙ ap (λ m. nat_le m most_indices) (length-map_index (λ i. slot_after tick (f i)) (with_room n slots))
+pub has_ids-unseen : (n : ℕ) (f : ℕ → Slot → Slot) (slots : List Slot) → IsUnseen f → has_ids n (map_index f slots) ≡ has_ids n slots
+unfolding has_ids
+has_ids-unseen n f slots h =
+    ap (λ (xs : List Slot). nat_le (length xs) most_indices) (with_room-unseen n f slots h)
+    ∙ ap (λ m. nat_le m most_indices) (length-map_index f (with_room n slots))
 
 -- the least vacant indices stay
-pub least_vacant-slots_after : (n tick : ℕ) (f : ℕ → ℕ → Option (List ℤ)) (slots : List Slot) → least_vacant n (slots_after tick f slots) ≡ least_vacant n slots
-least_vacant-slots_after n tick f slots =
-    ap (λ xs. take n (vacant_indices xs)) (with_room-slots_after n tick f slots) ∙ ap (take n) (vacant_indices-slots_after tick f (with_room n slots))
+least_vacant-unseen : (n : ℕ) (f : ℕ → Slot → Slot) (slots : List Slot) → IsUnseen f → least_vacant n (map_index f slots) ≡ least_vacant n slots
+least_vacant-unseen n f slots h =
+    ap (λ xs. take n (vacant_indices xs)) (with_room-unseen n f slots h) ∙ ap (take n) (vacant_from-map_index f 0 (with_room n slots) h.status)
 
 -- the id of an index stays
-pub id_at-slots_after : (tick : ℕ) (f : ℕ → ℕ → Option (List ℤ)) (slots : List Slot) (index : ℕ) → id_at (slots_after tick f slots) index ≡ id_at slots index
-unfolding slots_after
-id_at-slots_after tick f slots index = λ i. record {
+id_at-unseen : (f : ℕ → Slot → Slot) (slots : List Slot) (index : ℕ) → IsUnseen f → id_at (map_index f slots) index ≡ id_at slots index
+id_at-unseen f slots index h = λ i. record {
   index = index;
-  generation = get_or-map_index-view (λ (slot : Slot). slot.generation) (λ j. slot_after tick (f j)) slots index fresh_slot (λ j slot. refl) i;
+  generation = get_or-map_index-view (λ (slot : Slot). slot.generation) f slots index fresh_slot h.generation i;
 }
 
 -- the ids that a grant gives stay
-pub granted_ids-slots_after : (n tick : ℕ) (f : ℕ → ℕ → Option (List ℤ)) (slots : List Slot) → granted_ids n (slots_after tick f slots) ≡ granted_ids n slots
+pub granted_ids-unseen : (n : ℕ) (f : ℕ → Slot → Slot) (slots : List Slot) → IsUnseen f → granted_ids n (map_index f slots) ≡ granted_ids n slots
 unfolding granted_ids
-granted_ids-slots_after n tick f slots =
-    ap₂ (λ xs indices. map (id_at xs) indices) (with_room-slots_after n tick f slots) (least_vacant-slots_after n tick f slots)
-    ∙ map-same (id_at (slots_after tick f (with_room n slots))) (id_at (with_room n slots)) (least_vacant n slots)
-    (λ index i. id_at-slots_after tick f (with_room n slots) index)
+granted_ids-unseen n f slots h =
+    ap₂ (λ xs indices. map (id_at xs) indices) (with_room-unseen n f slots h) (least_vacant-unseen n f slots h)
+    ∙ map-same (id_at (map_index f (with_room n slots))) (id_at (with_room n slots)) (least_vacant n slots)
+    (λ index i. id_at-unseen f (with_room n slots) index h)
 
--- a slot that is granted and written
-granted_slot-slot_after : (granted : Bool) (tick : ℕ) (f : ℕ → Option (List ℤ)) (slot : Slot) →
-    cond granted (granted_slot (slot_after tick f slot)) (slot_after tick f slot) ≡ slot_after tick f (cond granted (granted_slot slot) slot)
-granted_slot-slot_after true tick f slot = refl
-granted_slot-slot_after false tick f slot = refl
+-- a slot that is granted or not, and changed
+granted-or_not : (granted : Bool) (f : ℕ → Slot → Slot) (i : ℕ) (slot : Slot) → IsUnseen f
+    → cond granted (granted_slot (f i slot)) (f i slot) ≡ f i (cond granted (granted_slot slot) slot)
+granted-or_not true f i slot h = h.granted i slot
+granted-or_not false f i slot h = refl
 
--- a grant after writes is the writes after the grant
-pub grant-slots_after : (n tick : ℕ) (f : ℕ → ℕ → Option (List ℤ)) (slots : List Slot) → grant n (slots_after tick f slots) ≡ slots_after tick f (grant n slots)
-unfolding grant slots_after
-grant-slots_after n tick f slots =
+-- a grant after a change is the change after the grant
+pub grant-unseen : (n : ℕ) (f : ℕ → Slot → Slot) (slots : List Slot) → IsUnseen f → grant n (map_index f slots) ≡ map_index f (grant n slots)
+unfolding grant
+grant-unseen n f slots h =
     ap₂ (λ (indices : List ℕ) (xs : List Slot). map_index (λ index slot. cond (has index indices) (granted_slot slot) slot) xs)
-    (least_vacant-slots_after n tick f slots) (with_room-slots_after n tick f slots)
-    ∙ map_index-comm (λ index slot. cond (has index (least_vacant n slots)) (granted_slot slot) slot) (λ index. slot_after tick (f index)) fresh_slot (with_room n slots)
-    (λ index. granted_slot-slot_after (has index (least_vacant n slots)) tick (f index) (get_or (with_room n slots) index fresh_slot))
+    (least_vacant-unseen n f slots h) (with_room-unseen n f slots h)
+    ∙ map_index-comm (λ index slot. cond (has index (least_vacant n slots)) (granted_slot slot) slot) f fresh_slot (with_room n slots)
+    (λ index. granted-or_not (has index (least_vacant n slots)) f index (get_or (with_room n slots) index fresh_slot) h)
 
--- a granted slot has the row that it had
-row_of-granted : (granted : Bool) (slot : Slot) → (cond granted (granted_slot slot) slot).row ≡ slot.row
-row_of-granted true slot = refl
-row_of-granted false slot = refl
+-- ---- grants of several numbers
 
--- the row of each index stays after a grant
-pub row_at-grant : (n : ℕ) (slots : List Slot) (index : ℕ) → row_at (grant n slots) index ≡ row_at slots index
-unfolding grant with_room
-row_at-grant n slots index =
-    get_or-map_index-view (λ (slot : Slot). slot.row) (λ i slot. cond (has i (least_vacant n slots)) (granted_slot slot) slot) (with_room n slots) index fresh_slot
-    (λ i slot. row_of-granted (has i (least_vacant n slots)) slot)
-    ∙ ap (λ (slot : Slot). slot.row) (get_or-append_replicate slots (n - length (vacant_indices slots)) index fresh_slot)
+-- whether there are ids for each stays
+pub has_ids_for_each-unseen : (ns : List ℕ) (f : ℕ → Slot → Slot) (slots : List Slot) → IsUnseen f → has_ids_for_each ns (map_index f slots) ≡ has_ids_for_each ns slots
+unfolding has_ids_for_each
+has_ids_for_each-unseen [] f slots h = refl
+has_ids_for_each-unseen (n ∷ ns) f slots h =
+    ap₂ ◌&&◌ (has_ids-unseen n f slots h) (ap (has_ids_for_each ns) (grant-unseen n f slots h) ∙ has_ids_for_each-unseen ns f (grant n slots) h)
+
+-- the ids that each gives stay
+pub ids_of_each-unseen : (ns : List ℕ) (f : ℕ → Slot → Slot) (slots : List Slot) → IsUnseen f → ids_of_each ns (map_index f slots) ≡ ids_of_each ns slots
+unfolding ids_of_each
+ids_of_each-unseen [] f slots h = refl
+ids_of_each-unseen (n ∷ ns) f slots h =
+    ap₂ ◌∷◌ (granted_ids-unseen n f slots h) (ap (ids_of_each ns) (grant-unseen n f slots h) ∙ ids_of_each-unseen ns f (grant n slots) h)
+
+-- all of them after a change are the change after all of them
+pub grant_each-unseen : (ns : List ℕ) (f : ℕ → Slot → Slot) (slots : List Slot) → IsUnseen f → grant_each ns (map_index f slots) ≡ map_index f (grant_each ns slots)
+unfolding grant_each
+grant_each-unseen [] f slots h = refl
+grant_each-unseen (n ∷ ns) f slots h = ap (grant_each ns) (grant-unseen n f slots h) ∙ grant_each-unseen ns f (grant n slots) h

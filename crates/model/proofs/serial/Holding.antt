@@ -9,7 +9,7 @@ use Rattle.model.specs.state.State.{State}
 use Rattle.model.specs.steps.Schedule.{Schedule, params_of}
 use Rattle.model.specs.steps.Lawful.{started, finished, runs, begun, MayStart, MaySync, May, IsLawful}
 use Rattle.model.specs.shown.Outcome.{BodyMeaning}
-use Rattle.model.specs.runs.RunState.{RunState, RunningSystem, begin_run, has_tick, can_start, started_system, after_start, finish, after_condition, after_sync}
+use Rattle.model.specs.runs.RunState.{RunState, RunningSystem, begin_run, has_tick, can_start, can_sync, started_system, after_start, finish, after_condition, after_sync}
 use Rattle.model.specs.runs.Meaning.{Interleaved, running_system, without_system, with_running_systems, interleaved_step, interleaved}
 use Rattle.model.proofs.lists.Lists.{IsIn-append, provided-Some}
 use Rattle.model.proofs.serial.Conflicts.{Apart}
@@ -189,7 +189,7 @@ holds_step s bodies h (Cond c answer) w after lawful may k e =
     subst (Holds s (Cond c answer ∷ h)) (provided-Some (has_tick w.run.state) (record { run = after_condition s c w.run; running_systems = w.running_systems }) after e).1
     (holds_cond s h c answer w k)
 holds_step s bodies h (Start n) w after lawful may k e =
-    subst (Holds s (Start n ∷ h)) (provided-Some (can_start s n w.run) (record { run = after_start s n w.run; running_systems = w.running_systems ++ started_system s n w.run ∷ [] }) after e).1
+    subst (Holds s (Start n ∷ h)) (provided-Some (can_start w.run) (record { run = after_start s n w.run; running_systems = w.running_systems ++ started_system s n w.run ∷ [] }) after e).1
     (holds_start s h n w lawful may k)
 holds_step s bodies h (Skip n) w after lawful may k e =
     let same : Holds s (Skip n ∷ h) w = record { alive = k.alive; listed = k.listed; fit = k.fit; beside = k.beside } in
@@ -200,13 +200,13 @@ holds_step s bodies h (Finish n) w after lawful may k e =
     = with_running_systems-Some (without_system n w.running_systems) (finish s bodies p w.run) after f in
     subst (Holds s (Finish n ∷ h)) r.2 (holds_finish s bodies h n w p r.0 k r.1))
 holds_step s bodies h (Sync j) w after lawful may k e =
-    subst (Holds s (Sync j ∷ h)) (provided-Some (has_tick w.run.state) (record { run = after_sync s j w.run; running_systems = w.running_systems }) after e).1
+    subst (Holds s (Sync j ∷ h)) (provided-Some (can_sync s j w.run) (record { run = after_sync s j w.run; running_systems = w.running_systems }) after e).1
     (holds_sync s h j w lawful may k)
 
 -- after a lawful history
 pub holds : (s : Schedule) (bodies : List BodyMeaning) (start : State) (h : List Step) (w : Interleaved) → IsLawful s h → interleaved s bodies start h ≡ Some w → Holds s h w
 holds s bodies start [] w lawful e =
-    let r : (run : RunState) × (begin_run start ≡ Some run) × (record { run = run; running_systems = [] } ≡ w) = with_running_systems-Some [] (begin_run start) w e in
+    let r : (run : RunState) × (begin_run s start ≡ Some run) × (record { run = run; running_systems = [] } ≡ w) = with_running_systems-Some [] (begin_run s start) w e in
     let first : Holds s [] (record { run = r.0; running_systems = [] }) = record { alive = (λ p i. absurd i); listed = (λ n i. absurd (cc)); fit = (λ p i. absurd i); beside = tt } in
     subst (Holds s []) r.2 first
 holds s bodies start (step ∷ h) w lawful e =

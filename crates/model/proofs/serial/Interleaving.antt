@@ -8,13 +8,13 @@ use Rattle.model.specs.state.State.{State}
 use Rattle.model.specs.steps.Schedule.{Schedule, params_of, access_of}
 use Rattle.model.specs.steps.Lawful.{runs, NoneRuns, MayStart, MayAsk, May, IsLawful}
 use Rattle.model.specs.shown.Outcome.{BodyMeaning}
-use Rattle.model.specs.runs.RunState.{RunState, RunningSystem, begin_run, has_tick, can_start, started_system, after_start, finish, asked_of, after_condition, after_sync}
+use Rattle.model.specs.runs.RunState.{RunState, RunningSystem, begin_run, has_tick, can_start, can_sync, started_system, after_start, finish, asked_of, after_condition, after_sync}
 use Rattle.model.specs.runs.Meaning.{Interleaved, running_system, without_system, with_running_systems, interleaved_step, interleaved, serial_step, serial}
 use Rattle.model.specs.runs.Laws.{InterleavedIsSerial, SameIsShown}
 use Rattle.model.proofs.lists.Lists.{option_and_then-same, option_and_then-assoc, option_and_then-Some}
 use Rattle.model.proofs.serial.Conflicts.{Apart}
 use Rattle.model.proofs.order.Histories.{idle, idle_at_end}
-use Rattle.model.proofs.serial.Overlays.{has_tick-overlaid, can_start-overlaid, started_system-overlaid, after_start-overlaid, can_finish-after_start, after_condition-overlaid, can_finish-after_condition, asked_of-overlaid}
+use Rattle.model.proofs.serial.Overlays.{has_tick-overlaid, started_system-overlaid, after_start-overlaid, can_finish-after_start, after_condition-overlaid, can_finish-after_condition, asked_of-overlaid}
 use Rattle.model.proofs.serial.Settling.{settle, IsActBeside, finish-act, finish-view, settle-without_system, settle-act, settle-view}
 use Rattle.model.proofs.serial.Holding.{Holds, apart_start, holds}
 
@@ -26,7 +26,7 @@ settled s bodies w = settle s bodies w.running_systems w.run
 
 -- a start, where it is provided
 abbrev start_act : Schedule → ℕ → RunState → Option RunState
-start_act s n run = provided (can_start s n run) (after_start s n run)
+start_act s n run = provided (can_start run) (after_start s n run)
 
 -- a condition, where it is provided
 abbrev cond_act : Schedule → ℕ → RunState → Option RunState
@@ -38,8 +38,8 @@ cond_act s c run = provided (has_tick run.state) (after_condition s c run)
 start_beside : (s : Schedule) (bodies : List BodyMeaning) (n : ℕ) (p : RunningSystem) → p.system ≢ n → Apart (params_of s p.system) (params_of s n) →
     IsActBeside s bodies (start_act s n) (λ run. started_system s n run ∷ []) p
 start_beside s bodies n p d a = record {
-  swaps = λ run f. finish-act s bodies p (can_start s n) (after_start s n) run
-      (λ o. can_start-overlaid s n p o run) (λ o. can_finish-after_start s n p.system o run) (λ o. after_start-overlaid s n p o run d a);
+  swaps = λ run f. finish-act s bodies p can_start (after_start s n) run
+      (λ o. has_tick-overlaid s p o run) (λ o. can_finish-after_start s n p.system o run) (λ o. after_start-overlaid s n p o run d a);
   same = λ run after f e. ap (λ (x : RunningSystem). x ∷ []) (finish-view (started_system s n) s bodies p run after (λ o. started_system-overlaid s n p o run d a f) e);
 }
 
@@ -103,7 +103,7 @@ settles_cond s bodies h c answer w may k =
 settles_start : (s : Schedule) (bodies : List BodyMeaning) (h : List Step) (n : ℕ) (w : Interleaved) → MayStart s h n → Holds s h w →
     option_and_then (settled s bodies) (interleaved_step s bodies (Start n) w) ≡ option_and_then (serial_step s bodies (Start n)) (settled s bodies w)
 settles_start s bodies h n w may k =
-    settled-provided s bodies (can_start s n w.run) (after_start s n w.run) (w.running_systems ++ started_system s n w.run ∷ [])
+    settled-provided s bodies (can_start w.run) (after_start s n w.run) (w.running_systems ++ started_system s n w.run ∷ [])
     ∙ sym (settle-act s bodies (start_act s n) (λ run. started_system s n run ∷ []) w.running_systems w.run
     (λ p i. start_beside s bodies n p (apart_start s h n w may k p i).0 (apart_start s h n w may k p i).1) k.fit)
     ∙ option_and_then-same (λ r. option_and_then (settle s bodies (started_system s n r ∷ [])) (start_act s n r)) (serial_step s bodies (Start n)) (settled s bodies w)
@@ -121,9 +121,9 @@ settles_finish s bodies h n w r k =
 
 -- a sync point, where nothing runs
 settles_sync_idle : (s : Schedule) (bodies : List BodyMeaning) (k : ℕ) (run : RunState) (ps : List RunningSystem) → ps ≡ [] →
-    option_and_then (settle s bodies ps) (provided (has_tick run.state) (after_sync s k run))
+    option_and_then (settle s bodies ps) (provided (can_sync s k run) (after_sync s k run))
     ≡ option_and_then (serial_step s bodies (Sync k)) (settle s bodies ps run)
-settles_sync_idle s bodies k run [] e = option_and_then-settle_none s bodies (provided (has_tick run.state) (after_sync s k run))
+settles_sync_idle s bodies k run [] e = option_and_then-settle_none s bodies (provided (can_sync s k run) (after_sync s k run))
 settles_sync_idle s bodies k run (p ∷ ps) e = absurd (cc)
 
 -- a step that may come
@@ -134,7 +134,7 @@ settles_step s bodies h (Start n) w lawful may k = settles_start s bodies h n w 
 settles_step s bodies h (Skip n) w lawful may k = sym (option_and_then-Some (settled s bodies w))
 settles_step s bodies h (Finish n) w lawful may k = settles_finish s bodies h n w may.running k
 settles_step s bodies h (Sync j) w lawful may k =
-    settled-provided s bodies (has_tick w.run.state) (after_sync s j w.run) w.running_systems
+    settled-provided s bodies (can_sync s j w.run) (after_sync s j w.run) w.running_systems
     ∙ settles_sync_idle s bodies j w.run w.running_systems (none_running w.running_systems (λ p i. idle s h j p.system lawful may (k.alive p i)))
 
 -- ---- histories
@@ -143,7 +143,7 @@ settles_step s bodies h (Sync j) w lawful may k =
 pub settles : (s : Schedule) (bodies : List BodyMeaning) (start : State) (h : List Step) → IsLawful s h →
     option_and_then (settled s bodies) (interleaved s bodies start h) ≡ serial s bodies start h
 settles s bodies start [] lawful =
-    settled-with_running_systems s bodies [] (begin_run start) ∙ option_and_then-settle_none s bodies (begin_run start)
+    settled-with_running_systems s bodies [] (begin_run s start) ∙ option_and_then-settle_none s bodies (begin_run s start)
 settles s bodies start (step ∷ h) lawful =
     option_and_then-assoc (interleaved_step s bodies step) (settled s bodies) (interleaved s bodies start h)
     ∙ option_and_then-same (λ w. option_and_then (settled s bodies) (interleaved_step s bodies step w)) (λ w. option_and_then (serial_step s bodies step) (settled s bodies w))

@@ -1,5 +1,5 @@
 -- An outcome laid over a run state, beside what doesn't conflict with its system: another outcome, a start, a condition.
-use Rattle.std.proofs.Common.{ℕ, nat_lt, ℤ, ◌&&◌, ◌≡◌, ◌≢◌, ◌⊎◌, List, get_or, Option, refl, sym, ap, ap₂, ◌∙◌, inl, inr}
+use Rattle.std.proofs.Common.{ℕ, nat_lt, ℤ, ◌≡◌, ◌≢◌, ◌⊎◌, List, get_or, Option, refl, sym, ap, ap₂, ◌∙◌, inl, inr}
 use Rattle.std.proofs.lemmas.Bool.{or_left, or_right}
 use Rattle.model.specs.Lists.{IsIn, has, head_or, update_at, with_at}
 use Rattle.model.specs.state.State.{Entity, Slot, Resource, EventQueue, Memory, State, no_resource, no_memory}
@@ -14,13 +14,12 @@ use Rattle.model.specs.access.Condition.{Condition, asked, queries_of, resources
 use Rattle.model.specs.access.Condition.Condition.{RunOnce, ResourceEquals, ResourceAtLeast, ResourceChanged, AnyWith, OnEvent, Not, And, Or}
 use Rattle.model.specs.access.Condition.Asked.{Value, IsNewer, Rows, Unread, Both}
 use Rattle.model.specs.steps.Schedule.{Schedule, params_of, condition_of, access_of}
-use Rattle.model.specs.runs.RunState.{RunState, RunningSystem, has_tick, next_tick, memory_of_system, memory_of_condition, spawns_of, memory_after_run, ids_of_start, has_ids_to_start, can_start, started_system, after_start, can_finish, with_registers, overlaid, asked_of, after_condition}
+use Rattle.model.specs.runs.RunState.{RunState, RunningSystem, has_tick, next_tick, memory_of_system, memory_of_condition, memory_after_run, started_system, after_start, can_finish, with_registers, overlaid, asked_of, after_condition}
 use Rattle.model.proofs.lists.Lists.{update_at-comm, with_at-comm, get_or-update_at_other, map-same, has-IsIn, IsIn_left, IsIn_right}
 use Rattle.model.proofs.serial.Conflicts.{Apart, WritesWithin, unseen, one_writer, unread_resource, one_setter, unread_event, one_sender}
 use Rattle.model.proofs.serial.Within.{rows_of_each-match, words_written-within}
 use Rattle.model.proofs.serial.Writes.{kinds_of-slots_after, within_same, slots_after-comm, rows_of-slots_after}
 use Rattle.model.proofs.serial.Uses.{resources_after-comm, get_or-resources_after, values-same, queues_after-comm, queue_of-queues_after, has_event_numbers-queues_after, unread_of-same, end_cursors-same}
-use Rattle.model.proofs.serial.Grants.{granted_ids-slots_after, has_ids-slots_after, grant-slots_after, row_at-grant}
 
 -- ---- what fits
 
@@ -55,8 +54,7 @@ fits-overlaid s p q o run f = fits_same s p run.state.world.slots (overlaid s q 
 -- after a start
 pub fits-after_start : (s : Schedule) (p : RunningSystem) (n : ℕ) (run : RunState) → Fits s p run.state.world.slots → Fits s p (after_start s n run).state.world.slots
 unfolding after_start
-fits-after_start s p n run f = fits_same s p run.state.world.slots (after_start s n run).state.world.slots
-    (λ index. ap kinds_of (row_at-grant (spawns_of s n) run.state.world.slots index)) f
+fits-after_start s p n run f = f
 
 -- after a condition
 pub fits-after_condition : (s : Schedule) (p : RunningSystem) (c : ℕ) (run : RunState) → Fits s p run.state.world.slots → Fits s p (after_condition s c run).state.world.slots
@@ -156,11 +154,10 @@ memory_of_system-overlaid : (s : Schedule) (n : ℕ) (p : RunningSystem) (o : Ou
 unfolding overlaid
 memory_of_system-overlaid s n p o run d = get_or-update_at_other p.system n (with_registers o.registers) run.state.systems no_memory d
 
--- the ids that a start grants
-pub ids_of_start-overlaid : (s : Schedule) (n : ℕ) (p : RunningSystem) (o : Outcome) (run : RunState) → ids_of_start s n (overlaid s p o run) ≡ ids_of_start s n run
-unfolding ids_of_start overlaid
-ids_of_start-overlaid s n p o run =
-    granted_ids-slots_after (spawns_of s n) p.tick (words_written (params_of s p.system).queries p.shown.rows o.cells) run.state.world.slots
+-- the ids of another system
+grants-overlaid : (s : Schedule) (n : ℕ) (p : RunningSystem) (o : Outcome) (run : RunState) → (overlaid s p o run).grants n ≡ run.grants n
+unfolding overlaid
+grants-overlaid s n p o run = refl
 
 -- the tick stays
 next_tick-overlaid : (s : Schedule) (p : RunningSystem) (o : Outcome) (run : RunState) → next_tick (overlaid s p o run).state ≡ next_tick run.state
@@ -179,15 +176,9 @@ unfolding started_system
 started_system-overlaid s n p o run d a f = λ i. record {
   system = n;
   tick = next_tick-overlaid s p o run i;
-  shown = (ap₂ (λ memory ids. shown (params_of s n) memory (overlaid s p o run).state ids) (memory_of_system-overlaid s n p o run d) (ids_of_start-overlaid s n p o run)
-      ∙ shown-overlaid s p o run (params_of s n) (memory_of_system run.state n) (ids_of_start s n run) a f) i;
+  shown = (ap₂ (λ memory ids. shown (params_of s n) memory (overlaid s p o run).state ids) (memory_of_system-overlaid s n p o run d) (grants-overlaid s n p o run)
+      ∙ shown-overlaid s p o run (params_of s n) (memory_of_system run.state n) (run.grants n) a f) i;
 }
-
--- whether it can start stays
-pub can_start-overlaid : (s : Schedule) (n : ℕ) (p : RunningSystem) (o : Outcome) (run : RunState) → can_start s n (overlaid s p o run) ≡ can_start s n run
-unfolding can_start has_ids_to_start overlaid
-can_start-overlaid s n p o run = ap (◌&&◌ (has_tick run.state))
-    (has_ids-slots_after (spawns_of s n) p.tick (words_written (params_of s p.system).queries p.shown.rows o.cells) run.state.world.slots)
 
 -- the memories after a start and an outcome
 systems-after_start : (tick m n : ℕ) (registers : List ℤ) (reads : List ℕ) (queues others : List EventQueue) (systems : List Memory) → n ≢ m →
@@ -205,7 +196,7 @@ unfolding after_start overlaid
 after_start-overlaid s n p o run d a = λ i. record {
   state = record {
     world = record {
-      slots = grant-slots_after (spawns_of s n) p.tick (words_written (params_of s p.system).queries p.shown.rows o.cells) run.state.world.slots i;
+      slots = slots_after p.tick (words_written (params_of s p.system).queries p.shown.rows o.cells) run.state.world.slots;
       resources = resources_after p.tick (value_written (params_of s p.system).res_mut o.res_mut) run.state.world.resources;
       clock = next_tick run.state;
     };
@@ -216,7 +207,7 @@ after_start-overlaid s n p o run d a = λ i. record {
     passed_over = run.state.passed_over;
   };
   buffers = with_at p.system o.commands run.buffers;
-  grants = with_at n (ids_of_start-overlaid s n p o run i) run.grants;
+  grants = run.grants;
 }
 
 -- whether the events of an outcome get numbers stays after a start

@@ -8,9 +8,9 @@ use Rattle.model.specs.shown.Outcome.{BodyMeaning}
 use Rattle.model.specs.steps.Schedule.{Schedule, condition_of}
 use Rattle.model.specs.steps.Lawful.{IsLawful, IsComplete}
 use Rattle.model.specs.access.Condition.{means}
-use Rattle.model.specs.runs.RunState.{RunState, answer_of, asked_of, begin_run, can_ask, can_open, after_condition}
+use Rattle.model.specs.runs.RunState.{RunState, answer_of, asked_of, begin_run, can_ask, after_condition}
 use Rattle.model.specs.runs.Meaning.{Interleaved, interleaved, interleaved_step, serial, serial_step, HasTrueAnswers, IsTrueAnswer}
-use Rattle.model.specs.runs.Causes.{Cause, unless, serial_cause, serial_cause_at, serial_cause_of}
+use Rattle.model.specs.runs.Causes.{Cause, unless, cause_of_opening, serial_cause, serial_cause_at, serial_cause_of}
 use Rattle.model.specs.runs.Causes.Cause.{NoTick}
 use Rattle.model.specs.runs.Runs.{IsSoundRun}
 use Rattle.model.proofs.order.Histories.{lawful_before}
@@ -172,7 +172,7 @@ module _ (s : Schedule) (bodies : List BodyMeaning) (start : State) where
 
   -- ---- how it goes on
 
-  pub reached_open : (run : RunState) → begin_run start ≡ Some run → IsReached s bodies start [] run
+  pub reached_open : (run : RunState) → begin_run s start ≡ Some run → IsReached s bodies start [] run
   reached_open run e = record { answers = tt; meaning = e }
 
   pub reached_more : (h : List Step) (step : Step) (run later : RunState) → IsReached s bodies start h run → IsStepTaken s bodies run step later → IsReached s bodies start (step ∷ h) later
@@ -234,8 +234,8 @@ module _ (s : Schedule) (bodies : List BodyMeaning) (start : State) where
   }
 
   -- what stops the opening
-  pub stopped_open : (h : List Step) → can_open start ≡ false → IsReplayStopped s bodies start (h ++ []) NoTick
-  stopped_open h e = record { later = h; front = []; whole = refl; answers = tt; stops = ap (λ b. unless b NoTick) e }
+  pub stopped_open : (h : List Step) (cause : Cause) → cause_of_opening s start ≡ Some cause → IsReplayStopped s bodies start (h ++ []) cause
+  stopped_open h cause e = record { later = h; front = []; whole = refl; answers = tt; stops = e }
 
 -- ---- the law
 

@@ -1,5 +1,5 @@
 -- The computed test of a conflict among the parameters of one system is exact.
-use Rattle.std.proofs.Common.{ℕ, zero, suc, Bool, true, ◌||◌, ◌≡◌, ◌≢◌, ◌↔◌, inl, inr, List, [], ◌∷◌, Option, Some, None, get_or, refl, sym, ap, subst, arith}
+use Rattle.std.proofs.Common.{ℕ, zero, suc, true, ◌||◌, ◌≡◌, ◌≢◌, ◌↔◌, inl, inr, List, [], ◌∷◌, Option, Some, None, get_or, refl, sym, ap, subst, arith}
 use Rattle.std.proofs.lemmas.Bool.{or_cases, or_left, or_right, false≢true}
 use Rattle.std.specs.List.{list_any}
 use Rattle.model.specs.Lists.{has, is_number, IsIn}

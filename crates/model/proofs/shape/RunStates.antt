@@ -1,17 +1,17 @@
 -- A run state keeps its shape: the opening and each step, a finish where the outcome keeps within its parameters.
-use Rattle.std.proofs.Common.{◌≡◌, ℕ, suc, ◌≤◌, ℤ, true, refl, ◌∙◌, List, [], length, Option, Some, None, ◌==◌, arith, ltb-true}
+use Rattle.std.proofs.Common.{◌≡◌, ℕ, suc, ◌≤◌, ℤ, true, refl, ◌∙◌, List, [], ◌∷◌, length, Option, Some, None, ◌==◌, arith, ltb-true}
 use Rattle.std.proofs.lemmas.Bool.{and_parts, cond_both}
 use Rattle.std.proofs.lemmas.List.{length-map}
 use Rattle.std.specs.List.{AllByRecursion}
-use Rattle.model.specs.state.State.{Resource, World, State, last_tick}
+use Rattle.model.specs.state.State.{Slot, Resource, World, State, last_tick, most_indices}
 use Rattle.model.specs.state.Events.{updated_queue}
 use Rattle.model.specs.access.Access.{Params}
 use Rattle.model.specs.shown.Outcome.{HasWidth, Outcome, IsWithin, words_written, value_written, events_sent}
 use Rattle.model.specs.shown.Overlay.{resource_after, resources_after, slots_after}
 use Rattle.model.specs.steps.Schedule.{Schedule, params_of, access_of, level_of}
-use Rattle.model.specs.state.Ids.{has_ids, grant}
-use Rattle.model.specs.runs.RunState.{RunState, RunningSystem, between, has_tick, opening, spawns_of, memory_after_run, has_ids_to_start, can_start, after_start, can_finish, with_registers, overlaid, after_condition, systems_of_level, commands_of_level, ids_of_level, commands_applied, after_sync}
-use Rattle.model.specs.state.Shape.{IsWorld, IsQueue, IsStateOf, IsRunStateOf}
+use Rattle.model.specs.state.Ids.{has_ids, grant, has_ids_for_each, grant_each}
+use Rattle.model.specs.runs.RunState.{RunState, RunningSystem, between, has_tick, opening, counts_of_level, has_ids_for_level, after_grant, has_ids_to_open, can_open, after_opening, memory_after_run, can_start, after_start, can_finish, with_registers, overlaid, after_condition, systems_of_level, commands_of_level, ids_of_level, commands_applied, after_commands, has_ids_to_sync, can_sync, after_sync}
+use Rattle.model.specs.state.Shape.{IsSlot, IsWorld, IsQueue, IsStateOf, IsRunStateOf}
 use Rattle.model.proofs.lists.Lists.{length-map_index}
 use Rattle.model.proofs.lists.Each.{each-weaker, each-map, each-map_index, each-flat_map}
 use Rattle.model.proofs.shape.Slots.{slots-later, slots-after, length-slots_after, slots-release, length-release, slots-grant, length-grant}
@@ -75,6 +75,55 @@ state-opening widths s w room h = record {
 pub run-between : (widths : ℕ → ℕ) (s : Schedule) (w : State) → IsStateOf widths s w → IsRunStateOf widths s (between w)
 run-between widths s w h = record { state = h; buffers = λ n. tt }
 
+-- ---- a grant for a level
+
+-- the slots after grants one after the other
+slots-grant_each : (widths : ℕ → ℕ) (clock : ℕ) (ns : List ℕ) (slots : List Slot) → AllByRecursion (IsSlot widths clock) slots → AllByRecursion (IsSlot widths clock) (grant_each ns slots)
+unfolding grant_each
+slots-grant_each widths clock [] slots h = h
+slots-grant_each widths clock (n ∷ ns) slots h = slots-grant_each widths clock ns (grant n slots) (slots-grant widths clock n slots h)
+
+-- grants that have their ids leave few enough slots
+length-grant_each : (ns : List ℕ) (slots : List Slot) → has_ids_for_each ns slots ≡ true → length slots ≤ most_indices → length (grant_each ns slots) ≤ most_indices
+unfolding grant_each has_ids_for_each
+length-grant_each [] slots e few = few
+length-grant_each (n ∷ ns) slots e few =
+    let p = and_parts (has_ids n slots) (has_ids_for_each ns (grant n slots)) e in
+    length-grant_each ns (grant n slots) p.1 (length-grant n slots p.0)
+
+-- the run state after a grant that has its ids
+pub run-grant : (widths : ℕ → ℕ) (s : Schedule) (k : ℕ) (run : RunState) → has_ids_for_level s k run ≡ true → IsRunStateOf widths s run → IsRunStateOf widths s (after_grant s k run)
+unfolding after_grant has_ids_for_level
+run-grant widths s k run ids h = record {
+  state = record {
+    world = record {
+      slots = slots-grant_each widths run.state.world.clock (counts_of_level s k) run.state.world.slots h.state.world.slots;
+      few = length-grant_each (counts_of_level s k) run.state.world.slots ids h.state.world.few;
+      resource_number = h.state.world.resource_number;
+      resources = h.state.world.resources;
+      clock_least = h.state.world.clock_least;
+      clock_most = h.state.world.clock_most;
+    };
+    queue_number = h.state.queue_number;
+    queues = h.state.queues;
+    systems = h.state.systems;
+    conditions = h.state.conditions;
+    passed_over = h.state.passed_over;
+  };
+  buffers = h.buffers;
+}
+
+-- what an opening needs
+opening-parts : (s : Schedule) (w : State) → can_open s w ≡ true → (has_tick w ≡ true) × (has_ids_for_level s 0 (between (opening w)) ≡ true)
+unfolding can_open has_ids_to_open
+opening-parts s w e = and_parts (has_tick w) (has_ids_for_level s 0 (between (opening w))) e
+
+-- the run state after the opening
+pub run-opened : (widths : ℕ → ℕ) (s : Schedule) (w : State) → can_open s w ≡ true → IsStateOf widths s w → IsRunStateOf widths s (after_opening s w)
+unfolding after_opening
+run-opened widths s w can h = let p = opening-parts s w can in
+    run-grant widths s 0 (between (opening w)) p.1 (run-between widths s (opening w) (state-opening widths s w p.0 h))
+
 -- ---- a condition
 
 -- the run state after a condition was asked
@@ -96,29 +145,12 @@ run-condition widths s c run room h = record {
 
 -- ---- a start
 
--- what a start needs
-pub start-parts : (s : Schedule) (n : ℕ) (run : RunState) → can_start s n run ≡ true → (has_tick run.state ≡ true) × (has_ids (spawns_of s n) run.state.world.slots ≡ true)
-unfolding can_start has_ids_to_start
-start-parts s n run e = and_parts (has_tick run.state) (has_ids (spawns_of s n) run.state.world.slots) e
-
--- the world after a start
-world-start : (widths : ℕ → ℕ) (n : ℕ) (w : World) → suc w.clock ≤ last_tick → has_ids n w.slots ≡ true → IsWorld widths w
-    → IsWorld widths (record { slots = grant n w.slots; resources = w.resources; clock = suc w.clock })
-world-start widths n w room ids h = record {
-  slots = slots-later widths w.clock (suc w.clock) (omega arith) (grant n w.slots) (slots-grant widths w.clock n w.slots h.slots);
-  few = length-grant n w.slots ids;
-  resource_number = h.resource_number;
-  resources = resources-later w.clock (suc w.clock) (omega arith) w.resources h.resources;
-  clock_least = omega arith;
-  clock_most = room;
-}
-
 -- the run state after a start
-pub run-start : (widths : ℕ → ℕ) (s : Schedule) (n : ℕ) (run : RunState) → can_start s n run ≡ true → IsRunStateOf widths s run → IsRunStateOf widths s (after_start s n run)
+pub run-start : (widths : ℕ → ℕ) (s : Schedule) (n : ℕ) (run : RunState) → can_start run ≡ true → IsRunStateOf widths s run → IsRunStateOf widths s (after_start s n run)
 unfolding after_start
-run-start widths s n run can h = let p = start-parts s n run can in record {
+run-start widths s n run room h = record {
   state = record {
-    world = world-start widths (spawns_of s n) run.state.world (tick-room run.state p.0) p.1 h.state.world;
+    world = world-tick widths run.state.world (tick-room run.state room) h.state.world;
     queue_number = h.state.queue_number;
     queues = h.state.queues;
     systems = systems-changed (suc run.state.world.clock) n (memory_after_run (suc run.state.world.clock) (params_of s n).reads run.state.events) s.systems run.state.systems
@@ -147,10 +179,10 @@ commands-target widths s k run h = target-buffer widths (suc run.state.world.clo
       passed_over = h.state.passed_over;
     })
 
--- the run state after a sync point
-pub run-sync : (widths : ℕ → ℕ) (s : Schedule) (k : ℕ) (run : RunState) → has_tick run.state ≡ true → IsRunStateOf widths s run → IsRunStateOf widths s (after_sync s k run)
-unfolding after_sync
-run-sync widths s k run room h = let t = commands-target widths s k run h in let few = h.state.world.few in record {
+-- the run state after the commands of a level
+run-commands : (widths : ℕ → ℕ) (s : Schedule) (k : ℕ) (run : RunState) → has_tick run.state ≡ true → IsRunStateOf widths s run → IsRunStateOf widths s (after_commands s k run)
+unfolding after_commands
+run-commands widths s k run room h = let t = commands-target widths s k run h in let few = h.state.world.few in record {
   state = record {
     world = record {
       slots = slots-release widths (suc run.state.world.clock) (ids_of_level s k run) (commands_applied s k run).slots t.slots;
@@ -168,6 +200,17 @@ run-sync widths s k run room h = let t = commands-target widths s k run h in let
   };
   buffers = λ n. cond_both (level_of s n == k) [] (run.buffers n) (AllByRecursion (HasWidth widths)) (λ e. tt) (λ e. h.buffers n);
 }
+
+-- what a sync point needs
+sync-parts : (s : Schedule) (k : ℕ) (run : RunState) → can_sync s k run ≡ true → (has_tick run.state ≡ true) × (has_ids_for_level s (suc k) (after_commands s k run) ≡ true)
+unfolding can_sync has_ids_to_sync
+sync-parts s k run e = and_parts (has_tick run.state) (has_ids_for_level s (suc k) (after_commands s k run)) e
+
+-- the run state after a sync point
+pub run-sync : (widths : ℕ → ℕ) (s : Schedule) (k : ℕ) (run : RunState) → can_sync s k run ≡ true → IsRunStateOf widths s run → IsRunStateOf widths s (after_sync s k run)
+unfolding after_sync
+run-sync widths s k run can h = let p = sync-parts s k run can in
+    run-grant widths s (suc k) (after_commands s k run) p.1 (run-commands widths s k run p.0 h)
 
 -- ---- a finish
 

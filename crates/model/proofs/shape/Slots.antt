@@ -185,7 +185,7 @@ length-vacant_fresh first zero = refl
 length-vacant_fresh first (suc n) = ap suc (length-vacant_fresh (suc first) n)
 
 -- fresh slots at the end are that many more vacant ones
-length-vacant_room : (first n : ℕ) (slots : List Slot) → length (vacant_from first (slots ++ replicate n fresh_slot)) ≡ length (vacant_from first slots) + n
+pub length-vacant_room : (first n : ℕ) (slots : List Slot) → length (vacant_from first (slots ++ replicate n fresh_slot)) ≡ length (vacant_from first slots) + n
 length-vacant_room first n [] = length-vacant_fresh first n ∙ omega arith
 length-vacant_room first n (slot ∷ slots) = go (is_vacant slot.status) (length-vacant_room (suc first) n slots)
   where

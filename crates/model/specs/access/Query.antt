@@ -1,5 +1,5 @@
 -- Queries: which sets of kinds they match, and which kinds they touch and write. A set of kinds is a test on kinds.
-use Rattle.std.specs.Prelude.{ℕ, Bool, true, not, List, Option, Some, None}
+use Rattle.std.specs.Prelude.{ℕ, Bool, true, false, not, List, Option, Some, None}
 use Rattle.std.specs.List.{list_any, list_all}
 use Rattle.model.specs.Lists.{is_number}
 
@@ -58,3 +58,9 @@ touches query kind = list_any (λ t. is_number kind (touched t)) query
 -- whether a query writes a kind
 abbrev pub writes : List Term → ℕ → Bool
 writes query kind = list_any (λ t. is_number kind (written t)) query
+
+-- whether a term compares a stamp with the asker's last run
+abbrev pub is_filter : Term → Bool
+is_filter (Added k) = true
+is_filter (Changed k) = true
+is_filter _ = false

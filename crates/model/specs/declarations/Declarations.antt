@@ -2,7 +2,6 @@
 -- conditions they run, and what its systems touch.
 use Rattle.std.specs.Prelude.{ℕ, suc, ◌<◌, ◌≡◌, Bool, if◌then◌else◌, List, [], ◌∷◌, ◌++◌, length, map, flat_map, get_or}
 use Rattle.std.specs.Str.{bytes_eq}
-use Rattle.model.specs.Lists.{map_index}
 use Rattle.model.specs.access.Access.{Params, no_params}
 use Rattle.model.specs.access.Condition.{Condition}
 use Rattle.model.specs.access.Condition.Condition.{RunOnce}

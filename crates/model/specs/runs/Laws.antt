@@ -135,12 +135,12 @@ FinishesWait = (width : ℕ) (s : Schedule) (later front : List Step) (n : ℕ) 
 -- a run keeps the shape of a state, interleaved and serial
 abbrev pub InterleavedKeepsShape : Type 0
 InterleavedKeepsShape = (widths : ℕ → ℕ) (s : Schedule) (bodies : List BodyMeaning) (start : State) (h : List Step) (w : Interleaved) →
-    BodiesKeepWithin widths s bodies → IsStateOf widths s start → IsLawful s h →
+    IsBuilt s → BodiesKeepWithin widths s bodies → IsStateOf widths s start → IsLawful s h →
     interleaved s bodies start h ≡ Some w → IsRunStateOf widths s w.run
 
 abbrev pub SerialKeepsShape : Type 0
 SerialKeepsShape = (widths : ℕ → ℕ) (s : Schedule) (bodies : List BodyMeaning) (start : State) (h : List Step) (run : RunState) →
-    BodiesKeepWithin widths s bodies → IsStateOf widths s start → IsLawful s h →
+    IsBuilt s → BodiesKeepWithin widths s bodies → IsStateOf widths s start → IsLawful s h →
     serial s bodies start h ≡ Some run → IsRunStateOf widths s run
 
 -- the state as loaded has the shape of a state

@@ -34,23 +34,23 @@ with_running_systems ps (Some run) = Some (record { run = run; running_systems =
 -- one step, interleaved: a start shows, and the finish lays the outcome over what is there then
 abbrev pub interleaved_step : Schedule → List BodyMeaning → Step → Interleaved → Option Interleaved
 interleaved_step s bodies (Cond c answer) w = provided (can_ask w.run) (record { run = after_condition s c w.run; running_systems = w.running_systems })
-interleaved_step s bodies (Start n) w = provided (can_start s n w.run)
+interleaved_step s bodies (Start n) w = provided (can_start w.run)
     (record { run = after_start s n w.run; running_systems = w.running_systems ++ started_system s n w.run ∷ [] })
 interleaved_step s bodies (Skip n) w = Some w
 interleaved_step s bodies (Finish n) w =
     option_and_then (λ p. with_running_systems (without_system n w.running_systems) (finish s bodies p w.run)) (running_system n w.running_systems)
-interleaved_step s bodies (Sync k) w = provided (can_sync w.run) (record { run = after_sync s k w.run; running_systems = w.running_systems })
+interleaved_step s bodies (Sync k) w = provided (can_sync s k w.run) (record { run = after_sync s k w.run; running_systems = w.running_systems })
 
 -- what a history makes of a state, interleaved
 abbrev pub interleaved : Schedule → List BodyMeaning → State → List Step → Option Interleaved
-interleaved s bodies start [] = with_running_systems [] (begin_run start)
+interleaved s bodies start [] = with_running_systems [] (begin_run s start)
 interleaved s bodies start (step ∷ h) = option_and_then (interleaved_step s bodies step) (interleaved s bodies start h)
 
 -- ---- serial
 
 -- a start taken whole: what the system was shown, and the finish at once
 abbrev pub serial_start : Schedule → List BodyMeaning → ℕ → RunState → Option RunState
-serial_start s bodies n run = option_and_then (finish s bodies (started_system s n run)) (provided (can_start s n run) (after_start s n run))
+serial_start s bodies n run = option_and_then (finish s bodies (started_system s n run)) (provided (can_start run) (after_start s n run))
 
 -- one step on one thread: a start is whole, and a finish does nothing
 abbrev pub serial_step : Schedule → List BodyMeaning → Step → RunState → Option RunState
@@ -58,11 +58,11 @@ serial_step s bodies (Cond c answer) run = provided (can_ask run) (after_conditi
 serial_step s bodies (Start n) run = serial_start s bodies n run
 serial_step s bodies (Skip n) run = Some run
 serial_step s bodies (Finish n) run = Some run
-serial_step s bodies (Sync k) run = provided (can_sync run) (after_sync s k run)
+serial_step s bodies (Sync k) run = provided (can_sync s k run) (after_sync s k run)
 
 -- what a history makes of a state, on one thread
 abbrev pub serial : Schedule → List BodyMeaning → State → List Step → Option RunState
-serial s bodies start [] = begin_run start
+serial s bodies start [] = begin_run s start
 serial s bodies start (step ∷ h) = option_and_then (serial_step s bodies step) (serial s bodies start h)
 
 -- ---- answers

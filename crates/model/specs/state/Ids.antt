@@ -1,5 +1,5 @@
 -- The granting of ids: the least vacant indices at their generations. Past the end of the slots all indices are vacant.
-use Rattle.std.specs.Prelude.{ℕ, suc, ◌-◌, Bool, cond, nat_le, List, [], ◌∷◌, ◌++◌, length, map, take, replicate, get_or}
+use Rattle.std.specs.Prelude.{ℕ, suc, ◌-◌, Bool, true, cond, ◌&&◌, nat_le, List, [], ◌∷◌, ◌++◌, length, map, take, replicate, get_or}
 use Rattle.model.specs.Lists.{has, map_index}
 use Rattle.model.specs.state.State.{Entity, Slot, fresh_slot, is_vacant, most_indices}
 use Rattle.model.specs.state.State.Status.{Granted}
@@ -40,3 +40,20 @@ granted_slot slot = record { generation = slot.generation; status = Granted; row
 -- the slots after a grant of n
 unfoldable pub grant : ℕ → List Slot → List Slot
 grant n slots = map_index (λ index slot. cond (has index (least_vacant n slots)) (granted_slot slot) slot) (with_room n slots)
+
+-- ---- grants of several numbers, one after the other
+
+-- whether there are ids for each
+unfoldable pub has_ids_for_each : List ℕ → List Slot → Bool
+has_ids_for_each [] slots = true
+has_ids_for_each (n ∷ ns) slots = has_ids n slots && has_ids_for_each ns (grant n slots)
+
+-- the ids that each of them gives
+unfoldable pub ids_of_each : List ℕ → List Slot → List (List Entity)
+ids_of_each [] slots = []
+ids_of_each (n ∷ ns) slots = granted_ids n slots ∷ ids_of_each ns (grant n slots)
+
+-- the slots after all of them
+unfoldable pub grant_each : List ℕ → List Slot → List Slot
+grant_each [] slots = slots
+grant_each (n ∷ ns) slots = grant_each ns (grant n slots)

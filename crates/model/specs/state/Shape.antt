@@ -1,14 +1,13 @@
 -- The shape of a state: what every state of an engine is. Two states of the right shape that mean the same are equal.
-use Rattle.std.specs.Prelude.{ℕ, suc, ◌<◌, ◌≤◌, true, false, ◌≡◌, List, [], ◌∷◌, length, Ok}
-use Rattle.std.specs.List.{AllByRecursion}
-use Rattle.model.specs.state.State.{Component, Slot, World, Event, EventQueue, Memory, State, is_living, last_tick, last_generation, most_indices, most_passed_over, resource_count, event_count, register_count}
+use Rattle.std.specs.Prelude.{ℕ, suc, ◌<◌, ◌≤◌, false, ◌≡◌, ◌≢◌, List, [], ◌∷◌, length, Ok}
+use Rattle.std.specs.List.{AllByRecursion, AllPairs}
+use Rattle.model.specs.state.State.{Entity, Component, Slot, World, Event, EventQueue, Memory, State, is_living, last_tick, last_generation, most_indices, most_passed_over, resource_count, event_count, register_count}
 use Rattle.model.specs.state.State.Status.{Vacant, Retired}
 use Rattle.model.specs.state.Rows.{IsRising}
 use Rattle.model.specs.shown.Input.{shown}
 use Rattle.model.specs.shown.Outcome.{HasWidth, Outcome, IsWithin, BodyMeaning}
 use Rattle.model.specs.steps.Schedule.{Schedule, params_of, ScheduledSystem, ScheduledCondition}
 use Rattle.model.specs.access.Condition.{access_of_condition}
-use Rattle.model.specs.state.Ids.{granted_ids, has_ids}
 use Rattle.model.specs.runs.RunState.{RunState, memory_of_system, spawns_of, body_of}
 
 -- a component of its kind's width, with no stamp above the clock
@@ -83,9 +82,14 @@ pub record IsRunStateOf (widths : ℕ → ℕ) (s : Schedule) (run : RunState) :
 
 -- ---- bodies
 
--- each body keeps within the parameters of its system, on what a state of the right shape can show it
+-- what a system can be given: as many ids as it declares, none twice
+pub record AreIdsFor (s : Schedule) (n : ℕ) (ids : List Entity) : Type 0 where
+  pub count : length ids ≡ spawns_of s n
+  pub once : AllPairs (λ a b. a ≢ b) ids
+
+-- each body keeps within the parameters of its system, on what a state of the right shape can show it, with ids that it can be given
 abbrev pub BodiesKeepWithin : (ℕ → ℕ) → Schedule → List BodyMeaning → Type 0
-BodiesKeepWithin widths s bodies = (n : ℕ) (w : State) (o : Outcome) → n < length s.systems → IsStateOf widths s w
-    → has_ids (spawns_of s n) w.world.slots ≡ true
-    → body_of bodies n (shown (params_of s n) (memory_of_system w n) w (granted_ids (spawns_of s n) w.world.slots)) ≡ Ok o
-    → IsWithin widths (params_of s n) (shown (params_of s n) (memory_of_system w n) w (granted_ids (spawns_of s n) w.world.slots)) o
+BodiesKeepWithin widths s bodies = (n : ℕ) (w : State) (ids : List Entity) (o : Outcome) → n < length s.systems → IsStateOf widths s w
+    → AreIdsFor s n ids
+    → body_of bodies n (shown (params_of s n) (memory_of_system w n) w ids) ≡ Ok o
+    → IsWithin widths (params_of s n) (shown (params_of s n) (memory_of_system w n) w ids) o

@@ -1,5 +1,7 @@
 -- Which systems must run before which, which pairs are left open, and when a schedule is settled.
-use Rattle.std.specs.Prelude.{ℕ, ◌<◌, true, ◌≡◌, ◌≢◌, length, None}
+use Rattle.std.specs.Prelude.{ℕ, ◌<◌, true, false, ◌≡◌, ◌≢◌, length}
+use Rattle.std.specs.Option.{is_some}
+use Rattle.model.specs.access.Access.{has_filter}
 use Rattle.model.specs.access.Conflict.{Conflict}
 use Rattle.model.specs.steps.Schedule.{Schedule, params_of, has_edge, covers, access_of, level_of}
 
@@ -36,8 +38,14 @@ pub record AmbiguousCondition (s : Schedule) (c n : ℕ) : Type 0 where
   pub not_before : ((m : ℕ) → IsMember s c m → Before s n m) → ⊥
   pub not_after : (m : ℕ) → IsMember s c m → Before s m n → ⊥
 
--- a schedule is settled where there is no such pair and no system has commands
+-- no query of a system or condition has an `added` or `changed` term
+pub record HasNoFilter (s : Schedule) : Type 0 where
+  pub systems : (n : ℕ) → n < length s.systems → has_filter (params_of s n) ≡ false
+  pub conditions : (c : ℕ) → c < length s.conditions → has_filter (access_of s c) ≡ false
+
+-- a schedule is settled where there is no such pair and, where a system has commands, no query of a system or condition has an `added` or
+-- `changed` term
 pub record Settled (s : Schedule) : Type 0 where
   pub systems : (m n : ℕ) → AmbiguousSystems s m n → ⊥
   pub conditions : (c n : ℕ) → AmbiguousCondition s c n → ⊥
-  pub no_commands : (n : ℕ) → n < length s.systems → (params_of s n).spawns ≡ None
+  pub unfiltered : (n : ℕ) → n < length s.systems → is_some (params_of s n).spawns ≡ true → HasNoFilter s

@@ -9,16 +9,16 @@ use Rattle.model.specs.steps.Lawful.{runs}
 use Rattle.body.specs.Steps.{StateValue}
 use Rattle.worker_pool.specs.JobOut.{JobOut}
 use Rattle.engine.specs.declared.turn.Turn.{Turn}
-use Rattle.engine.specs.Deferred.{DeferredValue}
+use Rattle.engine.specs.Deferred.{DeferredValue, run_with}
 use Rattle.engine.specs.Jobs.{woven, AreKept, InHand}
 use Rattle.engine.specs.Next.{KeepsNext, StopsNext}
 use Rattle.engine.specs.Stage.{Stage, IsTake, IsTurn}
-use Rattle.engine.specs.Stops.{LacksTick}
+use Rattle.engine.specs.Stops.{CannotSync, LacksTick}
 use Rattle.engine.proofs.Placing.{placed_kept}
 use Rattle.engine.proofs.Staging.{stage_start, stage_ask, stage_skip, stage_sync, stage_finish, running_there, none_out, stops_start, stops_ask, stops_sync, stops_finish}
 use Rattle.engine.proofs.Remembering.{memories_synced}
 use Rattle.engine.proofs.Stops.{handed_on, stops_among, stops_up}
-use Rattle.engine.proofs.Turns.{start_allowed, ask_allowed, placed_asked, placed_synced, in_hand_none, in_hand_asked, home_end}
+use Rattle.engine.proofs.Turns.{start_allowed, ask_allowed, sync_fresh, placed_asked, placed_synced, in_hand_none, in_hand_asked, home_end}
 use Rattle.engine.proofs.coordinator.do_turn.Goals as goal
 
 pub start-requires : goal.start-requires
@@ -37,7 +37,7 @@ start-requires g c = λ lifetimes.
     let h = c.requires.next.2 in
     let known = c.requires.next.3 in
     let next = subst (λ (r : Ready). IsTake s h (length out) width r) c.in-Start.is (subst (λ (t : Turn). IsTurn s h (length out) width (Some t)) c.in-Take.is known.following) in
-    let allowed = start_allowed meaning fits there s bodies slots out w known.between.placed width start h deferred c.in-Start.system known.between.stage (next.allowed false) in
+    let allowed = start_allowed meaning fits there s bodies slots out w known.between.placed width start h deferred c.in-Start.system c.prove_law.ensures known.between.stage (next.allowed false) in
     (c.type_bounds.send-B, (c.type_bounds.send-M-Line, (c.type_bounds.send-M-Gate, (c.type_bounds.sync-M-Gate, ((refl, tt), (allowed, ((bodies, known.between.placed), known.between.hand)))))))
 
 pub finish-requires : goal.finish-requires
@@ -109,7 +109,7 @@ ask-requires-clause-home g c =
     let h = c.requires.next.2 in
     let known = c.requires.next.3 in
     let next = subst (λ (r : Ready). IsTake s h (length out) width r) c.in-Ask.is (subst (λ (t : Turn). IsTurn s h (length out) width (Some t)) c.in-Take.is known.following) in
-    ask_allowed meaning fits there s bodies slots out w known.between.placed c.in-Ask.condition width start h deferred known.between.stage c.prove_law.ensures.laid (next.allowed false)
+    ask_allowed meaning fits there s bodies slots out w known.between.placed c.in-Ask.condition width start h deferred known.between.stage c.prove_law-in-Take.ensures.laid (next.allowed false)
 
 pub sync-requires-clause-known : goal.sync-requires-clause-known
 sync-requires-clause-known g c =
@@ -163,6 +163,24 @@ sync-requires-clause-in_hand g c =
     let known = c.requires.next.3 in
     known.between.hand.ids
 
+pub sync-requires-clause-fresh : goal.sync-requires-clause-fresh
+sync-requires-clause-fresh g c =
+    let meaning = g.B.Body.meaning in
+    let fits = g.B.Body.fits in
+    let there = g.M.Hosts.has_scope c.args.mode.now in
+    let width = g.M.Mode.width c.args.mode.now in
+    let s = c.args.built.now in
+    let slots = c.args.jobs.now.bodies in
+    let deferred = c.args.run.now.deferred in
+    let out = c.args.jobs.now.pool in
+    let w = c.args.run.now.state in
+    let bodies = c.requires.next.0 in
+    let start = c.requires.next.1 in
+    let h = c.requires.next.2 in
+    let known = c.requires.next.3 in
+    let next = subst (λ (r : Ready). IsTake s h (length out) width r) c.in-Sync.is (subst (λ (t : Turn). IsTurn s h (length out) width (Some t)) c.in-Take.is known.following) in
+    sync_fresh meaning fits there s bodies slots out w known.between.placed width start h deferred c.in-Sync.point known.between.stage (next.allowed false)
+
 pub sync-requires-clause-home : goal.sync-requires-clause-home
 sync-requires-clause-home g c =
     let meaning = g.B.Body.meaning in
@@ -180,7 +198,7 @@ sync-requires-clause-home g c =
     let known = c.requires.next.3 in
     let next = subst (λ (r : Ready). IsTake s h (length out) width r) c.in-Sync.is (subst (λ (t : Turn). IsTurn s h (length out) width (Some t)) c.in-Take.is known.following) in
     let none = none_out width s bodies start h w.state deferred out known.between.stage c.in-Sync.point (next.allowed false) in
-    home_end meaning fits there s bodies slots out w known.between.placed none c.prove_law.ensures.laid
+    home_end meaning fits there s bodies slots out w known.between.placed none c.prove_law-in-Take.ensures.laid
 
 pub returns-in_err-start-in-Start-clause-stopped : goal.returns-in_err-start-in-Start-clause-stopped
 returns-in_err-start-in-Start-clause-stopped g c =
@@ -231,7 +249,7 @@ returns-in_err-sync-in-Sync-clause-stopped g c =
     handed_on (StopsNext meaning fits there width s slots deferred out w c.args.turn) c.from_residual-in_err-sync-in-Sync.result told c.from_residual-in_err-sync-in-Sync.ensures.1
     (λ bodies start h known.
     let next = subst (λ (r : Ready). IsTake s h (length out) width r) c.in-Sync.is (subst (λ (t : Turn). IsTurn s h (length out) width (Some t)) c.in-Take.is known.following) in
-    stops_among there (LacksTick w.state) (WideStops width s bodies start) told (λ met e. stops_sync width s bodies start h w.state deferred out known.between.stage c.in-Sync.point met next e) c.in_err-sync-in-Sync.ensures.stopped)
+    stops_among there (CannotSync s c.in-Sync.point (run_with w.state deferred)) (WideStops width s bodies start) told (λ met e. stops_sync width s bodies start h w.state deferred out known.between.stage c.in-Sync.point met next e) c.in_err-sync-in-Sync.ensures.stopped)
 
 pub returns-in_err-system-in-Collect-clause-stopped : goal.returns-in_err-system-in-Collect-clause-stopped
 returns-in_err-system-in-Collect-clause-stopped g c =
@@ -263,7 +281,7 @@ returns-in_err-start-in-Start-clause-kept g c =
     let out = c.args.jobs.now.pool in
     let w = c.args.run.now.state in
     let told = c.in_err-start-in-Start.field-0.0 in
-    handed_on (KeepsNext meaning fits there width s slots deferred out w c.args.turn c.start.new.jobs.bodies c.start.new.jobs.pool) c.from_residual-in_err-start-in-Start.result told c.from_residual-in_err-start-in-Start.ensures.1
+    handed_on (KeepsNext meaning fits there (g.M.Mode.stands c.args.mode.now) width s slots deferred out w c.args.turn c.start.new.jobs.bodies c.start.new.jobs.pool) c.from_residual-in_err-start-in-Start.result told c.from_residual-in_err-start-in-Start.ensures.1
     (λ lost bodies start h known.
     (let same = c.in_err-start-in-Start.ensures.kept lost in
     subst (λ xs. AreKept meaning fits there s bodies xs c.start.new.jobs.pool) (sym same.0) (subst (λ xs. AreKept meaning fits there s bodies slots xs) (sym same.1) (placed_kept meaning fits there s bodies slots out w known.between.placed))))
@@ -280,7 +298,7 @@ returns-in_err-answer-in-Ask-clause-kept g c =
     let out = c.args.jobs.now.pool in
     let w = c.args.run.now.state in
     let told = c.in_err-answer-in-Ask.field-0.0 in
-    handed_on (KeepsNext meaning fits there width s slots deferred out w c.args.turn slots out) c.from_residual-in_err-answer-in-Ask.result told c.from_residual-in_err-answer-in-Ask.ensures.1
+    handed_on (KeepsNext meaning fits there (g.M.Mode.stands c.args.mode.now) width s slots deferred out w c.args.turn slots out) c.from_residual-in_err-answer-in-Ask.result told c.from_residual-in_err-answer-in-Ask.ensures.1
     (λ lost bodies start h known. placed_kept meaning fits there s bodies slots out w known.between.placed)
 
 pub returns-in_err-sync-in-Sync-clause-kept : goal.returns-in_err-sync-in-Sync-clause-kept
@@ -295,7 +313,7 @@ returns-in_err-sync-in-Sync-clause-kept g c =
     let out = c.args.jobs.now.pool in
     let w = c.args.run.now.state in
     let told = c.in_err-sync-in-Sync.field-0.0 in
-    handed_on (KeepsNext meaning fits there width s slots deferred out w c.args.turn slots out) c.from_residual-in_err-sync-in-Sync.result told c.from_residual-in_err-sync-in-Sync.ensures.1
+    handed_on (KeepsNext meaning fits there (g.M.Mode.stands c.args.mode.now) width s slots deferred out w c.args.turn slots out) c.from_residual-in_err-sync-in-Sync.result told c.from_residual-in_err-sync-in-Sync.ensures.1
     (λ lost bodies start h known. placed_kept meaning fits there s bodies slots out w known.between.placed)
 
 pub returns-in_err-system-in-Collect-clause-kept : goal.returns-in_err-system-in-Collect-clause-kept
@@ -310,8 +328,8 @@ returns-in_err-system-in-Collect-clause-kept g c =
     let out = c.args.jobs.now.pool in
     let w = c.args.run.now.state in
     let told = c.in_err-system-in-Collect.field-0.0 in
-    handed_on (KeepsNext meaning fits there width s slots deferred out w c.args.turn c.finish.new.jobs.bodies c.finish.new.jobs.pool) c.from_residual.result told c.from_residual.ensures.1
-    (λ lost bodies start h known. c.in_err-system-in-Collect.ensures.kept lost bodies known.between.placed)
+    handed_on (KeepsNext meaning fits there (g.M.Mode.stands c.args.mode.now) width s slots deferred out w c.args.turn c.finish.new.jobs.bodies c.finish.new.jobs.pool) c.from_residual.result told c.from_residual.ensures.1
+    (λ lost bodies start h known. c.in_err-system-in-Collect.ensures.kept bodies known.between.placed)
 
 pub returns-in_ok-start-in-Start-clause-taken : goal.returns-in_ok-start-in-Start-clause-taken
 returns-in_ok-start-in-Start-clause-taken g c = λ bodies start h known.
@@ -401,7 +419,7 @@ returns-in_ok-sync-in-Sync-clause-taken g c = λ bodies start h known.
     record {
       may = next.allowed false;
       between = record {
-        stage = stage_sync width s bodies start h w.state deferred out known.between.stage c.in-Sync.point later.state left next done.ticked done.synced;
+        stage = stage_sync width s bodies start h w.state deferred out known.between.stage c.in-Sync.point later.state left next done.can done.synced;
         placed = placed_synced meaning fits there s bodies slots out w known.between.placed later none
             (memories_synced s w.state known.between.placed.memories c.in-Sync.point deferred left later.state done.synced) done.home;
         hand = in_hand_none s left out later none done.suits done.in_hand;

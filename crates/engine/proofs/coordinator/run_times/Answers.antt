@@ -1,4 +1,4 @@
-use Rattle.std.proofs.Common.{◌<◌, ◌∷◌, [], List, Err, length, map, length-append, refl, sym, ap, ◌∙◌, subst, arith}
+use Rattle.std.proofs.Common.{◌<◌, ◌∷◌, [], List, Err, IsTrue, length, map, length-append, refl, sym, ap, ◌∙◌, subst, arith}
 use Rattle.std.proofs.lemmas.List.{length-map, map-append}
 use Rattle.model.specs.declared.steps.Step.{Step}
 use Rattle.model.specs.shown.Outcome.{BodyMeaning}
@@ -86,13 +86,16 @@ returns-in_err-bring_home-in-Err-clause-stopped g c =
     let later = c.run_turns.new.jobs in
     handed_on (StopsBy there (IsWideStopped width s bodies c.args.times start)) c.from_residual-in_err-bring_home-in-Err.result told c.from_residual-in_err-bring_home-in-Err.ensures.1
     (subst (StopsBy there (IsWideStopped width s bodies c.args.times start)) (sym lost.0)
-    (either_way there (WideStops width s now middle) (AreKept meaning fits there s now later.bodies later.pool) c.in-Err.stop c.in-Err.ensures.stopped
-    (λ wanting. c.in-Err.ensures.kept (λ e. wanting (one_stop e))) (λ kept. lost.1 s now kept)))
+    (either_way there (WideStops width s now middle) (AreKept meaning fits there s now later.bodies later.pool) (IsTrue (g.M.Mode.stands c.args.mode.now)) c.in-Err.stop c.in-Err.ensures.stopped
+    (λ wanting. c.in-Err.ensures.kept (λ e. wanting (one_stop e))) (λ kept. absurd (lost.1 s now kept))))
 
 pub returns-in_err-bring_home-in-Err-clause-meanings : goal.returns-in_err-bring_home-in-Err-clause-meanings
 returns-in_err-bring_home-in-Err-clause-meanings g c =
+    let s = c.args.built.now in
+    let now = meanings g.B.Body.meaning s c.loop-run.jobs.bodies in
+    let lost = c.in_err-bring_home-in-Err.ensures.lost in
     lost_or_kept c.from_residual-in_err-bring_home-in-Err.result c.in_err-bring_home-in-Err.field-0.0 c.from_residual-in_err-bring_home-in-Err.ensures.1
-    (λ wanting. absurd (wanting c.in_err-bring_home-in-Err.ensures.lost.0))
+    (λ wanting. absurd (lost.1 s now (c.in-Err.ensures.kept (λ e. wanting lost.0))))
 
 pub returns-in-Err-clause-stopped : goal.returns-in-Err-clause-stopped
 returns-in-Err-clause-stopped g c =
@@ -135,8 +138,11 @@ returns-in_err-push-in-Ok-clause-fit g c = λ lost.
 
 pub returns-in_err-bring_home-in-Err-clause-fit : goal.returns-in_err-bring_home-in-Err-clause-fit
 returns-in_err-bring_home-in-Err-clause-fit g c =
+    let s = c.args.built.now in
+    let now = meanings g.B.Body.meaning s c.loop-run.jobs.bodies in
+    let lost = c.in_err-bring_home-in-Err.ensures.lost in
     lost_or_kept c.from_residual-in_err-bring_home-in-Err.result c.in_err-bring_home-in-Err.field-0.0 c.from_residual-in_err-bring_home-in-Err.ensures.1
-    (λ wanting. absurd (wanting c.in_err-bring_home-in-Err.ensures.lost.0))
+    (λ wanting. absurd (lost.1 s now (c.in-Err.ensures.kept (λ e. wanting lost.0))))
 
 pub returns-in-Err-clause-fit : goal.returns-in-Err-clause-fit
 returns-in-Err-clause-fit g c = λ lost.

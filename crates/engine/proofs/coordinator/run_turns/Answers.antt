@@ -4,17 +4,16 @@ use Rattle.model.specs.steps.Schedule.{Schedule}
 use Rattle.model.specs.steps.Lawful.{IsComplete, May}
 use Rattle.model.specs.runs.WideRuns.{WideStops}
 use Rattle.executor_core.specs.Stands.{Stands}
-use Rattle.engine.specs.Deferred.{IsDeferredFor, IsNothingDeferred}
 use Rattle.engine.specs.Jobs.{AreKept}
 use Rattle.engine.specs.Meanings.{meanings}
 use Rattle.engine.specs.Next.{IsBetween, IsNext}
 use Rattle.engine.specs.Stage.{Stage}
-use Rattle.engine.specs.Stops.{LacksTick, StopsBy}
+use Rattle.engine.specs.Stops.{CannotOpen, StopsBy}
 use Rattle.engine.proofs.Placing.{meanings_count, placed_first, placed_kept}
 use Rattle.engine.proofs.Staging.{stage_open, stage_end, stops_open, none_there, falls}
-use Rattle.engine.proofs.InHand.{in_hand_nothing}
 use Rattle.engine.proofs.Stops.{handed_on, lost_or_kept, stops_among}
-use Rattle.engine.proofs.Turns.{no_elements, turn_next, placed_open, in_hand_none, rest_end}
+use Rattle.engine.proofs.LevelGrants.{no_elements}
+use Rattle.engine.proofs.Turns.{turn_next, placed_open, in_hand_none, rest_end}
 use Rattle.engine.proofs.coordinator.run_turns.Goals as goal
 
 pub returns-in_err-core-clause-kept : goal.returns-in_err-core-clause-kept
@@ -52,7 +51,7 @@ returns-in_err-open-clause-stopped g c =
     let start = c.args.run.now.state.state in
     let told = c.in_err-open.field-0.0 in
     handed_on (StopsBy there (WideStops width s bodies start)) c.from_residual-in_err-open.result told c.from_residual-in_err-open.ensures.1
-    (stops_among there (LacksTick start) (WideStops width s bodies start) told (stops_open width s bodies start) c.in_err-open.ensures.stopped)
+    (stops_among there (CannotOpen s start) (WideStops width s bodies start) told (stops_open width s bodies start) c.in_err-open.ensures.stopped)
 
 pub loop-turn-init : goal.loop-turn-init
 loop-turn-init g c =
@@ -65,19 +64,20 @@ loop-turn-init g c =
     let start = c.args.run.now.state.state in
     let none = ap (λ (xs : List Step). reverse xs) c.new-steps.ensures.items in
     let later = c.open.new.self in
-    let same = c.open.ensures.deferred in
-    let nothing = subst IsNothingDeferred (sym same) c.clear.ensures.nothing in
-    let suits = subst (IsDeferredFor s) (sym same) (c.clear.ensures.suits s c.requires.rest.deferred_for) in
+    let opened = c.in_ok-open.ensures in
     record {
       schedule = c.in_ok-core.ensures.schedule;
       stands = subst (λ (x : List Step). Stands c.in_ok-core.core x) (sym none) c.in_ok-core.ensures.stands;
       between = record {
         stage = subst (λ (x : List Step). Stage width s bodies start x later.state.state later.deferred c.args.jobs.now.pool) (sym none)
-            (stage_open width s bodies start later.state.state later.deferred c.args.jobs.now.pool c.in_ok-open.ensures.opened nothing c.requires.empty);
-        placed = placed_open meaning fits there s c.args.jobs.now.bodies c.args.jobs.now.pool c.args.run.now.state later.state c.requires.empty c.in_ok-open.ensures.moved c.requires.rest.suits c.requires.rest.home;
-        hand = in_hand_none s later.deferred c.args.jobs.now.pool later.state (ap length c.requires.empty) suits (in_hand_nothing later.state.state.world.slots later.deferred nothing);
+            (stage_open width s bodies start later.state.state later.deferred c.args.jobs.now.pool opened.opened c.requires.empty);
+        placed = placed_open meaning fits there s c.args.jobs.now.bodies c.args.jobs.now.pool c.args.run.now.state later.state later.deferred c.requires.empty opened.opened opened.layout c.requires.rest.suits c.requires.rest.home;
+        hand = in_hand_none s later.deferred c.args.jobs.now.pool later.state (ap length c.requires.empty) opened.suits opened.in_hand;
       };
     }
+
+pub open-requires-clause-suits : goal.open-requires-clause-suits
+open-requires-clause-suits g c = c.clear.ensures.suits c.args.built.now c.requires.rest.deferred_for
 
 pub do_turn-requires : goal.do_turn-requires
 do_turn-requires g c = λ lifetimes.

@@ -1,8 +1,9 @@
 use Rattle.std.proofs.Common.{◌≡◌, List, [], refl, sym, subst, arith}
+use Rattle.std.proofs.lemmas.Bool.{false≢true}
 use Rattle.worker_pool.specs.JobOut.{JobOut}
 use Rattle.engine.specs.Jobs.{AreKept}
 use Rattle.engine.proofs.Returning.{back_from, kept_back, job_there}
-use Rattle.engine.proofs.Turns.{no_elements}
+use Rattle.engine.proofs.LevelGrants.{no_elements}
 use denote.Param.Send.{sendable}
 use Rattle.engine.proofs.jobs.bring_home.Goals as goal
 
@@ -23,7 +24,7 @@ pub returns-in_default-clause-lost : goal.returns-in_default-clause-lost
 returns-in_default-clause-lost g c =
     let there = g.M.Hosts.has_scope c.args.mode.now in
     let none = c.in_default.ensures.none in
-    (refl, λ s bodies kept. job_there g.B.Body.meaning g.B.Body.fits there s bodies c.loop-jobs.jobs.bodies c.loop-jobs.jobs.pool (c.loop-jobs.invariant s bodies kept) none.0 none.1)
+    (refl, λ s bodies kept. false≢true (c.in_default.ensures.joins (c.prove_waits.ensures (job_there g.B.Body.meaning g.B.Body.fits there s bodies c.loop-jobs.jobs.bodies c.loop-jobs.jobs.pool (c.loop-jobs.invariant s bodies kept) none.0 none.1))))
 
 pub returns-clause-kept : goal.returns-clause-kept
 returns-clause-kept g c = λ s bodies kept.

@@ -1,4 +1,5 @@
 use Rattle.std.proofs.Common.{◌≡◌, ◌<◌, List, length, slice_get, Some, sym, subst, arith}
+use Rattle.std.proofs.lemmas.Bool.{false≢true}
 use Rattle.model.specs.declared.steps.Step.TheVariants.{Finish}
 use Rattle.model.specs.runs.Causes.{interleaved_cause_of}
 use Rattle.model.specs.Lists.{IsIn}
@@ -13,7 +14,6 @@ use Rattle.engine.specs.Stops.{IsNotLaid, StopsBy}
 use Rattle.engine.proofs.Placing.{placed_kept}
 use Rattle.engine.proofs.Returning.{back_from, back_in, back_known, back_memory, back_lent, back_past, back_not_laid, back_finished, back_in_hand, back_placed, kept_back, job_there}
 use Rattle.engine.proofs.Stops.{handed_on, stops_among}
-use Rattle.engine.specs.declared.stop.Stop.TheVariants as stop
 use Rattle.model.specs.shown.Outcome.{BodyMeaning}
 use Rattle.engine.proofs.jobs.finish.Goals as goal
 
@@ -101,6 +101,18 @@ returns-in_default-clause-stopped g c = λ bodies placed.
     let out = c.args.jobs.now.pool in
     let none = c.in_default.ensures.none in
     job_there meaning fits there s bodies slots out (placed_kept meaning fits there s bodies slots out c.args.run.now.state placed) none.0 none.1
+
+-- a job that is out in a thread can be waited for
+pub returns-in_default-clause-kept : goal.returns-in_default-clause-kept
+returns-in_default-clause-kept g c = λ bodies placed.
+    let meaning = g.B.Body.meaning in
+    let fits = g.B.Body.fits in
+    let there = g.M.Hosts.has_scope c.args.mode.now in
+    let s = c.args.built.now in
+    let slots = c.args.jobs.now.bodies in
+    let out = c.args.jobs.now.pool in
+    let none = c.in_default.ensures.none in
+    absurd (false≢true (c.in_default.ensures.joins (c.prove_waits.ensures (job_there meaning fits there s bodies slots out (placed_kept meaning fits there s bodies slots out c.args.run.now.state placed) none.0 none.1))))
 
 pub returns-clause-running : goal.returns-clause-running
 returns-clause-running g c =
@@ -216,6 +228,6 @@ returns-in_err-close-clause-kept g c =
     let ran_seen = subst (λ (v : Seen). IsSomeAnd (slice_get out ran.0) (λ job. Ran meaning fits job.number job.system job.body job.view done.number done.system done.body v done.answer)) (sym c.into_inner.ensures) ran.1 in
     let back = back_from meaning fits out rest done.number done.system done.body seen done.answer ran.0 ran_seen ran.2 in
     let told = c.in_err-close.field-0.0 in
-    handed_on (λ x. (x ≡ stop.NoWorker → ⊥) → (bodies : List BodyMeaning) → Placed meaning fits there s bodies slots out w → AreKept meaning fits there s bodies c.put.new.self rest) c.from_residual.result told c.from_residual.ensures.1
-    (λ lost bodies placed. subst (λ xs. AreKept meaning fits there s bodies xs rest) (sym c.put.ensures)
+    handed_on (λ x. (bodies : List BodyMeaning) → Placed meaning fits there s bodies slots out w → AreKept meaning fits there s bodies c.put.new.self rest) c.from_residual.result told c.from_residual.ensures.1
+    (λ bodies placed. subst (λ xs. AreKept meaning fits there s bodies xs rest) (sym c.put.ensures)
     (kept_back meaning fits out rest done.number done.system done.body seen done.answer there s bodies slots back (placed_kept meaning fits there s bodies slots out w placed)))

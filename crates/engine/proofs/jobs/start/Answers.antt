@@ -1,8 +1,8 @@
-use Rattle.std.proofs.Common.{◌≡◌, ◌<◌, inl, inr, ◌∷◌, ◌++◌, [], Bool, List, true, false, Option, Some, None, Ok, Err, length, set, refl, sym, ap, ◌∙◌, subst, arith}
+use Rattle.std.proofs.Common.{◌≡◌, inl, inr, ◌∷◌, ◌++◌, [], Bool, List, true, false, Option, Some, None, Result, Err, set, refl, sym, ap, ◌∙◌, subst}
 use Rattle.std.proofs.lemmas.Bool.{false≢true}
 use Rattle.model.specs.declared.steps.Step.TheVariants.{Start as Begin}
 use Rattle.model.specs.runs.Meaning.{interleaved_step}
-use Rattle.model.specs.runs.Causes.{cause_of_start, interleaved_cause_of}
+use Rattle.model.specs.runs.Causes.{interleaved_cause_of}
 use Rattle.model.specs.shown.Outcome.{BodyMeaning}
 use Rattle.model.specs.steps.Schedule.{params_of}
 use Rattle.body.specs.Seen.{Seen}
@@ -10,9 +10,8 @@ use Rattle.body.specs.Steps.{store_of}
 use Rattle.body.proofs.Outs.{home-apart}
 use Rattle.worker_pool.specs.JobOut.{JobOut}
 use Rattle.engine.specs.Jobs.{held_by, woven, InHand, Placed}
-use Rattle.engine.specs.Deferred.{DeferredValue, run_with, with_grants}
-use Rattle.engine.specs.Starts.{ids_at_start}
-use Rattle.engine.specs.Stops.{StopsBy}
+use Rattle.engine.specs.Deferred.{DeferredValue, grants_at}
+use Rattle.engine.specs.Stops.{LacksTick, StopsBy}
 use Rattle.worker_pool.specs.declared.fault.HandFault.TheVariants as hand
 use Rattle.engine.proofs.Placing.{IsHanded, body-there, put_again, start_there, placed_start}
 use Rattle.engine.proofs.Starting.{in_hand_start}
@@ -66,33 +65,80 @@ returns-in_err-shown-clause-stopped g c =
     let slots = c.args.jobs.now.bodies in
     let told = c.in_err-shown.field-0.0 in
     handed_on (StopsBy there (λ met. (bodies : List BodyMeaning) → interleaved_cause_of s bodies (Begin n) (woven w.state deferred out) ≡ Some met)) c.from_residual.result told c.from_residual.ensures.1
-    (stops_among there (λ met. cause_of_start s n (run_with w.state deferred) ≡ Some met) (λ met. (bodies : List BodyMeaning) → interleaved_cause_of s bodies (Begin n) (woven w.state deferred out) ≡ Some met) told
+    (stops_among there (LacksTick w.state) (λ met. (bodies : List BodyMeaning) → interleaved_cause_of s bodies (Begin n) (woven w.state deferred out) ≡ Some met) told
     (λ met e bodies. e) c.in_err-shown.ensures.stopped)
+
+-- a fault that gives a job back gives back the one that was handed out, and is no other fault
+same_back : {T F B : Type 0} (fault told given : F) (mine yours : B) → fault ≡ told → ◌≡◌ {A = Result T F} (Err fault) (Err given) → (back : F → Option B) → back told ≡ Some mine → back given ≡ Some yours → mine ≡ yours
+same_back {T} {F} {B} fault told given mine yours is e back m y = one-body (sym m ∙ ap back (sym is) ∙ ap back (one e) ∙ y)
+  where
+    one : ◌≡◌ {A = Result T F} (Err fault) (Err given) → fault ≡ given
+    one h = let whole : ◌≡◌ {A = Result T F} (Err fault) (Err given) = h in cc
+
+other : {T F : Type 0} (fault told given : F) → fault ≡ told → ◌≡◌ {A = Result T F} (Err fault) (Err given) → (which : F → Bool) → which told ≡ true → which given ≡ false → ⊥
+other {T} {F} fault told given is e which m y = false≢true (sym y ∙ ap which (sym (one e)) ∙ ap which is ∙ m)
+  where
+    one : ◌≡◌ {A = Result T F} (Err fault) (Err given) → fault ≡ given
+    one h = let whole : ◌≡◌ {A = Result T F} (Err fault) (Err given) = h in cc
 
 pub returns-in-Err-Memory-clause-kept : goal.returns-in-Err-Memory-clause-kept
 returns-in-Err-Memory-clause-kept g c = λ lost.
-    let s = c.args.built.now in
     let n = c.args.system in
-    let meaning = g.B.Body.meaning in
-    let fits = g.B.Body.fits in
-    let there = g.M.Hosts.has_scope c.args.mode.now in
-    let w = c.args.run.now.state in
-    let deferred = c.args.run.now.deferred in
-    let out = c.args.jobs.now.pool in
     let slots = c.args.jobs.now.bodies in
     let told = c.in-Err-Memory.ensures in
+    let is = c.in-Err-Memory.field-0-is in
     let back : c.in-Err-Memory.start.body ≡ c.take-body.result = elim told.only [
-      | inl e ↦ one-body (sym (ap (λ f. elim f as (λ x. Option g.row.B.Denot) [ hand.Memory job ↦ Some job.body | hand.NoWorker ↦ None ]) c.in-Err-Memory.field-0-is) ∙ ap (λ r. elim r as (λ x. Option g.row.B.Denot) [ Ok x ↦ None | Err f ↦ elim f as (λ x. Option g.row.B.Denot) [ hand.Memory job ↦ Some job.body | hand.NoWorker ↦ None ] ]) e)
-      | inr e ↦ absurd (false≢true (sym (ap (λ r. elim r as (λ x. Bool) [ Ok x ↦ true | Err f ↦ elim f as (λ x. Bool) [ hand.Memory job ↦ true | hand.NoWorker ↦ false ] ]) e.0) ∙ ap (λ f. elim f as (λ x. Bool) [ hand.Memory job ↦ true | hand.NoWorker ↦ false ]) c.in-Err-Memory.field-0-is))
+      | inl e ↦ same_back _ _ _ _ _ is e (λ f. elim f as (λ x. Option g.row.B.Denot) [ hand.Memory job ↦ Some job.body | hand.NoWorker job ↦ None | hand.Lost ↦ None ]) refl refl
+      | inr more ↦ absurd (elim more [
+        | inl e ↦ other _ _ _ is e.0 (λ f. elim f as (λ x. Bool) [ hand.Memory job ↦ true | hand.NoWorker job ↦ false | hand.Lost ↦ false ]) refl refl
+        | inr e ↦ other _ _ _ is e.0 (λ f. elim f as (λ x. Bool) [ hand.Memory job ↦ true | hand.NoWorker job ↦ false | hand.Lost ↦ false ]) refl refl
+      ])
     ] in
     (c.put.ensures ∙ ap (λ b. set c.take-body.new.self n (Some b)) back ∙ ap (λ xs. set xs n (Some c.take-body.result)) c.take-body.ensures.taken ∙ put_again slots n c.take-body.result c.take-body.ensures.body, told.err)
+
+pub returns-in-Err-NoWorker-clause-kept : goal.returns-in-Err-NoWorker-clause-kept
+returns-in-Err-NoWorker-clause-kept g c = λ lost.
+    let n = c.args.system in
+    let slots = c.args.jobs.now.bodies in
+    let told = c.in-Err-NoWorker.ensures in
+    let is = c.in-Err-NoWorker.field-0-is in
+    let back : c.in-Err-NoWorker.start.body ≡ c.take-body.result = elim told.only [
+      | inl e ↦ absurd (other _ _ _ is e (λ f. elim f as (λ x. Bool) [ hand.Memory job ↦ false | hand.NoWorker job ↦ true | hand.Lost ↦ false ]) refl refl)
+      | inr more ↦ elim more [
+        | inl e ↦ same_back _ _ _ _ _ is e.0 (λ f. elim f as (λ x. Option g.row.B.Denot) [ hand.Memory job ↦ None | hand.NoWorker job ↦ Some job.body | hand.Lost ↦ None ]) refl refl
+        | inr e ↦ absurd (other _ _ _ is e.0 (λ f. elim f as (λ x. Bool) [ hand.Memory job ↦ false | hand.NoWorker job ↦ true | hand.Lost ↦ false ]) refl refl)
+      ]
+    ] in
+    (c.put-in-Err-NoWorker.ensures ∙ ap (λ b. set c.take-body.new.self n (Some b)) back ∙ ap (λ xs. set xs n (Some c.take-body.result)) c.take-body.ensures.taken ∙ put_again slots n c.take-body.result c.take-body.ensures.body, told.err)
 
 pub returns-in-Err-NoWorker-clause-stopped : goal.returns-in-Err-NoWorker-clause-stopped
 returns-in-Err-NoWorker-clause-stopped g c =
     let there = g.M.Hosts.has_scope c.args.mode.now in
+    let is = c.in-Err-NoWorker.field-0-is in
     elim c.in-Err-NoWorker.ensures.only as (λ x. there ≡ true) [
-      | inl e ↦ absurd (false≢true (sym (ap (λ f. elim f as (λ x. Bool) [ hand.Memory job ↦ true | hand.NoWorker ↦ false ]) c.in-Err-NoWorker.field-0-is) ∙ ap (λ r. elim r as (λ x. Bool) [ Ok x ↦ true | Err f ↦ elim f as (λ x. Bool) [ hand.Memory job ↦ true | hand.NoWorker ↦ false ] ]) e))
-      | inr e ↦ e.1
+      | inl e ↦ absurd (other _ _ _ is e (λ f. elim f as (λ x. Bool) [ hand.Memory job ↦ false | hand.NoWorker job ↦ true | hand.Lost ↦ false ]) refl refl)
+      | inr more ↦ elim more [ inl e ↦ e.1 | inr e ↦ e.1 ]
+    ]
+
+-- a job is lost only where no worker stands
+pub returns-in-Err-Lost-clause-kept : goal.returns-in-Err-Lost-clause-kept
+returns-in-Err-Lost-clause-kept g c = λ lost.
+    let is = c.in-Err-Lost.field-0-is in
+    absurd (elim c.in-Err-Lost.ensures.only [
+      | inl e ↦ other _ _ _ is e (λ f. elim f as (λ x. Bool) [ hand.Memory job ↦ false | hand.NoWorker job ↦ false | hand.Lost ↦ true ]) refl refl
+      | inr more ↦ elim more [
+        | inl e ↦ other _ _ _ is e.0 (λ f. elim f as (λ x. Bool) [ hand.Memory job ↦ false | hand.NoWorker job ↦ false | hand.Lost ↦ true ]) refl refl
+        | inr e ↦ false≢true (sym e.2 ∙ lost refl)
+      ]
+    ])
+
+pub returns-in-Err-Lost-clause-stopped : goal.returns-in-Err-Lost-clause-stopped
+returns-in-Err-Lost-clause-stopped g c =
+    let there = g.M.Hosts.has_scope c.args.mode.now in
+    let is = c.in-Err-Lost.field-0-is in
+    elim c.in-Err-Lost.ensures.only as (λ x. there ≡ true) [
+      | inl e ↦ absurd (other _ _ _ is e (λ f. elim f as (λ x. Bool) [ hand.Memory job ↦ false | hand.NoWorker job ↦ false | hand.Lost ↦ true ]) refl refl)
+      | inr more ↦ elim more [ inl e ↦ e.1 | inr e ↦ e.1 ]
     ]
 
 pub returns-in-Ok-clause-started : goal.returns-in-Ok-clause-started
@@ -110,11 +156,10 @@ returns-in-Ok-clause-started g c = λ bodies.
     let job_of = λ (v : Seen). (let x : JobOut g.row.B.Denot = record { number = c.saturating_add-number.result; system = n; body = c.take-body.result; view = v; there = there } in x) in
     let job = job_of c.in_ok-view.view.value in
     let ok = c.in_ok-shown.ensures in
-    let handed : IsHanded s n w later job = subst (λ (v : Seen). IsHanded s n w later (job_of v)) (sym c.in_ok-view.ensures.ok) (record { system = refl; params = ok.params; shown_there = ok.shown; tick = ok.tick; written = ok.written; held = ok.held; is_later = ok.noted }) in
-    let place : n < length deferred.grants = let e = c.requires.hand.suits.grant_count in let k = c.requires.allowed.known in omega (arith, e, k) in
-    subst (λ (x : DeferredValue). interleaved_step s bodies (Begin n) (woven w.state deferred out) ≡ Some (woven later.state x c.hand_out.new.self)) (sym ok.deferred)
-    (subst (λ (xs : List (JobOut g.row.B.Denot)). interleaved_step s bodies (Begin n) (woven w.state deferred out) ≡ Some (woven later.state (with_grants n (ids_at_start s n w.state) deferred) xs)) (sym c.in-Ok.ensures.ok)
-    (start_there meaning fits job.there s bodies n w later deferred out job place ok.has.0 ok.has.1 handed))
+    let handed : IsHanded s n (grants_at deferred n) w later job = subst (λ (v : Seen). IsHanded s n (grants_at deferred n) w later (job_of v)) (sym c.in_ok-view.ensures.ok) (record { system = refl; params = ok.params; shown_there = ok.shown; tick = ok.tick; written = ok.written; held = ok.held; is_later = ok.noted }) in
+    subst (λ (x : DeferredValue). interleaved_step s bodies (Begin n) (woven w.state deferred out) ≡ Some (woven later.state x c.hand_out.new.self)) (sym c.show.ensures.deferred)
+    (subst (λ (xs : List (JobOut g.row.B.Denot)). interleaved_step s bodies (Begin n) (woven w.state deferred out) ≡ Some (woven later.state deferred xs)) (sym c.in-Ok.ensures.ok)
+    (start_there meaning fits job.there s bodies n w later deferred out job ok.has handed))
 
 pub returns-in-Ok-clause-placed : goal.returns-in-Ok-clause-placed
 returns-in-Ok-clause-placed g c = λ bodies placed.
@@ -131,10 +176,10 @@ returns-in-Ok-clause-placed g c = λ bodies placed.
     let job_of = λ (v : Seen). (let x : JobOut g.row.B.Denot = record { number = c.saturating_add-number.result; system = n; body = c.take-body.result; view = v; there = there } in x) in
     let job = job_of c.in_ok-view.view.value in
     let ok = c.in_ok-shown.ensures in
-    let handed : IsHanded s n w later job = subst (λ (v : Seen). IsHanded s n w later (job_of v)) (sym c.in_ok-view.ensures.ok) (record { system = refl; params = ok.params; shown_there = ok.shown; tick = ok.tick; written = ok.written; held = ok.held; is_later = ok.noted }) in
+    let handed : IsHanded s n (grants_at deferred n) w later job = subst (λ (v : Seen). IsHanded s n (grants_at deferred n) w later (job_of v)) (sym c.in_ok-view.ensures.ok) (record { system = refl; params = ok.params; shown_there = ok.shown; tick = ok.tick; written = ok.written; held = ok.held; is_later = ok.noted }) in
     subst (λ (xs : List (JobOut g.row.B.Denot)). Placed meaning fits there s bodies c.take-body.new.self xs later) (sym c.in-Ok.ensures.ok)
     (subst (λ xs. Placed meaning fits there s bodies xs (out ++ job ∷ []) later) (sym c.take-body.ensures.taken)
-    (placed_start meaning fits there s bodies slots out w placed n later job c.requires.allowed.known c.requires.allowed.home c.take-body.ensures.body handed refl))
+    (placed_start meaning fits there s bodies slots out w placed n later job c.requires.allowed.known c.requires.allowed.home c.take-body.ensures.body (grants_at deferred n) handed refl))
 
 pub returns-in-Ok-clause-hand : goal.returns-in-Ok-clause-hand
 returns-in-Ok-clause-hand g c =
@@ -151,7 +196,7 @@ returns-in-Ok-clause-hand g c =
     let job_of = λ (v : Seen). (let x : JobOut g.row.B.Denot = record { number = c.saturating_add-number.result; system = n; body = c.take-body.result; view = v; there = there } in x) in
     let job = job_of c.in_ok-view.view.value in
     let ok = c.in_ok-shown.ensures in
-    let handed : IsHanded s n w later job = subst (λ (v : Seen). IsHanded s n w later (job_of v)) (sym c.in_ok-view.ensures.ok) (record { system = refl; params = ok.params; shown_there = ok.shown; tick = ok.tick; written = ok.written; held = ok.held; is_later = ok.noted }) in
-    subst (λ (x : DeferredValue). InHand s x c.hand_out.new.self later) (sym ok.deferred)
-    (subst (λ (xs : List (JobOut g.row.B.Denot)). InHand s (with_grants n (ids_at_start s n w.state) deferred) xs later) (sym c.in-Ok.ensures.ok)
-    (in_hand_start s n w later deferred out job c.requires.allowed.known c.requires.placed.1.memories c.prove_law.ensures.memories c.requires.hand c.requires.allowed.fresh handed c.requires.allowed.home))
+    let handed : IsHanded s n (grants_at deferred n) w later job = subst (λ (v : Seen). IsHanded s n (grants_at deferred n) w later (job_of v)) (sym c.in_ok-view.ensures.ok) (record { system = refl; params = ok.params; shown_there = ok.shown; tick = ok.tick; written = ok.written; held = ok.held; is_later = ok.noted }) in
+    subst (λ (x : DeferredValue). InHand s x c.hand_out.new.self later) (sym c.show.ensures.deferred)
+    (subst (λ (xs : List (JobOut g.row.B.Denot)). InHand s deferred xs later) (sym c.in-Ok.ensures.ok)
+    (in_hand_start s n w later deferred out job c.requires.allowed.known c.requires.placed.1.memories c.prove_law.ensures.memories c.requires.hand c.requires.allowed.given handed))

@@ -1,4 +1,4 @@
-use Rattle.std.proofs.Common.{◌≡◌, ◌<◌, [], false, Some, length, map, refl, sym, ap, ap₂, ◌∙◌, subst, append-nil, arith}
+use Rattle.std.proofs.Common.{◌≡◌, ◌<◌, [], false, Some, length, map, sym, ap, ap₂, ◌∙◌, subst, append-nil, arith}
 use Rattle.model.specs.declared.steps.Step.TheVariants.{Start as Begin}
 use Rattle.model.specs.runs.RunState.{next_tick}
 use Rattle.body.specs.Lent.{AreLent}
@@ -9,12 +9,11 @@ use Rattle.body.proofs.Outs.{home-apart}
 use Rattle.model.specs.steps.Schedule.{params_of}
 use Rattle.engine.specs.Deferred.{DeferredValue, AreInHand, IsDeferredFor, run_with, with_commands}
 use Rattle.engine.specs.Meanings.{HasMemories, meanings}
-use Rattle.engine.specs.Starts.{ids_at_start}
 use Rattle.engine.proofs.Weaving.{numbers_of}
 use Rattle.model.specs.runs.Replays.{IsStepTaken}
-use Rattle.engine.specs.Stops.{IsNotLaid, StopsBy}
+use Rattle.engine.specs.Stops.{IsNotLaid, LacksTick, StopsBy}
 use Rattle.engine.proofs.Stops.{handed_on, stops_up}
-use Rattle.model.specs.runs.Causes.{Cause, cause_of_start, serial_cause_of}
+use Rattle.model.specs.runs.Causes.{Cause, serial_cause_of}
 use Rattle.trace_checker.proofs.WholeStarts.{body_fit, in_hand_kept, is_answered, is_refused, deferred_for_start, meanings_after, suits_after, memories_after, noted_known, close_stops, start_cause, start_taken}
 use Rattle.trace_checker.proofs.replay.start.Goals as goal
 
@@ -37,7 +36,7 @@ returns-in_err-view-clause-stopped g c =
     let told = c.in_err-view.field-0.0 in
     let Meets = λ (met : Cause). serial_cause_of s ms (Begin n) (run_with w deferred) ≡ Some met in
     handed_on (StopsBy false Meets) c.from_residual.result told c.from_residual.ensures.1
-    (stops_up false (λ met. cause_of_start s n (run_with w deferred) ≡ Some met) Meets told (start_cause s ms n w deferred) c.in_err-view.ensures.stopped)
+    (stops_up false (LacksTick w) Meets told (start_cause s ms n w deferred) c.in_err-view.ensures.stopped)
 
 pub close-requires-clause-memory : goal.close-requires-clause-memory
 close-requires-clause-memory g c =
@@ -52,7 +51,7 @@ pub close-requires-clause-place : goal.close-requires-clause-place
 close-requires-clause-place g c =
     let s = c.args.built.now in
     let n = c.args.system in
-    let room = ap (λ (d : DeferredValue). length d.commands) c.in_ok-view.ensures.deferred in
+    let room = ap (λ (d : DeferredValue). length d.commands) c.show.ensures.deferred in
     let k = c.requires.known in
     let e = c.requires.deferred.command_count in
     omega (arith, k, e, room)
@@ -69,12 +68,11 @@ returns-in_err-close-clause-stopped g c =
     let seen = c.run_body-answer.new.view in
     let answer = c.run_body-answer.result in
     let told = c.in_err-close.field-0.0 in
-    let place : n < length deferred.grants = let k = c.requires.known in let e = c.requires.deferred.grant_count in omega (arith, k, e) in
     let Meets = λ (met : Cause). serial_cause_of s ms (Begin n) (run_with w deferred) ≡ Some met in
     let not_laid = subst (λ (x : StateValue). StopsBy false (IsNotLaid answer seen x.state) told) shown.noted c.in_err-close.ensures.stopped in
     handed_on (StopsBy false Meets) c.from_residual-in_err-close.result told c.from_residual-in_err-close.ensures.1
     (stops_up false (IsNotLaid answer seen _) Meets told
-    (close_stops s ms n w deferred place shown.has.0 shown.has.1 seen answer (ran.shown ∙ shown.shown)
+    (close_stops s ms n w deferred shown.has seen answer (ran.shown ∙ shown.shown)
     (is_answered g.B.Body.meaning g.B.Body.fits s c.args.bodies.now n c.in_ok-view.view seen c.run_body-answer.new.bodies answer ran w c.requires.suits c.requires.known shown.params)
     (is_refused g.B.Body.meaning g.B.Body.fits s c.args.bodies.now n c.in_ok-view.view seen c.run_body-answer.new.bodies answer ran w c.requires.suits c.requires.known shown.params))
     not_laid)
@@ -93,14 +91,13 @@ returns-clause-taken g c =
     let shown = c.in_ok-view.ensures in
     let ran = c.run_body-answer.ensures in
     let seen = c.run_body-answer.new.view in
-    let place : n < length deferred.grants = let k = c.requires.known in let e = c.requires.deferred.grant_count in omega (arith, k, e) in
     let room : n < length deferred.commands = let k = c.requires.known in let e = c.requires.deferred.command_count in omega (arith, k, e) in
     let answered = is_answered g.B.Body.meaning g.B.Body.fits s c.args.bodies.now n c.in_ok-view.view seen c.run_body-answer.new.bodies c.run_body-answer.result ran w c.requires.suits c.requires.known shown.params c.in_ok-close.ensures.answer in
     let tick : seen.opening.tick ≡ next_tick w = ap (λ (o : Opening). o.tick) ran.opening ∙ shown.tick in
     let numbers = c.in_ok-close.ensures.numbers in
-    let kept = c.in_ok-close.ensures.deferred ∙ ap (with_commands n seen.outcome.commands) shown.deferred in
+    let kept = c.in_ok-close.ensures.deferred ∙ ap (with_commands n seen.outcome.commands) c.show.ensures.deferred in
     subst (λ (x : DeferredValue). IsStepTaken s ms (run_with w deferred) (Begin n) (run_with c.close.new.self.state.state x)) (sym kept)
-    (start_taken s ms n w deferred place shown.has.0 shown.has.1 seen (ran.shown ∙ shown.shown) answered c.close.new.self.state.state room
+    (start_taken s ms n w deferred shown.has seen (ran.shown ∙ shown.shown) answered c.close.new.self.state.state room
     (ap (λ (x : StateValue). numbers_of seen x.state) (sym shown.noted) ∙ numbers)
     (ap (λ (x : StateValue). x.state) c.in_ok-close.ensures.laid ∙ ap₂ (λ t (x : StateValue). laid n t seen x.state) tick shown.noted))
 
@@ -127,8 +124,8 @@ returns-clause-deferred g c =
     let s = c.args.built.now in
     let n = c.args.system in
     let seen = c.run_body-answer.new.view in
-    let kept = c.in_ok-close.ensures.deferred ∙ ap (with_commands n seen.outcome.commands) c.in_ok-view.ensures.deferred in
-    subst (IsDeferredFor s) (sym kept) (deferred_for_start s n (ids_at_start s n c.args.run.now.state.state) seen.outcome.commands c.args.run.now.deferred c.requires.deferred)
+    let kept = c.in_ok-close.ensures.deferred ∙ ap (with_commands n seen.outcome.commands) c.show.ensures.deferred in
+    subst (IsDeferredFor s) (sym kept) (deferred_for_start s n seen.outcome.commands c.args.run.now.deferred c.requires.deferred)
 
 pub returns-clause-hand : goal.returns-clause-hand
 returns-clause-hand g c =
@@ -140,12 +137,11 @@ returns-clause-hand g c =
     let shown = c.in_ok-view.ensures in
     let ran = c.run_body-answer.ensures in
     let seen = c.run_body-answer.new.view in
-    let place : n < length deferred.grants = let k = c.requires.known in let e = c.requires.deferred.grant_count in omega (arith, k, e) in
     let room : n < length deferred.commands = let k = c.requires.known in let e = c.requires.deferred.command_count in omega (arith, k, e) in
     let answered = is_answered g.B.Body.meaning g.B.Body.fits s c.args.bodies.now n c.in_ok-view.view seen c.run_body-answer.new.bodies c.run_body-answer.result ran w c.requires.suits c.requires.known shown.params c.in_ok-close.ensures.answer in
-    let kept = c.in_ok-close.ensures.deferred ∙ ap (with_commands n seen.outcome.commands) shown.deferred in
+    let kept = c.in_ok-close.ensures.deferred ∙ ap (with_commands n seen.outcome.commands) c.show.ensures.deferred in
     subst (AreInHand c.close.new.self.state.state.world.slots) (sym kept)
-    (in_hand_kept s ms n w deferred place shown.has.0 shown.has.1 seen (ran.shown ∙ shown.shown) answered c.close.new.self.state.state seen.opening.tick c.requires.known room c.requires.keep c.requires.suits.memories c.prove_shape.ensures c.requires.fresh c.requires.hand
+    (in_hand_kept s ms n w deferred shown.has seen (ran.shown ∙ shown.shown) answered c.close.new.self.state.state seen.opening.tick c.requires.known room c.requires.given c.requires.keep c.requires.suits.memories c.prove_shape.ensures c.requires.hand
     (ap (λ (x : StateValue). x.state) c.in_ok-close.ensures.laid ∙ ap (λ (x : StateValue). laid n seen.opening.tick seen x.state) shown.noted))
 
 pub returns-clause-meanings : goal.returns-clause-meanings

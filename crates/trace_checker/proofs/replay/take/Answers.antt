@@ -3,7 +3,7 @@ use Rattle.model.specs.declared.steps.Step.{Step}
 use Rattle.model.specs.declared.steps.Step.TheVariants.{Cond, Start, Sync}
 use Rattle.model.specs.runs.Causes.{serial_cause_of}
 use Rattle.engine.specs.Deferred.{DeferredValue, run_with}
-use Rattle.engine.specs.Stops.{LacksTick, fault_of}
+use Rattle.engine.specs.Stops.{CannotSync, LacksTick, fault_of}
 use Rattle.engine.proofs.Stops.{handed_on}
 use Rattle.engine.specs.Meanings.{meanings}
 use Rattle.body.specs.Steps.{StateValue, store_of}
@@ -44,7 +44,7 @@ returns-in_err-sync-in-Sync-clause-stopped g c =
     let told = c.in_err-sync-in-Sync.field-0.0 in
     handed_on (IsStepFault s ms run c.args.step c.args.number) c.from_residual-in_err-sync-in-Sync.result (replay.Run (fault_of told)) c.from_residual-in_err-sync-in-Sync.ensures.1
     (subst (λ (x : Step). IsStoppedHere s ms run x (fault_of told)) (sym c.in-Sync.is)
-    (step_told s ms run (Sync c.in-Sync.point) (LacksTick c.args.run.now.state.state) told (λ met e. e) c.in_err-sync-in-Sync.ensures.stopped))
+    (step_told s ms run (Sync c.in-Sync.point) (CannotSync s c.in-Sync.point run) told (λ met e. e) c.in_err-sync-in-Sync.ensures.stopped))
 
 pub returns-else-answer-recorded-clause-taken : goal.returns-else-answer-recorded-clause-taken
 returns-else-answer-recorded-clause-taken g c =

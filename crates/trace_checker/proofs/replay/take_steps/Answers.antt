@@ -1,21 +1,20 @@
-use Rattle.std.proofs.Common.{◌+◌, ◌≤◌, List, [], Some, false, get_or, length, map, refl, sym, ap, subst, subst₂, arith}
+use Rattle.std.proofs.Common.{◌+◌, ◌≤◌, List, Some, false, get_or, length, map, refl, sym, subst, arith}
 use Rattle.model.specs.declared.steps.Step.TheVariants.{Cond}
 use Rattle.model.specs.shown.Outcome.{BodyMeaning}
-use Rattle.model.specs.state.State.{State}
-use Rattle.model.specs.runs.RunState.{opening}
-use Rattle.body.specs.Out.{AreOut}
-use Rattle.body.specs.Steps.{StateValue, store_of}
-use Rattle.body.proofs.Outs.{out-same}
-use Rattle.engine.specs.Deferred.{DeferredValue, AreInHand, IsDeferredFor, run_with}
-use Rattle.engine.specs.Meanings.{meanings, Suits}
-use Rattle.engine.proofs.InHand.{in_hand_nothing}
-use Rattle.engine.proofs.Remembering.{memories_open}
-use Rattle.model.specs.runs.Replays.{IsReached}
+use Rattle.model.specs.runs.RunState.{after_opening, can_open}
+use Rattle.model.proofs.lists.Lists.{provided-Some}
+use Rattle.model.proofs.serial.Replaying.{reached_open}
+use Rattle.archetype_store.specs.Layout.{AreAllHome}
+use Rattle.body.specs.Steps.{store_of}
+use Rattle.body.proofs.Outs.{all-home, none-out}
+use Rattle.engine.specs.Deferred.{run_with}
+use Rattle.engine.specs.Meanings.{meanings}
+use Rattle.engine.proofs.Remembering.{memories_opened}
 use Rattle.trace_checker.specs.ReplayFaults.{IsReplayFault, IsStepFault}
 use Rattle.engine.specs.Stops.{fault_of}
 use Rattle.engine.proofs.Stops.{handed_on}
 use Rattle.trace_checker.specs.declared.replay.ReplayFault.TheVariants as replay
-use Rattle.trace_checker.proofs.Taking.{can_begin, fault_at, fresh_at, known_at, opening_told, reached_all, reached_begun}
+use Rattle.trace_checker.proofs.Taking.{fault_at, fresh_at, given_at, known_at, opening_told, reached_all, waits_at}
 use Rattle.trace_checker.proofs.replay.take_steps.Goals as goal
 
 pub returns-in_err-open-clause-stopped : goal.returns-in_err-open-clause-stopped
@@ -33,18 +32,20 @@ loop-step-init g c =
     let s = c.args.built.now in
     let ms = meanings g.B.Body.meaning s (map Some c.args.bodies.now) in
     let w = c.args.run.now.state.state in
-    let deferred = c.args.run.now.deferred in
-    let opened = c.in_ok-open.ensures.moved in
-    let begun = ap (λ (x : StateValue). x.state) opened in
-    let tick = can_begin w c.open.new.self.state.state c.in_ok-open.ensures.opened in
-    let same = c.open.ensures.deferred in
+    let later = c.open.new.self in
+    let opened = c.in_ok-open.ensures in
     record {
       count = refl;
-      reached = subst₂ (λ (x : State) (d : DeferredValue). IsReached s ms w [] (run_with x d)) (sym begun) (sym same) (reached_begun s ms w c.args.steps.now deferred c.requires.nothing tick);
-      suits = subst (Suits g.B.Body.fits s (map Some c.args.bodies.now)) (sym begun) (record { body_count = c.requires.suits.body_count; memories = memories_open s w c.requires.suits.memories; fit = c.requires.suits.fit });
-      out = subst (λ (x : StateValue). AreOut (store_of x) []) (sym opened) (out-same (store_of c.args.run.now.state) (store_of (record { state = opening w; layout = c.args.run.now.state.layout })) [] refl refl c.requires.out);
-      deferred = subst (IsDeferredFor s) (sym same) c.requires.deferred;
-      hand = subst (AreInHand c.open.new.self.state.state.world.slots) (sym same) (in_hand_nothing c.open.new.self.state.state.world.slots deferred c.requires.nothing);
+      reached = reached_open s ms w (run_with later.state.state later.deferred) opened.opened;
+      suits = record {
+        body_count = c.requires.suits.body_count;
+        memories = memories_opened s w c.requires.suits.memories later.deferred later.state.state
+            (sym (provided-Some (can_open s w) (after_opening s w) (run_with later.state.state later.deferred) opened.opened).1);
+        fit = c.requires.suits.fit;
+      };
+      out = none-out (store_of later.state) (subst AreAllHome (sym opened.layout) (all-home (store_of c.args.run.now.state) c.prove_law-2.ensures.laid c.requires.out));
+      deferred = opened.suits;
+      hand = opened.in_hand;
       meant = refl;
     }
 
@@ -56,6 +57,16 @@ pub take-requires-clause-fresh : goal.take-requires-clause-fresh
 take-requires-clause-fresh g c κs within = λ n e.
     fresh_at c.args.built.now (meanings g.B.Body.meaning c.args.built.now (map Some c.args.bodies.now)) c.args.run.now.state.state c.args.steps.now c.loop-step.step-index (Cond 0 false) c.loop-step-test.true n
     (run_with c.loop-step.run.state.state c.loop-step.run.deferred) c.requires.lawful c.loop-step.invariant.reached e
+
+pub take-requires-clause-given : goal.take-requires-clause-given
+take-requires-clause-given g c κs within = λ n e.
+    given_at c.args.built.now (meanings g.B.Body.meaning c.args.built.now (map Some c.args.bodies.now)) c.args.run.now.state.state c.args.steps.now c.loop-step.step-index (Cond 0 false) c.loop-step-test.true n
+    (run_with c.loop-step.run.state.state c.loop-step.run.deferred) c.prove_law.ensures c.requires.lawful c.loop-step.invariant.reached e
+
+pub take-requires-clause-waits : goal.take-requires-clause-waits
+take-requires-clause-waits g c κs within = λ k n e above.
+    waits_at c.args.built.now (meanings g.B.Body.meaning c.args.built.now (map Some c.args.bodies.now)) c.args.run.now.state.state c.args.steps.now c.loop-step.step-index (Cond 0 false) c.loop-step-test.true k n
+    (run_with c.loop-step.run.state.state c.loop-step.run.deferred) c.requires.lawful c.loop-step.invariant.reached e above
 
 pub returns-in_err-take-clause-stopped : goal.returns-in_err-take-clause-stopped
 returns-in_err-take-clause-stopped g c =

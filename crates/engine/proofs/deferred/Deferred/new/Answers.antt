@@ -1,6 +1,13 @@
-use Rattle.std.proofs.Common.{[], ◌∙◌, ap, get_or, arith, length, length-append}
+use Rattle.std.specs.Prelude.{All}
+use Rattle.engine.proofs.LevelGrants.{levels_known}
+use Rattle.std.proofs.Common.{◌<◌, [], sym, subst, ◌∙◌, ap, get_or, arith, length, length-append}
 use Rattle.engine.proofs.Emptying.{nothing_more}
 use Rattle.engine.proofs.deferred.Deferred.new.Goals as goal
+
+pub spawners_of-requires : goal.spawners_of-requires
+spawners_of-requires c =
+    let levels = c.in_ok-levels.ensures in
+    subst (λ lists. All (All (λ n. n < length c.args.built.now.systems)) lists) (sym c.deref.ensures.value) (levels_known c.args.built.now c.prove_law.ensures c.in_ok-levels.levels.items levels.count levels.each)
 
 pub loop-system-preserved : goal.loop-system-preserved
 loop-system-preserved c =

@@ -1,113 +1,32 @@
-use Rattle.std.proofs.Common.{◌≡◌, List, [], ◌∙◌, ap, subst, sym, length, get_or}
-use Rattle.std.specs.Prelude.{All}
-use Rattle.model.specs.declared.entities.Entity.{Entity}
-use Rattle.model.specs.state.State.{Slot}
-use Rattle.model.specs.shown.Outcome.{Command, spawned_by}
-use Rattle.command_queue.specs.Commands.{commands_of}
-use Rattle.entity_table.specs.Ids.{IsGranted, AreApart}
-use Rattle.body.specs.Steps.{StateValue}
-use Rattle.engine.specs.Deferred.{DeferredValue, grants_of}
-use Rattle.engine.proofs.Syncing.{without_systems, level_is, level_known, level_once, level_granted, level_apart}
-use Rattle.engine.proofs.Freeing.{Synced, emptied_items, sync_is, sync_in_hand}
+use Rattle.std.proofs.Common.{Err, ap, ◌∙◌, add-one}
+use Rattle.engine.specs.Deferred.{run_with}
+use Rattle.engine.specs.Stops.{CannotSync}
+use Rattle.engine.proofs.LevelGrants.{can_sync_is, fresh_after, no_ids_above, synced_is}
+use Rattle.engine.proofs.Stops.{grant_stops, sync_ungranted}
 use Rattle.engine.proofs.deferred.Deferred.sync.Goals as goal
 
-pub apply-requires-clause-known : goal.apply-requires-clause-known
-apply-requires-clause-known c =
-    let deferred = c.args.self.now in
-    let level = c.systems_of-systems.result.now in
-    let found = c.systems_of-systems.ensures ∙ ap (λ lists. get_or lists c.args.point []) (c.deref.ensures.value ∙ ap (λ (l : DeferredValue). l.levels) c.self.view_is) in
-    level_known c.args.built.now c.args.point deferred c.prove_law.ensures c.requires.suits c.requires.known level found (length c.deref-2.result.now) (ap length c.deref-2.ensures.value ∙ ap (λ (l : DeferredValue). length l.commands) c.self.view_is ∙ c.requires.suits.command_count)
-
-pub apply-requires-clause-granted : goal.apply-requires-clause-granted
-apply-requires-clause-granted c =
-    let deferred = c.args.self.now in
-    let level = c.systems_of-systems.result.now in
-    let buffers : c.deref-2.result.now ≡ deferred.commands = c.deref-2.ensures.value ∙ ap (λ (l : DeferredValue). l.commands) c.self.view_is in
-    let slots : c.next.new.self.state.world.slots ≡ c.args.state.now.state.world.slots = ap (λ (s : StateValue). s.state.world.slots) c.in_ok-tick.ensures.moved in
-    subst (λ (bs : List (List Command)). All (IsGranted c.next.new.self.state.world.slots) (spawned_by (commands_of bs level))) (sym buffers)
-    (subst (λ (xs : List Slot). All (IsGranted xs) (spawned_by (commands_of deferred.commands level))) (sym slots)
-    (level_granted c.args.state.now.state.world.slots deferred c.requires.in_hand level))
-
-pub apply-requires-clause-apart : goal.apply-requires-clause-apart
-apply-requires-clause-apart c =
-    let deferred = c.args.self.now in
-    let level = c.systems_of-systems.result.now in
-    let found = c.systems_of-systems.ensures ∙ ap (λ lists. get_or lists c.args.point []) (c.deref.ensures.value ∙ ap (λ (l : DeferredValue). l.levels) c.self.view_is) in
-    let buffers : c.deref-2.result.now ≡ deferred.commands = c.deref-2.ensures.value ∙ ap (λ (l : DeferredValue). l.commands) c.self.view_is in
-    subst (λ (bs : List (List Command)). AreApart (spawned_by (commands_of bs level))) (sym buffers)
-    (level_apart c.args.state.now.state.world.slots deferred c.requires.in_hand level (level_once c.args.built.now c.args.point deferred c.prove_law.ensures c.requires.suits c.requires.known level found))
-
-pub free_ids-requires : goal.free_ids-requires
-free_ids-requires c =
-    let deferred = c.args.self.now in
-    let level = c.systems_of-systems.result.now in
-    let found = c.systems_of-systems.ensures ∙ ap (λ lists. get_or lists c.args.point []) (c.deref.ensures.value ∙ ap (λ (l : DeferredValue). l.levels) c.self.view_is) in
-    level_known c.args.built.now c.args.point deferred c.prove_law.ensures c.requires.suits c.requires.known level found (length c.deref-3.result.now) (ap length c.deref-3.ensures.value ∙ ap (λ (l : DeferredValue). length l.grants) c.self.view_is ∙ c.requires.suits.grant_count)
-
-pub clear_places-requires-clause-commands : goal.clear_places-requires-clause-commands
-clear_places-requires-clause-commands c =
-    let deferred = c.args.self.now in
-    let level = c.systems_of-systems.result.now in
-    let found = c.systems_of-systems.ensures ∙ ap (λ lists. get_or lists c.args.point []) (c.deref.ensures.value ∙ ap (λ (l : DeferredValue). l.levels) c.self.view_is) in
-    level_known c.args.built.now c.args.point deferred c.prove_law.ensures c.requires.suits c.requires.known level found (length c.deref_mut.result.now) (ap length c.deref_mut.ensures.value ∙ ap (λ (l : DeferredValue). length l.commands) c.self.view_is ∙ c.requires.suits.command_count)
-
-pub clear_places-requires-clause-grants : goal.clear_places-requires-clause-grants
-clear_places-requires-clause-grants c =
-    let deferred = c.args.self.now in
-    let level = c.systems_of-systems.result.now in
-    let found = c.systems_of-systems.ensures ∙ ap (λ lists. get_or lists c.args.point []) (c.deref.ensures.value ∙ ap (λ (l : DeferredValue). l.levels) c.self.view_is) in
-    level_known c.args.built.now c.args.point deferred c.prove_law.ensures c.requires.suits c.requires.known level found (length c.deref_mut-2.result.now) (ap length c.deref_mut-2.ensures.value ∙ ap (λ (l : DeferredValue). length l.grants) c.self.view_is ∙ c.requires.suits.grant_count)
+pub returns-in_err-grant-clause-stopped : goal.returns-in_err-grant-clause-stopped
+returns-in_err-grant-clause-stopped c =
+    let s = c.args.built.now in
+    let p = c.args.point in
+    let run = run_with c.args.state.now.state c.args.self.now in
+    let mid = run_with c.finish_level.new.state.state c.finish_level.new.self in
+    let done = c.in_ok-finish_level.ensures in
+    grant_stops (CannotSync s p run) c.in_err-grant.field-0.0 c.from_residual-in_err-grant.result c.from_residual-in_err-grant.ensures.1
+    (λ e. sync_ungranted s p run done.ticked (no_ids_above s p run mid done.synced (c.in_err-grant.ensures.spent (ap Err e))))
 
 pub returns-clause-synced : goal.returns-clause-synced
 returns-clause-synced c =
-    let deferred = c.args.self.now in
-    let level = c.systems_of-systems.result.now in
-    let found = c.systems_of-systems.ensures ∙ ap (λ lists. get_or lists c.args.point []) (c.deref.ensures.value ∙ ap (λ (l : DeferredValue). l.levels) c.self.view_is) in
-    let before = c.args.state.now in
-    let after = c.free_ids.new.state in
-    let buffers : c.deref-2.result.now ≡ deferred.commands = c.deref-2.ensures.value ∙ ap (λ (l : DeferredValue). l.commands) c.self.view_is in
-    let granted : c.deref-3.result.now ≡ deferred.grants = c.deref-3.ensures.value ∙ ap (λ (l : DeferredValue). l.grants) c.self.view_is in
-    let done : Synced (grants_of c.deref-3.result.now level) (commands_of c.deref-2.result.now level) before after = record {
-      ticked = c.next.new.self;
-      applied = c.apply.new.self;
-      tick = c.in_ok-tick.tick;
-      tick_is = c.in_ok-tick.ensures.ok;
-      ticked_is = c.in_ok-tick.ensures.moved;
-      applied_is = c.in_ok-apply.ensures.applied;
-      freed_is = c.free_ids.ensures;
-    } in
-    let synced : Synced (grants_of deferred.grants level) (commands_of deferred.commands level) before after =
-    subst (λ (gs : List (List Entity)). Synced (grants_of gs level) (commands_of deferred.commands level) before after) granted
-    (subst (λ (bs : List (List Command)). Synced (grants_of c.deref-3.result.now level) (commands_of bs level) before after) buffers done) in
-    let inside = c.self.inside in
-    let commands = emptied_items level inside.commands c.deref_mut.result.now c.clear_places.new.commands c.deref_mut.ensures.value c.clear_places.ensures.commands in
-    let grants = emptied_items level inside.grants c.deref_mut-2.result.now c.clear_places.new.grants c.deref_mut-2.ensures.value c.clear_places.ensures.grants in
-    let gone = (λ i. let l : DeferredValue = record { levels = inside.levels.items; commands = commands i; grants = grants i } in l) ∙ ap (without_systems level) c.self.view_is in
-    sync_is c.args.built.now c.args.point level deferred _ before after c.prove_law.ensures c.requires.suits
-    (level_is c.args.built.now c.args.point deferred c.prove_law.ensures c.requires.suits c.requires.known level found) synced gone
+    synced_is c.args.built.now c.args.point (run_with c.args.state.now.state c.args.self.now) (run_with c.finish_level.new.state.state c.finish_level.new.self) c.in_ok-finish_level.ensures.synced
+    (run_with c.grant.new.state.state c.grant.new.self) c.in_ok-grant.ensures.granted
+
+pub returns-clause-can : goal.returns-clause-can
+returns-clause-can c =
+    can_sync_is c.args.built.now c.args.point (run_with c.args.state.now.state c.args.self.now) (run_with c.finish_level.new.state.state c.finish_level.new.self) c.in_ok-finish_level.ensures.synced
+    c.in_ok-finish_level.ensures.ticked c.in_ok-grant.ensures.has
 
 pub returns-clause-in_hand : goal.returns-clause-in_hand
 returns-clause-in_hand c =
-    let deferred = c.args.self.now in
-    let level = c.systems_of-systems.result.now in
-    let before = c.args.state.now in
-    let after = c.free_ids.new.state in
-    let buffers : c.deref-2.result.now ≡ deferred.commands = c.deref-2.ensures.value ∙ ap (λ (l : DeferredValue). l.commands) c.self.view_is in
-    let granted : c.deref-3.result.now ≡ deferred.grants = c.deref-3.ensures.value ∙ ap (λ (l : DeferredValue). l.grants) c.self.view_is in
-    let done : Synced (grants_of c.deref-3.result.now level) (commands_of c.deref-2.result.now level) before after = record {
-      ticked = c.next.new.self;
-      applied = c.apply.new.self;
-      tick = c.in_ok-tick.tick;
-      tick_is = c.in_ok-tick.ensures.ok;
-      ticked_is = c.in_ok-tick.ensures.moved;
-      applied_is = c.in_ok-apply.ensures.applied;
-      freed_is = c.free_ids.ensures;
-    } in
-    let synced : Synced (grants_of deferred.grants level) (commands_of deferred.commands level) before after =
-    subst (λ (gs : List (List Entity)). Synced (grants_of gs level) (commands_of deferred.commands level) before after) granted
-    (subst (λ (bs : List (List Command)). Synced (grants_of c.deref-3.result.now level) (commands_of bs level) before after) buffers done) in
-    let inside = c.self.inside in
-    let commands = emptied_items level inside.commands c.deref_mut.result.now c.clear_places.new.commands c.deref_mut.ensures.value c.clear_places.ensures.commands in
-    let grants = emptied_items level inside.grants c.deref_mut-2.result.now c.clear_places.new.grants c.deref_mut-2.ensures.value c.clear_places.ensures.grants in
-    let gone = (λ i. let l : DeferredValue = record { levels = inside.levels.items; commands = commands i; grants = grants i } in l) ∙ ap (without_systems level) c.self.view_is in
-    sync_in_hand level deferred _ before after c.requires.in_hand synced gone
+    c.in_ok-grant.ensures.in_hand c.in_ok-finish_level.ensures.in_hand
+    (λ n above. fresh_after c.args.built.now c.args.point (run_with c.args.state.now.state c.args.self.now) (run_with c.finish_level.new.state.state c.finish_level.new.self) c.in_ok-finish_level.ensures.synced
+    n (c.requires.fresh n (above ∙ add-one c.args.point)))

@@ -5,7 +5,7 @@ use Rattle.model.specs.state.State.{Slot}
 use Rattle.model.specs.state.Ids.{granted_ids, grant}
 use Rattle.model.proofs.serial.Engine.{grant-none as grant-zero, granted_ids-none as granted_ids-zero}
 use Rattle.entity_table.proofs.Grants.{grant-suc, granted_ids-suc}
-use Rattle.entity_table.proofs.table.grant_each.Goals as goal
+use Rattle.entity_table.proofs.granting.grant_each.Goals as goal
 
 pub loop-preserved : goal.loop-preserved
 loop-preserved c =
@@ -32,6 +32,7 @@ loop-preserved c =
       few = (let f = i.few in let a = one.len in let b = one.places in omega arith);
       room = (let f = i.room in let a = one.len in let b = one.places in let d = one.capacity in omega arith);
       granted_room = (let f = i.granted_room in let b = c.push.ensures.capacity in omega arith);
+      capacity = (let f = i.capacity in let d = one.capacity in omega arith);
       vacant_room = (let f = i.vacant_room in let a = one.room in omega arith);
     }
 

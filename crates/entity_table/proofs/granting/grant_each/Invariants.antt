@@ -1,7 +1,7 @@
 use Rattle.std.proofs.Common.{◌≡◌, ◌+◌, ◌-◌, ◌≤◌, ◌++◌, length, vec_len, vec_capacity}
 use Rattle.model.specs.state.State.{most_indices}
 use Rattle.model.specs.state.Ids.{vacant_indices, granted_ids, grant}
-use Rattle.entity_table.proofs.table.grant_each.Given as goal
+use Rattle.entity_table.proofs.granting.grant_each.Given as goal
 
 abbrev pub invariant-loop : goal.invariant-loop
 invariant-loop l = record {
@@ -11,5 +11,6 @@ invariant-loop l = record {
   few : length l.places.items + ((l.count - l.counter) - length l.vacant.rising) ≤ most_indices;
   room : vec_len l.places + ((l.count - l.counter) - length l.vacant.rising) ≤ vec_capacity l.places;
   granted_room : vec_len l.granted + (l.count - l.counter) ≤ vec_capacity l.granted;
+  capacity : vec_capacity l.initial.places ≤ vec_capacity l.places;
   vacant_room : l.initial.vacant.room ≤ l.vacant.room;
 }

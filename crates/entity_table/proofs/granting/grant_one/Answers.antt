@@ -4,8 +4,8 @@ use Rattle.model.specs.state.State.{Slot, fresh_slot}
 use Rattle.model.specs.state.Ids.{vacant_indices, granted_slot}
 use Rattle.entity_table.proofs.Edits.{set-written}
 use Rattle.entity_table.proofs.Grants.{GrantsLeast, grants_least, GrantsNext, grants_next}
-use Rattle.entity_table.proofs.table.grant_one.Goals as goal
-use Rattle.entity_table.proofs.table.grant_one.Goals.{In-Some, In-None}
+use Rattle.entity_table.proofs.granting.grant_one.Goals as goal
+use Rattle.entity_table.proofs.granting.grant_one.Goals.{In-Some, In-None}
 
 least : (c : In-Some) → GrantsLeast c.args.places.now.items c.in-Some.index c.pop.new.self.rising
 least c = grants_least c.args.places.now.items c.in-Some.index c.pop.new.self.rising (sym c.requires.kept ∙ c.in-Some.ensures.least)

@@ -1,0 +1,32 @@
+use Rattle.std.proofs.Common.{◌≡◌, ◌↔◌, Bool, true, false, Err, refl, sym, ap, ◌∙◌}
+use Rattle.model.specs.runs.RunState.{after_grant, between, has_ids_for_level, has_tick, opening}
+use Rattle.body.specs.Steps.{StateValue}
+use Rattle.engine.specs.Deferred.{run_with}
+use Rattle.engine.specs.Stops.{CannotOpen}
+use Rattle.engine.proofs.InHand.{run_with_nothing}
+use Rattle.engine.proofs.LevelGrants.{no_ids_to_open, opened_is}
+use Rattle.engine.proofs.Stops.{grant_stops, open_ungranted}
+use Rattle.engine.proofs.run_state.RunState.open.Goals as goal
+
+-- where a begin was not refused there is a tick
+ticked : (b : Bool) → (false ≡ true) ↔ (b ≡ false) → b ≡ true
+ticked true spent = refl
+ticked false spent = spent.1 refl
+
+pub returns-in_err-grant-clause-stopped : goal.returns-in_err-grant-clause-stopped
+returns-in_err-grant-clause-stopped c =
+    let s = c.args.built.now in
+    let w = c.args.self.now.state.state in
+    let deferred = c.args.self.now.deferred in
+    let begun : run_with c.begin.new.self.state deferred ≡ between (opening w) = ap (λ (x : StateValue). run_with x.state deferred) c.in_ok-begin.ensures.ok ∙ run_with_nothing (opening w) deferred c.requires.nothing in
+    grant_stops (CannotOpen s w) c.in_err-grant.field-0.0 c.from_residual-in_err-grant.result c.from_residual-in_err-grant.ensures.1
+    (λ e. open_ungranted s w (ticked (has_tick w) c.in_ok-begin.ensures.spent) (no_ids_to_open s w (ap (has_ids_for_level s 0) (sym begun) ∙ c.in_err-grant.ensures.spent (ap Err e))))
+
+pub returns-clause-opened : goal.returns-clause-opened
+returns-clause-opened c =
+    let s = c.args.built.now in
+    let w = c.args.self.now.state.state in
+    let deferred = c.args.self.now.deferred in
+    let begun : run_with c.begin.new.self.state deferred ≡ between (opening w) = ap (λ (x : StateValue). run_with x.state deferred) c.in_ok-begin.ensures.ok ∙ run_with_nothing (opening w) deferred c.requires.nothing in
+    let done = c.in_ok-grant.ensures in
+    opened_is s w (run_with c.grant.new.state.state c.grant.new.self) (ticked (has_tick w) c.in_ok-begin.ensures.spent) (ap (has_ids_for_level s 0) (sym begun) ∙ done.has) (done.granted ∙ ap (after_grant s 0) begun)
