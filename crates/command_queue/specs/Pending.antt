@@ -11,8 +11,8 @@ use Rattle.archetype_store.specs.declared.change.Fate.{Fate}
 use Rattle.archetype_store.specs.declared.change.Fate.TheVariants as the
 use Rattle.archetype_store.specs.declared.change.EntityChange.{EntityChange}
 use Rattle.command_queue.specs.declared.pending.Pending.{Pending}
-use Rattle.command_queue.specs.declared.pending.Found.{Found}
-use Rattle.command_queue.specs.declared.pending.Found.TheVariants as found
+use Rattle.command_queue.specs.declared.pending.EntityState.{EntityState}
+use Rattle.command_queue.specs.declared.pending.EntityState.TheVariants as entity_state
 
 -- whether an entity is left alive
 abbrev pub is_left_alive : Fate → Bool
@@ -54,10 +54,10 @@ pub record IsKept (cs : List EntityChange) (e : Entity) (place : ℕ) : Type 0 w
   pub lasts : (d : EntityChange) → is_left_alive (get_or cs place d).fate ≡ true
 
 -- how an entity stands: it lives by the change at a place, it lives and has no change, or it doesn't live
-abbrev pub Stands : List Slot → List EntityChange → Entity → Found → Type 0
-Stands slots cs e (found.Changed place) = IsKept cs e place
-Stands slots cs e found.Unchanged = (is_alive slots e ≡ true) × (place_of e.index cs ≡ None)
-Stands slots cs e found.Dead = is_alive (changed cs slots) e ≡ false
+abbrev pub Stands : List Slot → List EntityChange → Entity → EntityState → Type 0
+Stands slots cs e (entity_state.Changed place) = IsKept cs e place
+Stands slots cs e entity_state.Unchanged = (is_alive slots e ≡ true) × (place_of e.index cs ≡ None)
+Stands slots cs e entity_state.Dead = is_alive (changed cs slots) e ≡ false
 
 -- the place of the change of an entity that lives, none where it doesn't live
 abbrev pub IsOpen : List Slot → List EntityChange → Entity → Option ℕ → Type 0

@@ -16,7 +16,7 @@ use change_ticks::Tick;
 use std::alloc::{AllocError, Global};
 
 // What these buffers make of a world, which stays as it is.
-fn pend(
+fn gather(
     alloc: Global,
     world: &World,
     buffers: &[CommandBuffer],
@@ -58,7 +58,7 @@ pub fn apply(
     ensures err { OnErr result (world.new ≡ world.old) }
     ensures home { AreAllHome world.new.layout }
 {
-    let pending = pend(alloc, world, buffers, order, tick)?;
+    let pending = gather(alloc, world, buffers, order, tick)?;
     world.change(&pending.changes)?;
     Ok(pending.passed_over)
 }

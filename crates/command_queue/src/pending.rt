@@ -13,7 +13,7 @@ ghost use Rattle.command_queue.specs.Commands.{command_of};
 ghost use Rattle.command_queue.specs.Pending.{place_of, put_change, ArePlaced, IsPending, target_of, Stands, IsOpen, CanSpawn};
 
 use crate::command::Command;
-use crate::rows::{insert_left, keeps, remove_left};
+use crate::rows::{insert_kept, keeps, remove_kept};
 use archetype_store::{EntityChange, Fate, World};
 use change_ticks::Tick;
 use entity_table::Entity;
@@ -26,7 +26,7 @@ const MOST_PASSED_OVER: u64 = 1 << 62;
 
 // How an entity stands once the commands so far are done.
 #[derive(Clone, Copy)]
-pub(crate) enum Found {
+pub(crate) enum EntityState {
     // It lives, as the change at this place leaves it.
     Changed(usize),
     // It lives, and no command changed it.
@@ -100,23 +100,23 @@ impl Pending {
     }
 
     // How an entity stands.
-    fn find(&self, world: &World, e: Entity) -> Found
+    fn find(&self, world: &World, e: Entity) -> EntityState
         requires { IsPending world.now.state self.now }
         ensures { Stands world.now.state.slots self.now.changes.items e result }
     {
         match self.place(e.index) {
             None => {
                 if world.lives(e) {
-                    Found::Unchanged
+                    EntityState::Unchanged
                 } else {
-                    Found::Dead
+                    EntityState::Dead
                 }
             }
             Some(place) => {
                 if keeps(&self.changes[place], e.generation) {
-                    Found::Changed(place)
+                    EntityState::Changed(place)
                 } else {
-                    Found::Dead
+                    EntityState::Dead
                 }
             }
         }
@@ -131,9 +131,9 @@ impl Pending {
         ensures open { IfOk result (IsOpen world.now.state.slots self.new.changes.items e) }
     {
         match self.find(world, e) {
-            Found::Dead => Ok(None),
-            Found::Changed(place) => Ok(Some(place)),
-            Found::Unchanged => {
+            EntityState::Dead => Ok(None),
+            EntityState::Changed(place) => Ok(Some(place)),
+            EntityState::Unchanged => {
                 // Proves that the components of a world are of its shape.
                 let _now = world.now();
                 let place = self.changes.len();
@@ -161,7 +161,7 @@ impl Pending {
     {
         match self.open(alloc, world, e)? {
             None => self.pass_over(),
-            Some(place) => insert_left(&mut self.changes[place], value, tick)?,
+            Some(place) => insert_kept(&mut self.changes[place], value, tick)?,
         }
         Ok(())
     }
@@ -181,7 +181,7 @@ impl Pending {
     {
         match self.open(alloc, world, e)? {
             None => self.pass_over(),
-            Some(place) => remove_left(&mut self.changes[place], kind.number()),
+            Some(place) => remove_kept(&mut self.changes[place], kind.number()),
         }
         Ok(())
     }
@@ -193,9 +193,9 @@ impl Pending {
         ensures done { (tick : ℕ) → OnOk result (target_of world.now.state self.new ≡ apply_command tick (target_of world.now.state self.old) (Despawn e)) }
     {
         match self.find(world, e) {
-            Found::Dead => self.pass_over(),
-            Found::Changed(place) => self.changes[place].fate = Fate::Dies,
-            Found::Unchanged => self.add(EntityChange {
+            EntityState::Dead => self.pass_over(),
+            EntityState::Changed(place) => self.changes[place].fate = Fate::Dies,
+            EntityState::Unchanged => self.add(EntityChange {
                 entity: e,
                 fate: Fate::Dies,
             })?,

@@ -13,7 +13,7 @@ use kinds::Value;
 use std::alloc::AllocError;
 
 // Inserts a component at a tick among those that an entity is left with.
-pub(crate) fn insert_left(
+pub(crate) fn insert_kept(
     change: &mut EntityChange,
     value: Value,
     tick: Tick,
@@ -31,7 +31,7 @@ pub(crate) fn insert_left(
 }
 
 // Removes the component of a kind from those that an entity is left with.
-pub(crate) fn remove_left(change: &mut EntityChange, number: u32)
+pub(crate) fn remove_kept(change: &mut EntityChange, number: u32)
     requires { is_left_alive change.old.fate ≡ true }
     ensures entity { change.new.entity ≡ change.old.entity }
     ensures lasts { is_left_alive change.new.fate ≡ true }

@@ -25,10 +25,10 @@ returns-in-Some-clause-pending c =
     let p = c.in-Some.place in
     let kept : IsKept cs c.args.e p = subst (IsOpen w.slots cs c.args.e) c.in-Some.is c.in_ok-open.ensures.open in
     let x = c.index_mut.result.now in
-    let its = its_entity w cs valid c.args.e p kept x c.remove_left.new.change c.index_mut.ensures.value c.remove_left.ensures.entity in
+    let its = its_entity w cs valid c.args.e p kept x c.remove_kept.new.change c.index_mut.ensures.value c.remove_kept.ensures.entity in
     record {
-      changes = changes_removed w cs valid c.args.e p kept x c.remove_left.new.change c.index_mut.ensures.value c.remove_left.ensures.entity (kind_number c.args.kind) (rw c.number.ensures at c.remove_left.ensures.row);
-      places = λ q. c.in_ok-open.ensures.pending.places q ∙ sym (places_again w cs valid c.args.e p kept c.remove_left.new.change its q);
+      changes = changes_removed w cs valid c.args.e p kept x c.remove_kept.new.change c.index_mut.ensures.value c.remove_kept.ensures.entity (kind_number c.args.kind) (rw c.number.ensures at c.remove_kept.ensures.row);
+      places = λ q. c.in_ok-open.ensures.pending.places q ∙ sym (places_again w cs valid c.args.e p kept c.remove_kept.new.change its q);
     }
 
 pub returns-in-Some-clause-done : goal.returns-in-Some-clause-done
@@ -42,6 +42,6 @@ returns-in-Some-clause-done c = λ tick.
     let edit = remove_component (kind_number c.args.kind) in
     let f = with_row edit in
     ap (λ slots. let t : CommandTarget = record { slots = slots; passed_over = c.open.new.self.passed_over } in t)
-    (slots_edited w cs valid c.args.e p kept x c.remove_left.new.change c.index_mut.ensures.value c.remove_left.ensures.entity edit c.remove_left.ensures.lasts (rw c.number.ensures at c.remove_left.ensures.row))
+    (slots_edited w cs valid c.args.e p kept x c.remove_kept.new.change c.index_mut.ensures.value c.remove_kept.ensures.entity edit c.remove_kept.ensures.lasts (rw c.number.ensures at c.remove_kept.ensures.row))
     ∙ sym (if_lives c.args.e f (target_of w c.open.new.self) (kept_lives w cs valid c.args.e p kept))
     ∙ ap (if_alive c.args.e f) c.in_ok-open.ensures.same

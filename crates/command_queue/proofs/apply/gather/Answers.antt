@@ -9,7 +9,7 @@ use Rattle.archetype_store.specs.Changes.{change_at, changed}
 use Rattle.command_queue.specs.Commands.{command_of, commands_of}
 use Rattle.command_queue.specs.Pending.{AreChanges, ArePlaced, CanSpawn, target_of}
 use Rattle.command_queue.proofs.Spawns.{can_spawn-front, can_spawn-rest}
-use Rattle.command_queue.proofs.apply.pend.Goals as goal
+use Rattle.command_queue.proofs.apply.gather.Goals as goal
 
 pub loop-number-init : goal.loop-number-init
 loop-number-init c =

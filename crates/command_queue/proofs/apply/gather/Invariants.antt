@@ -3,7 +3,7 @@ use Rattle.model.specs.state.Commands.{apply_buffer}
 use Rattle.model.specs.shown.Outcome.{spawned_by}
 use Rattle.command_queue.specs.Commands.{commands_of}
 use Rattle.command_queue.specs.Pending.{IsPending, target_of, CanSpawn}
-use Rattle.command_queue.proofs.apply.pend.Given as goal
+use Rattle.command_queue.proofs.apply.gather.Given as goal
 
 -- what is left of the buffers makes of the changes so far what all of them were to make of the world
 abbrev pub invariant-loop-number : goal.invariant-loop-number
