@@ -2,11 +2,10 @@
 use Rattle.std.proofs.Common.{◌≡◌, ℕ, zero, suc, ◌+◌, Bool, true, false, cond, ◌||◌, ◌&&◌, ◌==◌, List, [], ◌∷◌, get_or, map, slice_get, Some, is_some, refl, sym, ap, ◌∙◌, subst, arith}
 use mathlib.Core.Path.{fun_ext}
 use Rattle.std.specs.List.{list_all}
-use Rattle.model.specs.Lists.{has, is_number}
+use Rattle.model.specs.Lists.{has}
 use Rattle.model.specs.state.State.{Slot, Component, fresh_slot, is_living}
 use Rattle.model.specs.state.Rows.{cell_at, kinds_of, row_at}
-use Rattle.model.specs.access.Query.{Term, matches, written, writes, touched}
-use Rattle.model.specs.access.Query.Term.{Entity as IdOnly, Read, Mut, Opt, With, Without, Added, Changed, AnyOf}
+use Rattle.model.specs.access.Query.{Term, matches, writes}
 use Rattle.model.specs.shown.Input.{ShownRow, is_row, passes, shown_row, rows_from}
 use Rattle.archetype_store.specs.Layout.{archetype_at}
 use Rattle.std.proofs.lemmas.Bool.{and_parts as and-parts, or_right as or-right}
@@ -58,17 +57,6 @@ kinds-are (c ∷ cs) kind = at (c.kind == kind) (kinds-are cs kind)
     at : (b : Bool) → is_some (cell_at cs kind) ≡ has kind (map (λ c. c.kind) cs) → is_some (cond b (Some c.cell) (cell_at cs kind)) ≡ (b || has kind (map (λ c. c.kind) cs))
     at true h = refl
     at false h = h
-
-written-touched : (t : Term) (k : ℕ) → is_number k (written t) ≡ true → is_number k (touched t) ≡ true
-written-touched IdOnly k h = absurd (cc)
-written-touched (Read m) k h = absurd (cc)
-written-touched (Mut m) k h = h
-written-touched (Opt m) k h = absurd (cc)
-written-touched (With m) k h = absurd (cc)
-written-touched (Without m) k h = absurd (cc)
-written-touched (AnyOf alternatives) k h = absurd (cc)
-written-touched (Added m) k h = absurd (cc)
-written-touched (Changed m) k h = absurd (cc)
 
 rest-of : (a b c : Bool) → ((a && b) && c) ≡ true → (b && c) ≡ true
 rest-of true b c h = h

@@ -18,12 +18,6 @@ use Rattle.body.specs.Sheet.{Sheet, seen_at, words_for}
 use Rattle.body.specs.Together.{words_of_sheet, words_of_all, CloseTogether, IsReachedIn, ReachTogether, RowsAreShown, CellsAreAfter}
 use Rattle.body.proofs.Gets.{same-some, map-same-get}
 
--- ---- what is written is written by a term
-
-in-row-step : (b : Bool) (v rest : Option (List ℤ)) (w : List ℤ) → first_some (cond b v None) rest ≡ Some w → (b ≡ true) ⊎ (rest ≡ Some w)
-in-row-step true v rest w h = inl refl
-in-row-step false v rest w h = inr h
-
 -- ---- another query writes nothing there
 
 query-step : (b : Bool) (u v : Option (List ℤ)) → (b ≡ true → u ≡ None) → v ≡ None → first_some (cond b u None) v ≡ None

@@ -10,7 +10,7 @@ use Rattle.kinds.specs.Components.{widths}
 use Rattle.column_store.specs.Cells.{changed_cell}
 use Rattle.query_plan.specs.declared.row.Row.{Row}
 use Rattle.query_plan.specs.Places.{AreEvery}
-use Rattle.body.specs.declared.held.Held.{Held}
+use Rattle.body.specs.declared.view_column.ViewColumn.{ViewColumn}
 use Rattle.body.specs.Columns.{Column, cell_in, with_cell}
 use Rattle.body.specs.HeldColumns.{held_seen}
 use Rattle.body.specs.Fields.{words_with, field_of, field_seen, field_cell, column_with_fields, sheet_with_fields}
@@ -53,12 +53,12 @@ sheet-more k place from i values d v now new last l read e h =
 -- ---- one column
 
 -- a column that a slot names
-pub record IsHeld (k at : ℕ) (cell : Option Cell) (h : Held) : Type 0 where
+pub record IsHeld (k at : ℕ) (cell : Option Cell) (h : ViewColumn) : Type 0 where
   pub kind : (held_seen h).kind ≡ k
   pub within : at < length (held_seen h).cells
   pub cell_is : slice_get (held_seen h).cells at ≡ cell
 
-pub held-there : (columns : List Held) (o : Option ℕ) (k slot at : ℕ) (h : Held) → Some slot ≡ o → IsReadableAt o (map held_seen columns) k at → h ≡ get_or columns slot h → IsHeld k at (slot_cell o (map held_seen columns) at) h
+pub held-there : (columns : List ViewColumn) (o : Option ℕ) (k slot at : ℕ) (h : ViewColumn) → Some slot ≡ o → IsReadableAt o (map held_seen columns) k at → h ≡ get_or columns slot h → IsHeld k at (slot_cell o (map held_seen columns) at) h
 held-there columns o k slot at h e readable is =
     let there = subst (λ s. IsReadableAt s (map held_seen columns) k at) (sym e) readable in
     let column = held-is columns slot there.column h there.there is in
@@ -69,12 +69,12 @@ held-there columns o k slot at h e readable is =
     }
 
 -- and an own one
-pub record IsOwnHeld (k at : ℕ) (h : Held) : Type 0 where
+pub record IsOwnHeld (k at : ℕ) (h : ViewColumn) : Type 0 where
   pub own : (held_seen h).is_written ≡ true
   pub kind : (held_seen h).kind ≡ k
   pub within : at < length (held_seen h).cells
 
-pub own-there : (columns : List Held) (o : Option ℕ) (k slot at : ℕ) (h : Held) → Some slot ≡ o → IsWritableAt o (map held_seen columns) k at → h ≡ get_or columns slot h → IsOwnHeld k at h
+pub own-there : (columns : List ViewColumn) (o : Option ℕ) (k slot at : ℕ) (h : ViewColumn) → Some slot ≡ o → IsWritableAt o (map held_seen columns) k at → h ≡ get_or columns slot h → IsOwnHeld k at h
 own-there columns o k slot at h e writable is =
     let there = subst (λ s. IsWritableAt s (map held_seen columns) k at) (sym e) writable in
     let column = held-is columns slot there.column h there.there is in
@@ -84,7 +84,7 @@ own-there columns o k slot at h e writable is =
       within = subst (λ (c : Column). at < length c.cells) column there.within;
     }
 
-pub own-within : (columns : List Held) (o : Option ℕ) (k slot at : ℕ) → Some slot ≡ o → IsWritableAt o (map held_seen columns) k at → slot < length columns
+pub own-within : (columns : List ViewColumn) (o : Option ℕ) (k slot at : ℕ) → Some slot ≡ o → IsWritableAt o (map held_seen columns) k at → slot < length columns
 own-within columns o k slot at e writable =
     let there = subst (λ s. IsWritableAt s (map held_seen columns) k at) (sym e) writable in
     let l = slice_get_within (map held_seen columns) slot there.column there.there in

@@ -3,7 +3,7 @@ use denote.Param.Send.{IsSend, IsSync, sendable}
 use Rattle.std.proofs.Crossing.{crosses}
 use Rattle.column_store.specs.contracts.column.Column as column
 use Rattle.column_store.specs.contracts.stamped.StampedColumn as stamped
-use Rattle.body.specs.contracts.held.Held as held
+use Rattle.body.specs.contracts.view_column.ViewColumn as held
 use Rattle.body.specs.contracts.view_query.ViewQuery as view_query
 use Rattle.body.specs.contracts.view_values.ViewValues as values
 use Rattle.body.specs.contracts.view_commands.ViewCommands as issued

@@ -8,7 +8,7 @@ use Rattle.model.specs.access.Query.{Term, writes}
 use Rattle.model.specs.shown.Input.{words_of}
 use Rattle.column_store.specs.Cells.{changed_cell}
 use Rattle.query_plan.specs.declared.row.Row.{Row}
-use Rattle.body.specs.declared.held.Held.{Held}
+use Rattle.body.specs.declared.view_column.ViewColumn.{ViewColumn}
 use Rattle.body.specs.Columns.{Column, with_cell}
 use Rattle.body.specs.HeldColumns.{held_seen}
 use Rattle.body.specs.Seen.{words_read, with_words, no_row}
@@ -21,13 +21,13 @@ pub words_of-map : (o : Option Cell) → words_of o ≡ option_map (λ c. c.word
 words_of-map None = refl
 words_of-map (Some c) = refl
 
-pub held-is : (columns : List Held) (slot : ℕ) (column : Column) (h : Held) → slice_get (map held_seen columns) slot ≡ Some column → h ≡ get_or columns slot h → column ≡ held_seen h
+pub held-is : (columns : List ViewColumn) (slot : ℕ) (column : Column) (h : ViewColumn) → slice_get (map held_seen columns) slot ≡ Some column → h ≡ get_or columns slot h → column ≡ held_seen h
 held-is columns slot column h there is =
     let inside : slot < length columns = (let l = slice_get_within (map held_seen columns) slot column there in omega (arith, length-map columns held_seen)) in
     same-some column (held_seen h) (sym there ∙ slice_get-map held_seen columns slot ∙ ap (option_map held_seen) (slice_get_read columns (length columns) slot h refl inside is))
 
 -- the component in a row, from that of its column
-pub cell-read : (slots : List (List (Option ℕ))) (columns : List Held) (row : Row) (k slot : ℕ) (h : Held) (w : List ℤ) → Some slot ≡ slot_in slots row.archetype k → IsReadable slots (map held_seen columns) row k → h ≡ get_or columns slot h →
+pub cell-read : (slots : List (List (Option ℕ))) (columns : List ViewColumn) (row : Row) (k slot : ℕ) (h : ViewColumn) (w : List ℤ) → Some slot ≡ slot_in slots row.archetype k → IsReadable slots (map held_seen columns) row k → h ≡ get_or columns slot h →
     option_map (λ c. c.words) (slice_get (held_seen h).cells row.place) ≡ Some w → Some w ≡ words_of (seen_at slots (map held_seen columns) row k)
 cell-read slots columns row k slot h w e r is words =
     let there = subst (λ s. IsReadableAt s (map held_seen columns) k row.place) (sym e) r in

@@ -10,8 +10,8 @@ use Rattle.kinds.specs.Kind.{kind_count}
 use Rattle.model.specs.Lists.{update_at}
 use Rattle.model.specs.access.Query.{Term}
 use Rattle.model.proofs.lists.Lists.{length-update_at as length-update}
-use Rattle.body.specs.declared.held.Held.{Held}
-use Rattle.body.specs.declared.view_query.Slots.{Slots}
+use Rattle.body.specs.declared.view_column.ViewColumn.{ViewColumn}
+use Rattle.body.specs.declared.view_query.ColumnIndex.{ColumnIndex}
 use Rattle.body.specs.Columns.{Column}
 use Rattle.body.specs.HeldColumns.{held_seen, slots_seen}
 use Rattle.body.specs.Seen.{fetches}
@@ -85,12 +85,12 @@ all-wide : (n : ℕ) → AllByRecursion (λ row. length row ≡ kind_count) (rep
 all-wide zero = tt
 all-wide (suc n) = (length-replicated {A = Option ℕ} kind_count None, all-wide n)
 
-map-replicated : (n : ℕ) (x : Slots) → map slots_seen (replicate n x) ≡ replicate n (slots_seen x)
+map-replicated : (n : ℕ) (x : ColumnIndex) → map slots_seen (replicate n x) ≡ replicate n (slots_seen x)
 map-replicated zero x = refl
 map-replicated (suc n) x = ap (λ xs. slots_seen x ∷ xs) (map-replicated n x)
 
 -- no column yet
-pub slots-begun : (terms : List Term) (archetypes : ℕ) (columns : List Column) (slots : List Slots) → slots ≡ replicate archetypes (record { columns = replicate kind_count None }) → AreSlotsBelow terms archetypes columns 0 (map slots_seen slots)
+pub slots-begun : (terms : List Term) (archetypes : ℕ) (columns : List Column) (slots : List ColumnIndex) → slots ≡ replicate archetypes (record { columns = replicate kind_count None }) → AreSlotsBelow terms archetypes columns 0 (map slots_seen slots)
 slots-begun terms archetypes columns slots e =
     subst (AreSlotsBelow terms archetypes columns 0) (sym (ap (map slots_seen) e ∙ map-replicated archetypes (record { columns = replicate kind_count None }))) (record {
       count = length-replicated archetypes (replicate kind_count None);
@@ -144,7 +144,7 @@ slots-added false terms archetypes columns i slots column f there l k is = recor
   ];
 }
 
-pub slots-more : (terms : List Term) (archetypes : ℕ) (columns : List Held) (i : ℕ) (slots news : List (List (Option ℕ))) (held : Held) → i < length columns → held ≡ get_or columns i held →
+pub slots-more : (terms : List Term) (archetypes : ℕ) (columns : List ViewColumn) (i : ℕ) (slots news : List (List (Option ℕ))) (held : ViewColumn) → i < length columns → held ≡ get_or columns i held →
     AllByRecursion (λ (column : Column). column.archetype < archetypes) (map held_seen columns) → (held_seen held).kind < kind_count → news ≡ is_slot_kind terms (held_seen held) i slots →
     AreSlotsBelow terms archetypes (map held_seen columns) i slots → AreSlotsBelow terms archetypes (map held_seen columns) (i + 1) news
 slots-more terms archetypes columns i slots news held l e below k n is =
@@ -152,7 +152,7 @@ slots-more terms archetypes columns i slots news held l e below k n is =
     let low = all-get (λ (column : Column). column.archetype < archetypes) (map held_seen columns) i (held_seen held) below there in
     subst (AreSlotsBelow terms archetypes (map held_seen columns) (i + 1)) (sym n) (slots-added (fetches terms (held_seen held).kind) terms archetypes (map held_seen columns) i slots (held_seen held) refl there low k is)
 
-pub slots-ended : (terms : List Term) (archetypes : ℕ) (columns : List Held) (i : ℕ) (slots : List (List (Option ℕ))) → length columns ≤ i → AreSlotsBelow terms archetypes (map held_seen columns) i slots → AreSlotsOf terms archetypes (map held_seen columns) slots
+pub slots-ended : (terms : List Term) (archetypes : ℕ) (columns : List ViewColumn) (i : ℕ) (slots : List (List (Option ℕ))) → length columns ≤ i → AreSlotsBelow terms archetypes (map held_seen columns) i slots → AreSlotsOf terms archetypes (map held_seen columns) slots
 slots-ended terms archetypes columns i slots l is = record {
   count = is.count;
   wide = is.wide;
@@ -161,6 +161,6 @@ slots-ended terms archetypes columns i slots l is = record {
 }
 
 -- a column of the columns is of an archetype below the number
-pub archetype-below : (archetypes : ℕ) (columns : List Held) (i : ℕ) (held : Held) → i < length columns → held ≡ get_or columns i held → AllByRecursion (λ (column : Column). column.archetype < archetypes) (map held_seen columns) → (held_seen held).archetype < archetypes
+pub archetype-below : (archetypes : ℕ) (columns : List ViewColumn) (i : ℕ) (held : ViewColumn) → i < length columns → held ≡ get_or columns i held → AllByRecursion (λ (column : Column). column.archetype < archetypes) (map held_seen columns) → (held_seen held).archetype < archetypes
 archetype-below archetypes columns i held l e below =
     all-get (λ (column : Column). column.archetype < archetypes) (map held_seen columns) i (held_seen held) below (slice_get-map held_seen columns i ∙ ap (option_map held_seen) (slice_get_read columns (length columns) i held refl l e))

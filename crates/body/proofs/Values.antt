@@ -3,7 +3,7 @@ use Rattle.std.proofs.Common.{◌≡◌, ℕ, zero, suc, ℤ, pos, ◌+◌, ◌<
 use mathlib.Core.Path.{fun_ext}
 use Rattle.std.specs.Option.{unwrap_or}
 use Rattle.std.proofs.lemmas.Bool.{eqb-true, eq-eqb, ltb-true, ltb-false, lt-ltb, le-ltb, false≢true}
-use Rattle.std.proofs.lemmas.List.{get_or_past, get_or-set_same, get_or-set_other, length-set}
+use Rattle.std.proofs.lemmas.List.{get_or_past, get_or-set_same, get_or-set_other}
 use Rattle.model.specs.Lists.{has, first_some, map_index, update_at}
 use Rattle.model.specs.access.Access.{Params}
 use Rattle.model.specs.shown.Outcome.{value_written}
@@ -103,13 +103,6 @@ pub values-written : (params : Params) (values : List ℤ) (written : List (Opti
     values_over params values (set written n (Some x)) shown registers ≡ record (values_over params values written shown registers) { written = with_value params.res_mut n v (map (written_at written) params.res_mut) }
 values-written params values written shown registers n v x e l =
     ap (λ ws. record (values_over params values written shown registers) { written = ws }) (ap (λ y. map (written_at (set written n (Some y))) params.res_mut) e ∙ write-value written n v params.res_mut l)
-
-pub still-writable : (params : Params) (written : List (Option ℤ)) (n : ℕ) (v : ℤ) → n < length written → has n params.res_mut ≡ true → AreWritable params written → AreWritable params (set written n (Some v))
-still-writable params written n v l may able = record { count = length-set written n (Some v) ∙ able.count; each = λ m w h. go m w (m == n) refl h }
-  where
-    go : (m : ℕ) (w : ℤ) (b : Bool) → (m == n) ≡ b → written_at (set written n (Some v)) m ≡ Some w → has m params.res_mut ≡ true
-    go m w true e h = ap (λ k. has k params.res_mut) (eqb-true m n e) ∙ may
-    go m w false e h = able.each m w (sym (set-at written n m v l ∙ ap (λ b. cond b (Some v) (written_at written m)) e) ∙ h)
 
 -- ---- the end
 

@@ -8,29 +8,29 @@ ghost use Rattle.body.specs.Lent.{lent_of, lent_after};
 ghost use Rattle.body.specs.Sheet.{Sheet, WritesReach};
 ghost use Rattle.body.specs.Together.{words_of_sheet};
 
-use crate::held::{Cells, Held};
+use crate::view_column::{ColumnAccess, ViewColumn};
 use crate::view_query::ViewQuery;
 use archetype_store::World;
 use query_plan::RowBuffers;
 
 // Brings a column home, where it was lent.
-fn put_held(held: Held, world: &mut World)
+fn put_held(held: ViewColumn, world: &mut World)
     requires { CanComeHome (lent_of (held_seen held ∷ [])) world.old }
     ensures { world.new ≡ all_home (lent_of (held_seen held ∷ [])) world.old }
 {
-    let Held {
+    let ViewColumn {
         archetype,
         cells,
         world: _,
     } = held;
     match cells {
-        Cells::Written(column) => world.put_column(archetype, column),
-        Cells::Read(_) => {}
+        ColumnAccess::Written(column) => world.put_column(archetype, column),
+        ColumnAccess::Read(_) => {}
     }
 }
 
 // Brings the columns of a query home. It allocates nothing.
-fn put_columns(columns: Vec<Held>, world: &mut World)
+fn put_columns(columns: Vec<ViewColumn>, world: &mut World)
     requires { CanComeHome (lent_of (map held_seen columns.items)) world.old }
     ensures { world.new ≡ all_home (lent_of (map held_seen columns.items)) world.old }
 {

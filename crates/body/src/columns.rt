@@ -7,7 +7,7 @@ ghost use Rattle.body.specs.HeldColumns.{held_seen};
 ghost use Rattle.body.specs.Lent.{lent_of, with_away};
 ghost use Rattle.body.specs.Picked.{spot_of, spot_seen, picked_own, picked_read, own_column, read_column, AreSpotsHome, AreOtherSpots, AreHeldOf};
 
-use crate::held::{Cells, Held};
+use crate::view_column::{ColumnAccess, ViewColumn};
 use archetype_store::World;
 use archetype_store::store::{ColumnAt, SharedColumn, TakenColumn};
 use query_plan::Pick;
@@ -16,15 +16,15 @@ use std::snapshot::Snapshot;
 
 // Where the picks of a query are: the written ones, and the others.
 #[derive(Drop)]
-struct Spots {
+struct ColumnRequests {
     own: Vec<ColumnAt>,
     read: Vec<ColumnAt>,
 }
 
 // Where picks are.
-fn spots_of(alloc: Global, picks: &[Pick]) -> Result<Spots, AllocError>
-    ensures own { IfOk result (λ spots. map spot_seen spots.own.items ≡ map spot_of (picked_own (map pick_seen picks.now))) }
-    ensures read { IfOk result (λ spots. map spot_seen spots.read.items ≡ map spot_of (picked_read (map pick_seen picks.now))) }
+fn requests_of(alloc: Global, picks: &[Pick]) -> Result<ColumnRequests, AllocError>
+    ensures own { IfOk result (λ requests. map spot_seen requests.own.items ≡ map spot_of (picked_own (map pick_seen picks.now))) }
+    ensures read { IfOk result (λ requests. map spot_seen requests.read.items ≡ map spot_of (picked_read (map pick_seen picks.now))) }
 {
     let mut own = Vec::new(alloc);
     let mut read = Vec::new(alloc);
@@ -39,34 +39,34 @@ fn spots_of(alloc: Global, picks: &[Pick]) -> Result<Spots, AllocError>
             read.push(at)?;
         }
     }
-    Ok(Spots { own, read })
+    Ok(ColumnRequests { own, read })
 }
 
 // Holds columns that were taken of a world.
-fn hold_own(columns: &mut Vec<Held>, taken: Vec<TakenColumn>, world: &World)
+fn hold_own(columns: &mut Vec<ViewColumn>, taken: Vec<TakenColumn>, world: &World)
     requires { vec_len columns.old + vec_len taken ≤ vec_capacity columns.old }
     ensures columns { map held_seen columns.new.items ≡ map held_seen columns.old.items ++ map (own_column world.now) taken.items }
     ensures len { vec_len columns.new ≡ vec_len columns.old + vec_len taken }
     ensures capacity { vec_capacity columns.new ≡ vec_capacity columns.old }
 {
     for own in taken {
-        columns.push_reserved(Held {
+        columns.push_reserved(ViewColumn {
             archetype: own.archetype,
-            cells: Cells::Written(own.column),
+            cells: ColumnAccess::Written(own.column),
             world: Snapshot::of(world),
         });
     }
 }
 
 // Holds columns that a world shares.
-fn hold_read(columns: &mut Vec<Held>, shared: Vec<SharedColumn>, world: &World)
+fn hold_read(columns: &mut Vec<ViewColumn>, shared: Vec<SharedColumn>, world: &World)
     requires { vec_len columns.old + vec_len shared ≤ vec_capacity columns.old }
     ensures { map held_seen columns.new.items ≡ map held_seen columns.old.items ++ map (read_column world.now) shared.items }
 {
     for read in shared {
-        columns.push_reserved(Held {
+        columns.push_reserved(ViewColumn {
             archetype: read.archetype,
-            cells: Cells::Read(read.column),
+            cells: ColumnAccess::Read(read.column),
             world: Snapshot::of(world),
         });
     }
@@ -77,17 +77,17 @@ pub(crate) fn take_picked(
     alloc: Global,
     picks: &[Pick],
     world: &mut World,
-) -> Result<Vec<Held>, AllocError>
+) -> Result<Vec<ViewColumn>, AllocError>
     requires home { AreSpotsHome world.old.layout (map pick_seen picks.now) }
     requires others { AreOtherSpots (map pick_seen picks.now) }
     ensures held { IfOk result (λ columns. AreHeldOf world.old (picked_own (map pick_seen picks.now) ++ picked_read (map pick_seen picks.now)) (map held_seen columns.items)) }
     ensures away { IfOk result (λ columns. world.new ≡ record { state = world.old.state; layout = with_away (lent_of (map held_seen columns.items)) world.old.layout }) }
     ensures err { OnErr result (world.new ≡ world.old) }
 {
-    let spots = spots_of(alloc, picks)?;
-    let mut columns = Vec::with_capacity(alloc, spots.own.len() + spots.read.len())?;
-    let read = world.share_read(alloc, &spots.read)?;
-    let own = world.take_written(alloc, &spots.own)?;
+    let requests = requests_of(alloc, picks)?;
+    let mut columns = Vec::with_capacity(alloc, requests.own.len() + requests.read.len())?;
+    let read = world.share_read(alloc, &requests.read)?;
+    let own = world.take_written(alloc, &requests.own)?;
     hold_own(&mut columns, own, world);
     hold_read(&mut columns, read, world);
     Ok(columns)

@@ -4,7 +4,6 @@
 mod closing;
 mod columns;
 pub mod field_words;
-pub mod held;
 pub mod memory;
 pub mod open_state;
 mod opening;
@@ -12,14 +11,15 @@ mod slot_table;
 pub mod state;
 pub mod system_body;
 pub mod view;
+pub mod view_column;
 mod view_commands;
 pub mod view_query;
 mod view_values;
 
-pub use held::{Cells, Held};
 pub use memory::Memory;
 pub use open_state::OpenState;
 pub use state::{Memories, State};
 pub use system_body::{Body, BodyFault};
 pub use view::View;
-pub use view_query::{Slots, ViewQuery};
+pub use view_column::{ColumnAccess, ViewColumn};
+pub use view_query::{ColumnIndex, ViewQuery};

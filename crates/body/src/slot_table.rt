@@ -9,8 +9,8 @@ ghost use Rattle.body.specs.HeldColumns.{held_seen, slots_seen};
 ghost use Rattle.body.specs.Seen.{fetched, fetches as query_fetches};
 ghost use Rattle.body.specs.SlotTable.{AreSlotsOf, is_slot_kind, with_slot};
 
-use crate::held::Held;
-use crate::view_query::Slots;
+use crate::view_column::ViewColumn;
+use crate::view_query::ColumnIndex;
 use kinds::Kind;
 use kinds::kind::prove_kinds_apart;
 use query::Term;
@@ -33,12 +33,12 @@ fn fetches(terms: &[Term], kind: Kind) -> bool
 
 // Tables of so many archetypes, without a column.
 #[tactic(auto, using(crate::proofs::States::repeated))]
-pub(crate) fn no_slots(alloc: Global, archetypes: usize) -> Result<Vec<Slots>, AllocError>
+pub(crate) fn no_slots(alloc: Global, archetypes: usize) -> Result<Vec<ColumnIndex>, AllocError>
     ensures { IfOk result (λ slots. slots.items ≡ replicate archetypes (record { columns = replicate kind_count None })) }
 {
     let mut slots = Vec::with_capacity(alloc, archetypes)?;
     for _made in 0..archetypes {
-        slots.push(Slots {
+        slots.push(ColumnIndex {
             columns: [None; Kind::COUNT],
         })?;
     }
@@ -46,7 +46,7 @@ pub(crate) fn no_slots(alloc: Global, archetypes: usize) -> Result<Vec<Slots>, A
 }
 
 // Notes the number of the column of a kind in an archetype.
-fn set_slot(slots: &mut Vec<Slots>, archetype: usize, kind: Kind, column: u32)
+fn set_slot(slots: &mut Vec<ColumnIndex>, archetype: usize, kind: Kind, column: u32)
     requires { archetype < length slots.old.items }
     ensures slots { map slots_seen slots.new.items ≡ with_slot archetype (kind_number kind) column (map slots_seen slots.old.items) }
     ensures kind { kind_number kind < kind_count }
@@ -57,7 +57,7 @@ fn set_slot(slots: &mut Vec<Slots>, archetype: usize, kind: Kind, column: u32)
 }
 
 // Notes the number of a column, if its kind is fetched.
-fn add_slot(slots: &mut Vec<Slots>, terms: &[Term], held: &Held, column: u32)
+fn add_slot(slots: &mut Vec<ColumnIndex>, terms: &[Term], held: &ViewColumn, column: u32)
     requires { (held_seen held.now).archetype < length slots.old.items }
     ensures slots { map slots_seen slots.new.items ≡ is_slot_kind (map term_of terms.now) (held_seen held.now) column (map slots_seen slots.old.items) }
     ensures kind { (held_seen held.now).kind < kind_count }
@@ -70,7 +70,12 @@ fn add_slot(slots: &mut Vec<Slots>, terms: &[Term], held: &Held, column: u32)
 }
 
 // Notes the number of each of these columns, of which there are so many, if its kind is fetched: in tables without a column.
-pub(crate) fn fill_slots(slots: &mut Vec<Slots>, terms: &[Term], columns: &[Held], count: u32)
+pub(crate) fn fill_slots(
+    slots: &mut Vec<ColumnIndex>,
+    terms: &[Term],
+    columns: &[ViewColumn],
+    count: u32,
+)
     requires empty { slots.old.items ≡ replicate (length slots.old.items) (record { columns = replicate kind_count None }) }
     requires within { AllByRecursion (λ column. column.archetype < length slots.old.items) (map held_seen columns.now) }
     requires count { length columns.now ≡ count }

@@ -16,7 +16,7 @@ ghost use Rattle.body.specs.Seen.{words_read, with_words, no_row};
 ghost use Rattle.body.specs.Sheet.{slot_in, slot_cell, seen_at, at_slot, row_of, IsPlan, IsReadableAt, IsReadable, IsWritableAt, IsWritable, WritesReach};
 
 use crate::field_words::{field_of, with_field};
-use crate::held::Held;
+use crate::view_column::ViewColumn;
 use change_ticks::Tick;
 use entity_table::Entity;
 use kinds::{Component, Fields, Kind, Value};
@@ -27,16 +27,16 @@ use std::snapshot::Snapshot;
 
 /// The number of the column of each kind that a query fetches in one of its archetypes.
 #[derive(Clone, Copy)]
-pub struct Slots {
+pub struct ColumnIndex {
     pub columns: [Option<u32>; Kind::COUNT],
 }
 
 // Where the rows of a query stand, and the tick of its writes. The query itself has no bytes here.
 #[derive(Drop)]
-struct Placing {
+struct RowSource {
     tick: Tick,
     query: Snapshot<Query>,
-    slots: Vec<Slots>,
+    slots: Vec<ColumnIndex>,
     rows: Rows,
 }
 
@@ -44,9 +44,9 @@ struct Placing {
 /// the tick of its writes.
 #[derive(Drop)]
 pub struct ViewQuery {
-    placing: Placing,
-    columns: Vec<Held>,
-    taken: Snapshot<Vec<Held>>,
+    source: RowSource,
+    columns: Vec<ViewColumn>,
+    taken: Snapshot<Vec<ViewColumn>>,
 }
 
 impl Model for ViewQuery {
@@ -57,9 +57,9 @@ impl Model for ViewQuery {
 
     ghost use Rattle.body.specs.HeldColumns.{held_seen, slots_seen};
 
-    ghost view = { λ q. sheet_of q.placing.tick q.placing.query.value (map slots_seen q.placing.slots.items) q.placing.rows (map held_seen q.taken.value.items) (map held_seen q.columns.items) };
+    ghost view = { λ q. sheet_of q.source.tick q.source.query.value (map slots_seen q.source.slots.items) q.source.rows (map held_seen q.taken.value.items) (map held_seen q.columns.items) };
 
-    ghost invariant = { λ q. IsSheet q.placing.tick q.placing.query.value (map slots_seen q.placing.slots.items) q.placing.rows (map held_seen q.taken.value.items) (map held_seen q.columns.items) };
+    ghost invariant = { λ q. IsSheet q.source.tick q.source.query.value (map slots_seen q.source.slots.items) q.source.rows (map held_seen q.taken.value.items) (map held_seen q.columns.items) };
 }
 
 impl ViewQuery {
@@ -68,9 +68,9 @@ impl ViewQuery {
     pub fn open(
         tick: Tick,
         query: &Query,
-        slots: Vec<Slots>,
+        slots: Vec<ColumnIndex>,
         rows: Rows,
-        columns: Vec<Held>,
+        columns: Vec<ViewColumn>,
     ) -> Self
         requires { IsPlan tick query.now (map slots_seen slots.items) rows (map held_seen columns.items) }
         ensures terms { result.terms ≡ query.now }
@@ -81,7 +81,7 @@ impl ViewQuery {
     {
         let taken = Snapshot::of(&columns);
         ViewQuery {
-            placing: Placing {
+            source: RowSource {
                 tick,
                 query: Snapshot::of(query),
                 slots,
@@ -96,7 +96,7 @@ impl ViewQuery {
     pub fn rows(&self) -> usize
         ensures { result ≡ length self.now.rows }
     {
-        self.placing.rows.len()
+        self.source.rows.len()
     }
 
     /// The entity of a row.
@@ -104,7 +104,7 @@ impl ViewQuery {
         requires { row < length self.now.rows }
         ensures { result ≡ (get_or self.now.rows row no_row).entity }
     {
-        self.placing.rows.at(row).entity
+        self.source.rows.at(row).entity
     }
 
     /// The component of a row: what was written there, else what is shown. None where the row has not the kind, and where the query doesn't
@@ -123,8 +123,8 @@ impl ViewQuery {
         ensures words { result ≡ words_read self.now.terms (get_or self.now.rows row no_row).values (get_or self.now.cells row []) (kind_number kind) }
         ensures width { IfSome result (λ words. length words ≡ widths (kind_number kind)) }
     {
-        let at = self.placing.rows.at(row);
-        words_at(&self.placing.slots, &self.columns, at, kind)
+        let at = self.source.rows.at(row);
+        words_at(&self.source.slots, &self.columns, at, kind)
     }
 
     /// Writes a component of a row of a query that has a `mut` term of its kind.
@@ -142,13 +142,13 @@ impl ViewQuery {
         requires mut_term { IsTrue (writes self.old.terms (value_number value)) }
         ensures { self.new ≡ record self.old { cells = update_at row (with_words self.old.terms (value_number value) (value_words value)) self.old.cells } }
     {
-        let at = self.placing.rows.at(row);
+        let at = self.source.rows.at(row);
         set_in(
-            &self.placing.slots,
+            &self.source.slots,
             &mut self.columns,
             at,
             value,
-            self.placing.tick,
+            self.source.tick,
         );
     }
 
@@ -159,9 +159,9 @@ impl ViewQuery {
         ensures length { length values.new ≡ length values.old }
         ensures values { (i : ℕ) → i < length values.old → get_or values.new i (pos 0) ≡ field_seen self.now (from + i) (kind_number kind) place }
     {
-        match self.placing.rows.archetype() {
+        match self.source.rows.archetype() {
             Some(archetype) => read_column(
-                &self.placing.slots,
+                &self.source.slots,
                 &self.columns,
                 archetype as usize,
                 kind,
@@ -181,38 +181,38 @@ impl ViewQuery {
         requires place { place < widths (kind_number kind) }
         ensures { self.new ≡ sheet_with_fields self.old (kind_number kind) place from values.now }
     {
-        match self.placing.rows.archetype() {
+        match self.source.rows.archetype() {
             Some(archetype) => write_column(
-                &self.placing.slots,
+                &self.source.slots,
                 &mut self.columns,
                 archetype as usize,
                 kind,
                 from,
                 place,
                 values,
-                self.placing.tick,
+                self.source.tick,
             ),
             None => write_each(self, kind, from, place, values),
         }
     }
 
     /// Gives the columns back: each as it was taken, with what was written laid over it. The buffer of its rows goes to this room.
-    pub fn close(self, room: &mut RowBuffers) -> Vec<Held>
+    pub fn close(self, room: &mut RowBuffers) -> Vec<ViewColumn>
         ensures columns { map held_seen result.items ≡ map (column_after self.tick (words_in_query self.terms self.rows self.cells)) self.taken }
         ensures reach { WritesReach (words_in_query self.terms self.rows self.cells) self.taken }
     {
         let ViewQuery {
-            placing,
+            source,
             columns,
             taken: _taken,
         } = self;
-        placing.rows.give_back(room);
+        source.rows.give_back(room);
         columns
     }
 }
 
 // The number of the column of a kind in an archetype.
-fn slot_of(slots: &[Slots], archetype: usize, kind: Kind) -> Option<u32>
+fn slot_of(slots: &[ColumnIndex], archetype: usize, kind: Kind) -> Option<u32>
     requires { archetype < length slots.now }
     ensures { result ≡ slot_in (map slots_seen slots.now) archetype (kind_number kind) }
 {
@@ -223,7 +223,7 @@ fn slot_of(slots: &[Slots], archetype: usize, kind: Kind) -> Option<u32>
 }
 
 // The fields of the component of a kind in a row.
-fn words_at(slots: &[Slots], columns: &[Held], at: Row, kind: Kind) -> Option<Fields>
+fn words_at(slots: &[ColumnIndex], columns: &[ViewColumn], at: Row, kind: Kind) -> Option<Fields>
     requires archetype { at.archetype < length slots.now }
     requires readable { IsReadable (map slots_seen slots.now) (map held_seen columns.now) at (kind_number kind) }
     ensures words { result ≡ words_of (seen_at (map slots_seen slots.now) (map held_seen columns.now) at (kind_number kind)) }
@@ -234,7 +234,7 @@ fn words_at(slots: &[Slots], columns: &[Held], at: Row, kind: Kind) -> Option<Fi
 }
 
 // Replaces the component in a row, which counts as changed at this tick.
-fn set_at(slots: &[Slots], columns: &mut [Held], at: Row, value: Value, tick: Tick)
+fn set_at(slots: &[ColumnIndex], columns: &mut [ViewColumn], at: Row, value: Value, tick: Tick)
     requires archetype { at.archetype < length slots.now }
     requires writable { IsWritable (map slots_seen slots.now) (map held_seen columns.old) at (value_number value) }
     ensures { map held_seen columns.new ≡ at_slot (slot_in (map slots_seen slots.now) at.archetype (value_number value)) (with_cell at.place (changed_cell (value_words value) tick)) (map held_seen columns.old) }
@@ -249,7 +249,7 @@ fn set_at(slots: &[Slots], columns: &mut [Held], at: Row, value: Value, tick: Ti
 }
 
 // The same in a vector.
-fn set_in(slots: &[Slots], columns: &mut Vec<Held>, at: Row, value: Value, tick: Tick)
+fn set_in(slots: &[ColumnIndex], columns: &mut Vec<ViewColumn>, at: Row, value: Value, tick: Tick)
     requires archetype { at.archetype < length slots.now }
     requires writable { IsWritable (map slots_seen slots.now) (map held_seen columns.old.items) at (value_number value) }
     ensures { map held_seen columns.new.items ≡ at_slot (slot_in (map slots_seen slots.now) at.archetype (value_number value)) (with_cell at.place (changed_cell (value_words value) tick)) (map held_seen columns.old.items) }
@@ -259,8 +259,8 @@ fn set_in(slots: &[Slots], columns: &mut Vec<Held>, at: Row, value: Value, tick:
 
 // The values of a field of the components of a kind of an archetype from a place on, 0 where it has none of the kind.
 fn read_column(
-    slots: &[Slots],
-    columns: &[Held],
+    slots: &[ColumnIndex],
+    columns: &[ViewColumn],
     archetype: usize,
     kind: Kind,
     from: usize,
@@ -294,8 +294,8 @@ fn clear(values: &mut [i64])
 
 // Writes values into a field of the components of a kind of an archetype from a place on, which count as changed at this tick.
 fn write_column(
-    slots: &[Slots],
-    columns: &mut Vec<Held>,
+    slots: &[ColumnIndex],
+    columns: &mut Vec<ViewColumn>,
     archetype: usize,
     kind: Kind,
     from: usize,

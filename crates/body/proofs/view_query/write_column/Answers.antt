@@ -1,7 +1,7 @@
 use Rattle.std.proofs.Common.{◌+◌, ◌-◌, ◌<◌, map, length, ap, ◌∙◌, arith}
 use Rattle.kinds.specs.Kind.{kind_number}
 use Rattle.kinds.specs.Components.{widths}
-use Rattle.body.specs.declared.held.Held.{Held}
+use Rattle.body.specs.declared.view_column.ViewColumn.{ViewColumn}
 use Rattle.body.specs.Fields.{column_with_fields}
 use Rattle.body.specs.HeldColumns.{held_seen, slots_seen}
 use Rattle.body.specs.Sheet.{slot_in, at_slot}
@@ -46,5 +46,5 @@ pub returns : goal.returns
 returns c =
     let k = kind_number c.args.kind in
     let change = column_with_fields (widths k) c.args.tick c.args.place c.args.from c.args.values.now in
-    map-set_update held_seen change c.args.columns.now.items c.in-Some.slot c.write_field.new.self c.index_mut-held.result.now (c.write_field.ensures ∙ ap (λ (h : Held). change (held_seen h)) c.index_mut-held.ensures.value)
+    map-set_update held_seen change c.args.columns.now.items c.in-Some.slot c.write_field.new.self c.index_mut-held.result.now (c.write_field.ensures ∙ ap (λ (h : ViewColumn). change (held_seen h)) c.index_mut-held.ensures.value)
     ∙ ap (λ s. at_slot s change (map held_seen c.args.columns.now.items)) c.in-Some.ensures

@@ -7,7 +7,7 @@ use Rattle.body.proofs.view_query.ViewQuery.read_field.Goals as goal
 
 pub read_column-requires-clause-archetype : goal.read_column-requires-clause-archetype
 read_column-requires-clause-archetype c = λ some.
-    let p = c.self.inside.placing in
+    let p = c.self.inside.source in
     let slots = map slots_seen p.slots.items in
     let taken = map held_seen c.self.inside.taken.value.items in
     let columns = map held_seen c.self.inside.columns.items in
@@ -20,7 +20,7 @@ read_column-requires-clause-archetype c = λ some.
 
 pub read_column-requires-clause-readable : goal.read_column-requires-clause-readable
 read_column-requires-clause-readable c = λ i l.
-    let p = c.self.inside.placing in
+    let p = c.self.inside.source in
     let slots = map slots_seen p.slots.items in
     let taken = map held_seen c.self.inside.taken.value.items in
     let columns = map held_seen c.self.inside.columns.items in
@@ -32,7 +32,7 @@ read_column-requires-clause-readable c = λ i l.
 
 pub returns-in-Some-clause-values : goal.returns-in-Some-clause-values
 returns-in-Some-clause-values c = λ i l.
-    let p = c.self.inside.placing in
+    let p = c.self.inside.source in
     let slots = map slots_seen p.slots.items in
     let taken = map held_seen c.self.inside.taken.value.items in
     let columns = map held_seen c.self.inside.columns.items in

@@ -6,7 +6,7 @@ use Rattle.body.proofs.view_query.ViewQuery.words.Goals as goal
 
 pub words_at-requires-clause-readable : goal.words_at-requires-clause-readable
 words_at-requires-clause-readable c =
-    let p = c.self.inside.placing in
+    let p = c.self.inside.source in
     let slots = map slots_seen p.slots.items in
     let taken = map held_seen c.self.inside.taken.value.items in
     let columns = map held_seen c.self.inside.columns.items in
@@ -16,7 +16,7 @@ words_at-requires-clause-readable c =
 
 pub returns-clause-words : goal.returns-clause-words
 returns-clause-words c =
-    let p = c.self.inside.placing in
+    let p = c.self.inside.source in
     let slots = map slots_seen p.slots.items in
     let taken = map held_seen c.self.inside.taken.value.items in
     let columns = map held_seen c.self.inside.columns.items in

@@ -6,7 +6,7 @@ use Rattle.body.proofs.view_query.ViewQuery.write.Goals as goal
 
 pub set_in-requires-clause-writable : goal.set_in-requires-clause-writable
 set_in-requires-clause-writable c =
-    let p = c.self.inside.placing in
+    let p = c.self.inside.source in
     let slots = map slots_seen p.slots.items in
     let taken = map held_seen c.self.inside.taken.value.items in
     let columns = map held_seen c.self.inside.columns.items in
@@ -16,7 +16,7 @@ set_in-requires-clause-writable c =
 
 pub invariant_of-self : goal.invariant_of-self
 invariant_of-self c =
-    let p = c.self.inside.placing in
+    let p = c.self.inside.source in
     let slots = map slots_seen p.slots.items in
     let taken = map held_seen c.self.inside.taken.value.items in
     let columns = map held_seen c.self.inside.columns.items in
@@ -27,7 +27,7 @@ invariant_of-self c =
 
 pub returns : goal.returns
 returns c =
-    let p = c.self.inside.placing in
+    let p = c.self.inside.source in
     let slots = map slots_seen p.slots.items in
     let taken = map held_seen c.self.inside.taken.value.items in
     let columns = map held_seen c.self.inside.columns.items in

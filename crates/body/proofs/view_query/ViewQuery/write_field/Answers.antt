@@ -7,7 +7,7 @@ use Rattle.body.proofs.view_query.ViewQuery.write_field.Goals as goal
 
 pub write_column-requires-clause-archetype : goal.write_column-requires-clause-archetype
 write_column-requires-clause-archetype c = λ some.
-    let p = c.self.inside.placing in
+    let p = c.self.inside.source in
     let slots = map slots_seen p.slots.items in
     let taken = map held_seen c.self.inside.taken.value.items in
     let columns = map held_seen c.self.inside.columns.items in
@@ -20,7 +20,7 @@ write_column-requires-clause-archetype c = λ some.
 
 pub write_column-requires-clause-writable : goal.write_column-requires-clause-writable
 write_column-requires-clause-writable c = λ i l.
-    let p = c.self.inside.placing in
+    let p = c.self.inside.source in
     let slots = map slots_seen p.slots.items in
     let taken = map held_seen c.self.inside.taken.value.items in
     let columns = map held_seen c.self.inside.columns.items in
@@ -32,7 +32,7 @@ write_column-requires-clause-writable c = λ i l.
 
 pub invariant_of-self : goal.invariant_of-self
 invariant_of-self c =
-    let p = c.self.inside.placing in
+    let p = c.self.inside.source in
     let slots = map slots_seen p.slots.items in
     let taken = map held_seen c.self.inside.taken.value.items in
     let columns = map held_seen c.self.inside.columns.items in
@@ -44,7 +44,7 @@ invariant_of-self c =
 
 pub returns-in-Some : goal.returns-in-Some
 returns-in-Some c =
-    let p = c.self.inside.placing in
+    let p = c.self.inside.source in
     let slots = map slots_seen p.slots.items in
     let taken = map held_seen c.self.inside.taken.value.items in
     let columns = map held_seen c.self.inside.columns.items in

@@ -7,7 +7,7 @@ use Rattle.body.specs.Fields.{field_cell}
 use Rattle.body.specs.HeldColumns.{held_seen}
 use Rattle.model.proofs.lists.Lists.{length-update_at}
 use Rattle.body.proofs.FieldRows.{column-more}
-use Rattle.body.proofs.held.Held.write_field.Goals as goal
+use Rattle.body.proofs.view_column.ViewColumn.write_field.Goals as goal
 
 pub loop-i-preserved : goal.loop-i-preserved
 loop-i-preserved c =

@@ -3,7 +3,7 @@ use Rattle.kinds.specs.Kind.{kind_number}
 use Rattle.kinds.specs.Components.{widths}
 use Rattle.body.specs.Fields.{column_with_fields}
 use Rattle.body.specs.HeldColumns.{held_seen}
-use Rattle.body.proofs.held.Held.write_field.Given as goal
+use Rattle.body.proofs.view_column.ViewColumn.write_field.Given as goal
 
 abbrev pub invariant-loop-i : goal.invariant-loop-i
 invariant-loop-i l = record {

@@ -21,30 +21,30 @@ use std::sync::Arc;
 
 /// The components of a column: owned where they are written, shared where they are read.
 #[derive(Drop)]
-pub enum Cells {
+pub enum ColumnAccess {
     Written(StampedColumn),
     Read(Arc<StampedColumn, Global>),
 }
 
 /// A column of the rows of a query.
 #[derive(Drop)]
-pub struct Held {
+pub struct ViewColumn {
     /// The number of its archetype in the world.
     pub archetype: usize,
     /// Its components.
-    pub cells: Cells,
+    pub cells: ColumnAccess,
     /// The world that it is of, which tells whose components they are. It has no bytes.
     pub world: Snapshot<World>,
 }
 
-impl Held {
+impl ViewColumn {
     // The column.
     fn column(&self) -> &StampedColumn
         ensures { result.now ≡ column_in self.now.cells }
     {
         match &self.cells {
-            Cells::Written(column) => column,
-            Cells::Read(column) => &**column,
+            ColumnAccess::Written(column) => column,
+            ColumnAccess::Read(column) => &**column,
         }
     }
 
@@ -72,8 +72,8 @@ impl Held {
         ensures { held_seen self.new ≡ with_cell place (changed_cell (value_words value) tick) (held_seen self.old) }
     {
         match &mut self.cells {
-            Cells::Written(column) => column.write(place, value, tick),
-            Cells::Read(_) => unreachable!(),
+            ColumnAccess::Written(column) => column.write(place, value, tick),
+            ColumnAccess::Read(_) => unreachable!(),
         }
     }
 
@@ -84,8 +84,8 @@ impl Held {
         ensures { held_seen self.new ≡ with_cell place (changed_cell (take (widths (held_seen self.old).kind) pair) tick) (held_seen self.old) }
     {
         match &mut self.cells {
-            Cells::Written(column) => column.write_words(place, pair, tick),
-            Cells::Read(_) => unreachable!(),
+            ColumnAccess::Written(column) => column.write_words(place, pair, tick),
+            ColumnAccess::Read(_) => unreachable!(),
         }
     }
 

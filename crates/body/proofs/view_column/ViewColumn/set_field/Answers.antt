@@ -4,7 +4,7 @@ use Rattle.kinds.specs.Kind.{kind_number}
 use Rattle.kinds.specs.Components.{widths}
 use Rattle.body.specs.HeldColumns.{held_seen}
 use Rattle.body.proofs.FieldRows.{field-set}
-use Rattle.body.proofs.held.Held.set_field.Goals as goal
+use Rattle.body.proofs.view_column.ViewColumn.set_field.Goals as goal
 
 pub returns : goal.returns
 returns c =

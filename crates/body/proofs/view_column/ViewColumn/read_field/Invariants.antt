@@ -2,7 +2,7 @@ use Rattle.std.proofs.Common.{◌≡◌, ℕ, ◌+◌, ◌<◌, pos, length, get
 use Rattle.model.specs.shown.Input.{words_of}
 use Rattle.body.specs.Fields.{field_of}
 use Rattle.body.specs.HeldColumns.{held_seen}
-use Rattle.body.proofs.held.Held.read_field.Given as goal
+use Rattle.body.proofs.view_column.ViewColumn.read_field.Given as goal
 
 abbrev pub invariant-loop-i : goal.invariant-loop-i
 invariant-loop-i l = record {

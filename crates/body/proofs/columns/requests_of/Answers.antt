@@ -3,8 +3,8 @@ use Rattle.std.proofs.lemmas.List.{get_or_default}
 use Rattle.kinds.specs.declared.kind.Kind.TheVariants.{Position}
 use Rattle.query_plan.specs.declared.picks.Pick.{Pick}
 use Rattle.body.proofs.Pickings.{own-pushed, own-passed, read-pushed, read-passed}
-use Rattle.body.proofs.columns.spots_of.Goals as goal
-use Rattle.body.proofs.columns.spots_of.Goals.{then-pick+in_ok-push, else-pick+in_ok-push-2}
+use Rattle.body.proofs.columns.requests_of.Goals as goal
+use Rattle.body.proofs.columns.requests_of.Goals.{then-pick+in_ok-push, else-pick+in_ok-push-2}
 
 pub loop-pick-preserved : goal.loop-pick-preserved
 loop-pick-preserved c =

@@ -1,7 +1,7 @@
 use Rattle.std.proofs.Common.{◌≡◌, map, take}
 use Rattle.query_plan.specs.Picks.{pick_seen}
 use Rattle.body.specs.Picked.{spot_of, spot_seen, picked_own, picked_read}
-use Rattle.body.proofs.columns.spots_of.Given as goal
+use Rattle.body.proofs.columns.requests_of.Given as goal
 
 -- where the picks so far are
 abbrev pub invariant-loop-pick : goal.invariant-loop-pick
