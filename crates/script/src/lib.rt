@@ -3,15 +3,15 @@
 
 ghost use Rattle.script.specs.Within.{ScriptsKeepWithin, ScriptsKeepWithinShown};
 
+mod blocks;
 pub mod check;
 mod columns;
 pub mod fault;
 pub mod frame;
 pub mod instruction;
-mod machine;
+mod interpreter;
 pub mod operands;
 pub mod row_plan;
-mod run;
 pub mod script_body;
 
 /// What a script without fault answers keeps within the parameters of its system: it writes components at `mut` terms alone, of their kinds'
@@ -23,7 +23,7 @@ pub fn scripts_keep_within()
 {}
 
 pub use fault::{Cause, CheckFault, ScriptFault};
-pub use frame::{Operand, Operands, Slot, Step};
+pub use frame::{FrameOp, FrameTarget, Operand, Operands};
 pub use instruction::{Instruction, Operation, Relation};
 pub use operands::{Axis, Field, Mentions, Source, Subject, Target, Values};
 pub use row_plan::RowPlan;
