@@ -19,7 +19,7 @@ use crate::run_state::RunState;
 use crate::stop::Stop;
 use body::Body;
 use schedule_builder::Built;
-use worker_pool::{Done, HandFault, Mode, Pool, Start};
+use worker_pool::{HandFault, JobResult, Mode, Pool, Start};
 
 /// The bodies of a run, and the jobs that are out.
 #[derive(Drop)]
@@ -102,7 +102,7 @@ pub(crate) fn finish<'s, M: Mode<'s>, B: Body + 's>(
         mode.prove_waits();
         return Err(Stop::NoWorker);
     };
-    let Done {
+    let JobResult {
         number: _,
         system,
         body,

@@ -17,5 +17,5 @@ pub use fault::HandFault;
 pub use mode::{Gate, Hosts, Joins, Line, Mode};
 pub use pool::Pool;
 pub use single::{NoGate, NoLine, Single};
-pub use start::{Done, Start};
+pub use start::{JobResult, Start};
 pub use workers::{Wire, Workers};

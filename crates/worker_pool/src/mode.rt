@@ -50,7 +50,7 @@ pub trait Joins {
 
 /// How a worker tells that it is done, and how that is heard.
 pub trait Line: Copy + Send {
-    /// Proves that the start of this number is done.
+    /// Tells that the start of this number is done.
     fn ring(&self, to: &Sender<u64>, number: u64);
 
     /// The number of a start that is done, none where none is heard.

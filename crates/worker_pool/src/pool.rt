@@ -6,7 +6,7 @@ ghost use Rattle.worker_pool.specs.Ran.{Ran};
 use crate::fault::HandFault;
 use crate::mode::Mode;
 use crate::standing::Standing;
-use crate::start::{Done, Start};
+use crate::start::{JobResult, Start};
 use crate::threaded::Threaded;
 use body::Body;
 use std::alloc::{AllocError, Global};
@@ -103,7 +103,7 @@ impl<B: Body> Pool<B> {
 
     /// Brings one job back, that of whichever worker is done, once it is: what comes of it has the number of its start. None only where the
     /// mode can't wait for a worker; that job is lost.
-    pub fn bring_back<'s, M: Mode<'s>>(&mut self, mode: &M) -> Option<Done<B>>
+    pub fn bring_back<'s, M: Mode<'s>>(&mut self, mode: &M) -> Option<JobResult<B>>
     where
         B: 's,
         requires { 0 < length self.old }

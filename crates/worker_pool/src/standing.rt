@@ -7,7 +7,7 @@ use crate::desk::{Ticket, collect, post};
 use crate::fault::HandFault;
 use crate::hands::start_worker;
 use crate::mode::{Gate, Joins, Line};
-use crate::start::{Done, Start};
+use crate::start::{JobResult, Start};
 use crate::task::StartTask;
 use body::Body;
 use job_board::{Board, Hand, Lead};
@@ -120,7 +120,7 @@ impl<B: Body> Standing<B> {
     }
 
     // Brings one job back, that of whichever worker is done with one, once it is. None only where the mode can't wait for one; that job is lost.
-    pub(crate) fn bring_back<J: Joins>(&mut self, mode: &J) -> Option<Done<B>>
+    pub(crate) fn bring_back<J: Joins>(&mut self, mode: &J) -> Option<JobResult<B>>
         requires { 0 < length self.old }
         ensures ran { IfSome result (λ done. (i : ℕ) × IsSomeAnd (slice_get self.old i) (λ job. Ran B.meaning B.fits job.number job.system job.body job.view done.number done.system done.body done.view.value done.answer) × (self.new ≡ remove self.old i)) }
         ensures none { IfNone result ((i : ℕ) × IsSomeAnd (slice_get self.old i) (λ job. job.there ≡ true)) }

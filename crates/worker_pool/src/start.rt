@@ -28,7 +28,7 @@ pub struct Start<B: Body> {
 
 /// A body that has run.
 #[derive(Drop)]
-pub struct Done<B> {
+pub struct JobResult<B> {
     /// The number of its start.
     pub number: u64,
     /// The system.
@@ -43,20 +43,20 @@ pub struct Done<B> {
 
 // What a thread promises of its result: the body of this start has run.
 #[derive(Drop)]
-pub(crate) struct DoneOf<B: Body> {
+pub(crate) struct JobResultOf<B: Body> {
     pub(crate) start: Snapshot<Start<B>>,
 }
 
-impl<B: Body> DoneOf<B> {
+impl<B: Body> JobResultOf<B> {
     pub(crate) fn of(start: &Start<B>) -> Self
         ensures { result.start.value ≡ start.now }
     {
-        DoneOf {
+        JobResultOf {
             start: Snapshot::of(start),
         }
     }
 }
 
-impl<B: Body> Promise<Done<B>> for DoneOf<B> {
+impl<B: Body> Promise<JobResult<B>> for JobResultOf<B> {
     ghost kept_by = { λ p d. Ran B.meaning B.fits p.start.value.number p.start.value.system p.start.value.body p.start.value.view.value d.number d.system d.body d.view.value d.answer };
 }

@@ -2,7 +2,7 @@
 
 ghost use Rattle.worker_pool.specs.Ran.{Ran};
 
-use crate::start::{Done, Start};
+use crate::start::{JobResult, Start};
 use body::Body;
 use job_board::Task;
 use std::marker::PhantomData;
@@ -26,7 +26,7 @@ pub struct StartTask<B: Body> {
 impl<B: Body> Task for StartTask<B> {
     type Job = Start<B>;
 
-    type Outcome = Done<B>;
+    type Outcome = JobResult<B>;
 
     ghost answers = { λ s d. Ran B.meaning B.fits s.number s.system s.body s.view.value d.number d.system d.body d.view.value d.answer };
 }
@@ -36,7 +36,7 @@ impl<B: Body> Runs for StartTask<B> {
         start.number
     }
 
-    fn run(start: Start<B>) -> Done<B> {
+    fn run(start: Start<B>) -> JobResult<B> {
         let Start {
             number,
             system,
@@ -44,7 +44,7 @@ impl<B: Body> Runs for StartTask<B> {
             mut view,
         } = start;
         let answer = body.run(&mut view);
-        Done {
+        JobResult {
             number,
             system,
             body,

@@ -5,7 +5,7 @@ ghost use Rattle.worker_pool.specs.Ran.{Ran};
 
 use crate::fault::HandFault;
 use crate::mode::{Gate, Joins, Line};
-use crate::start::{Done, DoneOf, Start};
+use crate::start::{JobResult, JobResultOf, Start};
 use crate::task::{Runs, StartTask};
 use body::Body;
 use crossbeam_channel::{Receiver, Sender};
@@ -20,17 +20,17 @@ const MOST_NOTICES: usize = 64;
 #[derive(Drop)]
 enum Work<B: Body> {
     Here(Start<B>),
-    There(PromisedHandle<Done<B>, DoneOf<B>>),
+    There(PromisedHandle<JobResult<B>, JobResultOf<B>>),
 }
 
 // A job that is out, with the number of its start.
 #[derive(Drop)]
-struct Out<B: Body> {
+struct PendingJob<B: Body> {
     number: u64,
     work: Work<B>,
 }
 
-impl<B: Body> Model for Out<B> {
+impl<B: Body> Model for PendingJob<B> {
     ghost use Rattle.std.specs.Prelude.{true, false};
     ghost use Rattle.worker_pool.specs.JobOut.{JobOut};
     ghost use Rattle.worker_pool.specs.declared.threaded.Work.TheVariants.{Here, There};
@@ -43,14 +43,14 @@ impl<B: Body> Model for Out<B> {
     ] };
 }
 
-impl<B: Body> Out<B> {
+impl<B: Body> PendingJob<B> {
     // Whether a notice tells of this job.
     fn is_told(&self, number: u64) -> bool {
         self.number == number
     }
 
     // What comes of the job.
-    fn finish<J: Joins>(self, mode: &J) -> Option<Done<B>>
+    fn finish<J: Joins>(self, mode: &J) -> Option<JobResult<B>>
         ensures ran { IfSome result (λ done. Ran B.meaning B.fits self.number self.system self.body self.view done.number done.system done.body done.view.value done.answer) }
         ensures none { IfNone result (self.there ≡ true) }
         ensures joins { IsTrue (J.joins mode.now) → IsSome result }
@@ -84,7 +84,7 @@ fn bell_of(alloc: Global, notices: &mut Option<Notices>) -> Result<Sender<u64>, 
 #[derive(Drop)]
 pub struct Threaded<B: Body> {
     alloc: Global,
-    out: Vec<Out<B>>,
+    out: Vec<PendingJob<B>>,
     notices: Option<Notices>,
 }
 
@@ -156,7 +156,7 @@ impl<B: Body> Threaded<B> {
                 let Ok(bell) = bell_of(self.alloc, &mut self.notices) else {
                     return Err(HandFault::Memory(start));
                 };
-                let promise = DoneOf::of(&start);
+                let promise = JobResultOf::of(&start);
                 let job = move || {
                     gate.enter(number);
                     let done = StartTask::<B>::run(start);
@@ -170,14 +170,18 @@ impl<B: Body> Threaded<B> {
                 }
             }
         };
-        let Ok(()) = self.out.push(Out { number, work }) else {
+        let Ok(()) = self.out.push(PendingJob { number, work }) else {
             unreachable!()
         };
         Ok(())
     }
 
     // Brings one job back, that of whichever thread is done, once it is. None only where the mode can't wait for a thread; that job is lost.
-    pub(crate) fn bring_back<N: Line, J: Joins>(&mut self, line: N, mode: &J) -> Option<Done<B>>
+    pub(crate) fn bring_back<N: Line, J: Joins>(
+        &mut self,
+        line: N,
+        mode: &J,
+    ) -> Option<JobResult<B>>
         requires { 0 < length self.old }
         ensures ran { IfSome result (λ done. (i : ℕ) × IsSomeAnd (slice_get self.old i) (λ job. Ran B.meaning B.fits job.number job.system job.body job.view done.number done.system done.body done.view.value done.answer) × (self.new ≡ remove self.old i)) }
         ensures none { IfNone result ((i : ℕ) × IsSomeAnd (slice_get self.old i) (λ job. job.there ≡ true)) }
