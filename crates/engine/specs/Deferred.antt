@@ -32,6 +32,10 @@ pub record DeferredValue : Type 0 where
   pub commands : List (List Command)
   pub grants : List (List Entity)
 
+-- nothing deferred, for no schedule
+abbrev pub nothing_deferred : DeferredValue
+nothing_deferred = record { levels = []; spawners = []; commands = []; grants = [] }
+
 -- the commands of a system, and the ids granted to it
 abbrev pub commands_at : DeferredValue → ℕ → List Command
 commands_at deferred n = get_or deferred.commands n []

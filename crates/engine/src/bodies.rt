@@ -1,6 +1,6 @@
 // The bodies of the systems of a schedule, each in its place.
 
-ghost use Rattle.std.specs.Prelude.{◌≡◌, true, map, set, Some, None, is_some, IfOk};
+ghost use Rattle.std.specs.Prelude.{◌≡◌, true, [], map, set, Some, None, is_some, IfOk};
 ghost use Rattle.engine.specs.Meanings.{body_at};
 
 use std::alloc::{AllocError, Global};
@@ -22,7 +22,9 @@ impl<B> Model for Bodies<B> {
 
 impl<B: Drop> Bodies<B> {
     /// No place at all.
-    pub(crate) fn none(alloc: Global) -> Self {
+    pub(crate) fn none(alloc: Global) -> Self
+        ensures { result ≡ [] }
+    {
         Bodies {
             places: Vec::new(alloc),
         }

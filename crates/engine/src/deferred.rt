@@ -9,7 +9,7 @@ ghost use Rattle.model.specs.state.Ids.{grant_each, ids_of_each};
 ghost use Rattle.model.specs.runs.RunState.{after_commands, after_grant, after_sync, can_sync, counts_of_level, has_ids_for_level, has_tick, spawners_of_level, systems_of_level};
 ghost use Rattle.archetype_store.specs.Layout.{AreAllHome};
 ghost use Rattle.body.specs.Steps.{with_slots_in};
-ghost use Rattle.engine.specs.Deferred.{AreInHand, IsDeferredFor, IsNothingDeferred, commands_at, emptied, grants_at, grants_of, run_with, with_commands, with_each_grant};
+ghost use Rattle.engine.specs.Deferred.{AreInHand, IsDeferredFor, IsNothingDeferred, commands_at, emptied, grants_at, grants_of, nothing_deferred, run_with, with_commands, with_each_grant};
 ghost use Rattle.engine.specs.Stops.{CannotSync, LacksTick, StopsBy};
 
 use crate::granting::{Spawners, note_grants, spawners_of};
@@ -97,7 +97,9 @@ impl Deferred {
     }
 
     /// Nothing is deferred, for no schedule.
-    pub(crate) fn none(alloc: Global) -> Self {
+    pub(crate) fn none(alloc: Global) -> Self
+        ensures { result ≡ nothing_deferred }
+    {
         Deferred {
             levels: Vec::new(alloc),
             spawners: Vec::new(alloc),
