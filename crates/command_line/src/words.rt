@@ -10,7 +10,8 @@ const FIRST_ROOM: usize = 256;
 
 const MOST_DOUBLINGS: u32 = 24;
 
-/// The words of the command line, of which the first is the program's own name, each as a text (`text_of_bytes`).
+/// The words of the command line, of which the first is the program's own name, each as a text. In a word that is no text each byte that is
+/// in no letter is written as a NUL, which stands in no word, and the letter of its number.
 pub fn words_of<R: Env + AllocGlobal>(rt: &R) -> Result<Vec<String>, LineFault> {
     Ok(texts_of(rt)?)
 }
@@ -44,9 +45,8 @@ fn word_at<R: Env + AllocGlobal>(rt: &R, number: usize) -> Result<Option<Vec<u8>
     Err(AllocError)
 }
 
-/// Some bytes as a text: the text that they are, where they are one. Else each byte that is in no letter is written as a NUL, which stands in no
-/// word, and the letter of its number.
-pub fn text_of_bytes(alloc: Global, bytes: &[u8]) -> Result<String, AllocError> {
+// Some bytes as a text, in which a byte that is in no letter stands behind a NUL.
+fn text_of_bytes(alloc: Global, bytes: &[u8]) -> Result<String, AllocError> {
     let mut text = String::new(alloc);
     for chunk in bytes.utf8_chunks() {
         text.push_str(chunk.valid())?;
@@ -56,29 +56,4 @@ pub fn text_of_bytes(alloc: Global, bytes: &[u8]) -> Result<String, AllocError> 
         }
     }
     Ok(text)
-}
-
-/// Whether a word was written so, as it is no text.
-pub fn is_no_text(word: &str) -> bool {
-    word.contains('\0')
-}
-
-/// The bytes of which a word is the text.
-pub fn bytes_of_text(alloc: Global, word: &str) -> Result<Vec<u8>, AllocError> {
-    let mut bytes = Vec::new(alloc);
-    let mut is_marked = false;
-    for letter in word.chars() {
-        if letter == '\0' {
-            is_marked = true;
-            continue;
-        }
-        if is_marked {
-            bytes.push((u32::from(letter) & 255) as u8)?;
-        } else {
-            let mut room = [0u8; 4];
-            bytes.extend_from_slice(letter.encode_utf8(&mut room).as_bytes())?;
-        }
-        is_marked = false;
-    }
-    Ok(bytes)
 }

@@ -70,9 +70,18 @@ script-refusal s n name fault script (Script cause system block instruction) is 
 script-refusal s n name fault script Memory is first = tt
 script-refusal s n name fault script told is first = absurd is
 
--- it is that of one of the systems
+-- it is that of one of the systems, and those before it have none
 pub unscripted : (s : Schedule) (names : List (List ℕ)) (scripts : List ScriptBody) (n : ℕ) (name : List ℕ) (script : ScriptBody) (told : Fault) → n < length s.systems → get_or names n [] ≡ name → get_or scripts n [] ≡ script →
-    IsScriptRefused s n name script told → IsUnscripted s names scripts told
-unscripted s names scripts n name script Memory known at is h = tt
-unscripted s names scripts n name script (Script cause system block instruction) known at is h = (n, known, (at ∙ h.0, ap (script_fault (params_of s n)) is ∙ h.1))
-unscripted s names scripts n name script told known at is h = absurd h
+    IsScriptRefused s n name script told → ((m : ℕ) → m < n → fits_at s scripts m ≡ true) → IsUnscripted s names scripts told
+unscripted s names scripts n name script Memory known at is h before = tt
+unscripted s names scripts n name script (Script cause system block instruction) known at is h before = (n, known, (at ∙ h.0, ap (script_fault (params_of s n)) is ∙ h.1), before)
+unscripted s names scripts n name script told known at is h before = absurd h
+
+slice_get-front : {A : Type 0} (xs more : List A) (n : ℕ) → n < length xs → slice_get (xs ++ more) n ≡ slice_get xs n
+slice_get-front [] more n l = absurd (omega arith)
+slice_get-front (x ∷ xs) more zero l = refl
+slice_get-front (x ∷ xs) more (suc n) l = slice_get-front xs more n (omega arith)
+
+-- scripts that fit do so with others behind them
+pub fits-before : (s : Schedule) (scripts all more : List ScriptBody) → all ≡ scripts ++ more → ((n : ℕ) → n < length scripts → fits_at s scripts n ≡ true) → (n : ℕ) → n < length scripts → fits_at s all n ≡ true
+fits-before s scripts all more is h n l = ap (λ xs. script_fits (slice_get xs n) (params_of s n)) is ∙ ap (λ x. script_fits x (params_of s n)) (slice_get-front scripts more n l) ∙ h n l

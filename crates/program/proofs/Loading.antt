@@ -1,5 +1,5 @@
 -- How a world gets its entities and resources.
-use Rattle.std.proofs.Common.{◌≡◌, ℕ, zero, suc, ◌+◌, ◌-◌, ◌<◌, ◌≤◌, ℤ, Bool, ◌==◌, ◌||◌, cond, List, [], ◌∷◌, ◌++◌, length, get_or, take, drop, map, fold, replicate, refl, ap, ap₂, sym, subst, ◌∙◌, arith, false, Some}
+use Rattle.std.proofs.Common.{◌≡◌, ℕ, zero, suc, ◌+◌, ◌-◌, ◌^◌, ◌<◌, ◌≤◌, ℤ, Bool, ◌==◌, ◌||◌, cond, List, [], ◌∷◌, ◌++◌, length, get_or, take, drop, map, fold, replicate, refl, ap, ap₂, sym, subst, ◌∙◌, arith, false, Some}
 use Rattle.std.specs.Prelude.{Vec}
 use Rattle.std.specs.List.{AllByRecursion}
 use Rattle.std.specs.declared.alloc.Global.{Global}
@@ -9,14 +9,18 @@ use Rattle.std.proofs.lemmas.List.{take_all, drop_all, append-nil, take_more, le
 use Rattle.model.specs.declared.entities.Entity.{Entity}
 use Rattle.model.specs.Lists.{map_index, update_at}
 use Rattle.model.specs.state.State.{Slot, World, fresh_slot, Component, is_living, is_granted}
-use Rattle.model.specs.state.Ids.{granted_slot, grant, granted_ids, with_room}
+use Rattle.model.specs.state.Ids.{granted_slot, grant, granted_ids, has_ids, with_room}
 use Rattle.model.specs.state.Loaded.{Given, slot_given, row_given}
 use Rattle.model.specs.state.Rows.{IsRising, insert_component}
 use Rattle.model.specs.state.Shape.{IsComponent}
 use Rattle.model.proofs.lists.Lists.{map_index-same}
 use Rattle.model.proofs.shape.Rows.{each-insert, rising-insert, component-new, component-changed}
 use Rattle.entity_table.specs.Ids.{slot_at}
-use Rattle.entity_table.proofs.Grants.{first_granted, first_ids, grant-is, granted_ids-is}
+use Rattle.archetype_store.specs.declared.fault.GrantFault.{GrantFault}
+use Rattle.archetype_store.specs.declared.fault.GrantFault.TheVariants as granting
+use Rattle.program.specs.Fault.{fault_of_grant}
+use Rattle.program.specs.Refused.{IsUngiven}
+use Rattle.entity_table.proofs.Grants.{first_granted, first_ids, grant-is, granted_ids-is, has_ids-false}
 use Rattle.model.specs.state.State.{Resource, no_resource}
 use Rattle.model.specs.shown.Overlay.{resource_after}
 use Rattle.model.specs.state.Loaded.{resource_given}
@@ -62,6 +66,15 @@ grant-empty n = grant-is n [] ∙ ap (first_granted n) (room-empty n) ∙ first_
 -- so many ids are granted
 pub length-granted_ids-empty : (n : ℕ) → length (granted_ids n []) ≡ n
 length-granted_ids-empty n = ap length (granted_ids-is n [] ∙ ap (first_ids 0 n) (room-empty n)) ∙ length-first_ids-fresh 0 n
+
+-- there are none for more entities than there are indices
+pub too-many : (n : ℕ) → 2 ^ 32 ≤ n → has_ids n [] ≡ false
+too-many n many = has_ids-false n [] (let e : n - 0 ≡ n = omega arith in omega arith)
+
+-- what is told where ids are not granted
+pub ungiven : (n : ℕ) (error : GrantFault) → (error ≡ granting.IdsSpent → has_ids n [] ≡ false) → IsUngiven n (fault_of_grant error)
+ungiven n granting.IdsSpent spent = spent refl
+ungiven n granting.Memory spent = tt
 
 -- ---- the components of one entity
 

@@ -1,5 +1,5 @@
 -- What a command leaves, from what its parts leave.
-use Rattle.std.proofs.Common.{◌≡◌, ◌<◌, inl, inr, ℕ, zero, suc, ℤ, Bool, true, false, List, [], ◌∷◌, length, map, slice_get, Option, None, Some, Result, Ok, Err, IfOk, IfErr, IfSome, IsSome, is_some, refl, ap, sym, ◌∙◌, subst, string_bytes}
+use Rattle.std.proofs.Common.{◌≡◌, inl, inr, ℕ, zero, suc, ℤ, Bool, true, false, List, [], ◌∷◌, length, map, slice_get, Option, None, Some, Result, Ok, Err, IfOk, IfErr, IfSome, IsSome, is_some, refl, ap, sym, ◌∙◌, subst, string_bytes}
 use Rattle.std.specs.Prelude.{Vec}
 use Rattle.std.specs.declared.alloc.Global.{Global}
 use Rattle.std.specs.Io.KnownBytes.{Keeps}
@@ -19,7 +19,7 @@ use Rattle.engine.proofs.Beginning.{has_first}
 use Rattle.engine.specs.Meanings as engine
 use Rattle.command_line.specs.declared.args.Work.{Work}
 use Rattle.command_line.specs.Args.{is_recorded}
-use Rattle.streams.specs.Writing.{WritesWhole, line_of}
+use Rattle.streams.specs.Writing.{WritesWhole}
 use Rattle.kinds.specs.declared.value.Value.{Value}
 use Rattle.body.proofs.States.{map-twice}
 use Rattle.engine.proofs.AtHome.{unlike}
@@ -30,8 +30,9 @@ use Rattle.program.specs.Recorded.{IsTextOfRuns}
 use Rattle.program.specs.declared.answer.Answer.{Answer}
 use Rattle.program.specs.declared.fault.Fault.{Fault}
 use Rattle.program.specs.declared.fault.Fault.TheVariants.{TooLong, Content, Script, TraceTooLong, TraceLine, TraceOrder, BadStep, UnfinishedRun, WrongAnswer, ClockSpent, IdsSpent, BodyRefused, File, Write, Memory, NoWorker}
-use Rattle.program.specs.Fault.{status_of, fault_of_build, fault_of_file}
-use Rattle.program.specs.Refused.{IsRefusedBy, IsReplayRefused, IsStoppedRun, IsTraceTooLong, IsTraceUnread, IsUngiven, IsUnread, IsUnreplayed, IsUnscripted, LoadsWorld, ReadsTrace}
+use Rattle.program.specs.Fault.{fault_of_build, fault_of_file}
+use Rattle.program.specs.Accepted.{Accepted, meant_by, start_of}
+use Rattle.program.specs.Refused.{IsRefusedBy, IsReplayRefused, IsRunRefused, IsTraceUnread, IsUngiven, IsUnread, IsUnreplayed, IsUnrun, IsUnscripted, LoadsWorld, ReadsTrace}
 use Rattle.program.specs.Replayed.{IsRefusedReplay}
 use Rattle.program.specs.Served.{IsAnswerTo, IsRecordKept, IsServed, HasGained, HasGainedFront, Tells, WritesRecord}
 use Rattle.program_file.specs.declared.program_file.ProgramFile.{ProgramFile}
@@ -71,6 +72,13 @@ scripts-suit s scripts world state fitting is = record {
 pub no-misfit : (s : Schedule) (scripts : List ScriptBody) (state : State) (n : ℕ) → AreScriptsOf s scripts → IsFirstMisfit (λ script p. fits p script) s (map Some scripts) state n → ⊥
 no-misfit s scripts state n fitting wrong = unlike _ (fitting.fit n wrong.known) (sym (at-place (params_of s n) scripts n) ∙ wrong.misfit)
 
+-- what is told of runs from the state as loaded
+pub unrun-loaded : (there : Bool) (width : ℕ) (s : Schedule) (scripts : List ScriptBody) (world : World) (entities : List (List Given)) (values : List ℤ) (times : ℕ) (recorded : Bool) (fault : Fault)
+    → world ≡ loaded_world entities values → IsUnrun there width s (meanings_of_scripts s scripts) times (first_state s world) recorded fault
+    → IsUnrun there width s (meanings_of_scripts s scripts) times (loaded s entities values) recorded fault
+unrun-loaded there width s scripts world entities values times recorded fault is h =
+    subst (λ (start : State). IsUnrun there width s (meanings_of_scripts s scripts) times start recorded fault) (ap (first_state s) is) h
+
 -- the runs start from the state as loaded
 pub runs-loaded : (width : ℕ) (s : Schedule) (scripts : List ScriptBody) (world : World) (entities : List (List Given)) (values : List ℤ) (times : ℕ) (recorded : Bool) (text noted : List ℕ)
     → world ≡ loaded_world entities values → IsTextOfRuns width s (meanings_of_scripts s scripts) (first_state s world) times recorded text noted
@@ -85,11 +93,11 @@ schedule-of d s buildable systems edges levels order conditions silences =
     record { buildable = buildable; systems = systems; edges = edges; levels = levels; order = order; conditions = conditions; silences = silences }
 
 -- so does a replay, with the scripts of the tables
-pub replay-loaded : (s : Schedule) (scripts others : List ScriptBody) (rows entities : List (Vec Value Global)) (values : List ℤ) (P : List BodyMeaning → State → Type 0) → scripts ≡ others → rows ≡ entities
-    → P (meanings_of_scripts s scripts) (loaded s (map entity_given rows) values) → P (meanings_of_scripts s others) (loaded s (map entity_given entities) values)
+pub replay-loaded : (s : Schedule) (scripts others : List ScriptBody) (rows entities : List (Vec Value Global)) (values : List ℤ) (P : List BodyMeaning → State → ℕ → Type 0) → scripts ≡ others → rows ≡ entities
+    → P (meanings_of_scripts s scripts) (loaded s (map entity_given rows) values) (length rows) → P (meanings_of_scripts s others) (loaded s (map entity_given entities) values) (length entities)
 replay-loaded s scripts others rows entities values P same is h =
-    subst (λ (xs : List ScriptBody). P (meanings_of_scripts s xs) (loaded s (map entity_given entities) values)) same
-    (subst (λ (es : List (Vec Value Global)). P (meanings_of_scripts s scripts) (loaded s (map entity_given es) values)) is h)
+    subst (λ (xs : List ScriptBody). P (meanings_of_scripts s xs) (loaded s (map entity_given entities) values) (length entities)) same
+    (subst (λ (es : List (Vec Value Global)). P (meanings_of_scripts s scripts) (loaded s (map entity_given es) values) (length es)) is h)
 
 -- the scripts of codes are those of the tables whose blocks they have
 pub scripts-same : (codes : List Code) (rows : List SystemTable) → map (λ (code : Code). code.blocks) codes ≡ map (λ (row : SystemTable). row.blocks) rows → map (λ (code : Code). script_said code.blocks) codes ≡ map (λ (row : SystemTable). script_said row.blocks) rows
@@ -120,16 +128,15 @@ record-left work traces noted none = record { written = λ asked. absurd (unlike
 -- ---- what is left with the streams
 
 -- a line was told, or a beginning of it
-pub told-line : {T E : Type 0} (old new : Option (List ℕ)) (r : Result T E) (text : List ℕ) → WritesWhole old new r (line_of text) → HasGainedFront (old, new) (line_of text)
-told-line old new r text h = front_of_whole old new r (line_of text) h
+pub told-line : {T E : Type 0} (old new : Option (List ℕ)) (r : Result T E) (line : List ℕ) → WritesWhole old new r line → HasGainedFront (old, new) line
+told-line old new r line h = front_of_whole old new r line h
 
 -- the file of the record failed
-pub record-failed : (width : ℕ) (work : Work) (bytes trace : Option (List ℕ)) (status : ℕ) (fault : Fault) (out old new : Option (List ℕ)) (faults : Option (List ℕ) × Option (List ℕ)) (answer : Answer) (noted : List ℕ)
-    → IsAnswerTo width work bytes trace answer → noted ≡ string_bytes answer.traces → is_recorded work ≡ true × HasGainedFront (old, new) noted → status ≡ status_of fault → Tells fault faults → fault ≡ Write
-    → IsServed width work bytes trace status (out, out) (old, new) faults
-record-failed width work bytes trace status fault out old new faults answer noted is same h ends told why = inr (inr (inl (record {
-  failure = ends ∙ ap status_of why;
-  told = subst (λ f. Tells f faults) why told;
+pub record-failed : (there : Bool) (width : ℕ) (work : Work) (bytes trace : Option (List ℕ)) (status : ℕ) (fault : Fault) (out old new : Option (List ℕ)) (faults : Option (List ℕ) × Option (List ℕ)) (answer : Answer) (noted : List ℕ)
+    → IsAnswerTo width work bytes trace answer → noted ≡ string_bytes answer.traces → is_recorded work ≡ true × HasGainedFront (old, new) noted → Tells fault status faults → fault ≡ Write
+    → IsServed there width work bytes trace status (out, out) (old, new) faults
+record-failed there width work bytes trace status fault out old new faults answer noted is same h told why = inr (inr (inl (record {
+  told = subst (λ f. Tells f status faults) why told;
   asked = h.0;
   answer = answer;
   is = is;
@@ -138,12 +145,11 @@ record-failed width work bytes trace status fault out old new faults answer note
 })))
 
 -- the output failed
-pub output-failed : (width : ℕ) (work : Work) (bytes trace : Option (List ℕ)) (status : ℕ) (fault : Fault) (old new : Option (List ℕ)) (traces faults : Option (List ℕ) × Option (List ℕ)) (answer : Answer) (noted text : List ℕ)
+pub output-failed : (there : Bool) (width : ℕ) (work : Work) (bytes trace : Option (List ℕ)) (status : ℕ) (fault : Fault) (old new : Option (List ℕ)) (traces faults : Option (List ℕ) × Option (List ℕ)) (answer : Answer) (noted text : List ℕ)
     → IsAnswerTo width work bytes trace answer → noted ≡ string_bytes answer.traces → IsRecordKept work noted traces → text ≡ string_bytes answer.text → HasGainedFront (old, new) text
-    → status ≡ status_of fault → Tells fault faults → fault ≡ Write → IsServed width work bytes trace status (old, new) traces faults
-output-failed width work bytes trace status fault old new traces faults answer noted text is same kept here h ends told why = inr (inl (record {
-  failure = ends ∙ ap status_of why;
-  told = subst (λ f. Tells f faults) why told;
+    → Tells fault status faults → fault ≡ Write → IsServed there width work bytes trace status (old, new) traces faults
+output-failed there width work bytes trace status fault old new traces faults answer noted text is same kept here h told why = inr (inl (record {
+  told = subst (λ f. Tells f status faults) why told;
   answer = answer;
   is = is;
   recorded = subst (λ t. IsRecordKept work t traces) same kept;
@@ -151,10 +157,10 @@ output-failed width work bytes trace status fault old new traces faults answer n
 }))
 
 -- both were written
-pub all-written : (width : ℕ) (work : Work) (bytes trace : Option (List ℕ)) (old new faults : Option (List ℕ)) (traces : Option (List ℕ) × Option (List ℕ)) (answer : Answer) (noted text : List ℕ)
+pub all-written : (there : Bool) (width : ℕ) (work : Work) (bytes trace : Option (List ℕ)) (old new faults : Option (List ℕ)) (traces : Option (List ℕ) × Option (List ℕ)) (answer : Answer) (noted text : List ℕ)
     → IsAnswerTo width work bytes trace answer → noted ≡ string_bytes answer.traces → IsRecordKept work noted traces → text ≡ string_bytes answer.text → HasGained (old, new) text
-    → IsServed width work bytes trace answer.status (old, new) traces (faults, faults)
-all-written width work bytes trace old new faults traces answer noted text is same kept here h = inl (record {
+    → IsServed there width work bytes trace answer.status (old, new) traces (faults, faults)
+all-written there width work bytes trace old new faults traces answer noted text is same kept here h = inl (record {
   answer = answer;
   is = is;
   ends = refl;
@@ -164,26 +170,17 @@ all-written width work bytes trace old new faults traces answer noted text is sa
 })
 
 -- the work is refused
-pub refused-told : (width : ℕ) (work : Work) (bytes trace : Option (List ℕ)) (status : ℕ) (fault : Fault) (out traces : Option (List ℕ)) (faults : Option (List ℕ) × Option (List ℕ))
-    → IsRefusedBy bytes trace work fault → status ≡ status_of fault → Tells fault faults → IsServed width work bytes trace status (out, out) (traces, traces) faults
-refused-told width work bytes trace status fault out traces faults reason ends told = inr (inr (inr (record {
+pub refused-told : (there : Bool) (width : ℕ) (work : Work) (bytes trace : Option (List ℕ)) (status : ℕ) (fault : Fault) (out traces : Option (List ℕ)) (faults : Option (List ℕ) × Option (List ℕ))
+    → IsRefusedBy there width bytes trace work fault → Tells fault status faults → IsServed there width work bytes trace status (out, out) (traces, traces) faults
+refused-told there width work bytes trace status fault out traces faults reason told = inr (inr (inr (record {
   fault = fault;
   reason = reason;
-  failure = ends;
   told = told;
   kept = keeps out;
   untouched = keeps traces;
 })))
 
--- ---- who refuses
-
--- the reader of the file
-pub unread-refused : (bytes trace : Option (List ℕ)) (work : Work) (fault : Fault) → IsUnread bytes fault → IsRefusedBy bytes trace work fault
-unread-refused bytes trace work TooLong h = h
-unread-refused bytes trace work (Content fault) h = h
-unread-refused bytes trace work File h = tt
-unread-refused bytes trace work Memory h = tt
-unread-refused bytes trace work fault h = absurd h
+-- ---- a file that is accepted
 
 -- a file that is read is a document
 is-document : (bytes : Option (List ℕ)) (v : Members) → IfSome bytes (λ text. parse_document text ≡ Some v) → IfSome bytes (λ text. IsSome (parse_document text))
@@ -205,92 +202,107 @@ is-file (Some text) v tables read only resources entities sets systems chains = 
   chains = chains;
 }
 
--- what the tables of a document, and its texts, are refused for
-pub place-refused : (bytes trace : Option (List ℕ)) (work : Work) (v : Members) (fault : FileFault) → IfSome bytes (λ text. parse_document text ≡ Some v) → IsOfPlace fault → IsRefusedBy bytes trace work (fault_of_file fault)
-place-refused bytes trace work v file.Document read h = absurd h
-place-refused bytes trace work v (file.Value place) read h = is-document bytes v read
-place-refused bytes trace work v (file.Text place) read h = is-document bytes v read
-place-refused bytes trace work v file.Memory read h = tt
+-- a file that has these tables, which declare what is built, and the scripts of whose systems fit, is accepted
+abbrev pub accepted : (bytes : Option (List ℕ)) (tables : ProgramFile) (d : Declared) (s : Schedule) (codes : List Code) (scripts : List ScriptBody) → IfSome bytes (IsFileOf tables) → d ≡ declared_by tables → IsScheduleOf d s
+    → map (λ (code : Code). code.blocks) codes ≡ map (λ (row : SystemTable). row.blocks) tables.systems.items → scripts ≡ map (λ (code : Code). script_said code.blocks) codes → AreScriptsOf s scripts → Accepted bytes
+accepted bytes tables d s codes scripts read same built blocks said fitting = record {
+  tables = tables;
+  read = read;
+  schedule = s;
+  built = subst (λ (x : Declared). IsScheduleOf x s) same built;
+  fitting = subst (AreScriptsOf s) (said ∙ scripts-same codes tables.systems.items blocks) fitting;
+}
 
--- the builder
-pub build-refused : (bytes trace : Option (List ℕ)) (work : Work) (tables : ProgramFile) (fault : BuildFault) → IfSome bytes (IsFileOf tables) → IsAnswered (declared_by tables) fault → IsRefusedBy bytes trace work (fault_of_build fault)
-build-refused bytes trace work tables build.Memory said h = tt
-build-refused bytes trace work tables (build.UnknownName name) said h = (tables, said, h)
-build-refused bytes trace work tables (build.DuplicateName name) said h = (tables, said, h)
-build-refused bytes trace work tables (build.HierarchyLoop name) said h = (tables, said, h)
-build-refused bytes trace work tables (build.HierarchyCycle names) said h = (tables, said, h)
-build-refused bytes trace work tables (build.DependencyLoop name) said h = (tables, said, h)
-build-refused bytes trace work tables (build.CrossDependency item holder) said h = (tables, said, h)
-build-refused bytes trace work tables (build.SetsIntersect first second system) said h = (tables, said, h)
-build-refused bytes trace work tables (build.DependencyCycle names) said h = (tables, said, h)
-build-refused bytes trace work tables (build.SelfConflict name) said h = (tables, said, h)
-build-refused bytes trace work tables (build.BadQuery owner query number) said h = (tables, said, h)
-build-refused bytes trace work tables (build.BadConditionQuery condition query number) said h = (tables, said, h)
-build-refused bytes trace work tables (build.ConditionWrites condition) said h = (tables, said, h)
-build-refused bytes trace work tables (build.OverLimit limit) said h = (tables, said, h)
+-- ---- who refuses
 
--- a script
-pub script-refused : (bytes trace : Option (List ℕ)) (work : Work) (tables : ProgramFile) (s : Schedule) (fault : Fault) → IfSome bytes (IsFileOf tables) → IsScheduleOf (declared_by tables) s → IsUnscripted s (declared_names (declared_by tables)) (scripts_by tables) fault → IsRefusedBy bytes trace work fault
-script-refused bytes trace work tables s (Script cause system block instruction) said is h = (tables, said, s, is, h)
-script-refused bytes trace work tables s Memory said is h = tt
-script-refused bytes trace work tables s fault said is h = absurd h.2
+module _ (there : Bool) (width : ℕ) (bytes trace : Option (List ℕ)) where
+  -- the reader of the file
+  pub unread-refused : (w : Work) (fault : Fault) → IsUnread bytes fault → IsRefusedBy there width bytes trace w fault
+  unread-refused w TooLong h = h
+  unread-refused w (Content fault) h = h
+  unread-refused w File h = tt
+  unread-refused w Memory h = tt
+  unread-refused w fault h = absurd h
 
-too-long : (trace : Option (List ℕ)) (w : Work) → ReadsTrace w → IfSome trace (λ text. 67108864 < length text) → IsTraceTooLong trace w
-too-long trace (work.Run times workers recorded) reads h = absurd reads
-too-long trace work.Ambiguities reads h = absurd reads
-too-long trace work.Check reads h = h
-too-long trace work.Replay reads h = h
+  -- what the tables of a document, and its texts, are refused for
+  pub place-refused : (w : Work) (v : Members) (fault : FileFault) → IfSome bytes (λ text. parse_document text ≡ Some v) → IsOfPlace fault → IsRefusedBy there width bytes trace w (fault_of_file fault)
+  place-refused w v file.Document read h = absurd h
+  place-refused w v (file.Value place) read h = is-document bytes v read
+  place-refused w v (file.Text place) read h = is-document bytes v read
+  place-refused w v file.Memory read h = tt
 
--- the reader of a trace
-pub trace-refused : (bytes trace : Option (List ℕ)) (w : Work) (fault : Fault) → ReadsTrace w → IsTraceUnread trace fault → IsRefusedBy bytes trace w fault
-trace-refused bytes trace w TraceTooLong reads h = too-long trace w reads h
-trace-refused bytes trace w (TraceLine line) reads h = (reads, h)
-trace-refused bytes trace w (TraceOrder line) reads h = (reads, h)
-trace-refused bytes trace w File reads h = tt
-trace-refused bytes trace w Memory reads h = tt
-trace-refused bytes trace w fault reads h = absurd h
+  -- the builder
+  pub build-refused : (w : Work) (tables : ProgramFile) (fault : BuildFault) → IfSome bytes (IsFileOf tables) → IsAnswered (declared_by tables) fault → IsRefusedBy there width bytes trace w (fault_of_build fault)
+  build-refused w tables build.Memory said h = tt
+  build-refused w tables (build.UnknownName name) said h = (tables, said, h)
+  build-refused w tables (build.DuplicateName name) said h = (tables, said, h)
+  build-refused w tables (build.HierarchyLoop name) said h = (tables, said, h)
+  build-refused w tables (build.HierarchyCycle names) said h = (tables, said, h)
+  build-refused w tables (build.DependencyLoop name) said h = (tables, said, h)
+  build-refused w tables (build.CrossDependency item holder) said h = (tables, said, h)
+  build-refused w tables (build.SetsIntersect first second system) said h = (tables, said, h)
+  build-refused w tables (build.DependencyCycle names) said h = (tables, said, h)
+  build-refused w tables (build.SelfConflict name) said h = (tables, said, h)
+  build-refused w tables (build.BadQuery owner query number) said h = (tables, said, h)
+  build-refused w tables (build.BadConditionQuery condition query number) said h = (tables, said, h)
+  build-refused w tables (build.ConditionWrites condition) said h = (tables, said, h)
+  build-refused w tables (build.OverLimit limit) said h = (tables, said, h)
 
--- the entities of a world
-pub given-refused : (bytes trace : Option (List ℕ)) (w : Work) (fault : Fault) → LoadsWorld w → IsUngiven fault → IsRefusedBy bytes trace w fault
-given-refused bytes trace w IdsSpent loads h = loads
-given-refused bytes trace w Memory loads h = tt
-given-refused bytes trace w fault loads h = absurd h
+  -- a script
+  pub script-refused : (w : Work) (tables : ProgramFile) (s : Schedule) (fault : Fault) → IfSome bytes (IsFileOf tables) → IsScheduleOf (declared_by tables) s
+      → IsUnscripted s (declared_names (declared_by tables)) (scripts_by tables) fault → IsRefusedBy there width bytes trace w fault
+  script-refused w tables s (Script cause system block instruction) said is h = (tables, said, s, is, h)
+  script-refused w tables s Memory said is h = tt
+  script-refused w tables s fault said is h = absurd h.2
 
--- the runs
-pub run-refused : (bytes trace : Option (List ℕ)) (times workers : ℕ) (recorded : Bool) (fault : Fault) → IsStoppedRun recorded fault → IsRefusedBy bytes trace (work.Run times workers recorded) fault
-run-refused bytes trace times workers recorded TraceTooLong h = h
-run-refused bytes trace times workers recorded ClockSpent h = tt
-run-refused bytes trace times workers recorded IdsSpent h = tt
-run-refused bytes trace times workers recorded BodyRefused h = tt
-run-refused bytes trace times workers recorded Memory h = tt
-run-refused bytes trace times workers recorded NoWorker h = tt
-run-refused bytes trace times workers recorded fault h = absurd h
+  module _ (file : Accepted bytes) where
+    -- the reader of a trace
+    pub trace-refused : (w : Work) (fault : Fault) → ReadsTrace w → IsTraceUnread trace fault → IsRefusedBy there width bytes trace w fault
+    trace-refused w TraceTooLong reads h = inl (record { reads = reads; file = file; unread = h })
+    trace-refused w (TraceLine line) reads h = record { reads = reads; file = file; unread = h }
+    trace-refused w (TraceOrder line) reads h = record { reads = reads; file = file; unread = h }
+    trace-refused w File reads h = tt
+    trace-refused w Memory reads h = tt
+    trace-refused w fault reads h = absurd h
 
--- the runs of a trace, taken again
-module _ (bytes trace : Option (List ℕ)) (tables : ProgramFile) (s : Schedule) (read : IfSome bytes (IsFileOf tables)) (built : IsScheduleOf (declared_by tables) s) (fitting : AreScriptsOf s (scripts_by tables)) where
-  abbrev bodies : List BodyMeaning
-  bodies = meanings_of_scripts s (scripts_by tables)
+    -- the entities of a world
+    pub given-refused : (w : Work) (fault : Fault) → LoadsWorld w → IsUngiven (length file.tables.entities.items) fault → IsRefusedBy there width bytes trace w fault
+    given-refused w IdsSpent loads h = inl (loads, record { file = file; wanting = h })
+    given-refused w Memory loads h = tt
+    given-refused w fault loads h = absurd h
 
-  abbrev start : State
-  start = loaded s (map entity_given tables.entities.items) tables.resources
+    -- new runs
+    stopped-run : (times : ℕ) (recorded : Bool) (fault : Fault) → IsUnrun there width file.schedule (meant_by file) times (start_of file) recorded fault → IsRunRefused there width bytes times recorded fault
+    stopped-run times recorded fault h = record { file = file; refused = h }
 
-  refused-replay : (fault : Fault) → IsRefusedReplay s bodies start trace fault → IsReplayRefused bytes trace fault
-  refused-replay fault h = record { tables = tables; read = read; schedule = s; built = built; fitting = fitting; refused = h }
+    pub run-refused : (times workers : ℕ) (recorded : Bool) (fault : Fault) → IsUnrun there width file.schedule (meant_by file) times (start_of file) recorded fault
+        → IsRefusedBy there width bytes trace (work.Run times workers recorded) fault
+    run-refused times workers recorded TraceTooLong h = inr (stopped-run times recorded TraceTooLong h)
+    run-refused times workers recorded ClockSpent h = stopped-run times recorded ClockSpent h
+    run-refused times workers recorded IdsSpent h = inr (stopped-run times recorded IdsSpent h)
+    run-refused times workers recorded BodyRefused h = stopped-run times recorded BodyRefused h
+    run-refused times workers recorded NoWorker h = stopped-run times recorded NoWorker h
+    run-refused times workers recorded Memory h = tt
+    run-refused times workers recorded fault h = absurd h
 
-  replay-refused : (fault : Fault) → IsRefusedReplay s bodies start trace fault → IsRefusedBy bytes trace work.Replay fault
-  replay-refused (BadStep run step wrong) h = (refl, refused-replay (BadStep run step wrong) h)
-  replay-refused (UnfinishedRun run) h = (refl, refused-replay (UnfinishedRun run) h)
-  replay-refused (WrongAnswer run step) h = (refl, refused-replay (WrongAnswer run step) h)
-  replay-refused ClockSpent h = refused-replay ClockSpent h
-  replay-refused IdsSpent h = tt
-  replay-refused BodyRefused h = refused-replay BodyRefused h
-  replay-refused Memory h = tt
-  replay-refused fault h = absurd h.refused.refused
+    -- the runs of a trace, taken again
+    stopped-replay : (fault : Fault) → IsRefusedReplay file.schedule (meant_by file) (start_of file) trace fault → IsReplayRefused bytes trace fault
+    stopped-replay fault h = record { file = file; refused = h }
 
-  pub unreplayed-refused : (fault : Fault) → IsUnreplayed s bodies start trace fault → IsRefusedBy bytes trace work.Replay fault
-  unreplayed-refused fault (inl unread) = trace-refused bytes trace work.Replay fault tt unread
-  unreplayed-refused fault (inr (inl ungiven)) = given-refused bytes trace work.Replay fault tt ungiven
-  unreplayed-refused fault (inr (inr refused)) = replay-refused fault refused
+    replay-refused : (fault : Fault) → IsRefusedReplay file.schedule (meant_by file) (start_of file) trace fault → IsRefusedBy there width bytes trace work.Replay fault
+    replay-refused (BadStep run step wrong) h = stopped-replay (BadStep run step wrong) h
+    replay-refused (UnfinishedRun run) h = stopped-replay (UnfinishedRun run) h
+    replay-refused (WrongAnswer run step) h = stopped-replay (WrongAnswer run step) h
+    replay-refused ClockSpent h = stopped-replay ClockSpent h
+    replay-refused IdsSpent h = inr (stopped-replay IdsSpent h)
+    replay-refused BodyRefused h = stopped-replay BodyRefused h
+    replay-refused Memory h = tt
+    replay-refused fault h = absurd h.refused.refused
+
+    pub unreplayed-refused : (fault : Fault) → IsUnreplayed file.schedule (meant_by file) (start_of file) (length file.tables.entities.items) trace fault → IsRefusedBy there width bytes trace work.Replay fault
+    unreplayed-refused fault (inl unread) = trace-refused work.Replay fault tt unread
+    unreplayed-refused fault (inr (inl ungiven)) = given-refused work.Replay fault tt ungiven
+    unreplayed-refused fault (inr (inr refused)) = replay-refused fault refused
 
 -- and of one that a conversion gave
 pub of-given : {T E : Type 0} (P Q : E → Type 0) (r : Result T E) → IsErrAnd r P → ((e : E) → P e → Q e) → IfErr r Q

@@ -9,7 +9,7 @@ use Rattle.model.specs.state.State.{State}
 use Rattle.program.specs.Recorded.{HaveRun}
 
 -- runs after runs
-more-wide : (width : ℕ) (s : Schedule) (bodies : List BodyMeaning) (w : State) (hs gs : List (List Step)) (middle w' : State)
+pub more-wide : (width : ℕ) (s : Schedule) (bodies : List BodyMeaning) (w : State) (hs gs : List (List Step)) (middle w' : State)
     → AreWideRuns width s bodies w hs middle → AreWideRuns width s bodies middle gs w' → AreWideRuns width s bodies w (hs ++ gs) w'
 more-wide width s bodies w [] gs middle w' ran more = subst (λ v. AreWideRuns width s bodies v gs w') (sym ran) more
 more-wide width s bodies w (h ∷ hs) gs middle w' ran more = (ran.0, ran.1, more-wide width s bodies ran.0 hs gs middle w' ran.2 more)

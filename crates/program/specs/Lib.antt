@@ -1,3 +1,4 @@
+pub mod Accepted
 pub mod Checked
 pub mod Fault
 pub mod Load

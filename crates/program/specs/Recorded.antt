@@ -1,5 +1,7 @@
 -- Runs of a schedule, what they leave, and their record.
-use Rattle.std.specs.Prelude.{ℕ, ◌≡◌, ◌≤◌, Bool, true, List, length, map, reverse}
+use Rattle.std.specs.Prelude.{ℕ, ◌≡◌, ◌≤◌, ◌<◌, Bool, true, List, length, map, reverse, Option, None, Some, IsSome, string_bytes}
+use Rattle.std.specs.declared.string.String.{String}
+use Rattle.std.specs.declared.alloc.Global.{Global}
 use Rattle.model.specs.declared.steps.Step.{Step}
 use Rattle.model.specs.shown.Outcome.{BodyMeaning}
 use Rattle.model.specs.runs.Runs.{AreSingleRuns, AreSoundRuns}
@@ -24,6 +26,27 @@ record_text histories = trace_text (map reverse histories)
 pub record IsRecordOf (histories : List (List Step)) (noted : List ℕ) : Type 0 where
   pub same : noted ≡ record_text histories
   pub within : length noted ≤ 67108864
+
+-- what is kept of the record of runs: its text while that may be written, and of a longer one nothing
+abbrev pub IsKeptOf : List (List Step) → Option (String Global) → Type 0
+IsKeptOf histories (Some text) = IsRecordOf histories (string_bytes text)
+IsKeptOf histories None = 67108864 < length (record_text histories)
+
+-- so many complete runs lead from one state to another, and this is kept of their record where they are recorded
+pub record HaveKept (width : ℕ) (s : Schedule) (bodies : List BodyMeaning) (start : State) (times : ℕ) (recorded : Bool) (final : State) (text : Option (String Global)) : Type 0 where
+  pub histories : List (List Step)
+  pub many : length histories ≡ times
+  pub runs : HaveRun width s bodies start histories final
+  pub kept : recorded ≡ true → IsKeptOf histories text
+  pub there : (recorded ≡ true → ⊥) → IsSome text
+
+-- so many complete runs lead on from a state, and their record is longer than one that may be written
+pub record IsRecordTooLong (width : ℕ) (s : Schedule) (bodies : List BodyMeaning) (start : State) (times : ℕ) : Type 0 where
+  pub histories : List (List Step)
+  pub many : length histories ≡ times
+  pub final : State
+  pub runs : HaveRun width s bodies start histories final
+  pub beyond : 67108864 < length (record_text histories)
 
 -- so many complete runs lead from one state to another, and this is their record where they are recorded
 pub record HaveNoted (width : ℕ) (s : Schedule) (bodies : List BodyMeaning) (start : State) (times : ℕ) (recorded : Bool) (final : State) (noted : List ℕ) : Type 0 where

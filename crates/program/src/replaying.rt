@@ -41,7 +41,7 @@ pub fn replay_trace<T: Read>(
     requires { AreScriptsOf built.now bodies.items }
     ensures text { IfOk result (λ answer. IsTextOfReplay built.now (meanings_of_scripts built.now bodies.items) (loaded built.now (map entity_given entities.now) resources.now) (T.remaining trace.old) (string_bytes answer.text)) }
     ensures status { IfOk result (λ answer. answer.status ≡ 0) }
-    ensures stopped { IfErr result (IsUnreplayed built.now (meanings_of_scripts built.now bodies.items) (loaded built.now (map entity_given entities.now) resources.now) (T.remaining trace.old)) }
+    ensures stopped { IfErr result (IsUnreplayed built.now (meanings_of_scripts built.now bodies.items) (loaded built.now (map entity_given entities.now) resources.now) (length entities.now) (T.remaining trace.old)) }
 {
     let traces = traces_of(alloc, trace)?;
     let world = world_of(alloc, entities, resources)?;

@@ -1,12 +1,12 @@
 // The work of a command line, on readers and writers.
 
-ghost use Rattle.std.specs.Prelude.{◌≡◌, ◌∷◌, [], Bool, map, length, string_bytes, IfOk, IfErr, IfSome, Some, OnOk, IsFalse};
+ghost use Rattle.std.specs.Prelude.{◌≡◌, ◌∷◌, [], map, length, string_bytes, IfOk, IfErr, IfSome, Some, OnOk, IsFalse};
 ghost use Rattle.archetype_store.specs.Layout.{AreAllHome};
 ghost use Rattle.engine.specs.History.{history_of};
 ghost use Rattle.engine.specs.Meanings.{meanings};
-ghost use Rattle.program.specs.Fault.{status_of};
+ghost use Rattle.program.specs.Fault.{fault_text};
 ghost use Rattle.program.specs.Recorded.{HaveNoted, HaveRun, IsTextOfRuns};
-ghost use Rattle.program.specs.Refused.{IsRefusedBy, IsStoppedRun, IsUnread};
+ghost use Rattle.program.specs.Refused.{IsRefusedBy, IsStoppedRun, IsUnread, IsUnrun};
 ghost use Rattle.program.specs.Served.{HasGainedFront, IsAnswerTo, IsServed, IsTextOfReport, Tells, WritesRecord};
 ghost use Rattle.toml.specs.Parse.{parse_document};
 ghost use Rattle.toml.specs.View.{table_view};
@@ -34,10 +34,10 @@ use program_file::{ProgramFile, document_of};
 use schedule_builder::Built;
 use schedule_builder::builder::build;
 use script::ScriptBody;
-use std::alloc::Global;
+use std::alloc::{AllocError, Global};
 use std::io::{Read, Write};
 use streams::WriteFault;
-use streams::writing::{write_line, write_whole};
+use streams::writing::{ended_line, write_whole};
 use toml::Table;
 use worker_pool::Mode;
 
@@ -56,7 +56,7 @@ pub fn serve<'s, M: Mode<'s>, F: Read, T: Read, R: Write, O: Write, E: Write>(
     out: &mut O,
     faults: &mut E,
 ) -> u8
-    ensures { IsServed (M.width mode.now) args.now.work (F.remaining file.old) (T.remaining trace.old) result (O.contents out.old, O.contents out.new) (R.contents traces.old, R.contents traces.new) (E.contents faults.old, E.contents faults.new) }
+    ensures { IsServed (M.has_scope mode.now) (M.width mode.now) args.now.work (F.remaining file.old) (T.remaining trace.old) result (O.contents out.old, O.contents out.new) (R.contents traces.old, R.contents traces.new) (E.contents faults.old, E.contents faults.new) }
 {
     let answer = match answer(alloc, args.work, mode, file, trace) {
         Ok(answer) => answer,
@@ -80,7 +80,7 @@ fn answer<'s, M: Mode<'s>, F: Read, T: Read>(
     trace: &mut T,
 ) -> Result<Answer, Fault>
     ensures done { IfOk result (λ answer. IsAnswerTo (M.width mode.now) work (F.remaining file.old) (T.remaining trace.old) answer) }
-    ensures refused { IfErr result (IsRefusedBy (F.remaining file.old) (T.remaining trace.old) work) }
+    ensures refused { IfErr result (IsRefusedBy (M.has_scope mode.now) (M.width mode.now) (F.remaining file.old) (T.remaining trace.old) work) }
 {
     let document = document_in(alloc, file)?;
     let ProgramFile {
@@ -152,7 +152,7 @@ fn run<'s, M: Mode<'s>>(
     requires home { AreAllHome world.layout }
     ensures runs { IfOk result (λ answer. IsTextOfRuns (M.width mode.now) built (meanings_of_scripts built bodies.items) (first_state built world.state) times recorded (string_bytes answer.text) (string_bytes answer.traces)) }
     ensures status { IfOk result (λ answer. answer.status ≡ 0) }
-    ensures stopped { IfErr result (IsStoppedRun recorded) }
+    ensures stopped { IfErr result (IsUnrun (M.has_scope mode.now) (M.width mode.now) built (meanings_of_scripts built bodies.items) times (first_state built world.state) recorded) }
 {
     let state = first_state(alloc, &built, world)?;
     let mut engine = match Engine::new(alloc, built, bodies, state) {
@@ -174,7 +174,7 @@ fn run<'s, M: Mode<'s>>(
 const RUNS_AT_ONCE: u32 = 256;
 
 // Runs a schedule so many times, one run after the other, and gives their record. The steps of runs are dropped before the next ones
-// begin.
+// begin. Runs go on where their record is too long already: what stops one of them is told first.
 fn run_times<'s, M: Mode<'s>>(
     alloc: Global,
     engine: &mut Engine<ScriptBody>,
@@ -184,18 +184,21 @@ fn run_times<'s, M: Mode<'s>>(
 ) -> Result<String, Fault>
     requires { IsFalse engine.old.spoiled }
     ensures noted { IfOk result (λ text. HaveNoted (M.width mode.now) engine.old.schedule (meanings script_means engine.old.schedule engine.old.bodies) engine.old.state times recorded engine.new.state (string_bytes text)) }
-    ensures stopped { IfErr result (IsStoppedRun recorded) }
+    ensures stopped { IfErr result (IsUnrun (M.has_scope mode.now) (M.width mode.now) engine.old.schedule (meanings script_means engine.old.schedule engine.old.bodies) times engine.old.state recorded) }
 {
-    let mut text = String::new(alloc);
+    let mut text = Some(String::new(alloc));
     let mut done = 0;
     while done < times {
         let count = (times - done).min(RUNS_AT_ONCE);
         let traces = run_some(alloc, engine, count, mode)?;
         if recorded {
-            note_all(&mut text, done, traces.as_slice())?;
+            text = note_all(text, done, traces.as_slice())?;
         }
         done += count;
     }
+    let Some(text) = text else {
+        return Err(Fault::TraceTooLong);
+    };
     Ok(text)
 }
 
@@ -212,7 +215,7 @@ fn run_some<'s, M: Mode<'s>>(
     ensures schedule { engine.new.schedule ≡ engine.old.schedule }
     ensures meant { OnOk result (meanings script_means engine.old.schedule engine.new.bodies ≡ meanings script_means engine.old.schedule engine.old.bodies) }
     ensures sound { OnOk result (IsFalse engine.new.spoiled) }
-    ensures stopped { (recorded : Bool) → IfErr result (IsStoppedRun recorded) }
+    ensures stopped { IfErr result (IsStoppedRun (M.has_scope mode.now) (M.width mode.now) engine.old.schedule (meanings script_means engine.old.schedule engine.old.bodies) times engine.old.state) }
 {
     match engine.run(alloc, times, mode) {
         Ok(traces) => Ok(traces),
@@ -235,22 +238,34 @@ fn write_record<R: Write>(traces: &mut R, work: Work, text: &str) -> Result<(), 
     Ok(())
 }
 
-/// Tells of a fault in one line, and gives the exit status. The status stays where the line can't be written.
+/// Tells of a fault in one line, written in one call where the writer takes it whole, and gives the exit status. The status stays where
+/// the line can't be written. Where an allocation fails for the line, that is told, with the status of it.
 pub fn tell<E: Write>(alloc: Global, faults: &mut E, fault: &Fault) -> u8
-    ensures status { result ≡ status_of fault.now }
-    ensures line { Tells fault.now (E.contents faults.old, E.contents faults.new) }
+    ensures { Tells fault.now result (E.contents faults.old, E.contents faults.new) }
 {
-    let Ok(line) = fault.to_string(alloc) else {
-        tell_line(faults, "error memory");
-        return fault.status();
-    };
-    tell_line(faults, line.as_str());
-    fault.status()
+    match fault_line(alloc, fault) {
+        Ok(line) => {
+            tell_line(faults, line.as_str());
+            fault.status()
+        }
+        Err(_) => {
+            tell_line(faults, "error memory\n");
+            Fault::Memory.status()
+        }
+    }
 }
 
-// Writes the first line of a text, as far as the writer takes it.
-fn tell_line<E: Write>(faults: &mut E, text: &str)
-    ensures { HasGainedFront (E.contents faults.old, E.contents faults.new) (line_of text.now) }
+// The line of a fault, with its end.
+fn fault_line(alloc: Global, fault: &Fault) -> Result<String, AllocError>
+    ensures { IfOk result (λ line. string_bytes line ≡ line_of (fault_text fault.now)) }
 {
-    let _ = write_line(faults, text);
+    let text = fault.to_string(alloc)?;
+    ended_line(alloc, text.as_str())
+}
+
+// Writes a line, as far as the writer takes it.
+fn tell_line<E: Write>(faults: &mut E, line: &str)
+    ensures { HasGainedFront (E.contents faults.old, E.contents faults.new) line.now }
+{
+    let _ = write_whole(faults, line);
 }

@@ -28,7 +28,7 @@ pub fn world_of(
 ) -> Result<World, Fault>
     ensures world { IfOk result (λ world. world.state ≡ loaded_world (map entity_given entities.now) resources.now) }
     ensures home { IfOk result (λ world. AreAllHome world.layout) }
-    ensures refused { IfErr result IsUngiven }
+    ensures refused { IfErr result (IsUngiven (length entities.now)) }
 {
     let mut world = World::new(alloc, Clock::at(LOADING))?;
     give_resources(&mut world, resources);
@@ -55,7 +55,7 @@ fn give_entities(alloc: Global, world: &mut World, entities: &[Vec<Value>]) -> R
     requires home { AreAllHome world.old.layout }
     ensures given { OnOk result (world.new.state ≡ with_entities (map entity_given entities.now) world.old.state) }
     ensures home { AreAllHome world.new.layout }
-    ensures refused { IfErr result IsUngiven }
+    ensures refused { IfErr result (IsUngiven (length entities.now)) }
 {
     let Ok(count) = u32::try_from(entities.len()) else {
         return Err(Fault::IdsSpent);

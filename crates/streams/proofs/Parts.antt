@@ -26,19 +26,6 @@ pub front_of_whole : {T E : Type 0} (old new : Option (List ℕ)) (r : Result T 
 front_of_whole old new (Ok x) text h = (text, [], sym (append-nil text), h)
 front_of_whole old new (Err e) text h = h
 
--- a front of the first of two texts is a front of both
-pub front_of_first : (old new : Option (List ℕ)) (text more : List ℕ) → AppendsFront old new text → AppendsFront old new (text ++ more)
-front_of_first old new text more h = (h.0, h.1 ++ more, ap (λ xs. xs ++ more) h.2 ∙ append_assoc h.0 h.1 more, h.3)
-
--- the first of two texts, then a front of the second
-pub front_of_second : (old mid new : Option (List ℕ)) (text more : List ℕ) → Appends old mid text → AppendsFront mid new more → AppendsFront old new (text ++ more)
-front_of_second old mid new text more h k = (text ++ k.0, k.1, ap (λ xs. text ++ xs) k.2 ∙ sym (append_assoc text k.0 k.1), appends_more old mid new text k.0 h k.3)
-
--- the first of two texts, and what is written of the second
-pub both_written : {T E : Type 0} (old mid new : Option (List ℕ)) (r : Result T E) (text more : List ℕ) → Appends old mid text → WritesWhole mid new r more → WritesWhole old new r (text ++ more)
-both_written old mid new (Ok x) text more h k = appends_more old mid new text more h k
-both_written old mid new (Err e) text more h k = front_of_second old mid new text more h k
-
 -- a text without the end of a line is its first line
 pub whole_line : (text : List ℕ) → position_or_len (λ b. b == 10) text ≡ length text → text ≡ first_line_of text
 whole_line text e = sym (take_all (position_or_len (λ b. b == 10) text) text (omega arith))

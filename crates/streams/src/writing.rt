@@ -1,9 +1,10 @@
 // Texts written whole.
 
-ghost use Rattle.std.specs.Prelude.{◌≡◌, ◌<◌, ◌≤◌, length, take, IfOk, MatchResult};
+ghost use Rattle.std.specs.Prelude.{◌≡◌, ◌<◌, ◌≤◌, length, take, string_bytes, IfOk, MatchResult};
 ghost use Rattle.std.specs.Io.KnownBytes.{Appends, Keeps};
 ghost use Rattle.streams.specs.Writing.{WritesWhole, first_line_of, line_of};
 
+use std::alloc::{AllocError, Global};
 use std::io::{ErrorKind, Write};
 use thiserror::Error;
 
@@ -56,14 +57,12 @@ fn flush<W: Write>(writer: &mut W) -> Result<(), WriteFault>
     Err(WriteFault)
 }
 
-/// Writes the first line of a text, ends the line, and flushes the writer. A writer that fails, or takes nothing, is a fault, and then
-/// it holds a beginning of that.
-#[tactic(auto, using(crate::proofs::Parts::front_of_first, crate::proofs::Parts::both_written))]
-pub fn write_line<W: Write>(writer: &mut W, text: &str) -> Result<(), WriteFault>
-    ensures { WritesWhole (W.contents writer.old) (W.contents writer.new) result (line_of text.now) }
+/// The first line of a text, with its end, to be written in one call. Fails only for a failed allocation.
+pub fn ended_line(alloc: Global, text: &str) -> Result<String, AllocError>
+    ensures { IfOk result (λ line. string_bytes line ≡ line_of text.now) }
 {
-    write_whole(writer, first_line(text))?;
-    write_whole(writer, "\n")
+    let line = first_line(text);
+    format!(in alloc; "{line}\n")
 }
 
 // The first line of a text, without its end.

@@ -1,13 +1,13 @@
-use Rattle.std.proofs.Common.{◌≡◌, ◌+◌, true, [], ◌∷◌, ◌++◌, length, map, ap, sym, ◌∙◌, subst, arith}
-use Rattle.std.proofs.lemmas.List.{length_push, map-append}
+use Rattle.std.proofs.Common.{◌≡◌, ◌+◌, true, [], ◌∷◌, ◌++◌, length, map, take, drop, ap, sym, ◌∙◌, subst, arith}
+use Rattle.std.proofs.lemmas.List.{length_push, map-append, map-id, take-append-drop}
 use Rattle.std.proofs.lemmas.Iterator.Adapters.{YieldsList-from_vec}
-use Rattle.std.proofs.lemmas.Iterator.Consumers.{YieldsList-turn}
+use Rattle.std.proofs.lemmas.Iterator.Consumers.{YieldsList-so_far, YieldsList-turn}
 use Rattle.script.specs.Faults.{fits}
 use Rattle.model.specs.steps.Schedule.{params_of}
 use Rattle.program.specs.Said.{script_said}
 use Rattle.program.specs.declared.schedule.Code.{Code}
 use Rattle.program.specs.Refused.{IsScriptRefused, IsUnscripted}
-use Rattle.program.proofs.Fitting.{fits-more, name-at, script-at, unscripted}
+use Rattle.program.proofs.Fitting.{fits-before, fits-more, name-at, script-at, unscripted}
 use Rattle.program.proofs.Serving.{of-given}
 use Rattle.program.proofs.schedule.bodies_of.Goals as goal
 
@@ -41,7 +41,14 @@ returns-in_err-body-clause-refused c =
     let systems = c.requires in
     let len = c.len-in-loop-code.ensures in
     let here : c.len-in-loop-code.result ≡ n = omega arith in
+    let yields = YieldsList-from_vec c.args.codes.items (cc) (cc) in
+    let so_far : c.loop-code.yielded ≡ take n codes = sym (map-id c.loop-code.yielded) ∙ YieldsList-so_far yields c.loop-code.yielded c.loop-code.code-iterator c.loop-code.yielded_by in
+    let script_of = λ (x : Code). script_said x.blocks in
+    let whole : scripts ≡ c.loop-code.bodies.items ++ map script_of (drop n codes) =
+    ap (map script_of) (sym (take-append-drop n codes)) ∙ (map-append script_of (take n codes) (drop n codes)
+    ∙ ap (λ xs. xs ++ map script_of (drop n codes)) (ap (map script_of) (sym so_far) ∙ sym c.loop-code.invariant.said)) in
+    let before = fits-before s c.loop-code.bodies.items scripts (map script_of (drop n codes)) whole c.loop-code.invariant.fit in
     let refused = subst (λ m. IsScriptRefused s m code.name.now (script_said code.blocks) c.in_err-body.field-0.0) here c.in_err-body.ensures.refused in
     of-given (λ fault. fault ≡ c.in_err-body.field-0.0) (IsUnscripted s names scripts) c.from_residual-in_err-body.result c.from_residual-in_err-body.ensures.1
     (λ fault is. unscripted s names scripts n code.name.now (script_said code.blocks) fault (omega arith) (name-at codes n code inside t.1) (script-at codes n code inside t.1)
-    (subst (IsScriptRefused s n code.name.now (script_said code.blocks)) (sym is) refused))
+    (subst (IsScriptRefused s n code.name.now (script_said code.blocks)) (sym is) refused) (λ m less. before m (omega (arith, less, count))))

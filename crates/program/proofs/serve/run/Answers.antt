@@ -2,7 +2,13 @@ use Rattle.std.proofs.Common.{◌≡◌, Some, Err, inl, inr, refl, sym, subst, 
 use Rattle.std.proofs.lemmas.List.{length-map}
 use denote.Param.Send.{sendable}
 use Rattle.engine.proofs.Beginning.{no_first_lacks}
-use Rattle.program.specs.Refused.{IsStoppedRun}
+use Rattle.engine.specs.EngineValue.{EngineValue}
+use Rattle.engine.specs.FirstState.{first_state}
+use Rattle.engine.specs.Meanings.{meanings}
+use Rattle.model.specs.state.State.{State}
+use Rattle.script.specs.declared.script_body.ScriptBody.{ScriptBody}
+use Rattle.program.specs.Refused.{IsUnrun}
+use Rattle.program.specs.Setup.{meanings_of_scripts, script_means}
 use Rattle.program.specs.declared.fault.Fault.{Fault}
 use Rattle.program.specs.declared.fault.Fault.TheVariants.{Memory}
 use Rattle.program.proofs.Serving.{no-misfit, of-given}
@@ -30,11 +36,20 @@ run_times-requires g c = λ lifetimes.
 -- what stops the runs
 pub returns-in_err-traces-clause-stopped : goal.returns-in_err-traces-clause-stopped
 returns-in_err-traces-clause-stopped g c =
-    of-given (λ (told : Fault). told ≡ c.in_err-traces.field-0.0) (IsStoppedRun c.args.recorded) c.from_residual-in_err-traces.result c.from_residual-in_err-traces.ensures.1
-    (λ e same. subst (IsStoppedRun c.args.recorded) (sym same) c.in_err-traces.ensures.stopped)
+    let there = g.M.Hosts.has_scope c.args.mode.now in
+    let width = g.M.Mode.width c.args.mode.now in
+    let s = c.args.built in
+    let told = c.in_err-traces.field-0.0 in
+    let P = λ (v : EngineValue ScriptBody). IsUnrun there width v.schedule (meanings script_means v.schedule v.bodies) c.args.times v.state c.args.recorded told in
+    let from = subst (λ (state : State). IsUnrun there width s (meanings_of_scripts s c.args.bodies.items) c.args.times state c.args.recorded told) c.in_ok-state.ensures (subst P c.in-Ok.ensures.ok c.in_err-traces.ensures.stopped) in
+    of-given (λ (fault : Fault). fault ≡ told) (IsUnrun there width s (meanings_of_scripts s c.args.bodies.items) c.args.times (first_state s c.args.world.state) c.args.recorded) c.from_residual-in_err-traces.result c.from_residual-in_err-traces.ensures.1
+    (λ e same. subst (IsUnrun there width s (meanings_of_scripts s c.args.bodies.items) c.args.times (first_state s c.args.world.state) c.args.recorded) (sym same) from)
 
 -- a failed allocation for the text
 pub returns-in_err-text_of_world-clause-stopped : goal.returns-in_err-text_of_world-clause-stopped
 returns-in_err-text_of_world-clause-stopped g c =
-    of-given (λ (told : Fault). told ≡ Memory) (IsStoppedRun c.args.recorded) c.from_residual-in_err-text_of_world.result c.from_residual-in_err-text_of_world.ensures.1
-    (λ e same. subst (IsStoppedRun c.args.recorded) (sym same) tt)
+    let there = g.M.Hosts.has_scope c.args.mode.now in
+    let width = g.M.Mode.width c.args.mode.now in
+    let s = c.args.built in
+    let P = IsUnrun there width s (meanings_of_scripts s c.args.bodies.items) c.args.times (first_state s c.args.world.state) c.args.recorded in
+    of-given (λ (told : Fault). told ≡ Memory) P c.from_residual-in_err-text_of_world.result c.from_residual-in_err-text_of_world.ensures.1 (λ e same. subst P (sym same) tt)

@@ -1,16 +1,17 @@
-use Rattle.std.proofs.Common.{◌≡◌, ◌≤◌, ◌+◌, ◌-◌, ◌++◌, length, map, string_bytes, sym, ap, ◌∙◌, subst, refl, arith}
+use Rattle.std.proofs.Common.{◌≡◌, ◌≤◌, ◌+◌, ◌-◌, ◌++◌, true, length, map, IsSome, sym, ap, ◌∙◌, subst, refl, arith}
 use Rattle.std.proofs.Math.Nat.{min-le_left}
 use Rattle.std.proofs.lemmas.List.{length-map}
 use Rattle.model.specs.steps.Schedule.{Schedule}
 use Rattle.engine.specs.History.{history_of}
 use Rattle.engine.specs.Meanings.{meanings}
 use Rattle.engine.proofs.AtHome.{unlike}
-use Rattle.program.specs.Recorded.{IsRecordOf}
+use Rattle.program.specs.Recorded.{IsKeptOf}
 use Rattle.program.specs.Setup.{script_means}
 use Rattle.program.proofs.Noting.{next-noted, none-noted}
-use Rattle.program.specs.Refused.{IsStoppedRun}
+use Rattle.program.specs.Refused.{IsUnrun}
 use Rattle.program.proofs.Serving.{of-given}
-use Rattle.program.proofs.serve.run_times.Goals.{then-recorded+in_ok-note_all, else-recorded}
+use Rattle.program.proofs.Stopping.{next-told}
+use Rattle.program.proofs.serve.run_times.Goals.{then-recorded+in_ok-text, else-recorded}
 use Rattle.program.proofs.serve.run_times.Goals as goal
 
 -- nothing has run yet
@@ -20,7 +21,7 @@ loop-done-init g c = record {
   schedule = refl;
   meant = refl;
   sound = c.requires;
-  noted = none-noted (g.M.Mode.width c.args.mode.now) c.args.engine.now.schedule (meanings script_means c.args.engine.now.schedule c.args.engine.now.bodies) c.args.engine.now.state c.args.recorded _ c.new-text.ensures.bytes;
+  noted = none-noted (g.M.Mode.width c.args.mode.now) c.args.engine.now.schedule (meanings script_means c.args.engine.now.schedule c.args.engine.now.bodies) c.args.engine.now.state c.args.recorded _ c.new.ensures.bytes;
 }
 
 -- more runs, and their record behind those of the runs before them
@@ -39,16 +40,30 @@ loop-done-preserved g c =
       meant = meant ∙ inv.meant;
       sound = ok.sound;
       noted = next-noted (g.M.Mode.width c.args.mode.now) s now.schedule (meanings script_means s c.args.engine.now.bodies) (meanings script_means now.schedule now.bodies)
-          c.args.engine.now.state now.state c.run_some.new.engine.state c.loop-done.done (length traces) _ c.args.recorded (string_bytes c.loop-done.text) (string_bytes c.if-recorded.text)
+          c.args.engine.now.state now.state c.run_some.new.engine.state c.loop-done.done (length traces) _ c.args.recorded c.loop-done.text c.if-recorded.text
           gs inv.schedule (ap (λ (t : Schedule). meanings script_means t now.bodies) inv.schedule ∙ inv.meant) (length-map traces history_of) (ap (λ n. c.loop-done.done + n) (sym ok.count)) inv.noted ok.ran
           (elim c.if-recorded.branch [
-            | then-recorded+in_ok-note_all w ↦ λ hs many kept asked. subst (λ text. IsRecordOf (hs ++ gs) (string_bytes text)) (sym w.text-is) (subst (λ ts. IsRecordOf (hs ++ map history_of ts) (string_bytes w.note_all.new.text)) w.as_slice.ensures.value (w.in_ok-note_all.ensures.noted hs many (kept asked)))
+            | then-recorded+in_ok-text w ↦ λ hs many kept asked. subst (IsKeptOf (hs ++ gs)) (sym w.text-is) (subst (λ ts. IsKeptOf (hs ++ map history_of ts) w.in_ok-text.text) w.as_slice.ensures.value (w.in_ok-text.ensures hs many (kept asked)))
             | else-recorded w ↦ λ hs many kept asked. absurd (unlike c.args.recorded asked w.if-recorded.false)
+          ])
+          (elim c.if-recorded.branch [
+            | then-recorded+in_ok-text w ↦ λ unasked. absurd (unasked w.if-recorded.true)
+            | else-recorded w ↦ subst (λ text. (c.args.recorded ≡ true → ⊥) → IsSome text) (sym w.text-is) inv.noted.there
           ]);
     }
 
 -- the runs that stop
 pub returns-in_err-traces-clause-stopped : goal.returns-in_err-traces-clause-stopped
 returns-in_err-traces-clause-stopped g c =
-    of-given (λ fault. fault ≡ c.in_err-traces.field-0.0) (IsStoppedRun c.args.recorded) c.from_residual.result c.from_residual.ensures.1
-    (λ fault is. subst (IsStoppedRun c.args.recorded) (sym is) (c.in_err-traces.ensures.stopped c.args.recorded))
+    let inv = c.loop-done.invariant in
+    let s = c.args.engine.now.schedule in
+    let now = c.loop-done.engine in
+    let there = g.M.Hosts.has_scope c.args.mode.now in
+    let width = g.M.Mode.width c.args.mode.now in
+    let bodies = meanings script_means s c.args.engine.now.bodies in
+    let within : length inv.noted.histories + c.min-count.result ≤ c.args.times =
+    let l : c.min-count.result ≤ c.args.times - c.loop-done.done = subst (λ n. n ≤ c.args.times - c.loop-done.done) (sym c.min-count.ensures) (min-le_left (c.args.times - c.loop-done.done) 256) in omega (arith, l, inv.within, inv.noted.many) in
+    of-given (λ fault. fault ≡ c.in_err-traces.field-0.0) (IsUnrun there width s bodies c.args.times c.args.engine.now.state c.args.recorded) c.from_residual.result c.from_residual.ensures.1
+    (λ fault is. subst (IsUnrun there width s bodies c.args.times c.args.engine.now.state c.args.recorded) (sym is)
+    (next-told there width s now.schedule bodies (meanings script_means now.schedule now.bodies) c.args.engine.now.state now.state inv.noted.histories c.min-count.result c.args.times c.args.recorded c.in_err-traces.field-0.0
+    inv.schedule (ap (λ (t : Schedule). meanings script_means t now.bodies) inv.schedule ∙ inv.meant) inv.noted.runs within c.in_err-traces.ensures.stopped))

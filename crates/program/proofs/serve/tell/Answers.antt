@@ -1,9 +1,12 @@
-use Rattle.std.proofs.Common.{inl, ◌∙◌, subst}
-use Rattle.streams.specs.Writing.{line_of}
+use Rattle.std.proofs.Common.{inl, inr, ◌∙◌, subst}
 use Rattle.program.specs.Served.{HasGainedFront}
 use Rattle.program.proofs.serve.tell.Goals as goal
 
 -- what was told is the line of the fault
-pub returns-clause-line : goal.returns-clause-line
-returns-clause-line g c =
-    inl (subst (λ text. HasGainedFront (g.E.Write.contents c.args.faults.now, g.E.Write.contents c.tell_line-2.new.faults) (line_of text)) (c.as_str.ensures.value ∙ c.in-Ok.ensures.ok) c.tell_line-2.ensures)
+pub returns-in-Ok : goal.returns-in-Ok
+returns-in-Ok g c =
+    inl (c.status.ensures, subst (λ line. HasGainedFront (g.E.Write.contents c.args.faults.now, g.E.Write.contents c.tell_line.new.faults) line) (c.as_str.ensures.value ∙ c.in-Ok.ensures) c.tell_line.ensures)
+
+-- or that an allocation failed
+pub returns-in-Err : goal.returns-in-Err
+returns-in-Err g c = inr (c.status-in-Err.ensures, c.tell_line-in-Err.ensures)
