@@ -95,7 +95,7 @@ impl<'a> Wanted<'a> {
         let out = self.out.as_bytes();
         let record = self.record.as_bytes();
         served.status == self.status
-            && is_line(served.faults.as_slice(), self.told.as_bytes())
+            && is_told(served.faults.as_slice(), self.told.as_bytes(), until.tells)
             && is_taken(served.out.as_slice(), out, until.writes)
             && is_taken(served.record.as_slice(), record, until.notes)
     }
@@ -149,8 +149,10 @@ fn until_of(words: &str) -> Option<Until> {
     let calls = calls.parse::<usize>().ok()?;
     match what {
         "file" => until.reads = calls,
+        "trace" => until.looks = calls,
         "record" => until.notes = calls,
         "out" => until.writes = calls,
+        "told" => until.tells = calls,
         _ => return None,
     }
     Some(until)
@@ -174,6 +176,11 @@ fn is_taken(taken: &[u8], text: &[u8], calls: usize) -> bool {
     } else {
         taken == text
     }
+}
+
+// Whether a writer that fails after so many calls took a line and its end: a beginning of that where it fails.
+fn is_told(taken: &[u8], line: &[u8], calls: usize) -> bool {
+    calls < NEVER.tells && line.starts_with(taken) || is_line(taken, line)
 }
 
 // Whether some bytes are a line and its end; nothing where there is no line.

@@ -1,4 +1,4 @@
-// Readers and writers in memory, which move few bytes at once and fail after a while.
+// Readers and writers in memory: each call is interrupted and made again, moves few bytes, and after a while fails.
 
 use std::alloc::Global;
 use std::io;
@@ -10,6 +10,7 @@ pub struct Source<'a> {
     left: &'a [u8],
     at_once: usize,
     until_failure: usize,
+    was_interrupted: bool,
 }
 
 impl<'a> Source<'a> {
@@ -19,12 +20,17 @@ impl<'a> Source<'a> {
             left,
             at_once,
             until_failure,
+            was_interrupted: false,
         }
     }
 }
 
 impl Read for Source<'_> {
     fn read(&mut self, buf: &mut [u8]) -> io::Result<usize> {
+        self.was_interrupted = !self.was_interrupted;
+        if self.was_interrupted {
+            return Err(io::Error::from(ErrorKind::Interrupted));
+        }
         if self.until_failure == 0 {
             return Err(io::Error::from(ErrorKind::BrokenPipe));
         }
@@ -43,6 +49,7 @@ pub struct Sink {
     pub taken: Vec<u8>,
     at_once: usize,
     until_failure: usize,
+    was_interrupted: bool,
 }
 
 impl Sink {
@@ -52,12 +59,17 @@ impl Sink {
             taken: Vec::new(alloc),
             at_once,
             until_failure,
+            was_interrupted: false,
         }
     }
 }
 
 impl Write for Sink {
     fn write(&mut self, buf: &[u8]) -> io::Result<usize> {
+        self.was_interrupted = !self.was_interrupted;
+        if self.was_interrupted {
+            return Err(io::Error::from(ErrorKind::Interrupted));
+        }
         if self.until_failure == 0 {
             return Err(io::Error::from(ErrorKind::BrokenPipe));
         }

@@ -13,8 +13,8 @@
 //     -- trace                the trace, this text
 //     -- workers              with 0 (all on one thread), 1, 2, 3 and 64 worker threads; else with 0
 //     -- workers N ..         with so many
-//     -- fails WHAT after N   the reader of `file`, or the writer of `record` or `out`, fails after N calls. A writer is then to have taken
-//                             a beginning of what is said here
+//     -- fails WHAT after N   the reader of `file` or `trace`, or the writer of `record`, `out` or `told`, fails after N calls. A writer is
+//                             then to have taken a beginning of what is said here
 //     -- out                  what is printed, this text
 //     -- world N NAME=V ..    what is printed of the world after N runs: resources NAME, and `passed`, have these values and all others 0.
 //                             Its text are the lines of the entities

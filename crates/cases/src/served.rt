@@ -39,17 +39,23 @@ impl Served {
 pub struct Until {
     /// The reader of the program file.
     pub reads: usize,
+    /// The reader of the trace.
+    pub looks: usize,
     /// The writer of the record.
     pub notes: usize,
     /// The writer of the output.
     pub writes: usize,
+    /// The writer of the standard error.
+    pub tells: usize,
 }
 
 /// None of them fails in a case.
 pub const NEVER: Until = Until {
     reads: 10_000,
+    looks: 100_000,
     notes: 10_000,
     writes: 10_000,
+    tells: 10_000,
 };
 
 /// The words of a command line, with the program's own name before them.
@@ -82,10 +88,10 @@ fn serve_reader<F: Read>(
     trace: &[u8],
     until: Until,
 ) -> Served {
-    let mut trace = Source::new(trace, 4096, 100_000);
+    let mut trace = Source::new(trace, 4096, until.looks);
     let mut record = Sink::new(alloc, 50, until.notes);
     let mut out = Sink::new(alloc, 50, until.writes);
-    let mut faults = Sink::new(alloc, 1000, 1000);
+    let mut faults = Sink::new(alloc, 10, until.tells);
     let status = serve(
         alloc,
         args,
@@ -116,7 +122,7 @@ pub(crate) fn serve_text(
     serve_reader(alloc, args, &mut source, trace, until)
 }
 
-/// Serves a command over the file of its path and a trace on one thread, where the writers fail after so many calls.
+/// Serves a command over the file of its path and a trace on one thread, where the other readers and writers fail after so many calls.
 pub(crate) fn serve_opened<R: Files>(
     runtime: &R,
     alloc: Global,
@@ -139,10 +145,10 @@ pub(crate) fn serve_workers<R: Threads + Wait + Copy + Send + Sync + 'static>(
     until: Until,
 ) -> Served {
     let mut source = Source::new(file.as_bytes(), 1000, until.reads);
-    let mut trace = Source::new(trace, 4096, 100_000);
+    let mut trace = Source::new(trace, 4096, until.looks);
     let mut record = Sink::new(alloc, 50, until.notes);
     let mut out = Sink::new(alloc, 50, until.writes);
-    let mut faults = Sink::new(alloc, 1000, 1000);
+    let mut faults = Sink::new(alloc, 10, until.tells);
     let status = serve_on_threads(
         runtime,
         workers,

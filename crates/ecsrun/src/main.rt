@@ -1,12 +1,15 @@
 // The program: its command line and its streams.
 #![tactic(auto)]
 
+mod stand_ins;
+
 use command_line::words::words_of;
 use command_line::{Args, LineFault, Work};
 use program::opened::open;
 use program::serve::{serve, tell};
 use program::workers::serve_on_threads;
 use program::{Created, Fault};
+use stand_ins::open_stand_ins;
 use std::alloc::Global;
 use std::io::Write;
 use std::process::ExitCode;
@@ -45,6 +48,7 @@ fn args_of<'a, O: Write, E: Write>(
 }
 
 fn main(rt: HostRuntime) -> ExitCode {
+    let _stand_ins = open_stand_ins(&rt);
     let mut out = rt.stdout();
     let mut faults = rt.stderr();
     let words: Vec<String> = match words_of(&rt) {
