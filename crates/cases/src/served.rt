@@ -5,11 +5,12 @@ use crate::fault::CaseFault;
 use command_line::Args;
 use program::opened::open;
 use program::serve::serve;
-use program::workers::serve_on_threads;
+use program::workers::serve_in_scope;
 use std::alloc::{AllocError, Global};
 use std::io::Read;
 use std::rt::Files;
 use std::sync::Wait;
+use std::thread;
 use std::thread::Threads;
 use worker_pool::Single;
 
@@ -149,17 +150,20 @@ pub(crate) fn serve_workers<R: Threads + Wait + Copy + Send + Sync + 'static>(
     let mut record = Sink::new(alloc, 50, until.notes);
     let mut out = Sink::new(alloc, 50, until.writes);
     let mut faults = Sink::new(alloc, 10, until.tells);
-    let status = serve_on_threads(
-        runtime,
-        workers,
-        alloc,
-        args,
-        &mut source,
-        &mut trace,
-        &mut record,
-        &mut out,
-        &mut faults,
-    );
+    let status = thread::scope(thread::scope_env(), &runtime, |scope| {
+        serve_in_scope(
+            scope,
+            runtime,
+            workers,
+            alloc,
+            args,
+            &mut source,
+            &mut trace,
+            &mut record,
+            &mut out,
+            &mut faults,
+        )
+    });
     Served {
         status,
         out: out.taken,

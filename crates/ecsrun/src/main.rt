@@ -7,12 +7,13 @@ use command_line::words::words_of;
 use command_line::{Args, LineFault, Work};
 use program::opened::open;
 use program::serve::{serve, tell};
-use program::workers::serve_on_threads;
+use program::workers::serve_in_scope;
 use program::{Created, Fault};
 use stand_ins::open_stand_ins;
 use std::alloc::Global;
 use std::io::Write;
 use std::process::ExitCode;
+use std::thread;
 use streams::writing::write_whole;
 use worker_pool::Single;
 
@@ -47,6 +48,38 @@ fn args_of<'a, O: Write, E: Write>(
     }
 }
 
+// The work of a command line, all of it on one thread.
+fn serve_here(rt: HostRuntime, args: &Args<'_>) -> u8 {
+    serve(
+        rt.alloc(),
+        args,
+        &Single,
+        &mut open(&rt, args.file),
+        &mut open(&rt, args.trace),
+        &mut Created::new(rt, args.record),
+        &mut rt.stdout(),
+        &mut rt.stderr(),
+    )
+}
+
+// The work of a command line with so many workers. The streams are opened in the scope of their threads.
+fn serve_on_threads(rt: HostRuntime, workers: u8, args: &Args<'_>) -> u8 {
+    thread::scope(thread::scope_env(), &rt, |scope| {
+        serve_in_scope(
+            scope,
+            rt,
+            workers,
+            rt.alloc(),
+            args,
+            &mut open(&rt, args.file),
+            &mut open(&rt, args.trace),
+            &mut Created::new(rt, args.record),
+            &mut rt.stdout(),
+            &mut rt.stderr(),
+        )
+    })
+}
+
 fn main(rt: HostRuntime) -> ExitCode {
     let _stand_ins = open_stand_ins(&rt);
     let mut out = rt.stdout();
@@ -62,31 +95,9 @@ fn main(rt: HostRuntime) -> ExitCode {
         Ok(args) => args,
         Err(status) => return ExitCode::from(status),
     };
-    let mut file = open(&rt, args.file);
-    let mut trace = open(&rt, args.trace);
-    let mut traces = Created::new(rt, args.record);
     let status = match args.work {
-        Work::Run { workers, .. } if workers > 0 => serve_on_threads(
-            rt,
-            workers,
-            rt.alloc(),
-            &args,
-            &mut file,
-            &mut trace,
-            &mut traces,
-            &mut out,
-            &mut faults,
-        ),
-        _ => serve(
-            rt.alloc(),
-            &args,
-            &Single,
-            &mut file,
-            &mut trace,
-            &mut traces,
-            &mut out,
-            &mut faults,
-        ),
+        Work::Run { workers, .. } if workers > 0 => serve_on_threads(rt, workers, &args),
+        _ => serve_here(rt, &args),
     };
     ExitCode::from(status)
 }

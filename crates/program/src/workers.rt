@@ -8,7 +8,6 @@ use command_line::Args;
 use std::alloc::Global;
 use std::io::{Read, Write};
 use std::sync::Wait;
-use std::thread;
 use std::thread::{Scope, Threads};
 use worker_pool::{NoGate, Workers};
 
@@ -42,30 +41,4 @@ pub fn serve_in_scope<
     let count = workers.max(1).min(64) as usize;
     let mode = Workers::new(count, scope, runtime, &NO_GATE);
     serve(alloc, args, &mode, file, trace, traces, out, faults)
-}
-
-/// Does the work of a command line with so many workers, at least one and at most 64, in threads of a scope of its own.
-pub fn serve_on_threads<
-    H: Threads + Wait + Copy + Send + Sync + 'static,
-    F: Read,
-    T: Read,
-    R: Write,
-    O: Write,
-    E: Write,
->(
-    runtime: H,
-    workers: u8,
-    alloc: Global,
-    args: &Args<'_>,
-    file: &mut F,
-    trace: &mut T,
-    traces: &mut R,
-    out: &mut O,
-    faults: &mut E,
-) -> u8 {
-    thread::scope(thread::scope_env(), &runtime, |scope| {
-        serve_in_scope(
-            scope, runtime, workers, alloc, args, file, trace, traces, out, faults,
-        )
-    })
 }
