@@ -2,6 +2,7 @@
 #![tactic(auto)]
 
 mod stand_ins;
+mod whole_lines;
 
 use command_line::words::words_of;
 use command_line::{Args, LineFault, Work};
@@ -14,6 +15,7 @@ use std::alloc::Global;
 use std::io::Write;
 use std::process::ExitCode;
 use streams::writing::write_whole;
+use whole_lines::WholeLines;
 use worker_pool::Single;
 
 // Tells of a line that asks for no work.
@@ -29,7 +31,13 @@ fn tell_line_fault<O: Write, E: Write>(
         LineFault::Usage(_) | LineFault::Memory => write_whole(faults, text),
     };
     match (fault, written) {
-        (LineFault::Help(_), Err(error)) => tell(alloc, faults, &Fault::from(error)),
+        (LineFault::Help(_), Err(error)) => {
+            tell(
+                alloc,
+                &mut WholeLines::new(alloc, faults),
+                &Fault::from(error),
+            )
+        }
         _ => fault.status(),
     }
 }
@@ -65,6 +73,7 @@ fn main(rt: HostRuntime) -> ExitCode {
     let mut file = open(&rt, args.file);
     let mut trace = open(&rt, args.trace);
     let mut traces = Created::new(rt, args.record);
+    let mut lines = WholeLines::new(rt.alloc(), rt.stderr());
     let status = match args.work {
         Work::Run { workers, .. } if workers > 0 => serve_on_threads(
             rt,
@@ -75,7 +84,7 @@ fn main(rt: HostRuntime) -> ExitCode {
             &mut trace,
             &mut traces,
             &mut out,
-            &mut faults,
+            &mut lines,
         ),
         _ => serve(
             rt.alloc(),
@@ -85,7 +94,7 @@ fn main(rt: HostRuntime) -> ExitCode {
             &mut trace,
             &mut traces,
             &mut out,
-            &mut faults,
+            &mut lines,
         ),
     };
     ExitCode::from(status)
