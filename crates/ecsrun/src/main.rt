@@ -13,7 +13,9 @@ use stand_ins::open_stand_ins;
 use std::alloc::Global;
 use std::io::Write;
 use std::process::ExitCode;
+use std::sync::Wait;
 use std::thread;
+use std::thread::Threads;
 use streams::writing::write_whole;
 use worker_pool::Single;
 
@@ -62,12 +64,17 @@ fn serve_here(rt: HostRuntime, args: &Args<'_>) -> u8 {
     )
 }
 
-// The work of a command line with so many workers. The streams are opened in the scope of their threads.
-fn serve_on_threads(rt: HostRuntime, workers: u8, args: &Args<'_>) -> u8 {
-    thread::scope(thread::scope_env(), &rt, |scope| {
+// The work of a command line with so many workers, in threads of a runtime. The streams are opened in the scope of these threads.
+fn serve_on_threads<H: Threads + Wait + Copy + Send + Sync + 'static>(
+    threads: H,
+    rt: HostRuntime,
+    workers: u8,
+    args: &Args<'_>,
+) -> u8 {
+    thread::scope(thread::scope_env(), &threads, |scope| {
         serve_in_scope(
             scope,
-            rt,
+            threads,
             workers,
             rt.alloc(),
             args,
@@ -96,7 +103,7 @@ fn main(rt: HostRuntime) -> ExitCode {
         Err(status) => return ExitCode::from(status),
     };
     let status = match args.work {
-        Work::Run { workers, .. } if workers > 0 => serve_on_threads(rt, workers, &args),
+        Work::Run { workers, .. } if workers > 0 => serve_on_threads(rt, rt, workers, &args),
         _ => serve_here(rt, &args),
     };
     ExitCode::from(status)
