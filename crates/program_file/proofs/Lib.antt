@@ -3,4 +3,5 @@ pub mod Entities
 pub mod Items
 pub mod Known
 pub mod Mapped
+pub mod Refusals
 pub mod Spelled
