@@ -5,3 +5,4 @@ pub mod Known
 pub mod Mapped
 pub mod Refusals
 pub mod Spelled
+pub mod Unread

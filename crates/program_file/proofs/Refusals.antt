@@ -1,5 +1,5 @@
 -- What is refused: that nothing at all is what was looked for.
-use Rattle.std.proofs.Common.{◌≡◌, ◌∙◌, ◌↔◌, ℕ, ℤ, zero, suc, ◌<◌, Bool, true, false, IsTrue, All, Option, Some, None, List, [], ◌∷◌, ◌++◌, length, map, take, get_or, Result, Ok, Err, IfErr, IsErrAnd, Bor, refl, ap, sym, subst, arith}
+use Rattle.std.proofs.Common.{◌≡◌, ◌∙◌, ◌↔◌, ℕ, ℤ, zero, suc, ◌<◌, Bool, true, false, IsTrue, All, Option, Some, None, List, [], ◌∷◌, ◌++◌, length, map, take, get_or, Result, Ok, Err, IfErr, IsErrAnd, MatchResult, Bor, refl, ap, sym, subst, arith}
 use Rattle.std.proofs.lemmas.List.Elements.{All-from_recursion}
 use Rattle.std.specs.List.{AllZip, AllByRecursion}
 use Rattle.parsing.specs.Reads.{Refuses, SpellsNone}
@@ -13,6 +13,8 @@ use Rattle.program_file.specs.Name.{IsName}
 use Rattle.program_file.specs.Readings.{AreSpelled}
 use Rattle.program_file.specs.PlaceFault.{NoneIs, NoneIsAt, fault_at, place_fault_of}
 use Rattle.program_file.specs.declared.place.Place.{Place}
+use Rattle.program_file.specs.declared.fault.FileFault.{FileFault}
+use Rattle.program_file.specs.declared.fault.FileFault.TheVariants as file
 use Rattle.program_file.specs.declared.place_fault.PlaceFault.{PlaceFault}
 use Rattle.program_file.specs.declared.place_fault.PlaceFault.TheVariants.{Value, Text, Memory}
 
@@ -46,6 +48,33 @@ NoneIs-told P place Memory h = tt
 pub NoneIs-exit : {X T : Type 0} (P : X → Type 0) (r : Result T PlaceFault) (fault : PlaceFault) → IsErrAnd r (λ told. told ≡ fault) → NoneIs P fault → IfErr r (NoneIs P)
 NoneIs-exit P (Ok x) fault told h = absurd told
 NoneIs-exit P (Err e) fault told h = subst (NoneIs P) (sym told) h
+
+-- the same part, where a result is handed on
+pub NoneIs-in : {X Y T : Type 0} (P : X → Type 0) (Q : Y → Type 0) (r : Result T PlaceFault) → ((y : Y) → Q y → (x : X) × P x) → IfErr r (NoneIs P) → IfErr r (NoneIs Q)
+NoneIs-in P Q (Ok x) part h = tt
+NoneIs-in P Q (Err e) part h = NoneIs-part P Q e part h
+
+-- the fault of a place, where it was told
+pub NoneIs-mapped : {X T : Type 0} (P : X → Type 0) (r : Result T PlaceFault) (told : Result T FileFault) (place : Place) (fault : FileFault)
+    → MatchResult r (λ x. told ≡ Ok x) (λ e. IsErrAnd told (λ f. f ≡ fault_at place e)) → told ≡ Err fault → IfErr r (NoneIs P) → NoneIsAt P fault
+NoneIs-mapped P (Ok x) told place fault cases is h = absurd (let no : Ok x ≡ Err fault = sym cases ∙ is in cc)
+NoneIs-mapped P (Err e) (Ok x) place fault cases is h = absurd cases
+NoneIs-mapped P (Err e) (Err f) place fault cases is h =
+    let same : Err f ≡ Err fault = is in
+    let at : fault_at place e ≡ fault = sym cases ∙ (cc) in
+    subst (NoneIsAt P) at (NoneIs-told P place e h)
+
+-- the exit of a `?` with such a fault
+pub NoneIsAt-exit : {X T : Type 0} (P : X → Type 0) (r : Result T FileFault) (fault : FileFault) → IsErrAnd r (λ told. told ≡ fault) → NoneIsAt P fault → IfErr r (NoneIsAt P)
+NoneIsAt-exit P (Ok x) fault told h = absurd told
+NoneIsAt-exit P (Err e) fault told h = subst (NoneIsAt P) (sym told) h
+
+-- nothing is what has a part that nothing is
+pub NoneIsAt-part : {X Y : Type 0} (P : X → Type 0) (Q : Y → Type 0) (fault : FileFault) → ((y : Y) → Q y → (x : X) × P x) → NoneIsAt P fault → NoneIsAt Q fault
+NoneIsAt-part P Q file.Document part h = absurd h
+NoneIsAt-part P Q (file.Value place) part h = λ y q. let (x, p) = part y q in h x p
+NoneIsAt-part P Q (file.Text place) part h = λ y q. let (x, p) = part y q in h x p
+NoneIsAt-part P Q file.Memory part h = tt
 
 -- ---- lists
 
@@ -89,9 +118,18 @@ zip-seen R f [] (y ∷ ys) h = absurd h
 zip-seen R f (x ∷ xs) [] h = absurd h
 zip-seen R f (x ∷ xs) (y ∷ ys) h = (h.0, zip-seen R f xs ys h.1)
 
+-- an element beside which nothing stands
+pub zip-refused : {A B : Type 0} (R : A → B → Type 0) (xs : List A) (i : ℕ) (x d : A) (fault : PlaceFault) → i < length xs → x ≡ get_or xs i d → NoneIs (R x) fault → NoneIs (AllZip R xs) fault
+zip-refused {A} R xs i x d fault below is =
+    NoneIs-part (R x) (AllZip R xs) fault (λ ys h. let (y, r) = zip-at R xs ys i d h below in (y, subst (λ (z : A). R z y) (sym is) r))
+
+pub zip-refused-at : {A B : Type 0} (R : A → B → Type 0) (xs : List A) (i : ℕ) (x d : A) (fault : FileFault) → i < length xs → x ≡ get_or xs i d → NoneIsAt (R x) fault → NoneIsAt (AllZip R xs) fault
+zip-refused-at {A} R xs i x d fault below is =
+    NoneIsAt-part (R x) (AllZip R xs) fault (λ ys h. let (y, r) = zip-at R xs ys i d h below in (y, subst (λ (z : A). R z y) (sym is) r))
+
 -- ---- the one list at a key
 
-items_of-one : (xs ys : List Data) → items_of xs ≡ items_of ys → xs ≡ ys
+pub items_of-one : (xs ys : List Data) → items_of xs ≡ items_of ys → xs ≡ ys
 items_of-one [] [] e = refl
 items_of-one [] (y ∷ ys) e = absurd (let no : items_of [] ≡ items_of (y ∷ ys) = e in cc)
 items_of-one (x ∷ xs) [] e = absurd (let no : items_of (x ∷ xs) ≡ items_of [] = e in cc)
@@ -172,3 +210,9 @@ pub spelled-refused : {A : Type 0} (Spells : A → List ℕ → Type 0) (texts :
 spelled-refused {A} Spells texts i d e below h =
     NoneIs-part (λ (x : A). Spells x ((get_or texts i d).now)) (λ (xs : List A). AreSpelled Spells xs (map (λ text. text.now) texts)) (place_fault_of e)
     (λ xs spelled. spelled-at Spells xs texts i d spelled below) (refuses-told Spells ((get_or texts i d).now) e h)
+
+-- texts at a key that are read, and so any texts there
+pub spelled-one : {A : Type 0} (Spells : A → List ℕ → Type 0) (key : List ℕ) (owner : Members) (names : List (Bor (List ℕ))) (texts : List (List ℕ)) (xs : List A)
+    → HasNames key names owner → HasTexts key texts owner → AreSpelled Spells xs texts → AreSpelled Spells xs (map (λ text. text.now) names)
+spelled-one Spells key owner names texts xs there given spelled =
+    subst (λ (ts : List (List ℕ)). AreSpelled Spells xs ts) (one-texts key owner texts (map (λ (text : Bor (List ℕ)). text.now) names) given there) spelled

@@ -3,7 +3,7 @@
 ghost use Rattle.std.specs.Prelude.{◌≡◌, ℕ, ℤ, Bool, List, Option, IfOk, IfErr, IsTrue, ◌↔◌, All, map, option_map};
 ghost use Rattle.toml.specs.Data.{Data, Members, get_member, string, integer, array};
 ghost use Rattle.toml.specs.View.{view, table_view, items_of};
-ghost use Rattle.program_file.specs.Keys.{HasOnly, HasItems, HasTable, HasTables, HasNames, HasTexts, IsTable, HasResources, HasEvents, HasText, HasInteger, HasNumber, HasFlag, AreIntegers, lent_members};
+ghost use Rattle.program_file.specs.Keys.{HasOnly, HasKey, HasItems, HasTable, HasTables, HasNames, HasTexts, IsTable, HasResources, HasEvents, HasText, HasInteger, HasNumber, HasFlag, AreIntegers, lent_members};
 ghost use Rattle.program_file.specs.Rounds.{IsNumber};
 ghost use Rattle.parsing.specs.Reads.{Reads};
 ghost use Rattle.program_file.specs.PlaceFault.{IsNoText, NoneIs};
@@ -27,6 +27,17 @@ pub fn refuse_unknown(table: &Table, known: &[&str]) -> Result<(), PlaceFault>
         Ok(())
     } else {
         Err(PlaceFault::Value)
+    }
+}
+
+/// Refuses a table without this key.
+pub fn refuse_missing(table: &Table, key: &str) -> Result<(), PlaceFault>
+    ensures ok { IfOk result (λ _. HasKey key.now (table_view table.now)) }
+    ensures refused { IfErr result (λ fault. (fault ≡ PlaceFault.Value) × (HasKey key.now (table_view table.now) → ⊥)) }
+{
+    match value_at(table, key) {
+        Some(_) => Ok(()),
+        None => Err(PlaceFault::Value),
     }
 }
 

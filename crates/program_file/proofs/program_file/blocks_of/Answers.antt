@@ -11,11 +11,11 @@ pub loop-block-preserved : goal.loop-block-preserved
 loop-block-preserved c =
     zip-take (λ inner block. IsBlockTextsIn (table_view inner.now) block) c.deref-block-items.result.now c.loop-block.block-index c.block-item.result c.loop-block.blocks.items _
     c.in_ok-read.field-0 (search rules) c.loop-block-test.true c.loop-block.invariant
-    (subst (λ inner. IsBlockTextsIn (table_view inner.now) c.in_ok-read.field-0) c.block-item.is c.in_ok-read.ensures)
+    (subst (λ inner. IsBlockTextsIn (table_view inner.now) c.in_ok-read.field-0) c.block-item.is c.in_ok-read.ensures.ok)
 
 -- each block has its table
-pub returns : goal.returns
-returns c =
+pub returns-clause-ok : goal.returns-clause-ok
+returns-clause-ok c =
     let tables = c.in_ok-tables.tables.items in
     let blocks = c.loop-block.blocks.items in
     let all : take c.loop-block.block-index c.deref-block-items.result.now ≡ tables = search (rules, take_all) in
