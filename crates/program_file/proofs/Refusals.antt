@@ -1,14 +1,14 @@
 -- What is refused: that nothing at all is what was looked for.
-use Rattle.std.proofs.Common.{◌≡◌, ◌∙◌, ◌↔◌, ℕ, ℤ, zero, suc, ◌<◌, Bool, true, false, IsTrue, All, Option, Some, None, List, [], ◌∷◌, ◌++◌, length, map, take, get_or, Result, Ok, Err, IfErr, IsErrAnd, MatchResult, Bor, refl, ap, sym, subst, arith}
+use Rattle.std.proofs.Common.{◌≡◌, ◌∙◌, ◌↔◌, ℕ, ℤ, zero, suc, ◌<◌, Bool, true, false, IsTrue, All, Some, List, [], ◌∷◌, ◌++◌, length, map, get_or, Result, Ok, Err, IfErr, IsErrAnd, MatchResult, Bor, refl, ap, sym, subst, arith}
 use Rattle.std.proofs.lemmas.List.Elements.{All-from_recursion}
 use Rattle.std.specs.List.{AllZip, AllByRecursion}
-use Rattle.parsing.specs.Reads.{Refuses, SpellsNone}
+use Rattle.parsing.specs.Reads.{Refuses}
 use Rattle.parsing.specs.declared.read_error.ReadError.{ReadError}
 use Rattle.parsing.specs.declared.read_error.ReadError.TheVariants as error
 use Rattle.toml.specs.Data.{Data, Members, string, integer, array, table}
 use Rattle.toml.specs.View.{view, items_of}
 use Rattle.toml.specs.declared.value.Value.{Value as TomlValue}
-use Rattle.program_file.specs.Keys.{HasItems, HasTexts, HasNames, HasTables, AreIntegers}
+use Rattle.program_file.specs.Keys.{HasItems, HasTexts, HasNames, HasTable, HasTables, AreIntegers}
 use Rattle.program_file.specs.Name.{IsName}
 use Rattle.program_file.specs.Readings.{AreSpelled}
 use Rattle.program_file.specs.PlaceFault.{NoneIs, NoneIsAt, fault_at, place_fault_of}
@@ -55,14 +55,15 @@ NoneIs-in P Q (Ok x) part h = tt
 NoneIs-in P Q (Err e) part h = NoneIs-part P Q e part h
 
 -- the fault of a place, where it was told
-pub NoneIs-mapped : {X T : Type 0} (P : X → Type 0) (r : Result T PlaceFault) (told : Result T FileFault) (place : Place) (fault : FileFault)
-    → MatchResult r (λ x. told ≡ Ok x) (λ e. IsErrAnd told (λ f. f ≡ fault_at place e)) → told ≡ Err fault → IfErr r (NoneIs P) → NoneIsAt P fault
-NoneIs-mapped P (Ok x) told place fault cases is h = absurd (let no : Ok x ≡ Err fault = sym cases ∙ is in cc)
-NoneIs-mapped P (Err e) (Ok x) place fault cases is h = absurd cases
-NoneIs-mapped P (Err e) (Err f) place fault cases is h =
-    let same : Err f ≡ Err fault = is in
-    let at : fault_at place e ≡ fault = sym cases ∙ (cc) in
-    subst (NoneIsAt P) at (NoneIs-told P place e h)
+pub NoneIs-mapped : {X T : Type 0} (P : X → Type 0) (r : Result T PlaceFault) (told : Result T FileFault) (fault : FileFault) (Told : PlaceFault → FileFault → Type 0)
+    → MatchResult r (λ x. told ≡ Ok x) (λ e. IsErrAnd told (Told e)) → told ≡ Err fault → IfErr r (NoneIs P)
+    → ((e : PlaceFault) (f : FileFault) → Told e f → (place : Place) × (f ≡ fault_at place e)) → NoneIsAt P fault
+NoneIs-mapped P (Ok x) told fault Told cases is h place_of = absurd (let no : Ok x ≡ Err fault = sym cases ∙ is in cc)
+NoneIs-mapped P (Err e) (Ok x) fault Told cases is h place_of = absurd cases
+NoneIs-mapped P (Err e) (Err f) fault Told cases is h place_of =
+    let (place, told) = place_of e f cases in
+    let same : f ≡ fault = cc in
+    subst (NoneIsAt P) (sym told ∙ same) (NoneIs-told P place e h)
 
 -- the exit of a `?` with such a fault
 pub NoneIsAt-exit : {X T : Type 0} (P : X → Type 0) (r : Result T FileFault) (fault : FileFault) → IsErrAnd r (λ told. told ≡ fault) → NoneIsAt P fault → IfErr r (NoneIsAt P)
@@ -216,3 +217,7 @@ pub spelled-one : {A : Type 0} (Spells : A → List ℕ → Type 0) (key : List 
     → HasNames key names owner → HasTexts key texts owner → AreSpelled Spells xs texts → AreSpelled Spells xs (map (λ text. text.now) names)
 spelled-one Spells key owner names texts xs there given spelled =
     subst (λ (ts : List (List ℕ)). AreSpelled Spells xs ts) (one-texts key owner texts (map (λ (text : Bor (List ℕ)). text.now) names) given there) spelled
+
+-- the one table at a key
+pub one-table : (key : List ℕ) (owner a b : Members) → HasTable key a owner → HasTable key b owner → a ≡ b
+one-table key owner a b h k = let same : Some a ≡ Some b = sym h ∙ k in cc

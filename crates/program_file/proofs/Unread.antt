@@ -1,16 +1,17 @@
 -- Tables that are refused: no entity, item, chain or system has them.
-use Rattle.std.proofs.Common.{◌≡◌, ◌∙◌, ℕ, ℤ, ◌<◌, List, [], ◌∷◌, ◌++◌, All, Bor, codes, length, map, get_or, ap, sym, subst, string_bytes}
+use Rattle.std.proofs.Common.{◌≡◌, ◌∙◌, ℕ, ℤ, ◌<◌, List, [], ◌∷◌, ◌++◌, Bor, BTreeMap, String, Global, codes, length, map, get_or, ap, sym, subst, string_bytes}
 use Rattle.std.proofs.lemmas.List.{get_or-map}
 use Rattle.std.proofs.lemmas.List.Elements.{recursion_from_All}
 use Rattle.std.specs.List.{AllZip, AllByRecursion}
 use Rattle.parsing.specs.Reads.{SpellsOnly}
 use Rattle.toml.specs.Data.{Data, Members, integer, array}
-use Rattle.toml.specs.View.{view, items_of, members_view}
+use Rattle.toml.specs.View.{view, items_of, members_view, table_view}
+use Rattle.toml.specs.declared.value.Value.{Value as TomlValue}
 use Rattle.toml.proofs.Views.{Entry}
 use Rattle.kinds.specs.Components.{widths}
 use Rattle.kinds.specs.Kind.{IsKind, kind_number}
 use Rattle.kinds.specs.Res.{every_res, res_name}
-use Rattle.kinds.specs.Value.{value_number, value_words}
+use Rattle.kinds.specs.Value.{value_words}
 use Rattle.kinds.specs.declared.kind.Kind.{Kind}
 use Rattle.kinds.specs.declared.res.Res.{Res}
 use Rattle.kinds.specs.declared.value.Value.{Value}
@@ -20,15 +21,16 @@ use Rattle.run_condition.specs.declared.cond.Cond.{Cond}
 use Rattle.script.specs.Instruction.{IsInstruction}
 use Rattle.script.specs.declared.instruction.Instruction.{Instruction}
 use Rattle.script.specs.declared.script_body.Block.{Block}
-use Rattle.program_file.specs.Keys.{HasInteger, HasTables, HasTexts, HasNames, HasItemNames, AreIntegers}
+use Rattle.program_file.specs.Keys.{HasInteger, HasTables, HasTexts, HasItemNames, AreIntegers}
 use Rattle.program_file.specs.Name.{IsName}
-use Rattle.program_file.specs.PlaceFault.{NoneIs}
+use Rattle.program_file.specs.PlaceFault.{NoneIs, NoneIsAt}
 use Rattle.program_file.specs.Readings.{AreSpelled}
 use Rattle.program_file.specs.Tables.{AreValuesIn, IsComponentIn, IsEntityIn, AreConditionsIn, IsItemTextsIn, IsBlockIn, AreBlocksIn, IsBlockTextsIn, AreBlockTextsIn, IsCodeOf}
+use Rattle.program_file.specs.declared.fault.FileFault.{FileFault}
 use Rattle.program_file.specs.declared.place_fault.PlaceFault.{PlaceFault}
 use Rattle.program_file.specs.declared.program_file.BlockTexts.{BlockTexts}
 use Rattle.program_file.specs.declared.program_file.ItemTexts.{ItemTexts}
-use Rattle.program_file.proofs.Refusals.{NoneIs-part, mapped-one, zip-at, items_of-one, one-tables, one-texts, spelled-one}
+use Rattle.program_file.proofs.Refusals.{NoneIs-part, NoneIsAt-part, mapped-one, zip-at, zip-seen, items_of-one, one-tables, spelled-one}
 
 -- ---- the world
 
@@ -83,6 +85,23 @@ names-part Q key table names_of fault part =
 -- the conditions of an item whose keys were looked at
 pub conditions-of : (table : Members) (item : ItemTexts) (conditions : List Cond) → IsItemTextsIn table item → AreConditionsIn table conditions → AreSpelled IsCondition conditions (map (λ text. text.now) item.conditions.items)
 conditions-of table item conditions there given = spelled-one IsCondition (codes "if") table item.conditions.items given.texts conditions there.conditions given.there given.spelled
+
+-- ---- tables at a key
+
+-- what each table at a key says, of the tables that are lent
+pub tables-said : {Y : Type 0} (R : Members → Y → Type 0) (key : List ℕ) (owner : Members) (inners : List (Bor (BTreeMap (String Global) TomlValue))) (tables : List Members) (ys : List Y)
+    → HasTables key (map (λ inner. table_view inner.now) inners) owner → HasTables key tables owner → AllZip R tables ys → AllZip (λ inner y. R (table_view inner.now) y) inners ys
+tables-said {Y} R key owner inners tables ys there given each =
+    zip-seen R (λ (inner : Bor (BTreeMap (String Global) TomlValue)). table_view inner.now) inners ys
+    (subst (λ (ts : List Members). AllZip R ts ys) (one-tables key owner tables (map (λ (inner : Bor (BTreeMap (String Global) TomlValue)). table_view inner.now) inners) given there) each)
+
+-- what has tables at a key of which one is refused
+pub tables-refused : {Y Z : Type 0} (R : Members → Y → Type 0) (key : List ℕ) (owner : Members) (slice inners : List (Bor (BTreeMap (String Global) TomlValue))) (Q : Z → Type 0) (fault : FileFault)
+    → slice ≡ inners → HasTables key (map (λ inner. table_view inner.now) inners) owner → ((z : Z) → Q z → (tables : List Members) × (ys : List Y) × HasTables key tables owner × AllZip R tables ys)
+    → NoneIsAt (AllZip (λ inner y. R (table_view inner.now) y) slice) fault → NoneIsAt Q fault
+tables-refused {Y} R key owner slice inners Q fault same there part =
+    NoneIsAt-part (AllZip (λ (inner : Bor (BTreeMap (String Global) TomlValue)) (y : Y). R (table_view inner.now) y) slice) Q fault
+    (λ z q. let (tables, ys, given, each) = part z q in (ys, rw same (tables-said R key owner inners tables ys there given each)))
 
 -- ---- blocks
 

@@ -1,4 +1,4 @@
-use Rattle.std.proofs.Common.{ℕ, List}
+use Rattle.std.proofs.Common.{List}
 use Rattle.toml.specs.Data.{Members, table}
 use Rattle.toml.specs.View.{table_view}
 use Rattle.program_file.specs.Keys.{HasTables}

@@ -1,5 +1,5 @@
 use Rattle.std.proofs.Common.{ℕ, List}
-use Rattle.toml.specs.Data.{Members, string}
+use Rattle.toml.specs.Data.{string}
 use Rattle.toml.specs.View.{table_view}
 use Rattle.program_file.specs.Keys.{HasTexts}
 use Rattle.program_file.proofs.Refusals.{NoneIs-exit, list-refused}

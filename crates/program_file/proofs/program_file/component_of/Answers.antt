@@ -1,4 +1,4 @@
-use Rattle.std.proofs.Common.{◌≡◌, Some, length, subst, rules, arith}
+use Rattle.std.proofs.Common.{◌≡◌, Some, length, subst, rules}
 use Rattle.parsing.specs.Reads.{Reads}
 use Rattle.toml.specs.View.{view}
 use Rattle.kinds.specs.Components.{widths}
