@@ -31,6 +31,7 @@ zip-map R f (x ∷ xs) (y ∷ ys) h = (h.0, zip-map R f xs ys h.1)
 block-read : (table : Members) (texts : BlockTexts) (block : Block) → IsBlockTextsIn table texts → IsRead texts block → IsBlockIn table block
 block-read table texts block there read = record {
   only = there.only;
+  given = there.given;
   rounds = subst (λ (rounds : Rounds). SaysRounds rounds (block_keys table)) (sym read.rounds) there.rounds;
   texts = map (λ text. text.now) texts.code.items;
   there = there.code;

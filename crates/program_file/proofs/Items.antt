@@ -3,19 +3,21 @@ use Rattle.std.proofs.Common.{◌≡◌, ℕ, Bor, List, map, codes, subst, sym}
 use Rattle.std.specs.Prelude.{Vec}
 use Rattle.std.specs.declared.alloc.Global.{Global}
 use Rattle.toml.specs.Data.{Members}
-use Rattle.program_file.specs.Keys.{HasNames, HasText}
+use Rattle.program_file.specs.Keys.{HasItemNames, HasText}
+use Rattle.program_file.specs.Name.{IsName}
 use Rattle.program_file.specs.Tables.{IsItemIn, IsItemTextsIn, IsItemRead}
 use Rattle.program_file.specs.declared.program_file.ItemTable.{ItemTable}
 use Rattle.program_file.specs.declared.program_file.ItemTexts.{ItemTexts}
 
 -- names that are moved are those of the same key
-names-moved : (key : List ℕ) (table : Members) (old new : Vec (Bor (List ℕ)) Global) → new ≡ old → HasNames key old.items table → HasNames key new.items table
-names-moved key table old new is h = subst (λ (names : Vec (Bor (List ℕ)) Global). HasNames key names.items table) (sym is) h
+names-moved : (key : List ℕ) (table : Members) (old new : Vec (Bor (List ℕ)) Global) → new ≡ old → HasItemNames key old.items table → HasItemNames key new.items table
+names-moved key table old new is h = subst (λ (names : Vec (Bor (List ℕ)) Global). HasItemNames key names.items table) (sym is) h
 
 -- an item whose keys were looked at, and whose conditions then were read
 pub item-read : (table : Members) (texts : ItemTexts) (item : ItemTable) → IsItemTextsIn table texts → IsItemRead texts item → IsItemIn table item
 item-read table texts item there read = record {
   name = subst (λ (name : Bor (List ℕ)). HasText (codes "name") name.now table) (sym read.name) there.name;
+  named = subst (λ (name : Bor (List ℕ)). IsName name.now) (sym read.name) there.named;
   inside = names-moved (codes "in") table texts.inside item.inside read.inside there.inside;
   before = names-moved (codes "before") table texts.before item.before read.before there.before;
   after = names-moved (codes "after") table texts.after item.after read.after there.after;

@@ -3,4 +3,6 @@ pub mod Entities
 pub mod Items
 pub mod Known
 pub mod Mapped
+pub mod Refusals
 pub mod Spelled
+pub mod Unread

@@ -1,5 +1,5 @@
 -- What is at the keys of a table.
-use Rattle.std.specs.Prelude.{◌≡◌, ◌<◌, ◌^◌, ℕ, ℤ, pos, Bool, false, List, map, String, Option, Some, None}
+use Rattle.std.specs.Prelude.{◌≡◌, ◌<◌, ◌^◌, ℕ, ℤ, pos, Bool, false, List, map, All, String, Option, Some, None, IsSome}
 use Rattle.std.specs.Borrow.{Bor}
 use Rattle.std.specs.BTreeMap.{BTreeMap}
 use Rattle.std.specs.List.{Contains}
@@ -10,6 +10,7 @@ use Rattle.toml.specs.declared.value.Value.{Value}
 use Rattle.kinds.specs.declared.res.Res.{Res}
 use Rattle.kinds.specs.declared.res.Event.{Event}
 use Rattle.kinds.specs.Res.{res_name, event_name}
+use Rattle.program_file.specs.Name.{IsName}
 
 -- each key is one of these
 abbrev pub HasOnly : List (List ℕ) → Members → Type 0
@@ -47,6 +48,14 @@ HasTexts key texts owner = HasItems key (map string texts) owner
 -- the same of texts that are lent
 abbrev pub HasNames : List ℕ → List (Bor (List ℕ)) → Members → Type 0
 HasNames key names owner = HasTexts key (map (λ name. name.now) names) owner
+
+-- the same, and each is a name
+abbrev pub HasItemNames : List ℕ → List (Bor (List ℕ)) → Members → Type 0
+HasItemNames key names owner = HasNames key names owner × All (λ name. IsName name.now) names
+
+-- there is a value at the key
+abbrev pub HasKey : List ℕ → Members → Type 0
+HasKey key owner = IsSome (get_member key owner)
 
 -- the value is a table with these members
 abbrev pub IsTable : Members → Data → Type 0

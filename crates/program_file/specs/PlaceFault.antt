@@ -36,3 +36,16 @@ abbrev pub IsNoText : PlaceFault → Type 0
 IsNoText Value = Unit {0}
 IsNoText Text = ⊥
 IsNoText Memory = Unit {0}
+
+-- nothing at all is what was looked for, or an allocation failed
+abbrev pub NoneIs : {X : Type 0} → (X → Type 0) → PlaceFault → Type 0
+NoneIs {X} Is Value = (x : X) → Is x → ⊥
+NoneIs {X} Is Text = (x : X) → Is x → ⊥
+NoneIs {X} Is Memory = Unit {0}
+
+-- the same of a fault that is told of a place
+abbrev pub NoneIsAt : {X : Type 0} → (X → Type 0) → FileFault → Type 0
+NoneIsAt {X} Is fault.Document = ⊥
+NoneIsAt {X} Is (fault.Value place) = (x : X) → Is x → ⊥
+NoneIsAt {X} Is (fault.Text place) = (x : X) → Is x → ⊥
+NoneIsAt {X} Is fault.Memory = Unit {0}

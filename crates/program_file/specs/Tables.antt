@@ -13,14 +13,17 @@ use Rattle.query.specs.declared.query.Query.{Query}
 use Rattle.run_condition.specs.Grammar.{IsCondition}
 use Rattle.run_condition.specs.declared.cond.Cond.{Cond}
 use Rattle.script.specs.Instruction.{IsInstruction}
+use Rattle.script.specs.declared.instruction.Instruction.{Instruction}
 use Rattle.script.specs.declared.script_body.Block.{Block}
-use Rattle.program_file.specs.Keys.{HasOnly, HasTable, HasTables, HasTexts, HasNames, HasResources, HasEvents, HasText, HasInteger, HasNumber, HasFlag, AreIntegers}
+use Rattle.program_file.specs.Keys.{HasOnly, HasTable, HasTables, HasTexts, HasNames, HasItemNames, HasKey, HasResources, HasEvents, HasText, HasInteger, HasNumber, HasFlag, AreIntegers}
+use Rattle.program_file.specs.Name.{IsName}
 use Rattle.program_file.specs.Readings.{AreSpelled}
 use Rattle.program_file.specs.Rounds.{SaysRounds, block_keys}
 use Rattle.program_file.specs.declared.program_file.BlockTexts.{BlockTexts}
 use Rattle.program_file.specs.declared.program_file.ChainTable.{ChainTable}
 use Rattle.program_file.specs.declared.program_file.ItemTable.{ItemTable}
 use Rattle.program_file.specs.declared.program_file.ItemTexts.{ItemTexts}
+use Rattle.program_file.specs.declared.program_file.ProgramFile.{ProgramFile}
 use Rattle.program_file.specs.declared.program_file.SystemTable.{SystemTable}
 
 -- ---- the keys that a table may have
@@ -66,11 +69,15 @@ IsEntityIn no_members (component ∷ components) = ⊥
 IsEntityIn (member key value rest) [] = ⊥
 IsEntityIn (member key value rest) (component ∷ components) = IsComponentIn key value component × IsEntityIn rest components
 
+-- the same of components that are kept
+abbrev pub IsEntityOf : Members → Vec Value Global → Type 0
+IsEntityOf table components = IsEntityIn table components.items
+
 -- entities, each by its own table
 pub record AreEntitiesIn (document : Members) (entities : List (Vec Value Global)) : Type 0 where
   pub tables : List Members
   pub there : HasTables (codes "entity") tables document
-  pub each : AllZip (λ table components. IsEntityIn table components.items) tables entities
+  pub each : AllZip IsEntityOf tables entities
 
 -- ---- what is declared
 
@@ -80,15 +87,16 @@ pub record AreConditionsIn (table : Members) (conditions : List Cond) : Type 0 w
   pub there : HasTexts (codes "if") texts table
   pub spelled : AreSpelled IsCondition conditions texts
 
--- a set, or what a system has besides its queries and blocks: each list is that of its key, in order
+-- a set, or what a system has besides its queries and blocks: it has a name, and each list is that of its key, in order, of names
 pub record IsItemIn (table : Members) (item : ItemTable) : Type 0 where
   pub name : HasText (codes "name") item.name.now table
-  pub inside : HasNames (codes "in") item.inside.items table
-  pub before : HasNames (codes "before") item.before.items table
-  pub after : HasNames (codes "after") item.after.items table
-  pub before_ignore_deferred : HasNames (codes "before_ignore_deferred") item.before_ignore_deferred.items table
-  pub after_ignore_deferred : HasNames (codes "after_ignore_deferred") item.after_ignore_deferred.items table
-  pub ambiguous_with : HasNames (codes "ambiguous_with") item.ambiguous_with.items table
+  pub named : IsName item.name.now
+  pub inside : HasItemNames (codes "in") item.inside.items table
+  pub before : HasItemNames (codes "before") item.before.items table
+  pub after : HasItemNames (codes "after") item.after.items table
+  pub before_ignore_deferred : HasItemNames (codes "before_ignore_deferred") item.before_ignore_deferred.items table
+  pub after_ignore_deferred : HasItemNames (codes "after_ignore_deferred") item.after_ignore_deferred.items table
+  pub ambiguous_with : HasItemNames (codes "ambiguous_with") item.ambiguous_with.items table
   pub conditions : AreConditionsIn table item.conditions.items
 
 -- a set
@@ -96,10 +104,11 @@ pub record IsSetIn (table : Members) (set : ItemTable) : Type 0 where
   pub only : HasOnly keys_of_set table
   pub item : IsItemIn table set
 
--- a chain
+-- a chain: its items are there, and are names
 pub record IsChainIn (table : Members) (chain : ChainTable) : Type 0 where
   pub only : HasOnly keys_of_chain table
-  pub items : HasNames (codes "items") chain.items.items table
+  pub there : HasKey (codes "items") table
+  pub items : HasItemNames (codes "items") chain.items.items table
   pub ignores_deferred : HasFlag (codes "ignore_deferred") chain.ignores_deferred table
 
 -- the resources and the event kinds of a system, and how many ids it is granted at a start, where it has Commands
@@ -116,9 +125,10 @@ pub record AreQueriesIn (table : Members) (queries : List Query) : Type 0 where
   pub there : HasTexts (codes "query") texts table
   pub spelled : AreSpelled IsQuery queries texts
 
--- a block: how often it runs, and its code, each instruction the only one that its text spells
+-- a block: how often it runs, and its code, which is there, each instruction the only one that its text spells
 pub record IsBlockIn (table : Members) (block : Block) : Type 0 where
   pub only : HasOnly keys_of_block table
+  pub given : HasKey (codes "code") table
   pub rounds : SaysRounds block.rounds (block_keys table)
   pub texts : List (List ℕ)
   pub there : HasTexts (codes "code") texts table
@@ -154,17 +164,27 @@ pub record AreChainsIn (document : Members) (chains : List ChainTable) : Type 0 
   pub there : HasTables (codes "chain") tables document
   pub each : AllZip IsChainIn tables chains
 
+-- a file: what its document has, and no other key
+pub record IsFileIn (document : Members) (file : ProgramFile) : Type 0 where
+  pub only : HasOnly keys_of_document document
+  pub resources : AreResourcesIn document file.resources
+  pub entities : AreEntitiesIn document file.entities.items
+  pub sets : AreSetsIn document file.sets.items
+  pub systems : AreSystemsIn document file.systems.items
+  pub chains : AreChainsIn document file.chains.items
+
 -- ---- on the way: all keys are looked at before a text is read
 
 -- an item whose conditions are texts
 pub record IsItemTextsIn (table : Members) (item : ItemTexts) : Type 0 where
   pub name : HasText (codes "name") item.name.now table
-  pub inside : HasNames (codes "in") item.inside.items table
-  pub before : HasNames (codes "before") item.before.items table
-  pub after : HasNames (codes "after") item.after.items table
-  pub before_ignore_deferred : HasNames (codes "before_ignore_deferred") item.before_ignore_deferred.items table
-  pub after_ignore_deferred : HasNames (codes "after_ignore_deferred") item.after_ignore_deferred.items table
-  pub ambiguous_with : HasNames (codes "ambiguous_with") item.ambiguous_with.items table
+  pub named : IsName item.name.now
+  pub inside : HasItemNames (codes "in") item.inside.items table
+  pub before : HasItemNames (codes "before") item.before.items table
+  pub after : HasItemNames (codes "after") item.after.items table
+  pub before_ignore_deferred : HasItemNames (codes "before_ignore_deferred") item.before_ignore_deferred.items table
+  pub after_ignore_deferred : HasItemNames (codes "after_ignore_deferred") item.after_ignore_deferred.items table
+  pub ambiguous_with : HasItemNames (codes "ambiguous_with") item.ambiguous_with.items table
   pub conditions : HasNames (codes "if") item.conditions.items table
 
 -- the same item with its conditions read
@@ -181,6 +201,7 @@ pub record IsItemRead (texts : ItemTexts) (item : ItemTable) : Type 0 where
 -- a block whose code is texts
 pub record IsBlockTextsIn (table : Members) (block : BlockTexts) : Type 0 where
   pub only : HasOnly keys_of_block table
+  pub given : HasKey (codes "code") table
   pub rounds : SaysRounds block.rounds (block_keys table)
   pub code : HasNames (codes "code") block.code.items table
 
@@ -188,6 +209,10 @@ pub record AreBlockTextsIn (table : Members) (blocks : List BlockTexts) : Type 0
   pub tables : List Members
   pub there : HasTables (codes "do") tables table
   pub each : AllZip IsBlockTextsIn tables blocks
+
+-- the code of a block whose code is texts
+abbrev pub IsCodeOf : BlockTexts → List Instruction → Type 0
+IsCodeOf texts code = AreSpelled IsInstruction code (map (λ text. text.now) texts.code.items)
 
 -- the same block with its code read
 pub record IsRead (texts : BlockTexts) (block : Block) : Type 0 where

@@ -1,13 +1,16 @@
 // The keys of a table of a program file, each read by its type.
 
-ghost use Rattle.std.specs.Prelude.{◌≡◌, ℕ, Option, IfOk, IfErr, IsTrue, ◌↔◌, All, map, option_map};
-ghost use Rattle.toml.specs.Data.{get_member, string, integer, array};
+ghost use Rattle.std.specs.Prelude.{◌≡◌, ℕ, ℤ, Bool, List, Option, IfOk, IfErr, IsTrue, ◌↔◌, All, map, option_map};
+ghost use Rattle.toml.specs.Data.{Data, Members, get_member, string, integer, array};
 ghost use Rattle.toml.specs.View.{view, table_view, items_of};
-ghost use Rattle.program_file.specs.Keys.{HasOnly, HasItems, HasTable, HasTables, HasNames, IsTable, HasResources, HasEvents, HasText, HasInteger, HasNumber, HasFlag, AreIntegers, lent_members};
+ghost use Rattle.program_file.specs.Keys.{HasOnly, HasKey, HasItems, HasTable, HasTables, HasNames, HasTexts, IsTable, HasResources, HasEvents, HasText, HasInteger, HasNumber, HasFlag, AreIntegers, lent_members};
 ghost use Rattle.program_file.specs.Rounds.{IsNumber};
 ghost use Rattle.parsing.specs.Reads.{Reads};
-ghost use Rattle.program_file.specs.PlaceFault.{IsNoText};
+ghost use Rattle.program_file.specs.PlaceFault.{IsNoText, NoneIs};
 ghost use Rattle.program_file.specs.Name.{IsName, IsAmong};
+ghost use Rattle.std.specs.List.{AllByRecursion};
+ghost use Rattle.kinds.specs.declared.res.Res.{Res as ResValue};
+ghost use Rattle.kinds.specs.declared.res.Event.{Event as EventValue};
 
 use crate::name::is_name;
 use crate::place_fault::PlaceFault;
@@ -24,6 +27,17 @@ pub fn refuse_unknown(table: &Table, known: &[&str]) -> Result<(), PlaceFault>
         Ok(())
     } else {
         Err(PlaceFault::Value)
+    }
+}
+
+/// Refuses a table without this key.
+pub fn refuse_missing(table: &Table, key: &str) -> Result<(), PlaceFault>
+    ensures ok { IfOk result (λ _. HasKey key.now (table_view table.now)) }
+    ensures refused { IfErr result (λ fault. (fault ≡ PlaceFault.Value) × (HasKey key.now (table_view table.now) → ⊥)) }
+{
+    match value_at(table, key) {
+        Some(_) => Ok(()),
+        None => Err(PlaceFault::Value),
     }
 }
 
@@ -53,6 +67,7 @@ pub fn value_at<'a>(table: &'a Table, key: &str) -> Option<&'a Value>
 pub fn items_at<'a>(table: &'a Table, key: &str) -> Result<&'a [Value], PlaceFault>
     ensures ok { IfOk result (λ items. HasItems key.now (map view items.now) (table_view table.now)) }
     ensures err { IfErr result (λ fault. fault ≡ PlaceFault.Value) }
+    ensures refused { IfErr result (NoneIs (λ (values : List Data). HasItems key.now values (table_view table.now))) }
 {
     match value_at(table, key) {
         None => Ok(&[]),
@@ -67,6 +82,7 @@ pub fn items_at<'a>(table: &'a Table, key: &str) -> Result<&'a [Value], PlaceFau
 pub fn table_at<'a>(table: &'a Table, key: &str) -> Result<Option<&'a Table>, PlaceFault>
     ensures ok { IfOk result (λ inner. HasTable key.now (lent_members inner) (table_view table.now)) }
     ensures err { IfErr result (λ fault. fault ≡ PlaceFault.Value) }
+    ensures refused { IfErr result (NoneIs (λ (members : Members). HasTable key.now members (table_view table.now))) }
 {
     match value_at(table, key) {
         None => Ok(None),
@@ -82,6 +98,7 @@ pub fn tables_at<'a>(
 ) -> Result<Vec<&'a Table>, PlaceFault>
     ensures ok { IfOk result (λ tables. HasTables key.now (map (λ inner. table_view inner.now) tables.items) (table_view table.now)) }
     ensures err { IfErr result IsNoText }
+    ensures refused { IfErr result (NoneIs (λ (tables : List Members). HasTables key.now tables (table_view table.now))) }
 {
     let mut tables = Vec::new(alloc);
     for item in items_at(table, key)? {
@@ -94,6 +111,7 @@ pub fn tables_at<'a>(
 fn table_of(value: &Value) -> Result<&Table, PlaceFault>
     ensures ok { IfOk result (λ inner. IsTable (table_view inner.now) (view value.now)) }
     ensures err { IfErr result (λ fault. fault ≡ PlaceFault.Value) }
+    ensures refused { IfErr result (NoneIs (λ (members : Members). IsTable members (view value.now))) }
 {
     value.as_table().ok_or(PlaceFault::Value)
 }
@@ -102,6 +120,7 @@ fn table_of(value: &Value) -> Result<&Table, PlaceFault>
 pub fn texts_at<'a>(alloc: Global, table: &'a Table, key: &str) -> Result<Vec<&'a str>, PlaceFault>
     ensures ok { IfOk result (λ texts. HasNames key.now texts.items (table_view table.now)) }
     ensures err { IfErr result IsNoText }
+    ensures refused { IfErr result (NoneIs (λ (texts : List (List ℕ)). HasTexts key.now texts (table_view table.now))) }
 {
     let mut texts = Vec::new(alloc);
     for item in items_at(table, key)? {
@@ -114,6 +133,7 @@ pub fn texts_at<'a>(alloc: Global, table: &'a Table, key: &str) -> Result<Vec<&'
 fn text_of(value: &Value) -> Result<&str, PlaceFault>
     ensures ok { IfOk result (λ text. view value.now ≡ string text.now) }
     ensures err { IfErr result (λ fault. fault ≡ PlaceFault.Value) }
+    ensures refused { IfErr result (NoneIs (λ (text : List ℕ). view value.now ≡ string text)) }
 {
     value.as_str().ok_or(PlaceFault::Value)
 }
@@ -122,6 +142,7 @@ fn text_of(value: &Value) -> Result<&str, PlaceFault>
 pub fn names_at<'a>(alloc: Global, table: &'a Table, key: &str) -> Result<Vec<&'a str>, PlaceFault>
     ensures names { IfOk result (λ names. All (λ name. IsName name.now) names.items) }
     ensures said { IfOk result (λ names. HasNames key.now names.items (table_view table.now)) }
+    ensures refused { IfErr result (NoneIs (λ (texts : List (List ℕ)). HasTexts key.now texts (table_view table.now) × AllByRecursion IsName texts)) }
 {
     let names = texts_at(alloc, table, key)?;
     if are_names(names.as_slice()) {
@@ -142,6 +163,7 @@ fn are_names(texts: &[&str]) -> bool
 pub fn resources_at(alloc: Global, table: &Table, key: &str) -> Result<Vec<Res>, PlaceFault>
     ensures ok { IfOk result (λ resources. HasResources key.now resources.items (table_view table.now)) }
     ensures err { IfErr result IsNoText }
+    ensures refused { IfErr result (NoneIs (λ (resources : List ResValue). HasResources key.now resources (table_view table.now))) }
 {
     let mut resources = Vec::new(alloc);
     for name in texts_at(alloc, table, key)? {
@@ -154,6 +176,7 @@ pub fn resources_at(alloc: Global, table: &Table, key: &str) -> Result<Vec<Res>,
 pub fn events_at(alloc: Global, table: &Table, key: &str) -> Result<Vec<Event>, PlaceFault>
     ensures ok { IfOk result (λ events. HasEvents key.now events.items (table_view table.now)) }
     ensures err { IfErr result IsNoText }
+    ensures refused { IfErr result (NoneIs (λ (events : List EventValue). HasEvents key.now events (table_view table.now))) }
 {
     let mut events = Vec::new(alloc);
     for name in texts_at(alloc, table, key)? {
@@ -166,6 +189,7 @@ pub fn events_at(alloc: Global, table: &Table, key: &str) -> Result<Vec<Event>, 
 pub fn name_at<'a>(table: &'a Table, key: &str) -> Result<&'a str, PlaceFault>
     ensures name { IfOk result (λ name. IsName name.now) }
     ensures said { IfOk result (λ name. HasText key.now name.now (table_view table.now)) }
+    ensures refused { IfErr result (NoneIs (λ (text : List ℕ). HasText key.now text (table_view table.now) × IsName text)) }
 {
     let name = match value_at(table, key) {
         Some(value) => text_of(value)?,
@@ -182,6 +206,7 @@ pub fn name_at<'a>(table: &'a Table, key: &str) -> Result<&'a str, PlaceFault>
 pub fn integers_of(alloc: Global, value: &Value) -> Result<Vec<i64>, PlaceFault>
     ensures ok { IfOk result (λ integers. AreIntegers integers.items (view value.now)) }
     ensures err { IfErr result IsNoText }
+    ensures refused { IfErr result (NoneIs (λ (integers : List ℤ). AreIntegers integers (view value.now))) }
 {
     let mut integers = Vec::new(alloc);
     for item in array_of(value)? {
@@ -194,6 +219,7 @@ pub fn integers_of(alloc: Global, value: &Value) -> Result<Vec<i64>, PlaceFault>
 fn array_of(value: &Value) -> Result<&[Value], PlaceFault>
     ensures ok { IfOk result (λ items. view value.now ≡ array (items_of (map view items.now))) }
     ensures err { IfErr result (λ fault. fault ≡ PlaceFault.Value) }
+    ensures refused { IfErr result (NoneIs (λ (values : List Data). view value.now ≡ array (items_of values))) }
 {
     match value.as_array() {
         Some(items) => Ok(items.as_slice()),
@@ -205,6 +231,7 @@ fn array_of(value: &Value) -> Result<&[Value], PlaceFault>
 fn integer_of(value: &Value) -> Result<i64, PlaceFault>
     ensures ok { IfOk result (λ n. view value.now ≡ integer n) }
     ensures err { IfErr result (λ fault. fault ≡ PlaceFault.Value) }
+    ensures refused { IfErr result (NoneIs (λ (n : ℤ). view value.now ≡ integer n)) }
 {
     value.as_integer().ok_or(PlaceFault::Value)
 }
@@ -213,6 +240,7 @@ fn integer_of(value: &Value) -> Result<i64, PlaceFault>
 pub fn integer_at(table: &Table, key: &str) -> Result<i64, PlaceFault>
     ensures ok { IfOk result (λ n. HasInteger key.now n (table_view table.now)) }
     ensures err { IfErr result (λ fault. fault ≡ PlaceFault.Value) }
+    ensures refused { IfErr result (NoneIs (λ (n : ℤ). HasInteger key.now n (table_view table.now))) }
 {
     match value_at(table, key) {
         None => Ok(0),
@@ -224,6 +252,7 @@ pub fn integer_at(table: &Table, key: &str) -> Result<i64, PlaceFault>
 pub fn flag_at(table: &Table, key: &str) -> Result<bool, PlaceFault>
     ensures ok { IfOk result (λ flag. HasFlag key.now flag (table_view table.now)) }
     ensures err { IfErr result (λ fault. fault ≡ PlaceFault.Value) }
+    ensures refused { IfErr result (NoneIs (λ (flag : Bool). HasFlag key.now flag (table_view table.now))) }
 {
     match value_at(table, key) {
         None => Ok(false),

@@ -1,17 +1,19 @@
 // What a program file says.
 
 ghost use Rattle.std.specs.Prelude.{IfOk, IfErr, All, map, codes};
-ghost use Rattle.program_file.specs.PlaceFault.{IsOfPlace};
+ghost use Rattle.program_file.specs.PlaceFault.{IsOfPlace, NoneIs, NoneIsAt};
 ghost use Rattle.program_file.specs.Name.{IsName};
 ghost use Rattle.program_file.specs.Keys.{HasOnly, HasTable, HasTables, lent_members};
-ghost use Rattle.program_file.specs.Tables.{keys_of_document, AreValuesIn, AreResourcesIn, IsComponentIn, IsEntityIn, AreEntitiesIn, IsSystemIn, AreSetsIn, AreSystemsIn, AreChainsIn, IsItemIn, IsSetIn, IsChainIn, IsBlockTextsIn, AreBlockTextsIn, IsRead, IsItemTextsIn, IsItemRead};
+ghost use Rattle.program_file.specs.Tables.{keys_of_document, AreValuesIn, AreResourcesIn, IsComponentIn, IsEntityIn, IsEntityOf, AreEntitiesIn, IsSystemIn, IsFileIn, AreSetsIn, AreSystemsIn, AreChainsIn, IsItemIn, IsSetIn, IsChainIn, IsBlockIn, AreBlocksIn, IsBlockTextsIn, AreBlockTextsIn, IsCodeOf, IsRead, IsItemTextsIn, IsItemRead};
+ghost use Rattle.program_file.specs.Readings.{AreSpelled};
+ghost use Rattle.run_condition.specs.Grammar.{IsCondition};
 ghost use Rattle.std.specs.List.{AllZip};
 ghost use Rattle.toml.specs.View.{view, table_view};
 
 use crate::fault::FileFault;
 use crate::keys::{
-    events_at, flag_at, integer_at, integers_of, name_at, names_at, number_at, refuse_unknown,
-    resources_at, table_at, tables_at, texts_at,
+    events_at, flag_at, integer_at, integers_of, name_at, names_at, number_at, refuse_missing,
+    refuse_unknown, resources_at, table_at, tables_at, texts_at,
 };
 use crate::place::Place;
 use crate::place_fault::PlaceFault;
@@ -161,6 +163,7 @@ impl<'a> ProgramFile<'a> {
         ensures systems { IfOk result (λ file. AreSystemsIn (table_view document.now) file.systems.items) }
         ensures chains { IfOk result (λ file. AreChainsIn (table_view document.now) file.chains.items) }
         ensures err { IfErr result IsOfPlace }
+        ensures refused { IfErr result (NoneIsAt (IsFileIn (table_view document.now))) }
     {
         let top = Top::read(alloc, document).map_err(|fault| fault.at(Place::Top))?;
         let resources = resources_of(top.resources).map_err(|fault| fault.at(Place::Resources))?;
@@ -182,6 +185,7 @@ impl<'a> ProgramFile<'a> {
 fn entities_of(alloc: Global, tables: &[&Table]) -> Result<Vec<Vec<Value>>, FileFault>
     ensures ok { IfOk result (λ entities. AllZip (λ table components. IsEntityIn (table_view table.now) components.items) tables.now entities.items) }
     ensures err { IfErr result IsOfPlace }
+    ensures refused { IfErr result (NoneIsAt (λ entities. AllZip (λ table components. IsEntityOf (table_view table.now) components) tables.now entities)) }
 {
     let mut entities = Vec::new(alloc);
     for (number, table) in tables.iter().enumerate() {
@@ -195,6 +199,7 @@ fn entities_of(alloc: Global, tables: &[&Table]) -> Result<Vec<Vec<Value>>, File
 fn sets_of<'a>(alloc: Global, tables: &[&'a Table]) -> Result<Vec<ItemTable<'a>>, FileFault>
     ensures ok { IfOk result (λ sets. AllZip (λ table set. IsSetIn (table_view table.now) set) tables.now sets.items) }
     ensures err { IfErr result IsOfPlace }
+    ensures refused { IfErr result (NoneIsAt (λ sets. AllZip (λ table set. IsSetIn (table_view table.now) set) tables.now sets)) }
 {
     let mut sets = Vec::new(alloc);
     for (number, table) in tables.iter().enumerate() {
@@ -208,6 +213,7 @@ fn sets_of<'a>(alloc: Global, tables: &[&'a Table]) -> Result<Vec<ItemTable<'a>>
 fn systems_of<'a>(alloc: Global, tables: &[&'a Table]) -> Result<Vec<SystemTable<'a>>, FileFault>
     ensures ok { IfOk result (λ systems. AllZip (λ table system. IsSystemIn (table_view table.now) system) tables.now systems.items) }
     ensures err { IfErr result IsOfPlace }
+    ensures refused { IfErr result (NoneIsAt (λ systems. AllZip (λ table system. IsSystemIn (table_view table.now) system) tables.now systems)) }
 {
     let mut systems = Vec::new(alloc);
     for (number, table) in tables.iter().enumerate() {
@@ -223,6 +229,7 @@ fn systems_of<'a>(alloc: Global, tables: &[&'a Table]) -> Result<Vec<SystemTable
 fn chains_of<'a>(alloc: Global, tables: &[&'a Table]) -> Result<Vec<ChainTable<'a>>, FileFault>
     ensures ok { IfOk result (λ chains. AllZip (λ table chain. IsChainIn (table_view table.now) chain) tables.now chains.items) }
     ensures err { IfErr result IsOfPlace }
+    ensures refused { IfErr result (NoneIsAt (λ chains. AllZip (λ table chain. IsChainIn (table_view table.now) chain) tables.now chains)) }
 {
     let mut chains = Vec::new(alloc);
     for (number, table) in tables.iter().enumerate() {
@@ -234,7 +241,8 @@ fn chains_of<'a>(alloc: Global, tables: &[&'a Table]) -> Result<Vec<ChainTable<'
 
 // Reads the table of a set.
 fn set_of<'a>(alloc: Global, table: &'a Table) -> Result<ItemTable<'a>, PlaceFault>
-    ensures { IfOk result (IsSetIn (table_view table.now)) }
+    ensures ok { IfOk result (IsSetIn (table_view table.now)) }
+    ensures refused { IfErr result (NoneIs (IsSetIn (table_view table.now))) }
 {
     refuse_unknown(table, SET_KEYS.as_slice())?;
     ItemTable::read(alloc, table)
@@ -248,6 +256,7 @@ impl<'a> ItemTable<'a> {
         ensures before { IfOk result (λ item. All (λ name. IsName name.now) item.before.items) }
         ensures after { IfOk result (λ item. All (λ name. IsName name.now) item.after.items) }
         ensures said { IfOk result (IsItemIn (table_view table.now)) }
+        ensures refused { IfErr result (NoneIs (IsItemIn (table_view table.now))) }
     {
         read_item(alloc, ItemTexts::read(alloc, table)?)
     }
@@ -261,6 +270,7 @@ impl<'a> ItemTexts<'a> {
         ensures before { IfOk result (λ item. All (λ name. IsName name.now) item.before.items) }
         ensures after { IfOk result (λ item. All (λ name. IsName name.now) item.after.items) }
         ensures said { IfOk result (IsItemTextsIn (table_view table.now)) }
+        ensures refused { IfErr result (NoneIs (IsItemIn (table_view table.now))) }
     {
         Ok(ItemTexts {
             name: name_at(table, "name")?,
@@ -277,7 +287,8 @@ impl<'a> ItemTexts<'a> {
 
 // The same item, its conditions read.
 fn read_item<'a>(alloc: Global, texts: ItemTexts<'a>) -> Result<ItemTable<'a>, PlaceFault>
-    ensures { IfOk result (IsItemRead texts.entry) }
+    ensures ok { IfOk result (IsItemRead texts.entry) }
+    ensures refused { IfErr result (NoneIs (λ conditions. AreSpelled IsCondition conditions (map (λ text. text.now) texts.entry.conditions.items))) }
 {
     let conditions = conditions_of(alloc, texts.conditions.as_slice())?;
     Ok(ItemTable {
@@ -297,11 +308,10 @@ impl<'a> ChainTable<'a> {
     pub fn read(alloc: Global, table: &'a Table) -> Result<ChainTable<'a>, PlaceFault>
         ensures names { IfOk result (λ chain. All (λ name. IsName name.now) chain.items.items) }
         ensures said { IfOk result (IsChainIn (table_view table.now)) }
+        ensures refused { IfErr result (NoneIs (IsChainIn (table_view table.now))) }
     {
         refuse_unknown(table, CHAIN_KEYS.as_slice())?;
-        if !table.contains_key("items") {
-            return Err(PlaceFault::Value);
-        }
+        refuse_missing(table, "items")?;
         Ok(ChainTable {
             items: names_at(alloc, table, "items")?,
             ignores_deferred: flag_at(table, "ignore_deferred")?,
@@ -317,6 +327,7 @@ impl<'a> SystemTable<'a> {
         ensures before { IfOk result (λ system. All (λ name. IsName name.now) system.item.before.items) }
         ensures after { IfOk result (λ system. All (λ name. IsName name.now) system.item.after.items) }
         ensures said { IfOk result (IsSystemIn (table_view table.now)) }
+        ensures refused { IfErr result (NoneIs (IsSystemIn (table_view table.now))) }
     {
         refuse_unknown(table, SYSTEM_KEYS.as_slice())?;
         let item = ItemTexts::read(alloc, table)?;
@@ -358,6 +369,7 @@ impl<'a> Top<'a> {
         ensures sets { IfOk result (λ top. HasTables (codes "set") (map (λ inner. table_view inner.now) top.sets.items) (table_view document.now)) }
         ensures systems { IfOk result (λ top. HasTables (codes "system") (map (λ inner. table_view inner.now) top.systems.items) (table_view document.now)) }
         ensures chains { IfOk result (λ top. HasTables (codes "chain") (map (λ inner. table_view inner.now) top.chains.items) (table_view document.now)) }
+        ensures refused { IfErr result (NoneIs (IsFileIn (table_view document.now))) }
     {
         refuse_unknown(document, TOP_KEYS.as_slice())?;
         Ok(Top {
@@ -372,7 +384,8 @@ impl<'a> Top<'a> {
 
 // The values of the resources, by number.
 fn resources_of(table: Option<&Table>) -> Result<[i64; Res::COUNT], PlaceFault>
-    ensures { IfOk result (AreValuesIn (lent_members table.entry)) }
+    ensures ok { IfOk result (AreValuesIn (lent_members table.entry)) }
+    ensures refused { IfErr result (NoneIs (AreValuesIn (lent_members table.entry))) }
 {
     match table {
         None => Ok([0; Res::COUNT]),
@@ -382,7 +395,8 @@ fn resources_of(table: Option<&Table>) -> Result<[i64; Res::COUNT], PlaceFault>
 
 // The values of the resources by their table.
 fn values_of(table: &Table) -> Result<[i64; Res::COUNT], PlaceFault>
-    ensures { IfOk result (AreValuesIn (table_view table.now)) }
+    ensures ok { IfOk result (AreValuesIn (table_view table.now)) }
+    ensures refused { IfErr result (NoneIs (AreValuesIn (table_view table.now))) }
 {
     refuse_unknown(table, RESOURCE_KEYS.as_slice())?;
     let mut values = [0; Res::COUNT];
@@ -394,7 +408,8 @@ fn values_of(table: &Table) -> Result<[i64; Res::COUNT], PlaceFault>
 
 // The components of an entity.
 fn components_of(alloc: Global, table: &Table) -> Result<Vec<Value>, PlaceFault>
-    ensures { IfOk result (λ components. IsEntityIn (table_view table.now) components.items) }
+    ensures ok { IfOk result (λ components. IsEntityIn (table_view table.now) components.items) }
+    ensures refused { IfErr result (NoneIs (IsEntityIn (table_view table.now))) }
 {
     let mut components = Vec::new(alloc);
     for (key, value) in table.iter() {
@@ -405,7 +420,8 @@ fn components_of(alloc: Global, table: &Table) -> Result<Vec<Value>, PlaceFault>
 
 // The component whose kind has this name, and this array of its fields.
 fn component_of(alloc: Global, name: &str, value: &toml::Value) -> Result<Value, PlaceFault>
-    ensures { IfOk result (IsComponentIn name.now (view value.now)) }
+    ensures ok { IfOk result (IsComponentIn name.now (view value.now)) }
+    ensures refused { IfErr result (NoneIs (IsComponentIn name.now (view value.now))) }
 {
     let kind = Kind::named(name).ok_or(PlaceFault::Value)?;
     let fields = integers_of(alloc, value)?;
@@ -418,12 +434,11 @@ fn component_of(alloc: Global, name: &str, value: &toml::Value) -> Result<Value,
 impl<'a> BlockTexts<'a> {
     // Reads the keys of a block.
     fn read(alloc: Global, table: &'a Table) -> Result<BlockTexts<'a>, PlaceFault>
-        ensures { IfOk result (IsBlockTextsIn (table_view table.now)) }
+        ensures ok { IfOk result (IsBlockTextsIn (table_view table.now)) }
+        ensures refused { IfErr result (NoneIs (IsBlockIn (table_view table.now))) }
     {
         refuse_unknown(table, BLOCK_KEYS.as_slice())?;
-        if !table.contains_key("code") {
-            return Err(PlaceFault::Value);
-        }
+        refuse_missing(table, "code")?;
         Ok(BlockTexts {
             rounds: rounds_of(table)?,
             code: texts_at(alloc, table, "code")?,
@@ -433,7 +448,8 @@ impl<'a> BlockTexts<'a> {
 
 // The blocks of a system, with their texts.
 fn blocks_of<'a>(alloc: Global, table: &'a Table) -> Result<Vec<BlockTexts<'a>>, PlaceFault>
-    ensures { IfOk result (λ blocks. AreBlockTextsIn (table_view table.now) blocks.items) }
+    ensures ok { IfOk result (λ blocks. AreBlockTextsIn (table_view table.now) blocks.items) }
+    ensures refused { IfErr result (NoneIs (AreBlocksIn (table_view table.now))) }
 {
     let tables = tables_at(alloc, table, "do")?;
     let mut blocks = Vec::new(alloc);
@@ -445,7 +461,8 @@ fn blocks_of<'a>(alloc: Global, table: &'a Table) -> Result<Vec<BlockTexts<'a>>,
 
 // The blocks, their texts read.
 fn read_blocks(alloc: Global, blocks: &[BlockTexts<'_>]) -> Result<Vec<Block>, PlaceFault>
-    ensures { IfOk result (λ read. AllZip IsRead blocks.now read.items) }
+    ensures ok { IfOk result (λ read. AllZip IsRead blocks.now read.items) }
+    ensures refused { IfErr result (NoneIs (AllZip IsCodeOf blocks.now)) }
 {
     let mut read = Vec::new(alloc);
     for block in blocks {
@@ -456,7 +473,8 @@ fn read_blocks(alloc: Global, blocks: &[BlockTexts<'_>]) -> Result<Vec<Block>, P
 
 // A block, its texts read.
 fn read_block(alloc: Global, block: &BlockTexts<'_>) -> Result<Block, PlaceFault>
-    ensures { IfOk result (IsRead block.now) }
+    ensures ok { IfOk result (IsRead block.now) }
+    ensures refused { IfErr result (NoneIs (IsCodeOf block.now)) }
 {
     Ok(Block {
         rounds: block.rounds,

@@ -6,8 +6,8 @@ use Rattle.program_file.proofs.Mapped.{of-ok}
 use Rattle.program_file.proofs.program_file.set_of.Goals as goal
 
 -- no other key is there, and the item is read
-pub returns : goal.returns
-returns c =
+pub returns-clause-ok : goal.returns-clause-ok
+returns-clause-ok c =
     let table = table_view c.args.table.now in
     of-ok (IsItemIn table) (IsSetIn table) c.read.result
     (λ set item. record {

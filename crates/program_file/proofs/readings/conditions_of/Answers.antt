@@ -1,5 +1,9 @@
-use Rattle.std.proofs.Common.{rules}
+use Rattle.std.proofs.Common.{List, map, rules}
 use Rattle.run_condition.specs.Grammar.{IsCondition}
+use Rattle.run_condition.specs.declared.cond.Cond.{Cond}
+use Rattle.program_file.specs.PlaceFault.{place_fault_of}
+use Rattle.program_file.specs.Readings.{AreSpelled}
+use Rattle.program_file.proofs.Refusals.{NoneIs-exit, spelled-refused}
 use Rattle.program_file.proofs.Spelled.{AreSpelled-take}
 use Rattle.program_file.proofs.readings.conditions_of.Goals as goal
 
@@ -8,3 +12,10 @@ pub loop-text-preserved : goal.loop-text-preserved
 loop-text-preserved c =
     AreSpelled-take IsCondition c.args.texts.now c.loop-text.text-index _ c.loop-text.conditions.items _ c.in_ok-read.field-0 (search rules)
     c.loop-text-test.true c.loop-text.invariant c.in_ok-read.ensures
+
+-- a text spells none
+pub returns-in_err-read-clause-refused : goal.returns-in_err-read-clause-refused
+returns-in_err-read-clause-refused c =
+    let texts = c.args.texts.now in
+    NoneIs-exit (λ (all : List Cond). AreSpelled IsCondition all (map (λ text. text.now) texts)) c.from_residual.result (place_fault_of c.in_err-read.field-0.0) c.from_residual.ensures.1
+    (spelled-refused IsCondition texts c.loop-text.text-index _ c.in_err-read.field-0.0 c.loop-text-test.true c.in_err-read.ensures)
