@@ -10,12 +10,20 @@ use crate::runs::runs_are;
 use crate::threads::Trial;
 use crate::worlds::{FIRST, empty_world, put, world_of_many, world_of_one};
 use archetype_store::World;
+use body::State;
 use change_ticks::Clock;
 use engine::{Engine, RunFault};
 use entity_table::Entity;
 use kinds::component::{Health, Score};
 use script::Rounds;
 use std::alloc::Global;
+use worker_pool::Single;
+
+// The second entity of a world.
+const SECOND: Entity = Entity {
+    index: 1,
+    generation: 1,
+};
 
 // An engine of one system that is granted so many ids in a world in which all indices but one are taken, and spawns one.
 fn spawning(alloc: Global, spawns: u32) -> Option<TestEngine> {
@@ -85,6 +93,29 @@ fn spawners(alloc: Global) -> Option<TestEngine> {
     systems.engine(alloc, empty_world(alloc, Clock::at(1))?)
 }
 
+/// A run that is kept leaves the state as it was where an allocation fails, and once more taken it spawns its entities.
+pub fn kept_again(alloc: Global) -> Option<bool> {
+    let mut engine = spawners(alloc)?;
+    let mut is_kept = true;
+    let refused = engine.run_kept(alloc, 1, &Single).err();
+    if refused.is_some() {
+        is_kept = refused == Some(RunFault::Memory) && is_begun(engine.state());
+        engine.run_kept(alloc, 1, &Single).ok()?;
+    }
+    Some(is_kept && have_spawned(&engine))
+}
+
+// Whether nothing has run: nothing lives, and the clock stands where it stood.
+fn is_begun(state: &State) -> bool {
+    state.world().next_living(0) == None && state.world().now() == 1
+}
+
+// Whether the first system spawned the lesser id and the second the greater.
+fn have_spawned(engine: &Engine<TestBody>) -> bool {
+    let is_first = score(engine, FIRST) == Some(Score { v: 1 });
+    is_first && score(engine, SECOND) == Some(Score { v: 2 })
+}
+
 /// Two starts that spawn, on two threads, of which one is held until the other has left.
 pub fn ids_of_level(alloc: Global, held: u64, awaited: u64) -> Option<Trial> {
     let gate = TestGate::new(alloc, Rule::Hold(held, awaited))?;
@@ -94,11 +125,5 @@ pub fn ids_of_level(alloc: Global, held: u64, awaited: u64) -> Option<Trial> {
 /// Whether the first system spawned the lesser id and the second the greater, and no start was held in vain.
 pub fn has_ids_in_order(trial: Option<Trial>) -> Option<bool> {
     let trial = trial?;
-    let second = Entity {
-        index: 1,
-        generation: 1,
-    };
-    let is_first = score(&trial.engine, FIRST) == Some(Score { v: 1 });
-    let is_second = score(&trial.engine, second) == Some(Score { v: 2 });
-    Some(trial.place.faults() == 0 && is_first && is_second)
+    Some(trial.place.faults() == 0 && have_spawned(&trial.engine))
 }

@@ -16,7 +16,8 @@ mod threads;
 mod worlds;
 
 use crate::commands::{
-    has_ids_in_order, has_second_score, ids_of_level, last_id, schedule_order, spent_ids,
+    has_ids_in_order, has_second_score, ids_of_level, kept_again, last_id, schedule_order,
+    spent_ids,
 };
 use crate::gates::PATIENCE;
 use crate::moving::{
@@ -24,12 +25,13 @@ use crate::moving::{
     stamps,
 };
 use crate::resources::{kept_total, three_tallies};
-use crate::store::{buffers, entities, steps, texts, unions};
+use crate::store::{buffers, entities, inserted_again, steps, texts, unions};
 use crate::threads::{
     gather, has_no_fault, has_stood_round_five, has_traces, have_met, hold_first, meet, ran,
     refuse, refuse_on_threads, repeat, watch,
 };
 use std::alloc::Global;
+use std::env;
 use std::io::{self, Write};
 use std::sync::Wait;
 use std::thread::Threads;
@@ -180,7 +182,25 @@ fn levels<R: Threads + Wait + Copy + Send + Sync + 'static>(rt: R, alloc: Global
     ]
 }
 
+// The tests of calls that are taken once more where an allocation fails. Each of their allocations is refused in turn by `.ci/allocations`.
+fn again(alloc: Global) -> [Test; 2] {
+    [
+        (
+            "an insert, once more where it is refused",
+            inserted_again(alloc),
+        ),
+        (
+            "a run that is kept, once more where it is refused",
+            kept_again(alloc),
+        ),
+    ]
+}
+
+// With an argument only the calls that are taken once more are made.
 fn main(rt: HostRuntime) -> io::Result<()> {
+    if env::args(&rt)?.skip(1).next().is_some() {
+        return tell(&mut rt.stdout(), &again(rt.alloc()));
+    }
     tell(&mut rt.stdout(), &runs_alone(rt.alloc()))?;
     tell(&mut rt.stdout(), &parts(rt.alloc()))?;
     tell(&mut rt.stdout(), &kept(rt.alloc()))?;
@@ -188,5 +208,6 @@ fn main(rt: HostRuntime) -> io::Result<()> {
     tell(&mut rt.stdout(), &starts(rt, rt.alloc()))?;
     tell(&mut rt.stdout(), &bodies_that_meet(rt, rt.alloc()))?;
     tell(&mut rt.stdout(), &orders(rt, rt.alloc()))?;
-    tell(&mut rt.stdout(), &levels(rt, rt.alloc()))
+    tell(&mut rt.stdout(), &levels(rt, rt.alloc()))?;
+    tell(&mut rt.stdout(), &again(rt.alloc()))
 }
