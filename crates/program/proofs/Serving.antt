@@ -1,5 +1,5 @@
 -- What a command leaves, from what its parts leave.
-use Rattle.std.proofs.Common.{◌≡◌, inl, inr, ℕ, zero, suc, ℤ, Bool, true, false, List, [], ◌∷◌, length, map, slice_get, Option, None, Some, Result, Ok, Err, IfOk, IfErr, IfSome, IsSome, is_some, refl, ap, sym, ◌∙◌, subst, string_bytes}
+use Rattle.std.proofs.Common.{◌≡◌, inl, inr, ℕ, zero, suc, ℤ, Bool, true, false, List, [], ◌∷◌, length, map, slice_get, Option, None, Some, Result, Ok, Err, IfOk, IfErr, IfSome, is_some, refl, ap, sym, ◌∙◌, subst, string_bytes}
 use Rattle.std.specs.Prelude.{Vec}
 use Rattle.std.specs.declared.alloc.Global.{Global}
 use Rattle.std.specs.Io.KnownBytes.{Keeps}
@@ -32,7 +32,7 @@ use Rattle.program.specs.declared.fault.Fault.{Fault}
 use Rattle.program.specs.declared.fault.Fault.TheVariants.{TooLong, Content, Script, TraceTooLong, TraceLine, TraceOrder, BadStep, UnfinishedRun, WrongAnswer, ClockSpent, IdsSpent, BodyRefused, File, Write, Memory, NoWorker}
 use Rattle.program.specs.Fault.{fault_of_build, fault_of_file}
 use Rattle.program.specs.Accepted.{Accepted, meant_by, start_of}
-use Rattle.program.specs.Refused.{IsRefusedBy, IsReplayRefused, IsRunRefused, IsTraceUnread, IsUngiven, IsUnread, IsUnreplayed, IsUnrun, IsUnscripted, LoadsWorld, ReadsTrace}
+use Rattle.program.specs.Refused.{HasNoTables, IsRefusedBy, IsReplayRefused, IsRunRefused, IsTraceUnread, IsUngiven, IsUnread, IsUnreplayed, IsUnrun, IsUnscripted, LoadsWorld, ReadsTrace}
 use Rattle.program.specs.Replayed.{IsRefusedReplay}
 use Rattle.program.specs.Served.{IsAnswerTo, IsRecordKept, IsServed, HasGained, HasGainedFront, Tells, WritesRecord}
 use Rattle.program_file.specs.declared.program_file.ProgramFile.{ProgramFile}
@@ -40,11 +40,11 @@ use Rattle.program_file.specs.declared.fault.FileFault.{FileFault}
 use Rattle.program_file.specs.declared.program_file.SystemTable.{SystemTable}
 use Rattle.program.specs.declared.schedule.Code.{Code}
 use Rattle.program_file.specs.Keys.{HasOnly}
-use Rattle.program_file.specs.Tables.{keys_of_document, AreResourcesIn, AreEntitiesIn, AreSetsIn, AreSystemsIn, AreChainsIn}
+use Rattle.program_file.specs.Tables.{keys_of_document, AreResourcesIn, AreEntitiesIn, AreSetsIn, AreSystemsIn, AreChainsIn, IsFileIn}
 use Rattle.toml.specs.Data.{Members}
 use Rattle.program.specs.Said.{IsFileOf, declared_by, script_said, scripts_by}
 use Rattle.program_file.specs.declared.fault.FileFault.TheVariants as file
-use Rattle.program_file.specs.PlaceFault.{IsOfBytes, IsOfPlace}
+use Rattle.program_file.specs.PlaceFault.{IsOfBytes, NoneIsAt}
 use Rattle.std.specs.Result.{IsErrAnd}
 use Rattle.std.specs.Str.{IsUtf8}
 use Rattle.schedule_builder.specs.Answers.{IsAnswered}
@@ -182,10 +182,23 @@ refused-told there width work bytes trace status fault out traces faults reason 
 
 -- ---- a file that is accepted
 
--- a file that is read is a document
-is-document : (bytes : Option (List ℕ)) (v : Members) → IfSome bytes (λ text. parse_document text ≡ Some v) → IfSome bytes (λ text. IsSome (parse_document text))
-is-document None v read = tt
-is-document (Some text) v read = ap is_some read
+-- a file whose document has no tables has none
+no-tables : (bytes : Option (List ℕ)) (v : Members) → IfSome bytes (λ text. parse_document text ≡ Some v) → ((tables : ProgramFile) → IsFileIn v tables → ⊥) → IfSome bytes HasNoTables
+no-tables None v read none = tt
+no-tables (Some text) v read none = (
+  ap is_some read,
+  λ tables h.
+      let both : Some h.document ≡ Some v = sym h.parsed ∙ read in
+      let same : h.document ≡ v = cc in
+      none tables (subst (λ (d : Members). IsFileIn d tables) same (record {
+        only = h.only;
+        resources = h.resources;
+        entities = h.entities;
+        sets = h.sets;
+        systems = h.systems;
+        chains = h.chains;
+      })),
+)
 
 -- and it has the tables that are read
 pub is-file : (bytes : Option (List ℕ)) (v : Members) (tables : ProgramFile) → IfSome bytes (λ text. parse_document text ≡ Some v) → HasOnly keys_of_document v → AreResourcesIn v tables.resources →
@@ -225,10 +238,10 @@ module _ (there : Bool) (width : ℕ) (bytes trace : Option (List ℕ)) where
   unread-refused w fault h = absurd h
 
   -- what the tables of a document, and its texts, are refused for
-  pub place-refused : (w : Work) (v : Members) (fault : FileFault) → IfSome bytes (λ text. parse_document text ≡ Some v) → IsOfPlace fault → IsRefusedBy there width bytes trace w (fault_of_file fault)
+  pub place-refused : (w : Work) (v : Members) (fault : FileFault) → IfSome bytes (λ text. parse_document text ≡ Some v) → NoneIsAt (IsFileIn v) fault → IsRefusedBy there width bytes trace w (fault_of_file fault)
   place-refused w v file.Document read h = absurd h
-  place-refused w v (file.Value place) read h = is-document bytes v read
-  place-refused w v (file.Text place) read h = is-document bytes v read
+  place-refused w v (file.Value place) read h = no-tables bytes v read h
+  place-refused w v (file.Text place) read h = no-tables bytes v read h
   place-refused w v file.Memory read h = tt
 
   -- the builder

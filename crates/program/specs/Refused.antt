@@ -25,11 +25,15 @@ use Rattle.program.specs.Replayed.{IsRefusedReplay}
 use Rattle.program.specs.Said.{IsFileOf, declared_by, scripts_by}
 use Rattle.program.specs.Setup.{IsScheduleOf, declared_names, fits_at}
 
--- the file is no document, or it is one of which a table or a text is refused
+-- a text is a document, and it has no tables at all
+abbrev pub HasNoTables : List ℕ → Type 0
+HasNoTables text = IsSome (parse_document text) × ((tables : ProgramFile) → IsFileOf tables text → ⊥)
+
+-- the file is no document, or it is one without tables, for a value or a text at a place
 abbrev pub IsFileRefused : Option (List ℕ) → FileFault → Type 0
 IsFileRefused bytes file.Document = IfSome bytes (λ text. IsUtf8 text → parse_document text ≡ None)
-IsFileRefused bytes (file.Value place) = IfSome bytes (λ text. IsSome (parse_document text))
-IsFileRefused bytes (file.Text place) = IfSome bytes (λ text. IsSome (parse_document text))
+IsFileRefused bytes (file.Value place) = IfSome bytes HasNoTables
+IsFileRefused bytes (file.Text place) = IfSome bytes HasNoTables
 IsFileRefused bytes file.Memory = ⊥
 
 -- the reader of the file, or memory, stops
