@@ -1,5 +1,5 @@
 -- What is refused: that nothing at all is what was looked for.
-use Rattle.std.proofs.Common.{◌≡◌, ◌∙◌, ◌↔◌, ℕ, ℤ, zero, suc, ◌<◌, Bool, true, false, IsTrue, All, Some, List, [], ◌∷◌, ◌++◌, length, map, get_or, Result, Ok, Err, IfErr, IsErrAnd, MatchResult, Bor, refl, ap, sym, subst, arith}
+use Rattle.std.proofs.Common.{◌≡◌, ◌∙◌, ◌↔◌, ℕ, ℤ, zero, suc, ◌<◌, Bool, true, false, IsTrue, All, Some, List, [], ◌∷◌, length, map, get_or, Result, Ok, Err, IfErr, IsErrAnd, MatchResult, Bor, refl, ap, sym, subst, arith}
 use Rattle.std.proofs.lemmas.List.Elements.{All-from_recursion}
 use Rattle.std.specs.List.{AllZip, AllByRecursion}
 use Rattle.parsing.specs.Reads.{Refuses}
@@ -31,12 +31,6 @@ pub NoneIs-never : {X : Type 0} (P : X → Type 0) (fault : PlaceFault) → ((x 
 NoneIs-never P Value h = h
 NoneIs-never P Text h = h
 NoneIs-never P Memory h = tt
-
--- an allocation failed
-pub NoneIs-memory : {X : Type 0} (P : X → Type 0) (fault : PlaceFault) → fault ≡ Memory → NoneIs P fault
-NoneIs-memory P Value e = absurd (let no : Value ≡ Memory = e in cc)
-NoneIs-memory P Text e = absurd (let no : Text ≡ Memory = e in cc)
-NoneIs-memory P Memory e = tt
 
 -- the same fault, told of a place
 pub NoneIs-told : {X : Type 0} (P : X → Type 0) (place : Place) (fault : PlaceFault) → NoneIs P fault → NoneIsAt P (fault_at place fault)
@@ -86,13 +80,6 @@ mapped-at f g (x ∷ xs) [] i d e below = absurd (omega (arith, below))
 mapped-at f g [] (y ∷ ys) i d e below = absurd (let no : g y ∷ map g ys ≡ [] = e in cc)
 mapped-at f g (x ∷ xs) (y ∷ ys) zero d e below = (x, let same : g y ∷ map g ys ≡ f x ∷ map f xs = e in cc)
 mapped-at f g (x ∷ xs) (y ∷ ys) (suc i) d e below = mapped-at f g xs ys i d (let same : g y ∷ map g ys ≡ f x ∷ map f xs = e in cc) (omega (arith, below))
-
--- and so in a list that is split
-pub mapped-has : {A C : Type 0} (f : A → C) (xs : List A) (done : List C) (c : C) (rest : List C) → done ++ c ∷ rest ≡ map f xs → (x : A) × (c ≡ f x)
-mapped-has f [] [] c rest e = absurd (let no : c ∷ rest ≡ [] = e in cc)
-mapped-has f [] (d ∷ done) c rest e = absurd (let no : d ∷ (done ++ c ∷ rest) ≡ [] = e in cc)
-mapped-has f (x ∷ xs) [] c rest e = (x, let same : c ∷ rest ≡ f x ∷ map f xs = e in cc)
-mapped-has f (x ∷ xs) (d ∷ done) c rest e = mapped-has f xs done c rest (let same : d ∷ (done ++ c ∷ rest) ≡ f x ∷ map f xs = e in cc)
 
 -- lists that are mapped to one list are one
 pub mapped-one : {A C : Type 0} (f : A → C) → ((x y : A) → f x ≡ f y → x ≡ y) → (xs ys : List A) → map f xs ≡ map f ys → xs ≡ ys
