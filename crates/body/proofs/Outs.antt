@@ -344,7 +344,7 @@ laid-among there slots layout n laid within among = go (archetype_at layout n).e
         let slot = get_or slots e.index fresh_slot in
         let lives = (and_parts (is_living slot.status) (slot.generation == e.generation) theirs.0).0 in
         let kinds : kinds_of (row_at slots e.index) ≡ (λ kind. has kind (archetype_at layout n).kinds) =
-          fun_ext (λ kind. sym (kinds-among (row_at slots e.index) kind) ∙ ap (has kind) theirs.1) in
+        fun_ext (λ kind. sym (kinds-among (row_at slots e.index) kind) ∙ ap (has kind) theirs.1) in
         subst (IsAmong there) kinds (among e.index lives)
 
 -- what a query picks is at home where no system that holds a column meets it, as far as the kinds of the living entities tell
