@@ -90,6 +90,24 @@ recorded_with_both = refl
 recorded_too_few : is_whole (Some ((1028 ∷ []) ∷ theirs ∷ [])) ≡ (true, true)
 recorded_too_few = refl
 
+-- ---- behind a sync point
+
+-- the same two on the level above
+abbrev above : Schedule
+above = record (plain (record (system first) { level = 1 } ∷ record (system second) { level = 1 } ∷ []) (0 ∷ 1 ∷ [])) { syncs = 2 }
+
+-- what is recorded after the sync point counts, and no more what was recorded before it
+abbrev later_fault : List (List ℕ) → Option StepFault
+later_fault lists = fault_of (recording above (Some lists)) (Start 0 ∷ Sync 0 ∷ []) (Start 1)
+
+later_theirs : later_fault (with_both ∷ theirs ∷ theirs ∷ []) ≡ None
+later_theirs = refl
+
+later_both : later_fault (theirs ∷ with_both ∷ theirs ∷ []) ≡ Some Conflict
+later_both = refl
+
+-- ---- what a run says
+
 -- the record is true of a run from there
 is_true : HasTrueSets (recording rivals (Some (theirs ∷ theirs ∷ []))) bodies start (history at_once)
 unfolding computed kind_sets_of kinds_number
