@@ -42,17 +42,10 @@ start-requires g c = λ lifetimes.
 
 pub finish-requires : goal.finish-requires
 finish-requires g c = λ lifetimes.
-    let meaning = g.B.Body.meaning in
-    let fits = g.B.Body.fits in
-    let there = g.M.Hosts.has_scope c.args.mode.now in
     let width = g.M.Mode.width c.args.mode.now in
     let s = c.args.built.now in
-    let slots = c.args.jobs.now.bodies in
-    let deferred = c.args.run.now.deferred in
     let out = c.args.jobs.now.pool in
-    let w = c.args.run.now.state in
     let bodies = c.requires.next.0 in
-    let start = c.requires.next.1 in
     let h = c.requires.next.2 in
     let known = c.requires.next.3 in
     let next = subst (λ (t : Turn). IsTurn s h (length out) width (Some t)) c.in-Collect.is known.following in
@@ -60,17 +53,9 @@ finish-requires g c = λ lifetimes.
 
 pub ask-requires-clause-known : goal.ask-requires-clause-known
 ask-requires-clause-known g c =
-    let meaning = g.B.Body.meaning in
-    let fits = g.B.Body.fits in
-    let there = g.M.Hosts.has_scope c.args.mode.now in
     let width = g.M.Mode.width c.args.mode.now in
     let s = c.args.built.now in
-    let slots = c.args.jobs.now.bodies in
-    let deferred = c.args.run.now.deferred in
     let out = c.args.jobs.now.pool in
-    let w = c.args.run.now.state in
-    let bodies = c.requires.next.0 in
-    let start = c.requires.next.1 in
     let h = c.requires.next.2 in
     let known = c.requires.next.3 in
     let next = subst (λ (r : Ready). IsTake s h (length out) width r) c.in-Ask.is (subst (λ (t : Turn). IsTurn s h (length out) width (Some t)) c.in-Take.is known.following) in
@@ -78,18 +63,6 @@ ask-requires-clause-known g c =
 
 pub ask-requires-clause-memories : goal.ask-requires-clause-memories
 ask-requires-clause-memories g c =
-    let meaning = g.B.Body.meaning in
-    let fits = g.B.Body.fits in
-    let there = g.M.Hosts.has_scope c.args.mode.now in
-    let width = g.M.Mode.width c.args.mode.now in
-    let s = c.args.built.now in
-    let slots = c.args.jobs.now.bodies in
-    let deferred = c.args.run.now.deferred in
-    let out = c.args.jobs.now.pool in
-    let w = c.args.run.now.state in
-    let bodies = c.requires.next.0 in
-    let start = c.requires.next.1 in
-    let h = c.requires.next.2 in
     let known = c.requires.next.3 in
     known.between.placed.memories
 
@@ -113,17 +86,9 @@ ask-requires-clause-home g c =
 
 pub sync-requires-clause-known : goal.sync-requires-clause-known
 sync-requires-clause-known g c =
-    let meaning = g.B.Body.meaning in
-    let fits = g.B.Body.fits in
-    let there = g.M.Hosts.has_scope c.args.mode.now in
     let width = g.M.Mode.width c.args.mode.now in
     let s = c.args.built.now in
-    let slots = c.args.jobs.now.bodies in
-    let deferred = c.args.run.now.deferred in
     let out = c.args.jobs.now.pool in
-    let w = c.args.run.now.state in
-    let bodies = c.requires.next.0 in
-    let start = c.requires.next.1 in
     let h = c.requires.next.2 in
     let known = c.requires.next.3 in
     let next = subst (λ (r : Ready). IsTake s h (length out) width r) c.in-Sync.is (subst (λ (t : Turn). IsTurn s h (length out) width (Some t)) c.in-Take.is known.following) in
@@ -131,35 +96,11 @@ sync-requires-clause-known g c =
 
 pub sync-requires-clause-suits : goal.sync-requires-clause-suits
 sync-requires-clause-suits g c =
-    let meaning = g.B.Body.meaning in
-    let fits = g.B.Body.fits in
-    let there = g.M.Hosts.has_scope c.args.mode.now in
-    let width = g.M.Mode.width c.args.mode.now in
-    let s = c.args.built.now in
-    let slots = c.args.jobs.now.bodies in
-    let deferred = c.args.run.now.deferred in
-    let out = c.args.jobs.now.pool in
-    let w = c.args.run.now.state in
-    let bodies = c.requires.next.0 in
-    let start = c.requires.next.1 in
-    let h = c.requires.next.2 in
     let known = c.requires.next.3 in
     known.between.hand.suits
 
 pub sync-requires-clause-in_hand : goal.sync-requires-clause-in_hand
 sync-requires-clause-in_hand g c =
-    let meaning = g.B.Body.meaning in
-    let fits = g.B.Body.fits in
-    let there = g.M.Hosts.has_scope c.args.mode.now in
-    let width = g.M.Mode.width c.args.mode.now in
-    let s = c.args.built.now in
-    let slots = c.args.jobs.now.bodies in
-    let deferred = c.args.run.now.deferred in
-    let out = c.args.jobs.now.pool in
-    let w = c.args.run.now.state in
-    let bodies = c.requires.next.0 in
-    let start = c.requires.next.1 in
-    let h = c.requires.next.2 in
     let known = c.requires.next.3 in
     known.between.hand.ids
 
@@ -333,12 +274,8 @@ returns-in_err-system-in-Collect-clause-kept g c =
 
 pub returns-in_ok-start-in-Start-clause-taken : goal.returns-in_ok-start-in-Start-clause-taken
 returns-in_ok-start-in-Start-clause-taken g c = λ bodies start h known.
-    let meaning = g.B.Body.meaning in
-    let fits = g.B.Body.fits in
-    let there = g.M.Hosts.has_scope c.args.mode.now in
     let width = g.M.Mode.width c.args.mode.now in
     let s = c.args.built.now in
-    let slots = c.args.jobs.now.bodies in
     let deferred = c.args.run.now.deferred in
     let out = c.args.jobs.now.pool in
     let w = c.args.run.now.state in
@@ -381,12 +318,8 @@ returns-in_ok-answer-in-Ask-clause-taken g c = λ bodies start h known.
 
 pub returns-in-Skip-clause-taken : goal.returns-in-Skip-clause-taken
 returns-in-Skip-clause-taken g c = λ bodies start h known.
-    let meaning = g.B.Body.meaning in
-    let fits = g.B.Body.fits in
-    let there = g.M.Hosts.has_scope c.args.mode.now in
     let width = g.M.Mode.width c.args.mode.now in
     let s = c.args.built.now in
-    let slots = c.args.jobs.now.bodies in
     let deferred = c.args.run.now.deferred in
     let out = c.args.jobs.now.pool in
     let w = c.args.run.now.state in
@@ -428,12 +361,8 @@ returns-in_ok-sync-in-Sync-clause-taken g c = λ bodies start h known.
 
 pub returns-in_ok-system-in-Collect-clause-taken : goal.returns-in_ok-system-in-Collect-clause-taken
 returns-in_ok-system-in-Collect-clause-taken g c = λ bodies start h known.
-    let meaning = g.B.Body.meaning in
-    let fits = g.B.Body.fits in
-    let there = g.M.Hosts.has_scope c.args.mode.now in
     let width = g.M.Mode.width c.args.mode.now in
     let s = c.args.built.now in
-    let slots = c.args.jobs.now.bodies in
     let deferred = c.args.run.now.deferred in
     let out = c.args.jobs.now.pool in
     let w = c.args.run.now.state in

@@ -77,10 +77,8 @@ returns-in_err-bring_home-in-Err-clause-stopped g c =
     let s = c.args.built.now in
     let bodies = meanings meaning s c.args.jobs.now.bodies in
     let start = c.args.run.now.state.state in
-    let inv = c.loop-run.invariant in
     let now = meanings meaning s c.loop-run.jobs.bodies in
     let middle = c.loop-run.run.state.state in
-    let traces = c.loop-run.traces.items in
     let told = c.in_err-bring_home-in-Err.field-0.0 in
     let lost = c.in_err-bring_home-in-Err.ensures.lost in
     let later = c.run_turns.new.jobs in
@@ -120,14 +118,9 @@ returns-in-Err-clause-meanings g c = λ lost.
     let meaning = g.B.Body.meaning in
     let fits = g.B.Body.fits in
     let there = g.M.Hosts.has_scope c.args.mode.now in
-    let width = g.M.Mode.width c.args.mode.now in
     let s = c.args.built.now in
-    let bodies = meanings meaning s c.args.jobs.now.bodies in
-    let start = c.args.run.now.state.state in
     let inv = c.loop-run.invariant in
     let now = meanings meaning s c.loop-run.jobs.bodies in
-    let middle = c.loop-run.run.state.state in
-    let traces = c.loop-run.traces.items in
     let kept = c.in-Err.ensures.kept (λ e. lost (ap (λ x. Err x) (one_stop e))) in
     kept_last meaning fits there s now c.bring_home.new.jobs.bodies (c.in_ok-bring_home-in-Err.ensures.kept s now kept) (meanings_count meaning fits there s c.loop-run.jobs.bodies inv.rest.suits.body_count) ∙ inv.meant
 

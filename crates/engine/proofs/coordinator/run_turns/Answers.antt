@@ -21,10 +21,8 @@ returns-in_err-core-clause-kept g c = λ lost.
     let meaning = g.B.Body.meaning in
     let fits = g.B.Body.fits in
     let there = g.M.Hosts.has_scope c.args.mode.now in
-    let width = g.M.Mode.width c.args.mode.now in
     let s = c.args.built.now in
     let bodies = meanings meaning s c.args.jobs.now.bodies in
-    let start = c.args.run.now.state.state in
     let first = placed_kept meaning fits there s bodies c.args.jobs.now.bodies [] c.args.run.now.state (placed_first meaning fits there s c.args.jobs.now.bodies c.args.run.now.state c.requires.rest.suits c.requires.rest.home) in
     subst (λ xs. AreKept meaning fits there s bodies c.args.jobs.now.bodies xs) (sym c.requires.empty) first
 
@@ -33,17 +31,14 @@ returns-in_err-open-clause-kept g c = λ lost.
     let meaning = g.B.Body.meaning in
     let fits = g.B.Body.fits in
     let there = g.M.Hosts.has_scope c.args.mode.now in
-    let width = g.M.Mode.width c.args.mode.now in
     let s = c.args.built.now in
     let bodies = meanings meaning s c.args.jobs.now.bodies in
-    let start = c.args.run.now.state.state in
     let first = placed_kept meaning fits there s bodies c.args.jobs.now.bodies [] c.args.run.now.state (placed_first meaning fits there s c.args.jobs.now.bodies c.args.run.now.state c.requires.rest.suits c.requires.rest.home) in
     subst (λ xs. AreKept meaning fits there s bodies c.args.jobs.now.bodies xs) (sym c.requires.empty) first
 
 pub returns-in_err-open-clause-stopped : goal.returns-in_err-open-clause-stopped
 returns-in_err-open-clause-stopped g c =
     let meaning = g.B.Body.meaning in
-    let fits = g.B.Body.fits in
     let there = g.M.Hosts.has_scope c.args.mode.now in
     let width = g.M.Mode.width c.args.mode.now in
     let s = c.args.built.now in
@@ -304,15 +299,10 @@ returns-clause-kept g c = λ lost.
     let meaning = g.B.Body.meaning in
     let fits = g.B.Body.fits in
     let there = g.M.Hosts.has_scope c.args.mode.now in
-    let width = g.M.Mode.width c.args.mode.now in
     let s = c.args.built.now in
     let bodies = meanings meaning s c.args.jobs.now.bodies in
-    let start = c.args.run.now.state.state in
     let inv = c.loop-turn.invariant in
-    let core = c.loop-turn.core in
-    let h = reverse c.loop-turn.steps.items in
     let slots = c.loop-turn.jobs.bodies in
     let out = c.loop-turn.jobs.pool in
     let w = c.loop-turn.run.state in
-    let deferred = c.loop-turn.run.deferred in
     placed_kept meaning fits there s bodies slots out w inv.between.placed

@@ -20,11 +20,7 @@ pub run_times-traces-requires : goal.run_times-traces-requires
 run_times-traces-requires g c = λ lifetimes.
     let meaning = g.B.Body.meaning in
     let fits = g.B.Body.fits in
-    let there = g.M.Hosts.has_scope c.args.mode.now in
-    let width = g.M.Mode.width c.args.mode.now in
     let inside = c.engine.inside in
-    let value = c.args.engine.now in
-    let bodies = meanings meaning value.schedule value.bodies in
     let same = c.into_open-state.ensures.state ∙ c.replace.ensures.value in
     let bodies_are = c.replace-bodies.ensures.value in
     let held = c.engine.invariant c.if-engine.false in
@@ -44,7 +40,6 @@ end-requires g c = λ lifetimes. (search sendable depth 40, (search sendable dep
 pub returns-in_err-traces-clause-stopped : goal.returns-in_err-traces-clause-stopped
 returns-in_err-traces-clause-stopped g c =
     let meaning = g.B.Body.meaning in
-    let fits = g.B.Body.fits in
     let there = g.M.Hosts.has_scope c.args.mode.now in
     let width = g.M.Mode.width c.args.mode.now in
     let inside = c.engine.inside in
@@ -75,13 +70,7 @@ returns-in_err-traces-clause-unchanged g c = λ e. absurd (told_unspoiled c.from
 pub returns-in_err-traces-clause-meanings : goal.returns-in_err-traces-clause-meanings
 returns-in_err-traces-clause-meanings g c = λ lost.
     let meaning = g.B.Body.meaning in
-    let fits = g.B.Body.fits in
-    let there = g.M.Hosts.has_scope c.args.mode.now in
-    let width = g.M.Mode.width c.args.mode.now in
     let inside = c.engine.inside in
-    let value = c.args.engine.now in
-    let bodies = meanings meaning value.schedule value.bodies in
-    let same = c.into_open-state.ensures.state ∙ c.replace.ensures.value in
     let bodies_are = c.replace-bodies.ensures.value in
     let later = c.run_times-traces.new.jobs.bodies in
     let told = c.in_err-traces.field-0.0 in
@@ -91,8 +80,6 @@ returns-in_err-traces-clause-meanings g c = λ lost.
 pub returns-clause-ran : goal.returns-clause-ran
 returns-clause-ran g c =
     let meaning = g.B.Body.meaning in
-    let fits = g.B.Body.fits in
-    let there = g.M.Hosts.has_scope c.args.mode.now in
     let width = g.M.Mode.width c.args.mode.now in
     let inside = c.engine.inside in
     let value = c.args.engine.now in

@@ -26,13 +26,8 @@ pub show-requires-clause-home : goal.show-requires-clause-home
 show-requires-clause-home g c =
     let s = c.args.built.now in
     let n = c.args.system in
-    let meaning = g.B.Body.meaning in
-    let fits = g.B.Body.fits in
-    let there = g.M.Hosts.has_scope c.args.mode.now in
     let w = c.args.run.now.state in
-    let deferred = c.args.run.now.deferred in
     let out = c.args.jobs.now.pool in
-    let slots = c.args.jobs.now.bodies in
     home-apart (store_of w) (held_by out) (params_of s n) c.prove_law.ensures.laid c.requires.placed.1.held c.requires.allowed.apart
 
 pub take-body-requires : goal.take-body-requires
@@ -43,7 +38,6 @@ take-body-requires g c =
     let fits = g.B.Body.fits in
     let there = g.M.Hosts.has_scope c.args.mode.now in
     let w = c.args.run.now.state in
-    let deferred = c.args.run.now.deferred in
     let out = c.args.jobs.now.pool in
     let slots = c.args.jobs.now.bodies in
     record { there = body-there meaning fits there s c.requires.placed.0 slots out w c.requires.placed.1 n c.requires.allowed.known c.requires.allowed.home }
@@ -56,13 +50,10 @@ pub returns-in_err-shown-clause-stopped : goal.returns-in_err-shown-clause-stopp
 returns-in_err-shown-clause-stopped g c =
     let s = c.args.built.now in
     let n = c.args.system in
-    let meaning = g.B.Body.meaning in
-    let fits = g.B.Body.fits in
     let there = g.M.Hosts.has_scope c.args.mode.now in
     let w = c.args.run.now.state in
     let deferred = c.args.run.now.deferred in
     let out = c.args.jobs.now.pool in
-    let slots = c.args.jobs.now.bodies in
     let told = c.in_err-shown.field-0.0 in
     handed_on (StopsBy there (λ met. (bodies : List BodyMeaning) → interleaved_cause_of s bodies (Begin n) (woven w.state deferred out) ≡ Some met)) c.from_residual.result told c.from_residual.ensures.1
     (stops_among there (LacksTick w.state) (λ met. (bodies : List BodyMeaning) → interleaved_cause_of s bodies (Begin n) (woven w.state deferred out) ≡ Some met) told
@@ -151,7 +142,6 @@ returns-in-Ok-clause-started g c = λ bodies.
     let w = c.args.run.now.state in
     let deferred = c.args.run.now.deferred in
     let out = c.args.jobs.now.pool in
-    let slots = c.args.jobs.now.bodies in
     let later = c.show.new.self.state in
     let job_of = λ (v : Seen). (let x : JobOut g.row.B.Denot = record { number = c.saturating_add-number.result; system = n; body = c.take-body.result; view = v; there = there } in x) in
     let job = job_of c.in_ok-view.view.value in
@@ -185,13 +175,10 @@ pub returns-in-Ok-clause-hand : goal.returns-in-Ok-clause-hand
 returns-in-Ok-clause-hand g c =
     let s = c.args.built.now in
     let n = c.args.system in
-    let meaning = g.B.Body.meaning in
-    let fits = g.B.Body.fits in
     let there = g.M.Hosts.has_scope c.args.mode.now in
     let w = c.args.run.now.state in
     let deferred = c.args.run.now.deferred in
     let out = c.args.jobs.now.pool in
-    let slots = c.args.jobs.now.bodies in
     let later = c.show.new.self.state in
     let job_of = λ (v : Seen). (let x : JobOut g.row.B.Denot = record { number = c.saturating_add-number.result; system = n; body = c.take-body.result; view = v; there = there } in x) in
     let job = job_of c.in_ok-view.view.value in
