@@ -67,7 +67,6 @@ returns-then-is_err-clause-err c =
     let lists = c.args.arriving.now in
     let n = c.loop-table.table in
     let old = c.args.tables.now.items in
-    let now = c.loop-table.tables.items in
     let same = at_error c.put_all_at.result _ (sym c.is_err.ensures.value ∙ c.if-is_err.true) c.put_all_at.ensures.err in
     let rows = c.args.rows.now in
     let left = c.put_all_at.new.tables.items in

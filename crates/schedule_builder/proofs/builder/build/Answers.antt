@@ -24,9 +24,7 @@ pub scheduled-requires : goal.scheduled-requires
 scheduled-requires c =
     let d : Declared = c.args.desc in
     let edges : List Order = c.in_ok-found.found.edges.items in
-    let plain : List Order = c.in_ok-found.found.plain.items in
     let all = c.in_ok-found.ensures.edges in
-    let plainly = c.in_ok-found.ensures.plain in
     subst (λ (xs : List Order). All (IsBetween (2 ^ 32)) xs) (sym c.as_slice.ensures.value) (edges_small edges d all c.in_ok-found.ensures.buildable.within.systems)
 
 pub found_levels-requires-clause-few : goal.found_levels-requires-clause-few
@@ -44,9 +42,7 @@ pub found_levels-requires-clause-falls : goal.found_levels-requires-clause-falls
 found_levels-requires-clause-falls c =
     let d : Declared = c.args.desc in
     let edges : List Order = c.in_ok-found.found.edges.items in
-    let plain : List Order = c.in_ok-found.found.plain.items in
     let all = c.in_ok-found.ensures.edges in
-    let plainly = c.in_ok-found.ensures.plain in
     let flat : List ScheduledSystem = c.in_ok-flat.flat.items in
     let a : AreScheduled edges [] d.systems flat = are_scheduled edges c.as_slice.result.now d.systems c.in_ok-parts.parts.params.items flat c.as_slice.ensures.value c.in_ok-parts.ensures.params c.in_ok-flat.ensures in
     subst (λ (xs : List ScheduledSystem). IsRankable (IsEdge xs)) (sym c.as_slice-2.ensures.value) (edges_rankable edges d flat all a c.in_ok-found.ensures.rankable)
@@ -55,9 +51,7 @@ pub found_levels-requires-clause-sources : goal.found_levels-requires-clause-sou
 found_levels-requires-clause-sources c =
     let d : Declared = c.args.desc in
     let edges : List Order = c.in_ok-found.found.edges.items in
-    let plain : List Order = c.in_ok-found.found.plain.items in
     let all = c.in_ok-found.ensures.edges in
-    let plainly = c.in_ok-found.ensures.plain in
     let flat : List ScheduledSystem = c.in_ok-flat.flat.items in
     let a : AreScheduled edges [] d.systems flat = are_scheduled edges c.as_slice.result.now d.systems c.in_ok-parts.parts.params.items flat c.as_slice.ensures.value c.in_ok-parts.ensures.params c.in_ok-flat.ensures in
     subst (λ (xs : List ScheduledSystem). HasSourcesBelow xs) (sym c.as_slice-2.ensures.value) (edges_from edges d flat all a)
@@ -66,9 +60,6 @@ pub found_levels-requires-clause-rising : goal.found_levels-requires-clause-risi
 found_levels-requires-clause-rising c =
     let d : Declared = c.args.desc in
     let edges : List Order = c.in_ok-found.found.edges.items in
-    let plain : List Order = c.in_ok-found.found.plain.items in
-    let all = c.in_ok-found.ensures.edges in
-    let plainly = c.in_ok-found.ensures.plain in
     let flat : List ScheduledSystem = c.in_ok-flat.flat.items in
     let a : AreScheduled edges [] d.systems flat = are_scheduled edges c.as_slice.result.now d.systems c.in_ok-parts.parts.params.items flat c.as_slice.ensures.value c.in_ok-parts.ensures.params c.in_ok-flat.ensures in
     subst (λ (xs : List ScheduledSystem). AreRising xs) (sym c.as_slice-2.ensures.value) (flat_rises edges d.systems flat a)
@@ -112,13 +103,11 @@ order_of-requires-clause-falls c =
     let edges : List Order = c.in_ok-found.found.edges.items in
     let plain : List Order = c.in_ok-found.found.plain.items in
     let all = c.in_ok-found.ensures.edges in
-    let plainly = c.in_ok-found.ensures.plain in
     let flat : List ScheduledSystem = c.in_ok-flat.flat.items in
     let a : AreScheduled edges [] d.systems flat = are_scheduled edges c.as_slice.result.now d.systems c.in_ok-parts.parts.params.items flat c.as_slice.ensures.value c.in_ok-parts.ensures.params c.in_ok-flat.ensures in
     let levels : List ℕ = c.in_ok-levels.levels.items in
     let found : AreLevels flat plain levels =
     subst (λ (xs : List ScheduledSystem). AreLevels xs plain levels) c.as_slice-2.ensures.value (subst (λ (xs : List Order). AreLevels c.as_slice-2.result.now xs levels) c.as_slice-3.ensures.value c.in_ok-levels.ensures) in
-    let syncs : AreSyncs levels c.syncs_of-syncs.result = subst (λ (xs : List ℕ). AreSyncs xs c.syncs_of-syncs.result) c.as_slice-4.ensures.value c.syncs_of-syncs.ensures.syncs in
     let systems : List ScheduledSystem = c.in_ok-systems.systems.items in
     let b : AreScheduled edges levels d.systems systems =
     levelled_scheduled edges levels d.systems flat systems a (subst (λ (xs : List ℕ). AreLevelledBy xs flat systems) c.as_slice-5.ensures.value c.in_ok-systems.ensures) in
@@ -130,13 +119,11 @@ order_of-requires-clause-sources c =
     let edges : List Order = c.in_ok-found.found.edges.items in
     let plain : List Order = c.in_ok-found.found.plain.items in
     let all = c.in_ok-found.ensures.edges in
-    let plainly = c.in_ok-found.ensures.plain in
     let flat : List ScheduledSystem = c.in_ok-flat.flat.items in
     let a : AreScheduled edges [] d.systems flat = are_scheduled edges c.as_slice.result.now d.systems c.in_ok-parts.parts.params.items flat c.as_slice.ensures.value c.in_ok-parts.ensures.params c.in_ok-flat.ensures in
     let levels : List ℕ = c.in_ok-levels.levels.items in
     let found : AreLevels flat plain levels =
     subst (λ (xs : List ScheduledSystem). AreLevels xs plain levels) c.as_slice-2.ensures.value (subst (λ (xs : List Order). AreLevels c.as_slice-2.result.now xs levels) c.as_slice-3.ensures.value c.in_ok-levels.ensures) in
-    let syncs : AreSyncs levels c.syncs_of-syncs.result = subst (λ (xs : List ℕ). AreSyncs xs c.syncs_of-syncs.result) c.as_slice-4.ensures.value c.syncs_of-syncs.ensures.syncs in
     let systems : List ScheduledSystem = c.in_ok-systems.systems.items in
     let b : AreScheduled edges levels d.systems systems =
     levelled_scheduled edges levels d.systems flat systems a (subst (λ (xs : List ℕ). AreLevelledBy xs flat systems) c.as_slice-5.ensures.value c.in_ok-systems.ensures) in
@@ -154,7 +141,6 @@ order_of-requires-clause-rising c =
     let levels : List ℕ = c.in_ok-levels.levels.items in
     let found : AreLevels flat plain levels =
     subst (λ (xs : List ScheduledSystem). AreLevels xs plain levels) c.as_slice-2.ensures.value (subst (λ (xs : List Order). AreLevels c.as_slice-2.result.now xs levels) c.as_slice-3.ensures.value c.in_ok-levels.ensures) in
-    let syncs : AreSyncs levels c.syncs_of-syncs.result = subst (λ (xs : List ℕ). AreSyncs xs c.syncs_of-syncs.result) c.as_slice-4.ensures.value c.syncs_of-syncs.ensures.syncs in
     let systems : List ScheduledSystem = c.in_ok-systems.systems.items in
     let b : AreScheduled edges levels d.systems systems =
     levelled_scheduled edges levels d.systems flat systems a (subst (λ (xs : List ℕ). AreLevelledBy xs flat systems) c.as_slice-5.ensures.value c.in_ok-systems.ensures) in
@@ -190,14 +176,11 @@ of_parts-requires-clause-apart c =
     let d : Declared = c.args.desc in
     let edges : List Order = c.in_ok-found.found.edges.items in
     let plain : List Order = c.in_ok-found.found.plain.items in
-    let all = c.in_ok-found.ensures.edges in
-    let plainly = c.in_ok-found.ensures.plain in
     let flat : List ScheduledSystem = c.in_ok-flat.flat.items in
     let a : AreScheduled edges [] d.systems flat = are_scheduled edges c.as_slice.result.now d.systems c.in_ok-parts.parts.params.items flat c.as_slice.ensures.value c.in_ok-parts.ensures.params c.in_ok-flat.ensures in
     let levels : List ℕ = c.in_ok-levels.levels.items in
     let found : AreLevels flat plain levels =
     subst (λ (xs : List ScheduledSystem). AreLevels xs plain levels) c.as_slice-2.ensures.value (subst (λ (xs : List Order). AreLevels c.as_slice-2.result.now xs levels) c.as_slice-3.ensures.value c.in_ok-levels.ensures) in
-    let syncs : AreSyncs levels c.syncs_of-syncs.result = subst (λ (xs : List ℕ). AreSyncs xs c.syncs_of-syncs.result) c.as_slice-4.ensures.value c.syncs_of-syncs.ensures.syncs in
     let systems : List ScheduledSystem = c.in_ok-systems.systems.items in
     let b : AreScheduled edges levels d.systems systems =
     levelled_scheduled edges levels d.systems flat systems a (subst (λ (xs : List ℕ). AreLevelledBy xs flat systems) c.as_slice-5.ensures.value c.in_ok-systems.ensures) in
@@ -208,19 +191,15 @@ returns-clause-systems c =
     let d : Declared = c.args.desc in
     let edges : List Order = c.in_ok-found.found.edges.items in
     let plain : List Order = c.in_ok-found.found.plain.items in
-    let all = c.in_ok-found.ensures.edges in
-    let plainly = c.in_ok-found.ensures.plain in
     let flat : List ScheduledSystem = c.in_ok-flat.flat.items in
     let a : AreScheduled edges [] d.systems flat = are_scheduled edges c.as_slice.result.now d.systems c.in_ok-parts.parts.params.items flat c.as_slice.ensures.value c.in_ok-parts.ensures.params c.in_ok-flat.ensures in
     let levels : List ℕ = c.in_ok-levels.levels.items in
     let found : AreLevels flat plain levels =
     subst (λ (xs : List ScheduledSystem). AreLevels xs plain levels) c.as_slice-2.ensures.value (subst (λ (xs : List Order). AreLevels c.as_slice-2.result.now xs levels) c.as_slice-3.ensures.value c.in_ok-levels.ensures) in
-    let syncs : AreSyncs levels c.syncs_of-syncs.result = subst (λ (xs : List ℕ). AreSyncs xs c.syncs_of-syncs.result) c.as_slice-4.ensures.value c.syncs_of-syncs.ensures.syncs in
     let systems : List ScheduledSystem = c.in_ok-systems.systems.items in
     let b : AreScheduled edges levels d.systems systems =
     levelled_scheduled edges levels d.systems flat systems a (subst (λ (xs : List ℕ). AreLevelledBy xs flat systems) c.as_slice-5.ensures.value c.in_ok-systems.ensures) in
     let order : List ℕ = c.in_ok-order.order.items in
-    let ordered : IsScheduleOrder (schedule_of systems order) = subst (λ (xs : List ScheduledSystem). IsScheduleOrder (schedule_of xs order)) c.as_slice-6.ensures.value c.in_ok-order.ensures.order in
     subst (λ (s : Schedule). HasDeclaredSystems d s) (sym c.in_ok-built.ensures) (declared_systems edges d systems order b)
 
 pub returns-clause-edges : goal.returns-clause-edges
@@ -229,18 +208,15 @@ returns-clause-edges c =
     let edges : List Order = c.in_ok-found.found.edges.items in
     let plain : List Order = c.in_ok-found.found.plain.items in
     let all = c.in_ok-found.ensures.edges in
-    let plainly = c.in_ok-found.ensures.plain in
     let flat : List ScheduledSystem = c.in_ok-flat.flat.items in
     let a : AreScheduled edges [] d.systems flat = are_scheduled edges c.as_slice.result.now d.systems c.in_ok-parts.parts.params.items flat c.as_slice.ensures.value c.in_ok-parts.ensures.params c.in_ok-flat.ensures in
     let levels : List ℕ = c.in_ok-levels.levels.items in
     let found : AreLevels flat plain levels =
     subst (λ (xs : List ScheduledSystem). AreLevels xs plain levels) c.as_slice-2.ensures.value (subst (λ (xs : List Order). AreLevels c.as_slice-2.result.now xs levels) c.as_slice-3.ensures.value c.in_ok-levels.ensures) in
-    let syncs : AreSyncs levels c.syncs_of-syncs.result = subst (λ (xs : List ℕ). AreSyncs xs c.syncs_of-syncs.result) c.as_slice-4.ensures.value c.syncs_of-syncs.ensures.syncs in
     let systems : List ScheduledSystem = c.in_ok-systems.systems.items in
     let b : AreScheduled edges levels d.systems systems =
     levelled_scheduled edges levels d.systems flat systems a (subst (λ (xs : List ℕ). AreLevelledBy xs flat systems) c.as_slice-5.ensures.value c.in_ok-systems.ensures) in
     let order : List ℕ = c.in_ok-order.order.items in
-    let ordered : IsScheduleOrder (schedule_of systems order) = subst (λ (xs : List ScheduledSystem). IsScheduleOrder (schedule_of xs order)) c.as_slice-6.ensures.value c.in_ok-order.ensures.order in
     subst (λ (s : Schedule). HasDeclaredEdges d s) (sym c.in_ok-built.ensures) (declared_edges edges d systems order all b)
 
 pub returns-clause-levels : goal.returns-clause-levels
@@ -260,7 +236,6 @@ returns-clause-levels c =
     let b : AreScheduled edges levels d.systems systems =
     levelled_scheduled edges levels d.systems flat systems a (subst (λ (xs : List ℕ). AreLevelledBy xs flat systems) c.as_slice-5.ensures.value c.in_ok-systems.ensures) in
     let order : List ℕ = c.in_ok-order.order.items in
-    let ordered : IsScheduleOrder (schedule_of systems order) = subst (λ (xs : List ScheduledSystem). IsScheduleOrder (schedule_of xs order)) c.as_slice-6.ensures.value c.in_ok-order.ensures.order in
     subst (λ (s : Schedule). HasLevels d s) (sym c.in_ok-built.ensures) (has_levels {conditions = c.in_ok-conditions.conditions.items} {silences = c.in_ok-found.found.silences.items} edges plain d flat systems levels order c.syncs_of-syncs.result all a plainly c.in_ok-found.ensures.rankable found b syncs)
 
 pub returns-clause-order : goal.returns-clause-order
@@ -268,14 +243,11 @@ returns-clause-order c =
     let d : Declared = c.args.desc in
     let edges : List Order = c.in_ok-found.found.edges.items in
     let plain : List Order = c.in_ok-found.found.plain.items in
-    let all = c.in_ok-found.ensures.edges in
-    let plainly = c.in_ok-found.ensures.plain in
     let flat : List ScheduledSystem = c.in_ok-flat.flat.items in
     let a : AreScheduled edges [] d.systems flat = are_scheduled edges c.as_slice.result.now d.systems c.in_ok-parts.parts.params.items flat c.as_slice.ensures.value c.in_ok-parts.ensures.params c.in_ok-flat.ensures in
     let levels : List ℕ = c.in_ok-levels.levels.items in
     let found : AreLevels flat plain levels =
     subst (λ (xs : List ScheduledSystem). AreLevels xs plain levels) c.as_slice-2.ensures.value (subst (λ (xs : List Order). AreLevels c.as_slice-2.result.now xs levels) c.as_slice-3.ensures.value c.in_ok-levels.ensures) in
-    let syncs : AreSyncs levels c.syncs_of-syncs.result = subst (λ (xs : List ℕ). AreSyncs xs c.syncs_of-syncs.result) c.as_slice-4.ensures.value c.syncs_of-syncs.ensures.syncs in
     let systems : List ScheduledSystem = c.in_ok-systems.systems.items in
     let b : AreScheduled edges levels d.systems systems =
     levelled_scheduled edges levels d.systems flat systems a (subst (λ (xs : List ℕ). AreLevelledBy xs flat systems) c.as_slice-5.ensures.value c.in_ok-systems.ensures) in
@@ -300,7 +272,6 @@ pub returns-clause-silences : goal.returns-clause-silences
 returns-clause-silences c =
     let d : Declared = c.args.desc in
     let edges : List Order = c.in_ok-found.found.edges.items in
-    let plain : List Order = c.in_ok-found.found.plain.items in
     let flat : List ScheduledSystem = c.in_ok-flat.flat.items in
     let a : AreScheduled edges [] d.systems flat = are_scheduled edges c.as_slice.result.now d.systems c.in_ok-parts.parts.params.items flat c.as_slice.ensures.value c.in_ok-parts.ensures.params c.in_ok-flat.ensures in
     let levels : List ℕ = c.in_ok-levels.levels.items in

@@ -16,7 +16,6 @@ own_all-requires-clause-home c =
 pub invariant_of-self : goal.invariant_of-self
 invariant_of-self c =
     let T = c.self.inside.tables.items in
-    let P = c.self.inside.places.items in
     let Q = c.self.inside.places.items in
     let T1 = c.own_all.new.tables.items in
     record {
@@ -37,7 +36,6 @@ returns-in_err-own_all-clause-err c =
 pub returns-in_err-own_all-clause-home : goal.returns-in_err-own_all-clause-home
 returns-in_err-own_all-clause-home c =
     let T = c.self.inside.tables.items in
-    let P = c.self.inside.places.items in
     let Q = c.self.inside.places.items in
     let T1 = c.own_all.new.tables.items in
     alike_all_home T T1 Q c.self.inside.shared c.own_all.new.shared c.own_all.ensures.alike
@@ -52,17 +50,12 @@ note_rows-requires c = subst (λ ts. IsFound ts c.self.inside.index) (sym c.dere
 pub clear_in-requires-clause-whole : goal.clear_in-requires-clause-whole
 clear_in-requires-clause-whole c =
     let T = c.self.inside.tables.items in
-    let P = c.self.inside.places.items in
     let Q = c.self.inside.places.items in
     let T1 = c.own_all.new.tables.items in
     alike_whole T T1 Q c.self.inside.shared c.own_all.new.shared c.own_all.ensures.alike c.self.invariant.stored.whole
 
 pub invariant_of-self-2 : goal.invariant_of-self-2
 invariant_of-self-2 c =
-    let T = c.self.inside.tables.items in
-    let P = c.self.inside.places.items in
-    let Q = c.self.inside.places.items in
-    let T1 = c.own_all.new.tables.items in
     record {
       stored = owned_stored c.clear_in.new.tables.items c.clear_in.new.places.items c.own_all.new.shared c.clear_in.ensures.whole c.clear_in.ensures.owned;
       indexed = subst (λ ts. IsIndexed ts c.note_rows.new.self) c.deref.ensures.value c.note_rows.ensures;
@@ -70,10 +63,6 @@ invariant_of-self-2 c =
 
 pub returns-clause-home : goal.returns-clause-home
 returns-clause-home c =
-    let T = c.self.inside.tables.items in
-    let P = c.self.inside.places.items in
-    let Q = c.self.inside.places.items in
-    let T1 = c.own_all.new.tables.items in
     owned_layout c.clear_in.new.tables.items c.clear_in.new.places.items c.own_all.new.shared c.clear_in.ensures.owned
 
 pub returns-clause-ok : goal.returns-clause-ok

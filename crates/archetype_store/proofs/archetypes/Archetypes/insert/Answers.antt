@@ -47,7 +47,6 @@ returns-in_err-own_all-clause-err c =
 pub returns-in_err-own_all-clause-home : goal.returns-in_err-own_all-clause-home
 returns-in_err-own_all-clause-home c =
     let T = c.self.inside.tables.items in
-    let P = c.self.inside.places.items in
     let Q = c.reach.new.places.items in
     let T1 = c.own_all.new.tables.items in
     alike_all_home T T1 Q c.self.inside.shared c.own_all.new.shared c.own_all.ensures.alike
@@ -69,10 +68,6 @@ insert_in-inserted-requires-clause-whole c =
 
 pub invariant_of-self-2 : goal.invariant_of-self-2
 invariant_of-self-2 c =
-    let T = c.self.inside.tables.items in
-    let P = c.self.inside.places.items in
-    let Q = c.reach.new.places.items in
-    let T1 = c.own_all.new.tables.items in
     record {
       stored = owned_stored c.insert_in-inserted.new.tables.items c.insert_in-inserted.new.places.items c.own_all.new.shared c.insert_in-inserted.ensures.whole c.insert_in-inserted.ensures.owned;
       indexed = subst (λ ts. IsIndexed ts c.note_rows.new.self) c.deref.ensures.value c.note_rows.ensures;
@@ -80,10 +75,6 @@ invariant_of-self-2 c =
 
 pub returns-clause-home : goal.returns-clause-home
 returns-clause-home c =
-    let T = c.self.inside.tables.items in
-    let P = c.self.inside.places.items in
-    let Q = c.reach.new.places.items in
-    let T1 = c.own_all.new.tables.items in
     owned_layout c.insert_in-inserted.new.tables.items c.insert_in-inserted.new.places.items c.own_all.new.shared c.insert_in-inserted.ensures.owned
 
 pub returns-clause-ok : goal.returns-clause-ok

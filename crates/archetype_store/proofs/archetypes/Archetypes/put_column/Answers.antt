@@ -11,22 +11,17 @@ use Rattle.archetype_store.proofs.archetypes.Archetypes.put_column.Goals as goal
 pub unreachable-requires : goal.unreachable-requires
 unreachable-requires c =
     let T = c.self.inside.tables.items in
-    let P = c.self.inside.places.items in
     let home : column_home (archetype_at (layout_of T) c.args.archetype) c.args.column.kind ≡ Some false = ap (λ (v : ArchetypesValue). column_home (archetype_at v.layout c.args.archetype) c.args.column.kind) c.self.view_is ∙ c.requires.away in
     no_column (layout_of T) c.args.archetype c.args.column.kind false (c.in_default.ensures T c.self.invariant.indexed) home
 
 pub home_at-requires-clause-within : goal.home_at-requires-clause-within
 home_at-requires-clause-within c =
-    let T = c.self.inside.tables.items in
-    let P = c.self.inside.places.items in
-    let home : column_home (archetype_at (layout_of T) c.args.archetype) c.args.column.kind ≡ Some false = ap (λ (v : ArchetypesValue). column_home (archetype_at v.layout c.args.archetype) c.args.column.kind) c.self.view_is ∙ c.requires.away in
     let at = c.in-Some.ensures c.self.inside.tables.items c.self.invariant.indexed in
     at.within
 
 pub home_at-requires-clause-away : goal.home_at-requires-clause-away
 home_at-requires-clause-away c =
     let T = c.self.inside.tables.items in
-    let P = c.self.inside.places.items in
     let home : column_home (archetype_at (layout_of T) c.args.archetype) c.args.column.kind ≡ Some false = ap (λ (v : ArchetypesValue). column_home (archetype_at v.layout c.args.archetype) c.args.column.kind) c.self.view_is ∙ c.requires.away in
     let at = c.in-Some.ensures c.self.inside.tables.items c.self.invariant.indexed in
     away_there T c.args.archetype c.in-Some.table at c.args.column.kind home
@@ -34,7 +29,6 @@ home_at-requires-clause-away c =
 pub home_at-requires-clause-same_length : goal.home_at-requires-clause-same_length
 home_at-requires-clause-same_length c =
     let T = c.self.inside.tables.items in
-    let P = c.self.inside.places.items in
     let at = c.in-Some.ensures c.self.inside.tables.items c.self.invariant.indexed in
     c.requires.same_length ∙ ap (λ (v : ArchetypesValue). length (archetype_at v.layout c.args.archetype).entities) (sym c.self.view_is)
     ∙ ap length (entities_there T c.args.archetype c.in-Some.table at) ∙ length-map (table_at T c.in-Some.table).rows (λ (row : TableRow). row.entity)
@@ -43,7 +37,6 @@ pub invariant_of-self : goal.invariant_of-self
 invariant_of-self c =
     let T = c.self.inside.tables.items in
     let P = c.self.inside.places.items in
-    let home : column_home (archetype_at (layout_of T) c.args.archetype) c.args.column.kind ≡ Some false = ap (λ (v : ArchetypesValue). column_home (archetype_at v.layout c.args.archetype) c.args.column.kind) c.self.view_is ∙ c.requires.away in
     let at = c.in-Some.ensures c.self.inside.tables.items c.self.invariant.indexed in
     record {
       stored = rw c.home_at.ensures (stored_homed T P c.self.inside.shared c.args.archetype c.in-Some.table at c.args.column c.self.invariant.stored);
@@ -54,7 +47,6 @@ pub returns : goal.returns
 returns c =
     let T = c.self.inside.tables.items in
     let P = c.self.inside.places.items in
-    let home : column_home (archetype_at (layout_of T) c.args.archetype) c.args.column.kind ≡ Some false = ap (λ (v : ArchetypesValue). column_home (archetype_at v.layout c.args.archetype) c.args.column.kind) c.self.view_is ∙ c.requires.away in
     let at = c.in-Some.ensures c.self.inside.tables.items c.self.invariant.indexed in
     rw c.home_at.ensures (subst (λ (v : ArchetypesValue). IsFilled v c.args.archetype c.args.column.kind c.args.column.cells (archetypes_of (set T c.in-Some.table (homed (table_at T c.in-Some.table) c.args.column)) P)) c.self.view_is
     (value_homed T P c.self.inside.shared c.args.archetype c.in-Some.table at c.args.column c.self.invariant.stored))

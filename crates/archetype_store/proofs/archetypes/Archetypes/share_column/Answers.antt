@@ -12,22 +12,17 @@ use Rattle.archetype_store.proofs.archetypes.Archetypes.share_column.Goals as go
 pub unreachable-requires : goal.unreachable-requires
 unreachable-requires c =
     let T = c.self.inside.tables.items in
-    let P = c.self.inside.places.items in
     let home : column_home (archetype_at (layout_of T) c.args.archetype) (kind_number c.args.kind) ≡ Some true = ap (λ (v : ArchetypesValue). column_home (archetype_at v.layout c.args.archetype) (kind_number c.args.kind)) c.self.view_is ∙ c.requires in
     no_column (layout_of T) c.args.archetype (kind_number c.args.kind) true (c.in_default.ensures T c.self.invariant.indexed) home
 
 pub share_at-requires-clause-within : goal.share_at-requires-clause-within
 share_at-requires-clause-within c =
-    let T = c.self.inside.tables.items in
-    let P = c.self.inside.places.items in
-    let home : column_home (archetype_at (layout_of T) c.args.archetype) (kind_number c.args.kind) ≡ Some true = ap (λ (v : ArchetypesValue). column_home (archetype_at v.layout c.args.archetype) (kind_number c.args.kind)) c.self.view_is ∙ c.requires in
     let at = c.in-Some.ensures c.self.inside.tables.items c.self.invariant.indexed in
     at.within
 
 pub share_at-requires-clause-home : goal.share_at-requires-clause-home
 share_at-requires-clause-home c =
     let T = c.self.inside.tables.items in
-    let P = c.self.inside.places.items in
     let home : column_home (archetype_at (layout_of T) c.args.archetype) (kind_number c.args.kind) ≡ Some true = ap (λ (v : ArchetypesValue). column_home (archetype_at v.layout c.args.archetype) (kind_number c.args.kind)) c.self.view_is ∙ c.requires in
     let at = c.in-Some.ensures c.self.inside.tables.items c.self.invariant.indexed in
     home_there T c.args.archetype c.in-Some.table at (kind_number c.args.kind) home
@@ -36,7 +31,6 @@ pub returns-clause-cells : goal.returns-clause-cells
 returns-clause-cells c =
     let T = c.self.inside.tables.items in
     let P = c.self.inside.places.items in
-    let home : column_home (archetype_at (layout_of T) c.args.archetype) (kind_number c.args.kind) ≡ Some true = ap (λ (v : ArchetypesValue). column_home (archetype_at v.layout c.args.archetype) (kind_number c.args.kind)) c.self.view_is ∙ c.requires in
     let at = c.in-Some.ensures c.self.inside.tables.items c.self.invariant.indexed in
     let seen = column_seen T P c.self.invariant.stored.whole c.args.archetype c.in-Some.table at (kind_number c.args.kind) c.share_at.ensures.rising in
     subst (λ (v : ArchetypesValue). IfOk c.share_at.result (λ column. map (λ cell. Some cell) (arc_value column).cells ≡ row_cells v.rows (archetype_at v.layout c.args.archetype).entities (kind_number c.args.kind))) c.self.view_is

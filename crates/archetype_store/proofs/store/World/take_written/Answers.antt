@@ -18,7 +18,6 @@ take_column-requires c =
     let d : ColumnAt = record { archetype = 0; kind = Position } in
     let p = get_or ps i d in
     let is : p ≡ get_or ps i p = get_or_default ps i d p c.loop-at-test.true in
-    let slots = c.args.self.now.state.slots in
     let layout = c.args.self.now.layout in
     let k = kind_number p.kind in
     subst (λ (w : StoreValue). column_home (archetype_at w.layout p.archetype) k ≡ Some true) (sym c.loop-at.invariant.away) (can_next layout ps i p c.loop-at-test.true is c.requires)
@@ -27,12 +26,7 @@ pub put_back-requires : goal.put_back-requires
 put_back-requires c =
     let ps = c.args.columns.now in
     let i = c.loop-at.at-index in
-    let d : ColumnAt = record { archetype = 0; kind = Position } in
-    let p = get_or ps i d in
-    let is : p ≡ get_or ps i p = get_or_default ps i d p c.loop-at-test.true in
-    let slots = c.args.self.now.state.slots in
     let layout = c.args.self.now.layout in
-    let k = kind_number p.kind in
     let back = back_again c.args.self.now.state c.now-now.ensures.world layout (take i ps) c.loop-at.taken.items c.prove_laid.ensures (can_take layout ps i c.requires) c.loop-at.invariant.taken in
     subst (CanComeHome c.loop-at.taken.items) (sym (c.in-Err.ensures.err ∙ c.loop-at.invariant.away)) back.1
 
@@ -40,12 +34,7 @@ pub returns-in-Err-clause-err : goal.returns-in-Err-clause-err
 returns-in-Err-clause-err c =
     let ps = c.args.columns.now in
     let i = c.loop-at.at-index in
-    let d : ColumnAt = record { archetype = 0; kind = Position } in
-    let p = get_or ps i d in
-    let is : p ≡ get_or ps i p = get_or_default ps i d p c.loop-at-test.true in
-    let slots = c.args.self.now.state.slots in
     let layout = c.args.self.now.layout in
-    let k = kind_number p.kind in
     let back = back_again c.args.self.now.state c.now-now.ensures.world layout (take i ps) c.loop-at.taken.items c.prove_laid.ensures (can_take layout ps i c.requires) c.loop-at.invariant.taken in
     c.put_back.ensures ∙ ap (all_home c.loop-at.taken.items) (c.in-Err.ensures.err ∙ c.loop-at.invariant.away) ∙ back.0
 
