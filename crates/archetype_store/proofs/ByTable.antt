@@ -2,7 +2,6 @@
 use Rattle.std.specs.Prelude.{Vec}
 use Rattle.std.specs.declared.alloc.Global.{Global}
 use Rattle.std.proofs.Common.{◌≡◌, ℕ, zero, suc, ◌<◌, List, [], ◌∷◌, length, get_or, set, take, map, refl, ap, arith}
-use Rattle.std.specs.List.{AllByRecursion}
 
 -- the list of a table
 abbrev pub list_at : {A : Type 0} → List (Vec A Global) → ℕ → List A

@@ -1,6 +1,5 @@
 -- What a change of one row leaves in tables.
-use Rattle.std.proofs.Common.{◌≡◌, ◌≢◌, ℕ, zero, suc, ◌<◌, ◌≤◌, Bool, true, false, cond, ◌==◌, ◌&&◌, ◌⊎◌, inl, inr, List, [], ◌∷◌, ◌++◌, length, set, map, Option, Some, None, option_map, is_some, option_and_then, ℤ, Result, Ok, Err, IfOk, refl, sym, ap, ap₂, ◌∙◌, arith}
-use Rattle.std.proofs.lemmas.Bool.Decides.{nat_tests}
+use Rattle.std.proofs.Common.{◌≡◌, ◌≢◌, ℕ, zero, suc, ◌<◌, ◌≤◌, Bool, true, false, cond, ◌==◌, ◌⊎◌, inl, inr, List, [], ◌∷◌, ◌++◌, length, set, map, Option, Some, None, option_map, is_some, option_and_then, ℤ, Result, Ok, Err, IfOk, refl, sym, ap, ap₂, ◌∙◌, arith}
 use Rattle.std.proofs.lemmas.Bool.{cases_eq, eq-eqb, ne_eqb}
 use Rattle.std.proofs.lemmas.List.{get_or-set_same, get_or-set_other}
 use Rattle.std.proofs.Math.Seq.{map-set_same}
@@ -21,7 +20,7 @@ use Rattle.column_store.proofs.Made.{same_entity}
 use Rattle.column_store.proofs.Rising.{before_apart, after_apart}
 use Rattle.column_store.proofs.Rows.{row_of-no_entity}
 use Rattle.column_store.proofs.TheirComponents.{cells_are_theirs, writes_are_theirs}
-use Rattle.column_store.proofs.Arrived.{same_index as same_pair, same_self, row_of-put as put_other}
+use Rattle.column_store.proofs.Arrived.{same_self, row_of-put as put_other}
 use Rattle.archetype_store.specs.Row.{component_of, only}
 use Rattle.archetype_store.specs.Layout.{IsShape, archetype_of, layout_of}
 use Rattle.archetype_store.specs.Tables.{table_at, kinds_at, held_in, held_at, row_or_none, shape_of, AreShaped, AreUnlike, AreOwned, IsHeldNow, IsGrown}

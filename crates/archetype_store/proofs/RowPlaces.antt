@@ -1,5 +1,5 @@
 -- Insertions in a row, at the place that a search found.
-use Rattle.std.proofs.Common.{◌≡◌, ℕ, zero, suc, ◌<◌, true, false, cond, ◌==◌, nat_lt, nat_le, List, [], ◌∷◌, length, get_or, set, map, Some, refl, sym, ap, ◌∙◌, arith}
+use Rattle.std.proofs.Common.{◌≡◌, ℕ, zero, suc, ◌<◌, true, false, cond, ◌==◌, nat_lt, nat_le, List, [], ◌∷◌, length, get_or, set, map, Some, sym, ap, ◌∙◌, arith}
 use Rattle.std.specs.List.{position, insert}
 use Rattle.std.proofs.lemmas.Bool.{eq-eqb}
 use Rattle.std.proofs.lemmas.Bool.Decides.{nat_tests}

@@ -1,5 +1,5 @@
 -- Lists of numbers in rising order.
-use Rattle.std.proofs.Common.{ℕ, ◌+◌, ◌<◌, ◌≡◌, ◌↔◌, true, false, eqb, inl, inr, List, [], ◌∷◌, ◌++◌, length, get_or, refl, sym, ◌∙◌, subst, arith}
+use Rattle.std.proofs.Common.{ℕ, ◌+◌, ◌<◌, ◌≡◌, ◌↔◌, true, false, eqb, inl, inr, List, [], ◌∷◌, ◌++◌, length, get_or, sym, ◌∙◌, subst, arith}
 use Rattle.std.proofs.lemmas.Bool.{false≢true, or_cases, or_left, or_right, eqb-true, eq-eqb, cases_lt}
 use Rattle.std.proofs.lemmas.List.{get_or_default}
 use Rattle.model.specs.Lists.{has}
@@ -7,7 +7,6 @@ use Rattle.model.specs.access.Access.{Params}
 use Rattle.model.specs.access.Condition.{access_of_condition}
 use Rattle.model.specs.access.Condition.Condition.{RunOnce}
 use Rattle.model.specs.access.Conflict.{Conflict}
-use Rattle.model.specs.declarations.Hierarchy.{IsRising}
 use Rattle.model.specs.steps.Schedule.{ScheduledSystem, ScheduledCondition}
 use Rattle.schedule_builder.specs.Rows.{system_in, IsRow, AreRows}
 use Rattle.schedule_builder.specs.Conditions.{condition_in, IsCovering, IsClash, IsRisingListing, HasConditionRows}

@@ -1,7 +1,7 @@
 -- Orders of items with themselves, and the items of a cycle.
 use Rattle.std.proofs.Common.{◌≡◌, ℕ, zero, suc, ◌<◌, ◌≤◌, ◌+◌, inl, inr, List, [], ◌∷◌, ◌++◌, length, take, get_or, arith, subst, refl, sym, ap, ◌∙◌}
 use Rattle.std.specs.List.{All}
-use Rattle.std.proofs.lemmas.List.{get_or_default, take_more, take_all, map-append}
+use Rattle.std.proofs.lemmas.List.{take_more, take_all, map-append}
 use Rattle.model.specs.Lists.{IsIn}
 use Rattle.model.specs.declarations.Walks.{IsFirstBad, IsWalk}
 use Rattle.model.specs.declarations.Declarations.{Declared, items_of, hierarchy_of, declared_orders}

@@ -1,4 +1,4 @@
-use Rattle.std.proofs.Common.{ℕ, List, Option, None, Some, subst}
+use Rattle.std.proofs.Common.{ℕ, List, Option, subst}
 use Rattle.model.specs.access.Condition.{Condition}
 use Rattle.schedule_builder.specs.Asked.{asked_of, TellsBadCondition}
 use Rattle.schedule_builder.proofs.Askings.{bad_condition, good_conditions}

@@ -1,16 +1,10 @@
 use Rattle.std.proofs.Common.{List, length, subst, sym, ap, ◌∙◌}
-use Rattle.std.specs.List.{All}
-use Rattle.model.specs.declarations.Declarations.{items_of, hierarchy_of, declared_orders, plain_orders}
-use Rattle.model.specs.declarations.Edges.{IsFollowed}
-use Rattle.model.specs.declarations.Hierarchy.{Hierarchy}
+use Rattle.model.specs.declarations.Declarations.{items_of, declared_orders}
 use Rattle.cycle_search.specs.declared.order.Order.{Order}
-use Rattle.cycle_search.specs.Orders.{IsBetween}
-use Rattle.cycle_search.specs.Cycles.{IsRankable}
 use Rattle.system_set.specs.Pairs.{pairs_of, ArePlaced}
-use Rattle.system_set.specs.Edges.{AreEdges}
 use Rattle.schedule_builder.specs.Orders.{AreOrders}
 use Rattle.schedule_builder.proofs.Lookups.{whole_of, sets_few}
-use Rattle.schedule_builder.proofs.Orderings.{placed_of, between_of, told_of}
+use Rattle.schedule_builder.proofs.Orderings.{placed_of, between_of}
 use Rattle.schedule_builder.proofs.builder.checked.Goals as goal
 
 pub hierarchy_from-requires-clause-placed : goal.hierarchy_from-requires-clause-placed

@@ -7,8 +7,7 @@ use Rattle.cycle_search.specs.declared.order.Order.{Order}
 use Rattle.cycle_search.specs.Orders.{IsBetween}
 use Rattle.system_set.specs.Pairs.{pairs_of}
 use Rattle.system_set.specs.Edges.{AreEdges}
-use Rattle.system_set.specs.Coverage.{AreCovered}
-use Rattle.schedule_builder.specs.Asked.{owners_of, AreSilences}
+use Rattle.schedule_builder.specs.Asked.{AreSilences}
 use Rattle.schedule_builder.proofs.Orderings.{between_of, told_of}
 use Rattle.schedule_builder.proofs.Assembly.{items_count}
 use Rattle.schedule_builder.proofs.Askings.{declared_silences_of, small_edges}

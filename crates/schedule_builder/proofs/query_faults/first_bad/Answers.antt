@@ -1,5 +1,5 @@
 -- A system of which no query is at fault.
-use Rattle.std.proofs.Common.{◌≡◌, ℕ, zero, suc, List, [], ◌∷◌, None, length, get_or, refl, ◌∙◌, ap, subst, arith, below_more}
+use Rattle.std.proofs.Common.{◌≡◌, List, [], None, get_or, ◌∙◌, ap, subst, below_more}
 use Rattle.model.specs.access.Query.{Term}
 use Rattle.model.specs.declarations.Declarations.{DeclaredSystem}
 use Rattle.model.specs.access.QueryFaults.{query_fault}
