@@ -131,7 +131,7 @@ pub(crate) fn serve_opened<R: Files>(
     trace: &[u8],
     until: Until,
 ) -> Served {
-    let mut file = open(runtime, alloc, args.file);
+    let mut file = open(runtime, args.file);
     serve_reader(alloc, args, &mut file, trace, until)
 }
 

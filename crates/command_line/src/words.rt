@@ -57,28 +57,3 @@ fn text_of_bytes(alloc: Global, bytes: &[u8]) -> Result<String, AllocError> {
     }
     Ok(text)
 }
-
-/// Whether a word was no text.
-pub fn is_no_text(word: &str) -> bool {
-    word.contains('\0')
-}
-
-/// The bytes that a word was.
-pub fn bytes_of_text(alloc: Global, word: &str) -> Result<Vec<u8>, AllocError> {
-    let mut bytes = Vec::new(alloc);
-    let mut is_marked = false;
-    for letter in word.chars() {
-        if letter == '\0' {
-            is_marked = true;
-            continue;
-        }
-        if is_marked {
-            bytes.push((u32::from(letter) & 255) as u8)?;
-        } else {
-            let mut room = [0u8; 4];
-            bytes.extend_from_slice(letter.encode_utf8(&mut room).as_bytes())?;
-        }
-        is_marked = false;
-    }
-    Ok(bytes)
-}

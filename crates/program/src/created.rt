@@ -1,26 +1,22 @@
 // A file that is written, also one that can't be created.
 
-use crate::paths::create_at;
-use std::alloc::Global;
 use std::fs::Files;
-use std::io;
 use std::io::Write;
+use std::{fs, io};
 
 /// The writer of a file, which is created, or emptied, where it is first written to. Where it can't be each write fails.
 #[derive(Drop)]
 pub struct Created<'a, R: Files + Drop> {
     files: R,
-    alloc: Global,
     path: &'a str,
     file: Option<R::File>,
 }
 
 impl<'a, R: Files + Drop> Created<'a, R> {
-    /// The writer of the file at the path that a word of the command line is, to which nothing is written yet.
-    pub fn new(files: R, alloc: Global, path: &'a str) -> Self {
+    /// The writer of the file of this path, to which nothing is written yet.
+    pub fn new(files: R, path: &'a str) -> Self {
         Created {
             files,
-            alloc,
             path,
             file: None,
         }
@@ -30,7 +26,7 @@ impl<'a, R: Files + Drop> Created<'a, R> {
     fn opened(&mut self) -> io::Result<&mut R::File> {
         let file = match self.file.take() {
             Some(file) => file,
-            None => create_at(&self.files, self.alloc, self.path)?,
+            None => fs::create(&self.files, self.path)?,
         };
         Ok(self.file.insert(file))
     }

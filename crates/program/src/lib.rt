@@ -8,7 +8,6 @@ pub mod created;
 pub mod fault;
 mod file;
 pub mod opened;
-mod paths;
 pub mod recording;
 mod replaying;
 mod schedule;

@@ -1,10 +1,8 @@
 // A file that is read, also one that can't be opened.
 
-use crate::paths::open_at;
-use std::alloc::Global;
-use std::io;
 use std::io::{ErrorKind, Read};
 use std::rt::Files;
+use std::{fs, io};
 
 /// The reader of a file. Where the file can't be opened each read fails.
 #[derive(Drop)]
@@ -12,10 +10,10 @@ pub struct Opened<F: Drop> {
     file: Option<F>,
 }
 
-/// Opens a file to be read, at the path that a word of the command line is.
-pub fn open<R: Files>(rt: &R, alloc: Global, path: &str) -> Opened<R::File> {
+/// Opens a file to be read.
+pub fn open<R: Files>(rt: &R, path: &str) -> Opened<R::File> {
     Opened {
-        file: open_at(rt, alloc, path).ok(),
+        file: fs::open(rt, path).ok(),
     }
 }
 
