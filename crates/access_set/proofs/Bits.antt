@@ -1,11 +1,12 @@
 -- The bits of words that are joined, and of those with one bit more.
-use Rattle.std.proofs.Common.{ℕ, ◌+◌, ◌<◌, ◌≡◌, ◌≢◌, Bool, true, false, not, ◌==◌, ◌||◌, ◌&&◌, min, max, ◌*◌, ◌%◌, ◌^◌, inl, inr, sym, ap, ◌∙◌, subst, arith}
+use Rattle.std.proofs.Common.{ℕ, ◌+◌, ◌<◌, ◌≡◌, ◌≢◌, true, not, ◌==◌, ◌||◌, ◌&&◌, min, ◌*◌, ◌%◌, ◌^◌, inl, inr, sym, ap, ◌∙◌, subst, arith}
 use Rattle.std.specs.Int.{bit_at, w64}
 use Rattle.std.specs.Prelude.{bit_or, bit_and, bit_xor}
-use Rattle.std.proofs.lemmas.Bool.{eq-eqb, ne_eqb, and_from, and_left, and_right, or_left, or_right, or_from, not_from_false, not_from_true}
+use Rattle.std.proofs.lemmas.Bool.{eq-eqb, ne_eqb, and_from, and_left, and_right, or_left, not_from_false, not_from_true}
 use Rattle.std.proofs.lemmas.Bool.Decides.{eqb_tells}
-use Rattle.std.proofs.lemmas.Nat.Bits.{bit_at_and, bit_at_or, bit_at_xor, bit_at-zero, bit_at-lt, bit_at_set_same, bit_at_set_other, same_from_bits}
+use Rattle.std.proofs.lemmas.Nat.Bits.{bit_at_and, bit_at_xor, bit_at-zero, bit_at-lt, bit_at_set_same, bit_at_set_other, same_from_bits}
 use Rattle.access_set.specs.Footprints.{has_bit}
+pub use Rattle.model.proofs.lists.Bits.{bit_of_either, no_bit}
 
 both_bits : (x y both : ℕ) → x < 2 → y < 2 → both ≡ min x y → (both == 1) ≡ ((x == 1) && (y == 1))
 both_bits x y both lx ly e = elim (eqb_tells x 1) [
@@ -14,15 +15,6 @@ both_bits x y both lx ly e = elim (eqb_tells x 1) [
     | inr q ↦ let b : y ≢ 1 = q.1 in ne_eqb both 1 (λ h. omega arith) ∙ sym (and_right (x == 1) (y == 1) q.0)
   ]
   | inr p ↦ let a : x ≢ 1 = p.1 in ne_eqb both 1 (λ h. omega arith) ∙ sym (and_left (x == 1) (y == 1) p.0)
-]
-
-either_bit : (x y either : ℕ) → x < 2 → y < 2 → either ≡ max x y → (either == 1) ≡ ((x == 1) || (y == 1))
-either_bit x y either lx ly e = elim (eqb_tells x 1) [
-  | inl p ↦ let a : x ≡ 1 = p.1 in eq-eqb either 1 (omega arith) ∙ sym (or_left (x == 1) (y == 1) p.0)
-  | inr p ↦ elim (eqb_tells y 1) [
-    | inl q ↦ let b : y ≡ 1 = q.1 in eq-eqb either 1 (omega arith) ∙ sym (or_right (x == 1) (y == 1) q.0)
-    | inr q ↦ let a : x ≢ 1 = p.1 in let b : y ≢ 1 = q.1 in ne_eqb either 1 (λ h. omega arith) ∙ sym (or_from (x == 1) (y == 1) p.0 q.0)
-  ]
 ]
 
 rest_bit : (x y rest : ℕ) → x < 2 → y < 2 → rest ≡ (x + min x y) % 2 → (rest == 1) ≡ ((x == 1) && not (y == 1))
@@ -37,15 +29,9 @@ rest_bit x y rest lx ly e = elim (eqb_tells x 1) [
 pub bit_of_both : (x y i : ℕ) → has_bit (bit_and x y) i ≡ (has_bit x i && has_bit y i)
 bit_of_both x y i = both_bits (bit_at x i) (bit_at y i) (bit_at (bit_and x y) i) (bit_at-lt x i) (bit_at-lt y i) (bit_at_and x y i)
 
-pub bit_of_either : (x y i : ℕ) → has_bit (bit_or x y) i ≡ (has_bit x i || has_bit y i)
-bit_of_either x y i = either_bit (bit_at x i) (bit_at y i) (bit_at (bit_or x y) i) (bit_at-lt x i) (bit_at-lt y i) (bit_at_or x y i)
-
 pub bit_of_rest : (x y i : ℕ) → has_bit (bit_xor x (bit_and x y)) i ≡ (has_bit x i && not (has_bit y i))
 bit_of_rest x y i = rest_bit (bit_at x i) (bit_at y i) (bit_at (bit_xor x (bit_and x y)) i) (bit_at-lt x i) (bit_at-lt y i)
     (bit_at_xor x (bit_and x y) i ∙ ap (λ (b : ℕ). (bit_at x i + b) % 2) (bit_at_and x y i))
-
-pub no_bit : (i : ℕ) → has_bit 0 i ≡ false
-no_bit i = ne_eqb (bit_at 0 i) 1 (λ e. let none : bit_at 0 i ≡ 0 = bit_at-zero i in omega arith)
 
 -- a word without bits is 0
 pub no_bits : (word : ℕ) → ((i : ℕ) → has_bit word i ≡ true → ⊥) → word ≡ 0

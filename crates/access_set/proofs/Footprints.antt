@@ -1,31 +1,29 @@
 -- Whether two queries conflict is what the words and the choices of both say.
-use Rattle.std.proofs.Common.{ℕ, ◌<◌, ◌≡◌, ◌≢◌, Bool, true, false, not, ◌==◌, ◌||◌, ◌&&◌, inl, inr, zero, suc, List, [], ◌∷◌, ◌++◌, length, get_or, refl, sym, ap, ap₂, ◌∙◌, subst, arith}
+use Rattle.std.proofs.Common.{ℕ, ◌<◌, ◌≡◌, Bool, true, false, not, ◌==◌, ◌||◌, ◌&&◌, inl, inr, zero, suc, List, [], ◌∷◌, ◌++◌, length, get_or, refl, sym, ap, ap₂, ◌∙◌, subst, arith}
 use Rattle.std.specs.Prelude.{bit_or, bit_and}
 use Rattle.std.specs.List.{list_any}
 use Rattle.std.specs.Bool.{MatchBool}
 use Rattle.std.proofs.lemmas.List.{get_or_past}
 use Rattle.std.proofs.lemmas.Bool.{eqb-true, eq-eqb, both_ways, false≢true, false_from_ne_true, true_from_ne_false, and_parts, and_from, or_cases, or_left, or_right, not_from_false, cases_lt}
-use Rattle.model.specs.Lists.{IsIn}
-use Rattle.model.specs.access.Query.{Alternative, Term, touches, writes, matches}
+use Rattle.model.specs.access.Query.{Alternative, Term, touches, writes}
 use Rattle.model.specs.access.Query.Alternative.{Has}
-use Rattle.model.specs.access.Conflict.{plains, choices, needs, bars, some_way, match_both, queries_conflict_at, QueriesConflictAt}
+use Rattle.model.specs.access.Conflict.{plains, choices, needs, some_way, match_both, queries_conflict_at, QueriesConflictAt}
 use Rattle.model.specs.access.Access.{Params, no_params}
 use Rattle.model.specs.access.Conflict.Datum.{OfKind, OfResource, OfEvent}
 use Rattle.model.specs.access.SelfConflict.{queries_meet, two_meet, TwoConflictAt, ConflictWithin, conflict_within}
-use Rattle.model.specs.access.QueryFaults.{requires_kind, excludes_kind}
 use Rattle.model.proofs.lists.Lists.{same_tests, IsIn-append}
 use Rattle.model.proofs.serial.ConflictTests.{test-queries, conflict-queries, matches-parts, way-of_met}
 use Rattle.model.proofs.serial.SelfConflicts.{queries_meet_from, conflict_from_queries_meet, within_tested, turned}
 use Rattle.access_set.specs.declared.footprint.Footprint.{Footprint}
 use Rattle.access_set.specs.declared.footprint.Words.{Words}
-use Rattle.access_set.specs.Footprints.{has_bit, with_bit, AreLow, IsWords, IsFootprint, choices_of, AreFootprints, kinds_shared, way_of_both, met_in, footprints_meet, footprints_meet_at, is_writing, no_kinds, HasMeetingWriter}
+use Rattle.access_set.specs.Footprints.{has_bit, with_bit, AreLow, IsWords, IsFootprint, choices_of, AreFootprints, kinds_shared, way_of_both, footprints_meet, footprints_meet_at, is_writing, no_kinds, HasMeetingWriter}
 use Rattle.access_set.proofs.Bits.{bit_of_both, bit_of_either, no_bit, no_bits, bit_set}
 use Rattle.access_set.proofs.Ways.{agree_apart, plain_needs, plain_bars, both_taken, met_none, met_some}
 
 -- ---- two queries
 
 -- the kinds that both touch and one writes
-shared_is : (q r : List Term) (f g : Words) → IsWords q f → IsWords r g → (k : ℕ) → has_bit (kinds_shared f g) k ≡ ((touches q k && touches r k) && (writes q k || writes r k))
+pub shared_is : (q r : List Term) (f g : Words) → IsWords q f → IsWords r g → (k : ℕ) → has_bit (kinds_shared f g) k ≡ ((touches q k && touches r k) && (writes q k || writes r k))
 shared_is q r f g is other k =
     bit_of_both (bit_and f.touched g.touched) (bit_or f.written g.written) k
     ∙ ap₂ (λ a b. a && b) (bit_of_both f.touched g.touched k ∙ ap₂ (λ a b. a && b) (is.touched k) (other.touched k))

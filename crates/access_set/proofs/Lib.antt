@@ -5,3 +5,4 @@ pub mod Choices
 pub mod Ways
 pub mod Footprints
 pub mod TermWords
+pub mod MeetsIn

@@ -1,9 +1,9 @@
 -- Ways to match two queries: what the words of one say, and that choices are found in turn.
-use Rattle.std.proofs.Common.{ℕ, ◌<◌, ◌≡◌, Bool, true, false, not, ◌==◌, ◌||◌, ◌&&◌, cond, inl, inr, List, [], ◌∷◌, ◌++◌, map, refl, sym, ap, ap₂, ◌∙◌, subst, arith}
-use Rattle.std.specs.Prelude.{bit_or, bit_and, bit_xor}
+use Rattle.std.proofs.Common.{ℕ, ◌<◌, ◌≡◌, Bool, true, false, not, ◌==◌, ◌||◌, cond, inl, inr, List, [], ◌∷◌, ◌++◌, refl, sym, ap, ap₂, ◌∙◌, subst}
+use Rattle.std.specs.Prelude.{bit_and, bit_xor}
 use Rattle.std.specs.List.{list_any}
 use Rattle.std.proofs.lemmas.Bool.{eqb-true, eq-eqb, both_ways, false≢true, false_from_ne_true, and_parts, and_from, or_cases, or_left, or_right, not-true, not_from_false, not_from_true}
-use Rattle.model.specs.Lists.{is_number, IsIn}
+use Rattle.model.specs.Lists.{IsIn}
 use Rattle.model.specs.access.Query.{Alternative, Term, holds_in}
 use Rattle.model.specs.access.Query.Alternative.{Has, Lacks}
 use Rattle.model.specs.access.Query.Term.{Entity, Read, Mut, Opt, With, Without, Added, Changed, AnyOf}
@@ -12,7 +12,7 @@ use Rattle.model.specs.access.QueryFaults.{requires_kind, excludes_kind}
 use Rattle.model.proofs.lists.Lists.{list_any-IsIn, IsIn_from_any, list_all-IsIn, list_all_from}
 use Rattle.access_set.specs.declared.footprint.Words.{Words}
 use Rattle.access_set.specs.declared.footprint.Way.{Way}
-use Rattle.access_set.specs.Footprints.{has_bit, with_bit, kind_of, AreLow, IsWords, way_of_both, way_with, kinds_met, met_in}
+use Rattle.access_set.specs.Footprints.{has_bit, kind_of, AreLow, IsWords, way_of_both, way_with, kinds_met, met_in}
 use Rattle.access_set.proofs.Bits.{bit_of_both, bit_of_either, bit_of_rest, no_bit, no_bits, bit_set}
 
 -- ---- alternatives that agree

@@ -1,4 +1,5 @@
 pub mod Meets
+pub mod MeetsIn
 pub mod Datum
 pub mod Footprints
 pub mod Union

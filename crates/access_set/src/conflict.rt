@@ -50,8 +50,8 @@ pub(crate) fn meets_any(footprint: &Footprint, others: &[Footprint]) -> bool
     others.iter().any(|other| footprint.meets(other))
 }
 
-// Whether they conflict at a resource.
-fn meet_at_resource(a: &Params, b: &Params) -> bool
+/// Whether they conflict at a resource.
+pub(crate) fn meet_at_resource(a: &Params, b: &Params) -> bool
     ensures { IsTrue result ↔ MeetAtResource a.now b.now }
 {
     if writes_named_resource(a, b) {
@@ -77,8 +77,8 @@ fn any_resource_named(resources: &[Res], other: &Params) -> bool
         .any(|resource| other.names_resource(*resource))
 }
 
-// Whether they conflict at an event kind.
-fn meet_at_event(a: &Params, b: &Params) -> bool
+/// Whether they conflict at an event kind.
+pub(crate) fn meet_at_event(a: &Params, b: &Params) -> bool
     ensures { IsTrue result ↔ MeetAtEvent a.now b.now }
 {
     if writes_named_event(a, b) {

@@ -1,15 +1,17 @@
 // The kinds of a query as the bits of words, so that two queries are compared a word at a time.
 
 ghost use Rattle.std.specs.Prelude.{◌≡◌, ◌||◌, ◌++◌, ℕ, map, IfOk};
+ghost use Rattle.std.specs.List.{list_any, list_all};
 ghost use Rattle.std.specs.Option.{option_map};
 ghost use Rattle.kinds.specs.Kind.{kind_number};
 ghost use Rattle.query.specs.Term.{term_of};
-ghost use Rattle.query.specs.Alternative.{alternative_of, alternatives_of};
+ghost use Rattle.query.specs.Alternative.{alternative_of, alternatives_of, listed};
 ghost use Rattle.model.specs.Lists.{is_number};
-ghost use Rattle.model.specs.access.Query.{touched, written};
+ghost use Rattle.model.specs.access.Query.{touched, written, holds_in};
 ghost use Rattle.model.specs.access.Conflict.{choices};
 ghost use Rattle.model.specs.access.QueryFaults.{required, excluded};
 ghost use Rattle.access_set.specs.Footprints.{has_bit, with_bit, way_with, kinds_shared, way_of_both, kinds_met, met_in, footprints_meet, footprints_meet_at, is_writing, IsWords, IsFootprint};
+ghost use Rattle.access_set.specs.MeetsIn.{footprint_matches, footprints_meet_by};
 
 use kinds::Kind;
 use kinds::kind::prove_kinds_apart;
@@ -87,6 +89,23 @@ impl Footprint {
             self.choices.as_slice(),
             other.choices.as_slice(),
         )
+    }
+
+    /// Whether two queries of these footprints conflict by the set of kinds of a word.
+    pub(crate) fn meets_by(&self, other: &Footprint, set: u64) -> bool
+        ensures { result ≡ footprints_meet_by self.now other.now set }
+    {
+        self.matches(set) && other.matches(set) && self.words.shared(other.words) & set != 0
+    }
+
+    // Whether the set of kinds of a word matches a query of this footprint.
+    #[tactic(auto, using(crate::proofs::MeetsIn::of_choices))]
+    fn matches(&self, set: u64) -> bool
+        ensures { result ≡ footprint_matches set self.now }
+    {
+        self.words.required & set == self.words.required
+            && self.words.excluded & set == 0
+            && is_chosen_of_each(self.choices.as_slice(), set)
     }
 
     /// Whether a query of this footprint can match without its `or` terms, and writes.
@@ -205,6 +224,42 @@ fn met_in(shared: u64, way: Way, choices: &[Alternatives], more: &[Alternatives]
         }
     }
     false
+}
+
+// Whether an alternative of each choice holds of the set of kinds of a word.
+fn is_chosen_of_each(choices: &[Alternatives], set: u64) -> bool
+    ensures { result ≡ list_all (λ alternatives. list_any (λ a. holds_in (has_bit set) (alternative_of a)) (listed alternatives)) choices.now }
+{
+    choices
+        .iter()
+        .all(|alternatives| is_chosen_of(alternatives.as_slice(), set))
+}
+
+// Whether one of these alternatives holds of it.
+fn is_chosen_of(alternatives: &[Alternative], set: u64) -> bool
+    ensures { result ≡ list_any (λ a. holds_in (has_bit set) (alternative_of a)) alternatives.now }
+{
+    alternatives
+        .iter()
+        .any(|alternative| holds_in(*alternative, set))
+}
+
+// Whether the alternative holds of it.
+fn holds_in(alternative: Alternative, set: u64) -> bool
+    ensures { result ≡ holds_in (has_bit set) (alternative_of alternative) }
+{
+    match alternative {
+        Alternative::With(kind) => has_kind(set, kind),
+        Alternative::Without(kind) => !has_kind(set, kind),
+    }
+}
+
+// Whether it has the kind.
+fn has_kind(set: u64, kind: Kind) -> bool
+    ensures { result ≡ has_bit set (kind_number kind) }
+{
+    prove_kinds_apart();
+    (set >> kind.number()) & 1 == 1
 }
 
 // The word with the bit of the kind, where there is one.

@@ -4,6 +4,7 @@
 pub mod conflict;
 pub mod datum;
 mod footprint;
+pub mod meeting;
 pub mod params;
 pub mod self_conflict;
 

@@ -14,6 +14,7 @@ pub mod Steps
 pub mod SlotRows
 pub mod BareSlots
 pub mod Layouts
+pub mod LivingSets
 pub mod Edits
 mod Worlds
 pub mod Standings

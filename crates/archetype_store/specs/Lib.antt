@@ -4,6 +4,7 @@ pub mod Tables
 pub mod Archetypes
 pub mod Slot
 pub mod Slots
+pub mod LivingSets
 pub mod Resources
 pub mod Store
 pub mod View

@@ -7,6 +7,7 @@ mod columns;
 pub mod components;
 pub mod fault;
 mod gathering;
+mod kind_sets;
 pub mod laws;
 mod lay;
 mod lending;

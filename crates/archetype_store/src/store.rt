@@ -8,6 +8,7 @@ ghost use Rattle.kinds.specs.Components.{widths};
 ghost use Rattle.model.specs.state.State.{last_tick};
 ghost use Rattle.model.specs.state.Shape.{IsWorld};
 ghost use Rattle.model.specs.state.Rows.{insert_component, remove_component, row_at};
+ghost use Rattle.model.specs.state.KindSets.{kind_sets_of};
 ghost use Rattle.model.specs.shown.Input.{value_of, words_of};
 ghost use Rattle.model.specs.state.Ids as ids;
 ghost use Rattle.model.specs.state.Commands as commands;
@@ -28,6 +29,7 @@ ghost use Rattle.archetype_store.specs.Store.{empty_world, with_slots, with_slot
 use crate::change::EntityChange;
 pub use crate::columns::{ColumnAt, SharedColumn, TakenColumn};
 use crate::fault::{GrantFault, StoreFault};
+use crate::kind_sets::sets_of;
 use crate::resources::Resources;
 use crate::slot::Slot;
 use crate::slots::Slots;
@@ -36,6 +38,7 @@ use change_ticks::{Clock, ClockSpent, Stamp, Tick};
 use column_store::{StampedColumn, StampedValue};
 use entity_table::Entity;
 use kinds::{Component, Kind, Res};
+use model::KindSets;
 use std::alloc::{AllocError, Global};
 use std::marker::Model;
 use std::sync::Arc;
@@ -122,6 +125,18 @@ impl World {
         ensures rising { IfOk result (λ views. AllByRecursion (λ view. AreRising (entities_seen view)) views.items) }
     {
         self.slots.archetypes(alloc)
+    }
+
+    /// The sets of kinds of the living entities. It looks at each archetype, and for an entity that lives without components at the slots, up
+    /// to the first one.
+    pub fn kind_sets(&self, alloc: Global) -> Result<KindSets, AllocError>
+        ensures { IfOk result (λ sets. sets ≡ kind_sets_of self.now.state.slots) }
+    {
+        // Tells how the layout is that of the state.
+        self.prove_laid();
+        let views = self.slots.archetypes(alloc)?;
+        let sets = sets_of(alloc, &views, self.slots.has_bare())?;
+        Ok(sets)
     }
 
     /// The column of a kind of the archetype of a number, which is at home. Its components are those of the archetype's entities, in order.

@@ -1,19 +1,22 @@
 -- What the systems that run hold of a world, as more of them start and as they end.
 use Rattle.std.proofs.Common.{◌≡◌, ℕ, zero, suc, ◌+◌, ℤ, ◌<◌, Bool, true, false, cond, ◌==◌, ◌&&◌, ◌||◌, ◌⊎◌, inl, inr, List, [], ◌∷◌, ◌++◌, length, get_or, map, Option, Some, None, refl, sym, ap, ap₂, ◌∙◌, subst, arith}
+use mathlib.Core.Path.{fun_ext}
 use Rattle.std.specs.List.{AllByRecursion, list_any, list_all}
 use Rattle.std.proofs.lemmas.Bool.{eqb-true, eq-eqb, ne_eqb, and_parts, and_from, or_left}
-use Rattle.model.specs.Lists.{has, IsIn}
+use Rattle.model.specs.Lists.{has, is_there, IsIn}
 use Rattle.model.specs.declared.entities.Entity.{Entity}
 use Rattle.model.specs.state.State.{Slot, Cell, World, fresh_slot, is_living}
-use Rattle.model.specs.state.Rows.{cell_at, row_at}
+use Rattle.model.specs.state.Rows.{cell_at, row_at, kinds_of}
 use Rattle.model.specs.state.Commands.{is_alive}
 use Rattle.model.specs.access.Access.{Params}
 use Rattle.model.specs.access.Conflict.Datum.{OfKind}
+use Rattle.model.specs.access.Meeting.{IsAmong}
 use Rattle.model.specs.access.Query.{Term, matches, touches, writes}
 use Rattle.model.specs.shown.Overlay.{slot_after, slots_after}
 use Rattle.model.proofs.lists.Each.{each-weaker, each-append}
 use Rattle.model.proofs.lists.Lists.{map-same, IsIn-append, IsIn_left, IsIn_right, IsIn_from_any, list_any-IsIn, get_or-map_index-view, ==-same}
 use Rattle.model.proofs.agreement.Stamps.{cell_at-slots_after}
+use Rattle.model.proofs.serial.Within.{AllAmong}
 use Rattle.model.proofs.serial.Writes.{lookup_after, lookup_after-None}
 use Rattle.column_store.specs.Kinds.{AreBelow, at_kind, update_kind}
 use Rattle.column_store.specs.Order.{is_same}
@@ -23,6 +26,7 @@ use Rattle.archetype_store.specs.Overlays.{AreReached}
 use Rattle.archetype_store.specs.Slot.{cell_of, column_cells}
 use Rattle.archetype_store.specs.Store.{StoreValue}
 use Rattle.archetype_store.proofs.ColumnOverlays.{entities_home}
+use Rattle.archetype_store.proofs.RowEdits.{kinds-among}
 use Rattle.archetype_store.proofs.TakenColumns.{kinds_home}
 use Rattle.query_plan.specs.Picks.{Picked, picks_of}
 use Rattle.query_plan.specs.Standing.{ArePickedHome}
@@ -327,10 +331,26 @@ column-there : (slots : List Slot) (layout : List Archetype) (n k : ℕ) → IsL
 column-there slots layout n k laid there =
     flag-there (archetype_at layout n).kinds k (archetype_at layout n).homes there (archetype-fact IsArchetype layout n laid.each (has-within layout n k there)).shape.each
 
--- what a query picks is at home where no system that holds a column conflicts with it
-pub home-apart : (w : StoreValue) (held : List (List Column)) (params : Params) → IsLayoutOf w.state.slots w.layout → AreOut w held → AllByRecursion (IsApartFrom params w.layout) (lent_in held) →
-    AllByRecursion (λ query. ArePickedHome query w.layout) params.queries
-home-apart w held params laid are apart =
+-- the kinds of an archetype may be there where those of each living entity may: the archetype has an entity, which lives with just them
+laid-among : (there : Option (List ℕ)) (slots : List Slot) (layout : List Archetype) (n : ℕ) → IsLayoutOf slots layout → n < length layout → AllAmong there slots →
+    IsAmong there (λ kind. has kind (archetype_at layout n).kinds)
+laid-among there slots layout n laid within among = go (archetype_at layout n).entities refl (archetype-fact IsArchetype layout n laid.each within).peopled
+  where
+    go : (es : List Entity) → (archetype_at layout n).entities ≡ es → is_there es ≡ true → IsAmong there (λ kind. has kind (archetype_at layout n).kinds)
+    go [] same h = absurd (cc)
+    go (e ∷ es) same h =
+        let first : list_any (λ x. is_same x e) (e ∷ es) ≡ true = or_left (is_same e e) (list_any (λ x. is_same x e) es) (same_self e) in
+        let theirs = laid.theirs n e (ap (λ xs. list_any (λ x. is_same x e) xs) same ∙ first) in
+        let slot = get_or slots e.index fresh_slot in
+        let lives = (and_parts (is_living slot.status) (slot.generation == e.generation) theirs.0).0 in
+        let kinds : kinds_of (row_at slots e.index) ≡ (λ kind. has kind (archetype_at layout n).kinds) =
+        fun_ext (λ kind. sym (kinds-among (row_at slots e.index) kind) ∙ ap (has kind) theirs.1) in
+        subst (IsAmong there) kinds (among e.index lives)
+
+-- what a query picks is at home where no system that holds a column meets it, as far as the kinds of the living entities tell
+pub home-apart : (there : Option (List ℕ)) (w : StoreValue) (held : List (List Column)) (params : Params) → IsLayoutOf w.state.slots w.layout → AllAmong there w.state.slots → AreOut w held →
+    AllByRecursion (IsApartFrom there params w.layout) (lent_in held) → AllByRecursion (λ query. ArePickedHome query w.layout) params.queries
+home-apart there w held params laid among are apart =
     each-from (λ query. ArePickedHome query w.layout) params.queries (λ query i.
     each-weaker (IsPickIn query w.layout) (λ (p : Picked). column_home (archetype_at w.layout p.archetype) p.kind ≡ Some true) (λ p here. one query i p here) (picks_of query w.layout) (picks-are query w.layout))
   where
@@ -341,7 +361,7 @@ home-apart w held params laid are apart =
         go (true, h) = h
         go (false, h) =
             let found = are.only p.archetype p.kind h in
-            let by = each-in (IsApartFrom params w.layout) (lent_in held) apart found.column found.among in
+            let by = each-in (IsApartFrom there params w.layout) (lent_in held) apart found.column found.among in
             absurd (by.apart (
               OfKind p.kind,
               (
@@ -358,6 +378,7 @@ home-apart w held params laid are apart =
                   second_touches = here.touched;
                   one_writes = or_left (writes by.written.query p.kind) (writes query p.kind) (ap (writes by.written.query) (sym found.kind_is) ∙ by.written.writing);
                 },
+                laid-among there w.state.slots w.layout p.archetype laid (has-within w.layout p.archetype p.kind here.held) among,
               ),
             ))
 

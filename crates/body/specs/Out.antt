@@ -1,8 +1,8 @@
 -- What the systems that run hold of a world: the columns that they write.
-use Rattle.std.specs.Prelude.{ℕ, ◌≡◌, true, false, List, Some}
+use Rattle.std.specs.Prelude.{ℕ, ◌≡◌, true, false, List, Option, Some}
 use Rattle.model.specs.Lists.{has, IsIn}
 use Rattle.model.specs.access.Access.{Params}
-use Rattle.model.specs.access.Conflict.{Conflict}
+use Rattle.model.specs.access.Meeting.{Meet}
 use Rattle.model.specs.access.Query.{Term, matches, writes}
 use Rattle.archetype_store.specs.declared.columns.TakenColumn.{TakenColumn}
 use Rattle.archetype_store.specs.Layout.{Archetype, archetype_at, column_home}
@@ -30,8 +30,8 @@ pub record AreOut (w : StoreValue) (columns : List (List Column)) : Type 0 where
   pub lent : AreLent w columns
   pub only : (n kind : ℕ) → column_home (archetype_at w.layout n) kind ≡ Some false → IsPlaceOf (lent_in columns) n kind
 
--- a column that a system writes whose parameters don't conflict with these
-pub record IsApartFrom (params : Params) (layout : List Archetype) (c : TakenColumn) : Type 0 where
+-- a column that a system writes whose parameters don't meet these, as far as the sets of kinds that may be there tell
+pub record IsApartFrom (there : Option (List ℕ)) (params : Params) (layout : List Archetype) (c : TakenColumn) : Type 0 where
   pub other : Params
   pub written : IsWrittenBy other.queries layout c
-  pub apart : Conflict other params → ⊥
+  pub apart : Meet there other params → ⊥

@@ -5,6 +5,7 @@ ghost use Rattle.std.specs.List.{AllByRecursion};
 ghost use Rattle.kinds.specs.Res.{event_number};
 ghost use Rattle.model.specs.state.State.{most_indices, most_passed_over, no_memory, register_count};
 ghost use Rattle.model.specs.state.Ids as ids;
+ghost use Rattle.model.specs.state.KindSets.{kind_sets_of};
 ghost use Rattle.model.specs.state.Commands.{apply_buffer, release};
 ghost use Rattle.model.specs.shown.Outcome.{spawned_by};
 ghost use Rattle.entity_table.specs.Ids.{IsGranted, AreApart};
@@ -38,6 +39,7 @@ use condition_eval::answer::ask;
 use entity_table::Entity;
 use event_buffers::{Events, SendFault};
 use kinds::Event;
+use model::KindSets;
 use query_plan::RowBuffers;
 use run_condition::Cond;
 use std::alloc::{AllocError, Global};
@@ -126,6 +128,14 @@ impl OpenState {
     {
         self.world.prove_laid();
         let _ = self.world.now();
+    }
+
+    /// The sets of kinds of the living entities.
+    pub fn kind_sets(&self, alloc: Global) -> Result<KindSets, AllocError>
+        ensures { IfOk result (λ sets. sets ≡ kind_sets_of self.now.state.world.slots) }
+    {
+        let _ = self.world.now();
+        self.world.kind_sets(alloc)
     }
 
     /// What holds of every state, whatever the schedule.

@@ -27,8 +27,8 @@ use crate::moving::{
 use crate::resources::{kept_total, three_tallies};
 use crate::store::{buffers, entities, inserted_again, steps, texts, unions};
 use crate::threads::{
-    gather, has_no_fault, has_stood_round_five, has_traces, have_met, hold_first, meet, ran,
-    refuse, refuse_on_threads, repeat, watch,
+    gather, has_no_fault, has_stood_round_five, has_traces, have_met, hold_first, meet, meet_over,
+    ran, refuse, refuse_on_threads, repeat, watch,
 };
 use std::alloc::Global;
 use std::env;
@@ -130,14 +130,26 @@ fn starts<R: Threads + Wait + Copy + Send + Sync + 'static>(rt: R, alloc: Global
 fn bodies_that_meet<R: Threads + Wait + Copy + Send + Sync + 'static>(
     rt: R,
     alloc: Global,
-) -> [Test; 3] {
+) -> [Test; 5] {
+    let frozen = "mut Health, with Frozen";
+    let hidden = "mut Health, with Hidden";
     let two = ran(rt, alloc, meet(alloc, 2, 2, PATIENCE));
     let three = ran(rt, alloc, meet(alloc, 3, 3, PATIENCE));
     let alone = ran(rt, alloc, meet(alloc, 2, 1, 200));
+    let apart = ran(rt, alloc, meet_over(alloc, [frozen, hidden], PATIENCE));
+    let shared = ran(rt, alloc, meet_over(alloc, [frozen, "read Health"], 200));
     [
         ("two bodies meet", have_met(two, 2)),
         ("three bodies meet", have_met(three, 3)),
         ("two bodies do not meet on one thread", have_met(alone, 1)),
+        (
+            "two bodies meet whose queries share no entity",
+            have_met(apart, 2),
+        ),
+        (
+            "two bodies do not meet whose queries share one",
+            have_met(shared, 1),
+        ),
     ]
 }
 

@@ -3,10 +3,10 @@
 ghost use Rattle.std.specs.Prelude.{};
 
 use crate::bodies::TestBody;
-use crate::engines::{Systems, TestEngine};
+use crate::engines::{Systems, TestEngine, params};
 use crate::gates::{Rule, TestGate};
 use crate::runs::{Plan, run_on_threads, runs_are};
-use crate::worlds::empty_world;
+use crate::worlds::{empty_world, frozen_and_hidden};
 use access_set::Params;
 use change_ticks::Clock;
 use engine::RunFault;
@@ -90,6 +90,20 @@ fn meeting(alloc: Global, count: u32, place: &Arc<TestGate, Global>) -> Option<T
     systems.engine(alloc, empty_world(alloc, Clock::at(1))?)
 }
 
+// An engine of two systems with these queries that meet at a place, over an entity that is frozen and one that is hidden.
+fn querying(
+    alloc: Global,
+    queries: [&str; 2],
+    place: &Arc<TestGate, Global>,
+) -> Option<TestEngine> {
+    let mut systems = Systems::new(alloc);
+    for query in &queries {
+        let place = Arc::try_clone(place).ok()?;
+        systems.add(params(alloc, query)?, TestBody::Meet(place))?;
+    }
+    systems.engine(alloc, frozen_and_hidden(alloc)?)
+}
+
 // An engine of so many systems that look at a gate.
 fn watching(alloc: Global, count: u32, gate: &Arc<TestGate, Global>) -> Option<TestEngine> {
     let mut systems = Systems::new(alloc);
@@ -109,6 +123,17 @@ pub fn meet(alloc: Global, systems: u32, workers: u32, patience: u64) -> Option<
     Some(Trial {
         place,
         ..Trial::once(gate, engine, workers)?
+    })
+}
+
+/// Two bodies on two threads, of systems with these queries, which wait for each other at a place, and so often look whether both are there.
+pub fn meet_over(alloc: Global, queries: [&str; 2], patience: u64) -> Option<Trial> {
+    let place = TestGate::with_patience(alloc, Rule::Gather(2), patience)?;
+    let gate = TestGate::new(alloc, Rule::Open)?;
+    let engine = querying(alloc, queries, &place)?;
+    Some(Trial {
+        place,
+        ..Trial::once(gate, engine, 2)?
     })
 }
 

@@ -8,11 +8,18 @@ use archetype_store::World;
 use change_ticks::Clock;
 use entity_table::Entity;
 use kinds::Component;
+use kinds::component::{Frozen, Health, Hidden};
 use std::alloc::Global;
 
 /// The first entity of a world.
 pub const FIRST: Entity = Entity {
     index: 0,
+    generation: 1,
+};
+
+// The second one.
+const SECOND: Entity = Entity {
+    index: 1,
     generation: 1,
 };
 
@@ -44,7 +51,29 @@ pub fn put<C: Component>(world: &mut World, component: C) -> Option<()>
     ensures clock { 1 ≤ world.new.state.clock }
     ensures home { AreAllHome world.new.layout }
 {
-    world.insert(FIRST, component, 1).ok()
+    give(world, FIRST, component)
+}
+
+// Gives an entity a component at tick 1. None where it does not live, or an allocation fails.
+fn give<C: Component>(world: &mut World, entity: Entity, component: C) -> Option<()>
+    requires clock { 1 ≤ world.old.state.clock }
+    requires home { AreAllHome world.old.layout }
+    ensures clock { 1 ≤ world.new.state.clock }
+    ensures home { AreAllHome world.new.layout }
+{
+    world.insert(entity, component, 1).ok()
+}
+
+/// A world of two entities with health, of which the first is frozen and the second hidden.
+pub fn frozen_and_hidden(alloc: Global) -> Option<Box<World>>
+    ensures home { IfSome result (λ world. AreAllHome world.value.layout) }
+{
+    let mut world = world_of_many(alloc, Clock::at(1), 2)?;
+    put(&mut world, Health { v: 1 })?;
+    put(&mut world, Frozen {})?;
+    give(&mut world, SECOND, Health { v: 1 })?;
+    give(&mut world, SECOND, Hidden {})?;
+    Some(world)
 }
 
 /// Settles all of these granted ids as used.
@@ -59,6 +88,7 @@ pub fn settle_used(world: &mut World, ids: &[Entity])
 
 /// A world at a clock in which so many entities live, without components.
 pub fn world_of_many(alloc: Global, clock: Clock, count: u32) -> Option<Box<World>>
+    ensures clock { IfSome result (λ world. 1 ≤ world.value.state.clock) }
     ensures home { IfSome result (λ world. AreAllHome world.value.layout) }
 {
     let mut world = empty_world(alloc, clock)?;

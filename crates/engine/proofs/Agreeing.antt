@@ -1,13 +1,12 @@
 -- What the runs of an engine leave agrees with what any as many runs leave: its state is one of the schedule, and its bodies keep within.
 use Rattle.std.proofs.Common.{ℕ, zero, suc, ◌<◌, ◌≡◌, List, [], ◌∷◌, length, get_or, subst, arith}
-use Rattle.model.specs.declared.steps.Step.{Step}
 use Rattle.model.specs.access.Access.{Params}
 use Rattle.model.specs.access.Condition.{access_of_condition}
 use Rattle.model.specs.state.State.{Memory, State, no_memory}
 use Rattle.model.specs.state.Shape.{IsStateOf, AreMemoriesOfSystems, AreMemoriesOfConditions}
 use Rattle.model.specs.shown.Outcome.{BodyMeaning}
 use Rattle.model.specs.steps.Built.{IsBuilt}
-use Rattle.model.specs.steps.Schedule.{Schedule, ScheduledCondition, ScheduledSystem}
+use Rattle.model.specs.steps.Schedule.{Schedule, ScheduledCondition, ScheduledSystem, Recorded}
 use Rattle.model.specs.runs.WideRuns.{AreWideRuns}
 use Rattle.model.specs.state.Agreement.{AgreesWithAll}
 use Rattle.model.proofs.agreement.OneWithAll.{wide_runs_agree}
@@ -55,7 +54,7 @@ state_of_schedule s w has shape = record {
 -- ---- agreement
 
 -- what the runs of an engine leave agrees with what any as many runs leave
-pub engine_agrees : {B : Type 0} (meaning : B → Params → BodyMeaning) (width times : ℕ) (v : EngineValue B) (hs : List (List Step)) (end : State) →
+pub engine_agrees : {B : Type 0} (meaning : B → Params → BodyMeaning) (width times : ℕ) (v : EngineValue B) (hs : List Recorded) (end : State) →
     IsBuilt v.schedule → HasMemories v.schedule v.state → HasShape v.state → AllKeepWithin v.schedule (meanings meaning v.schedule v.bodies) → length hs ≡ times →
     AreWideRuns width v.schedule (meanings meaning v.schedule v.bodies) v.state hs end → AgreesWithAll widths v.schedule (meanings meaning v.schedule v.bodies) v.state times end
 engine_agrees meaning width times v hs end built has shape keep count ran =

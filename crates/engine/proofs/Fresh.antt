@@ -9,11 +9,12 @@ use Rattle.model.specs.shown.Outcome.{BodyMeaning, Outcome}
 use Rattle.model.specs.steps.Schedule.{Schedule, level_of}
 use Rattle.model.specs.steps.Lawful.{IsLawful, May, begun, started, skipped}
 use Rattle.model.specs.runs.RunState.{RunState, RunningSystem, body_of, can_finish, can_open, can_start, can_sync, can_ask, finish, finish_with, overlaid, started_system, after_condition, after_start, after_sync, after_opening, after_grant, after_commands, begin_run}
-use Rattle.model.specs.runs.Meaning.{Interleaved, interleaved, interleaved_step, running_system, without_system, with_running_systems, serial, serial_step}
+use Rattle.model.specs.runs.Meaning.{Interleaved, interleaved, interleaved_step, running_system, without_system, with_running_systems, serial, serial_step, HasTrueSets}
 use Rattle.model.proofs.faults.Causes.{then-parts, with_running_systems-parts}
 use Rattle.model.proofs.lists.Lists.{provided-Some}
 use Rattle.model.proofs.order.Histories.{begun_from_runs, begun_later}
 use Rattle.model.proofs.serial.Holding.{holds, system_of-started}
+use Rattle.model.proofs.serial.There.{sets_before}
 use Rattle.model.proofs.serial.Settling.{running_system-IsIn}
 
 -- after a history
@@ -63,14 +64,14 @@ finish-other s bodies p run after n other e = go (body_of bodies p.system p.show
 
 module _ (s : Schedule) (bodies : List BodyMeaning) (start : State) where
   -- interleaved
-  pub interleaved_fresh : (h : List Step) (w : Interleaved) → IsLawful s h → interleaved s bodies start h ≡ Some w → IsFresh h w.run
-  interleaved_fresh [] w lawful e = λ n b.
+  pub interleaved_fresh : (h : List Step) (w : Interleaved) → IsLawful s h → HasTrueSets s bodies start h → interleaved s bodies start h ≡ Some w → IsFresh h w.run
+  interleaved_fresh [] w lawful sets e = λ n b.
       let p = with_running_systems-parts [] (begin_run s start) w e in
       let q = provided-Some (can_open s start) (after_opening s start) p.0 p.1 in
       ap (λ (x : Interleaved). x.run.buffers n) p.2 ∙ ap (λ (r : RunState). r.buffers n) (sym q.1) ∙ fresh-opening s start n
-  interleaved_fresh (step ∷ h) w lawful e =
+  interleaved_fresh (step ∷ h) w lawful sets e =
       let p = then-parts (interleaved s bodies start h) (interleaved_step s bodies step) w e in
-      go step lawful.0 p.0 p.1 p.2 (interleaved_fresh h p.0 lawful.1 p.1)
+      go step lawful.0 p.0 p.1 p.2 (interleaved_fresh h p.0 lawful.1 (sets_before s bodies start step h sets) p.1)
     where
       go : (step : Step) → May s h step → (v : Interleaved) → interleaved s bodies start h ≡ Some v → interleaved_step s bodies step v ≡ Some w → IsFresh h v.run → IsFresh (step ∷ h) w.run
       go (Cond c answer) may v d f fresh =
@@ -84,7 +85,7 @@ module _ (s : Schedule) (bodies : List BodyMeaning) (start : State) where
           let p = then-parts (running_system m v.running_systems) (λ p. with_running_systems (without_system m v.running_systems) (finish s bodies p v.run)) w f in
           let q = with_running_systems-parts (without_system m v.running_systems) (finish s bodies p.0 v.run) w p.2 in
           let before = fresh-before (Finish m) h n b in
-          let alive = (holds s bodies start h v lawful.1 d).alive p.0 (running_system-IsIn m v.running_systems p.0 p.1).0 in
+          let alive = (holds s bodies start h v lawful.1 (sets_before s bodies start step h sets) d).alive p.0 (running_system-IsIn m v.running_systems p.0 p.1).0 in
           ap (λ (x : Interleaved). x.run.buffers n) q.2
           ∙ finish-other s bodies p.0 v.run q.0 n (λ same. false≢true (sym before ∙ ap (begun h) (sym same) ∙ begun_from_runs h p.0.system alive)) q.1
           ∙ fresh n before

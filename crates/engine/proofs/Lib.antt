@@ -14,6 +14,7 @@ pub mod Weaving
 pub mod Placing
 mod Returning
 mod Staging
+mod Recorded
 mod Turns
 pub mod Beginning
 pub mod Keeping

@@ -12,14 +12,14 @@ use Rattle.model.specs.declared.entities.Entity.{Entity}
 use Rattle.model.specs.state.State.{State}
 use Rattle.model.specs.shown.Input.{shown}
 use Rattle.model.specs.shown.Outcome.{BodyMeaning}
-use Rattle.model.specs.steps.Schedule.{ScheduledSystem, Schedule, params_of}
+use Rattle.model.specs.steps.Schedule.{ScheduledSystem, Schedule, params_of, recording}
 use Rattle.model.specs.runs.RunState.{RunningSystem, has_tick, next_tick, memory_of_system, body_of}
 use Rattle.model.specs.runs.Meaning.{running_system, without_system, interleaved_step}
 use Rattle.model.specs.runs.Causes.{cause_of_answer, cause_of_running, interleaved_cause_of}
 use Rattle.model.specs.runs.Causes.Cause.{Refused, NoEventNumber}
 use Rattle.model.proofs.lists.Each.{each-weaker}
 use Rattle.model.specs.declared.steps.Step.{Step}
-use Rattle.model.specs.steps.Lawful.{MayStart, MeetsRunning}
+use Rattle.model.specs.steps.Lawful.{MayStart, MeetsRunning, sets_at}
 use Rattle.model.proofs.serial.Holding.{Holds, apart_start}
 use Rattle.model.proofs.lists.Lists.{IsIn-append, IsIn_left, IsIn_right, IsIn_from_has}
 use Rattle.model.proofs.lists.Members.{in-map}
@@ -247,29 +247,29 @@ module _ {B : Type 0} (meaning : B → Params → BodyMeaning) (fits : B → Par
 -- ---- who may start, and what may be asked
 
 module _ {B : Type 0} (meaning : B → Params → BodyMeaning) (fits : B → Params → Bool) (there : Bool) (s : Schedule) (bodies : List BodyMeaning) (slots : List (Option B)) (out : List (JobOut B)) (w : StateValue) (placed : Placed meaning fits there s bodies slots out w)
-    (deferred : DeferredValue) (h : List Step) (holds : Holds s h (woven w.state deferred out)) where
+    (sets : Option (List (List ℕ))) (deferred : DeferredValue) (h : List Step) (holds : Holds (recording s sets) h (woven w.state deferred out)) where
   -- a system that may start isn't out
-  pub start-free : (n : ℕ) → MayStart s h n → has n (systems_of out) ≡ false
+  pub start-free : (n : ℕ) → MayStart (recording s sets) h n → has n (systems_of out) ≡ false
   start-free n may = false_from_ne_true (has n (systems_of out)) (λ e. none out (λ j i. i) (IsIn_from_has n (systems_of out) e))
     where
       none : (jobs : List (JobOut B)) → ((j : JobOut B) → IsIn j jobs → IsIn j out) → IsIn n (systems_of jobs) → ⊥
       none [] within i = i
-      none (j ∷ jobs) within (inl same) = (apart_start s h n (woven w.state deferred out) may holds (running_of j) (in-map running_of out j (within j (inl refl)))).0 (sym same)
+      none (j ∷ jobs) within (inl same) = (apart_start (recording s sets) h n (woven w.state deferred out) may holds (running_of j) (in-map running_of out j (within j (inl refl)))).0 (sym same)
       none (j ∷ jobs) within (inr i) = none jobs (λ k m. within k (inr m)) i
 
-  -- where no running system meets an access, none that is out and holds columns conflicts with it
-  pub apart-held : (access : Params) → (MeetsRunning s h access → ⊥) → AllByRecursion (IsApartFrom access w.layout) (lent_in (held_by out))
-  apart-held access apart = each-from (IsApartFrom access w.layout) (lent_in (held_by out)) (λ c i. one out (λ j k. k) c i)
+  -- where no running system meets an access, none that is out and holds columns meets it
+  pub apart-held : (access : Params) → (MeetsRunning (recording s sets) h access → ⊥) → AllByRecursion (IsApartFrom (sets_at (recording s sets) h) access w.layout) (lent_in (held_by out))
+  apart-held access apart = each-from (IsApartFrom (sets_at (recording s sets) h) access w.layout) (lent_in (held_by out)) (λ c i. one out (λ j k. k) c i)
     where
-      one : (jobs : List (JobOut B)) → ((j : JobOut B) → IsIn j jobs → IsIn j out) → (c : TakenColumn) → IsIn c (lent_in (held_by jobs)) → IsApartFrom access w.layout c
+      one : (jobs : List (JobOut B)) → ((j : JobOut B) → IsIn j jobs → IsIn j out) → (c : TakenColumn) → IsIn c (lent_in (held_by jobs)) → IsApartFrom (sets_at (recording s sets) h) access w.layout c
       one [] within c i = absurd i
       one (j ∷ jobs) within c i = go (IsIn-append c (lent_in j.view.opening.taken) (lent_in (held_by jobs)) (subst (IsIn c) (lent_in-append j.view.opening.taken (held_by jobs)) i)) (one jobs (λ k m. within k (inr m)) c)
         where
-          go : IsIn c (lent_in j.view.opening.taken) ⊎ IsIn c (lent_in (held_by jobs)) → (IsIn c (lent_in (held_by jobs)) → IsApartFrom access w.layout c) → IsApartFrom access w.layout c
+          go : IsIn c (lent_in j.view.opening.taken) ⊎ IsIn c (lent_in (held_by jobs)) → (IsIn c (lent_in (held_by jobs)) → IsApartFrom (sets_at (recording s sets) h) access w.layout c) → IsApartFrom (sets_at (recording s sets) h) access w.layout c
           go (inl mine) later = record {
             other = params_of s j.system;
             written = each-in (IsWrittenBy (params_of s j.system).queries w.layout) (lent_in j.view.opening.taken) (placed.jobs j (within j (inl refl))).written c mine;
-            apart = λ conflict. apart (j.system, holds.alive (running_of j) (in-map running_of out j (within j (inl refl))), conflict);
+            apart = λ meets. apart (j.system, holds.alive (running_of j) (in-map running_of out j (within j (inl refl))), meets);
           }
           go (inr others) later = later others
 

@@ -1,7 +1,7 @@
 -- How a run goes on from turn to turn, ends and stops.
-use Rattle.std.proofs.Common.{ℕ, suc, ◌+◌, ◌-◌, ◌<◌, ◌≤◌, Bool, true, false, ◌≡◌, ◌==◌, ◌||◌, ◌⊎◌, ◌↔◌, inl, inr, List, [], ◌∷◌, ◌++◌, length, map, reverse, Option, Some, None, IsSome, refl, sym, ◌∙◌, ap, subst, cond, arith}
+use Rattle.std.proofs.Common.{ℕ, suc, ◌+◌, ◌-◌, ◌<◌, ◌≤◌, Bool, true, false, ◌≡◌, ◌==◌, ◌||◌, ◌⊎◌, ◌↔◌, inl, inr, List, [], ◌∷◌, ◌++◌, length, map, Option, Some, None, IsSome, is_some, refl, sym, ◌∙◌, ap, subst, cond, arith}
 use Rattle.std.proofs.lemmas.Bool.{eq-eqb, or_left, false≢true, false_from_ne_true}
-use Rattle.std.proofs.lemmas.List.{length-reverse}
+use Rattle.std.specs.List.{AllByRecursion}
 use Rattle.std.specs.Option.{option_and_then}
 use Rattle.model.specs.declared.steps.Step.{Step}
 use Rattle.model.specs.declared.steps.Step.TheVariants.{Cond, Start, Skip, Finish, Sync}
@@ -9,12 +9,12 @@ use Rattle.model.specs.declared.steps.Ready.TheVariants as ready
 use Rattle.model.specs.Lists.{has, first_some, IsIn}
 use Rattle.model.specs.state.State.{State}
 use Rattle.model.specs.shown.Outcome.{BodyMeaning}
-use Rattle.model.specs.steps.Schedule.{Schedule, access_of}
-use Rattle.model.specs.steps.Lawful.{IsLawful, IsComplete, May, MaySync, NoneRuns, runs}
+use Rattle.model.specs.steps.Schedule.{Schedule, Recorded, recording, access_of}
+use Rattle.model.specs.steps.Lawful.{IsLawful, IsComplete, May, MaySync, NoneRuns, runs, sets_at}
 use Rattle.model.specs.steps.Ready.{IsReady}
 use Rattle.model.specs.steps.Widths.{IsNextWide, without, running_after}
 use Rattle.model.specs.runs.RunState.{begin_run, has_tick, next_tick, can_sync, after_sync, answer_of}
-use Rattle.model.specs.runs.Meaning.{with_running_systems, interleaved, interleaved_step, IsTrueAnswer}
+use Rattle.model.specs.runs.Meaning.{with_running_systems, interleaved, interleaved_step, IsTrueAnswer, AreSetsOf, HasTrueSets}
 use Rattle.model.specs.runs.Causes.{Cause, interleaved_cause, interleaved_cause_of, interleaved_cause_at}
 use Rattle.model.specs.runs.WideRuns.{IsWideRun, AreWideRuns, WideStops, IsWideStopped}
 use Rattle.model.proofs.lists.Members.{in-map}
@@ -24,6 +24,7 @@ use Rattle.model.proofs.progress.Single.{wide_lawful}
 use Rattle.model.proofs.progress.Width.{running_is}
 use Rattle.model.proofs.faults.Causes.{lacks-interleaved}
 use Rattle.model.proofs.serial.Holding.{Holds, holds}
+use Rattle.model.proofs.serial.Recording.{opening_cause-recording}
 use Rattle.executor_core.specs.Stands.{Stand, Stands, room}
 use Rattle.worker_pool.specs.JobOut.{JobOut}
 use Rattle.engine.specs.Jobs.{running_of, woven}
@@ -47,9 +48,12 @@ length-without n (x ∷ xs) h = go (x == n) h (length-without n xs)
 
 module _ {B : Type 0} (width : ℕ) (s : Schedule) (bodies : List BodyMeaning) (start : State) where
   -- after the opening
-  pub stage_open : (state : State) (deferred : DeferredValue) (out : List (JobOut B)) → begin_run s start ≡ Some (run_with state deferred) → out ≡ [] → Stage width s bodies start [] state deferred out
-  stage_open state deferred out e none = subst (Stage width s bodies start [] state deferred) (sym none)
-      (record { wide = tt; running = refl; room = omega arith; answers = tt; meaning = ap (with_running_systems []) e })
+  pub stage_open : (state : State) (deferred : DeferredValue) (out : List (JobOut B)) → begin_run s start ≡ Some (run_with state deferred) → AreSetsOf (sets_at s []) (Some (woven {B = B} state deferred [])) → out ≡ [] →
+      Stage width s bodies start [] state deferred out
+  stage_open state deferred out e told none =
+      let meaning : interleaved s bodies start [] ≡ Some (woven {B = B} state deferred []) = ap (with_running_systems []) e in
+      subst (Stage width s bodies start [] state deferred) (sym none)
+      (record { wide = tt; running = refl; room = omega arith; answers = tt; sets = subst (AreSetsOf (sets_at s [])) (sym meaning) told; meaning = meaning })
 
   module _ (h : List Step) (state : State) (deferred : DeferredValue) (out : List (JobOut B)) (stage : Stage width s bodies start h state deferred out) where
     lawful-there : IsLawful s h
@@ -57,7 +61,7 @@ module _ {B : Type 0} (width : ℕ) (s : Schedule) (bodies : List BodyMeaning) (
 
     -- what is known of the systems that run
     pub holds_there : Holds s h (woven state deferred out)
-    holds_there = holds s bodies start h (woven state deferred out) lawful-there stage.meaning
+    holds_there = holds s bodies start h (woven state deferred out) lawful-there stage.sets stage.meaning
 
     -- a job that is out may come back
     pub running_there : (job : JobOut B) → IsIn job out → runs h job.system ≡ true
@@ -95,6 +99,7 @@ module _ {B : Type 0} (width : ℕ) (s : Schedule) (bodies : List BodyMeaning) (
       running = let r = stage.running in omega arith;
       room = let r = next.room in omega arith;
       answers = (tt, stage.answers);
+      sets = stage.sets;
       meaning = ap (option_and_then (interleaved_step s bodies (Start n))) stage.meaning ∙ e;
     }
 
@@ -106,6 +111,7 @@ module _ {B : Type 0} (width : ℕ) (s : Schedule) (bodies : List BodyMeaning) (
       running = stage.running;
       room = stage.room;
       answers = (subst (IsTrueAnswer s (Cond c answer)) (sym stage.meaning) told, stage.answers);
+      sets = stage.sets;
       meaning = ap (option_and_then (interleaved_step s bodies (Cond c answer))) stage.meaning ∙ ask_woven s bodies c answer state deferred (map running_of out) tick;
     })
 
@@ -116,19 +122,24 @@ module _ {B : Type 0} (width : ℕ) (s : Schedule) (bodies : List BodyMeaning) (
       running = stage.running;
       room = stage.room;
       answers = (tt, stage.answers);
+      sets = stage.sets;
       meaning = ap (option_and_then (interleaved_step s bodies (Skip n))) stage.meaning;
     }
 
     -- after a sync point
     pub stage_sync : (k : ℕ) (state' : State) (deferred' : DeferredValue) → IsTake s h (length out) width (ready.Sync k) → can_sync s k (run_with state deferred) ≡ true →
-        run_with state' deferred' ≡ after_sync s k (run_with state deferred) → Stage width s bodies start (Sync k ∷ h) state' deferred' out
-    stage_sync k state' deferred' next can synced = record {
-      wide = (next.allowed false, next-sync k next.room next.is, stage.wide);
-      running = stage.running;
-      room = stage.room;
-      answers = (tt, stage.answers);
-      meaning = ap (option_and_then (interleaved_step s bodies (Sync k))) stage.meaning ∙ sync_woven s bodies k state state' deferred deferred' (map running_of out) can synced;
-    }
+        run_with state' deferred' ≡ after_sync s k (run_with state deferred) → AreSetsOf (sets_at s (Sync k ∷ h)) (Some (woven state' deferred' out)) → Stage width s bodies start (Sync k ∷ h) state' deferred' out
+    stage_sync k state' deferred' next can synced told =
+        let meaning : interleaved s bodies start (Sync k ∷ h) ≡ Some (woven state' deferred' out)
+        = ap (option_and_then (interleaved_step s bodies (Sync k))) stage.meaning ∙ sync_woven s bodies k state state' deferred deferred' (map running_of out) can synced in
+        record {
+          wide = (next.allowed false, next-sync k next.room next.is, stage.wide);
+          running = stage.running;
+          room = stage.room;
+          answers = (tt, stage.answers);
+          sets = (subst (AreSetsOf (sets_at s (Sync k ∷ h))) (sym meaning) told, stage.sets);
+          meaning = meaning;
+        }
 
     -- where a sync point may come no job is out
     pub none_out : (k : ℕ) → MaySync s h k → length out ≡ 0
@@ -149,6 +160,7 @@ module _ {B : Type 0} (width : ℕ) (s : Schedule) (bodies : List BodyMeaning) (
       running = let l = length-without n (running_after h) ((running_is s h lawful-there).same n ∙ runs-now) in let r = stage.running in omega arith;
       room = let r = stage.room in omega arith;
       answers = (tt, stage.answers);
+      sets = stage.sets;
       meaning = ap (option_and_then (interleaved_step s bodies (Finish n))) stage.meaning ∙ e;
     }
 
@@ -158,6 +170,7 @@ module _ {B : Type 0} (width : ℕ) (s : Schedule) (bodies : List BodyMeaning) (
       wide = stage.wide;
       complete = complete;
       answers = stage.answers;
+      sets = stage.sets;
       end = woven state deferred out;
       meaning = stage.meaning;
       leaves = refl;
@@ -166,15 +179,31 @@ module _ {B : Type 0} (width : ℕ) (s : Schedule) (bodies : List BodyMeaning) (
     -- ---- where a run stops
 
     stops-at : (step : Step) (cause : Cause) → May s h step → IsNextWide width s h step → IsTrueAnswer s step (interleaved s bodies start h) → interleaved_cause_of s bodies step (woven state deferred out) ≡ Some cause → WideStops width s bodies start cause
-    stops-at step cause may next answer e = record {
-      front = step ∷ h;
-      wide = (may, next, stage.wide);
-      answers = (answer, stage.answers);
-      stops = ap (λ c. first_some c (interleaved_cause_at s bodies step (interleaved s bodies start h)))
-          (no-cause (interleaved s bodies start h) (woven state deferred out) (interleaved_cause s bodies start h) (lacks-interleaved s bodies start h lawful-there) stage.meaning)
-          ∙ ap (interleaved_cause_at s bodies step) stage.meaning ∙ e;
-    }
+    stops-at step cause may next answer e =
+        let stops : interleaved_cause s bodies start (step ∷ h) ≡ Some cause
+        = ap (λ c. first_some c (interleaved_cause_at s bodies step (interleaved s bodies start h)))
+        (no-cause (interleaved s bodies start h) (woven state deferred out) (interleaved_cause s bodies start h) (lacks-interleaved s bodies start h lawful-there) stage.meaning)
+        ∙ ap (interleaved_cause_at s bodies step) stage.meaning ∙ e in
+        record {
+          front = record { steps = step ∷ h; sets = s.sets };
+          wide = (may, next, stage.wide);
+          answers = (answer, stage.answers);
+          sets = sets-stopped step ((lacks-interleaved s bodies start (step ∷ h) (may, lawful-there)).1 (subst IsSome (sym stops) refl));
+          stops = stops;
+        }
       where
+        -- kind sets are recorded right after a step that leads nowhere
+        no-list : (sets : Option (List ℕ)) → AreSetsOf sets None
+        no-list None = tt
+        no-list (Some numbers) = tt
+
+        sets-stopped : (last : Step) → interleaved s bodies start (last ∷ h) ≡ None → HasTrueSets s bodies start (last ∷ h)
+        sets-stopped (Cond c told) none = stage.sets
+        sets-stopped (Start n) none = stage.sets
+        sets-stopped (Skip n) none = stage.sets
+        sets-stopped (Finish n) none = stage.sets
+        sets-stopped (Sync k) none = (subst (AreSetsOf (sets_at s (Sync k ∷ h))) (sym none) (no-list (sets_at s (Sync k ∷ h))), stage.sets)
+
         -- a meaning that is there meets no cause
         no-cause : {A : Type 0} (o : Option A) (x : A) (c : Option Cause) → (o ≡ None) ↔ IsSome c → o ≡ Some x → c ≡ None
         no-cause o x None lacks e = refl
@@ -198,29 +227,36 @@ module _ {B : Type 0} (width : ℕ) (s : Schedule) (bodies : List BodyMeaning) (
 
 -- at the opening
 pub stops_open : (width : ℕ) (s : Schedule) (bodies : List BodyMeaning) (start : State) (cause : Cause) → CannotOpen s start cause → WideStops width s bodies start cause
-stops_open width s bodies start cause e = record { front = []; wide = tt; answers = tt; stops = e }
+stops_open width s bodies start cause e = record { front = record { steps = []; sets = None }; wide = tt; answers = tt; sets = tt; stops = opening_cause-recording s None start ∙ e }
+
+-- whatever a run has recorded before
+pub stops_plain : (width : ℕ) (s : Schedule) (sets : Option (List (List ℕ))) (bodies : List BodyMeaning) (start : State) (cause : Cause) → WideStops width (recording s sets) bodies start cause → WideStops width s bodies start cause
+stops_plain width s sets bodies start cause stops = record { front = stops.front; wide = stops.wide; answers = stops.answers; sets = stops.sets; stops = stops.stops }
 
 -- ---- several runs
 
 -- one more run
-pub runs_more : (width : ℕ) (s : Schedule) (bodies : List BodyMeaning) (w : State) (hs : List (List Step)) (middle : State) (h : List Step) (w' : State) →
-    AreWideRuns width s bodies w hs middle → IsWideRun width s bodies middle h w' → AreWideRuns width s bodies w (hs ++ h ∷ []) w'
-runs_more width s bodies w [] middle h w' ran one = (w', subst (λ x. IsWideRun width s bodies x h w') (sym ran) one, refl)
-runs_more width s bodies w (g ∷ gs) middle h w' ran one = (ran.0, ran.1, runs_more width s bodies ran.0 gs middle h w' ran.2 one)
+pub runs_more : (width : ℕ) (s : Schedule) (bodies : List BodyMeaning) (w : State) (rs : List Recorded) (middle : State) (r : Recorded) (w' : State) →
+    AreWideRuns width s bodies w rs middle → IsWideRun width (recording s r.sets) bodies middle r.steps w' → AreWideRuns width s bodies w (rs ++ r ∷ []) w'
+runs_more width s bodies w [] middle r w' ran one = (w', subst (λ x. IsWideRun width (recording s r.sets) bodies x r.steps w') (sym ran) one, refl)
+runs_more width s bodies w (g ∷ gs) middle r w' ran one = (ran.0, ran.1, runs_more width s bodies ran.0 gs middle r w' ran.2 one)
+
+-- which records kind sets
+pub records_more : (rs : List Recorded) (r : Recorded) → AllByRecursion (λ x. is_some x.sets ≡ true) rs → is_some r.sets ≡ true → AllByRecursion (λ x. is_some x.sets ≡ true) (rs ++ r ∷ [])
+records_more [] r all one = (one, tt)
+records_more (x ∷ xs) r all one = (all.0, records_more xs r all.1 one)
 
 -- where the next one stops
-pub stopped : (width : ℕ) (s : Schedule) (bodies : List BodyMeaning) (times : ℕ) (w : State) (hs : List (List Step)) (middle : State) (cause : Cause) →
+pub stopped : (width : ℕ) (s : Schedule) (bodies : List BodyMeaning) (times : ℕ) (w : State) (hs : List Recorded) (middle : State) (cause : Cause) →
     AreWideRuns width s bodies w hs middle → length hs < times → WideStops width s bodies middle cause → IsWideStopped width s bodies times w cause
 stopped width s bodies times w hs middle cause ran fewer stops = record { complete_runs = hs; fewer = fewer; middle = middle; ran = ran; stopped = stops }
 
 -- ---- a turn of the loop
 
 -- the measure falls with each step
-pub falls : (core : Stand) (s : Schedule) (items longer : List Step) (step : Step) → core.schedule ≡ s → Stands core (step ∷ reverse items) → reverse longer ≡ step ∷ reverse items →
-    room s - length longer < room s - length items
-falls core s items longer step same stands more =
-    let bound : length (step ∷ reverse items) ≤ room s = lists_end s (step ∷ reverse items) (subst (λ (x : Schedule). IsLawful x (step ∷ reverse items)) same stands.lawful) in
-    let e : length (reverse longer) ≡ suc (length (reverse items)) = ap length more in
-    let long : length (reverse longer) ≡ length longer = length-reverse longer in
-    let short : length (reverse items) ≡ length items = length-reverse items in
+pub falls : (core : Stand) (s : Schedule) (sets : Option (List (List ℕ))) (h longer : List Step) (step : Step) → core.schedule ≡ s → Stands core sets longer → longer ≡ step ∷ h →
+    room s - length longer < room s - length h
+falls core s sets h longer step same stands more =
+    let bound : length longer ≤ room s = lists_end (recording s sets) longer (subst (λ (x : Schedule). IsLawful (recording x sets) longer) same stands.lawful) in
+    let e : length longer ≡ suc (length h) = ap length more in
     omega arith

@@ -7,13 +7,15 @@ use Rattle.model.specs.Lists.{has}
 use Rattle.model.specs.access.Access.{Params}
 use Rattle.model.specs.state.State.{State}
 use Rattle.model.specs.shown.Outcome.{BodyMeaning}
-use Rattle.model.specs.steps.Schedule.{Schedule, params_of, access_of, level_of}
+use Rattle.model.specs.steps.Schedule.{Schedule, recording, params_of, access_of, level_of}
 use Rattle.model.specs.steps.Built.{IsBuilt}
-use Rattle.model.specs.steps.Lawful.{MayAsk, MayStart, MaySync, begun}
+use Rattle.model.specs.steps.Lawful.{MayAsk, MayStart, MaySync, begun, sets_at}
 use Rattle.model.specs.runs.RunState.{after_opening, begin_run, body_of, can_open, next_tick}
 use Rattle.model.proofs.lists.Lists.{provided-Some}
 use Rattle.model.proofs.order.Histories.{above_waits}
 use Rattle.model.proofs.shape.GivenIds.{ids-free, ids-interleaved}
+use Rattle.model.proofs.serial.Recording.{built-recording, given-recording}
+use Rattle.model.proofs.serial.There.{all_among}
 use Rattle.archetype_store.specs.Layout.{Archetype, AreAllHome, IsLayoutOf}
 use Rattle.body.specs.Lent.{lent_in}
 use Rattle.body.specs.Out.{IsWrittenBy}
@@ -24,7 +26,7 @@ use Rattle.executor_core.specs.Stands.{Stand, Stands}
 use Rattle.worker_pool.specs.JobOut.{JobOut}
 use Rattle.engine.specs.declared.turn.Turn.{Turn}
 use Rattle.engine.specs.Jobs.{systems_of, held_by, woven, CanBegin, InHand, IsPlaced, Placed}
-use Rattle.engine.specs.Deferred.{DeferredValue, AreInHand, IsDeferredFor, commands_at, run_with}
+use Rattle.engine.specs.Deferred.{DeferredValue, AreInHand, IsDeferredFor, commands_at, grants_at, run_with}
 use Rattle.engine.specs.Meanings.{body_at, meanings, AllKeepWithin, HasMemories, Suits}
 use Rattle.engine.specs.Next.{IsAtRest}
 use Rattle.engine.specs.Stage.{Stage, IsTurn}
@@ -37,35 +39,42 @@ use Rattle.engine.proofs.Remembering.{memories_at, memories_opened, memories_ask
 
 -- ---- what is next, told of a core
 
-module _ (core : Stand) (s : Schedule) (h : List Step) (running width : ℕ) (next : Turn) (same : core.schedule ≡ s) (stands : Stands core h) (told : (x : List Step) → Stands core x → IsTurn core.schedule x running width (Some next)) where
-  there : IsTurn s h running width (Some next)
-  there = subst (λ (x : Schedule). IsTurn x h running width (Some next)) same (told h stands)
+module _ (core : Stand) (s : Schedule) (sets : Option (List (List ℕ))) (h : List Step) (running width : ℕ) (next : Turn) (same : core.schedule ≡ s) (stands : Stands core sets h)
+    (told : (lists : Option (List (List ℕ))) (x : List Step) → Stands core lists x → IsTurn (recording core.schedule lists) x running width (Some next)) where
+  there : IsTurn (recording s sets) h running width (Some next)
+  there = subst (λ (x : Schedule). IsTurn (recording x sets) h running width (Some next)) same (told sets h stands)
 
   -- with as many running as jobs are out, and room for so many
-  pub turn_next : (many room : ℕ) → running ≡ many → width ≡ room → IsTurn s h many room (Some next)
-  turn_next many room e f = subst (λ (r : ℕ). IsTurn s h many r (Some next)) f (subst (λ (r : ℕ). IsTurn s h r width (Some next)) e there)
+  pub turn_next : (many room : ℕ) → running ≡ many → width ≡ room → IsTurn (recording s sets) h many room (Some next)
+  turn_next many room e f = subst (λ (r : ℕ). IsTurn (recording s sets) h many r (Some next)) f (subst (λ (r : ℕ). IsTurn (recording s sets) h r width (Some next)) e there)
 
 -- ---- what a start asks
 
 module _ {B : Type 0} (meaning : B → Params → BodyMeaning) (fits : B → Params → Bool) (where_is : Bool) (s : Schedule) (bodies : List BodyMeaning) (slots : List (Option B)) (out : List (JobOut B)) (w : StateValue) (placed : Placed meaning fits where_is s bodies slots out w) where
-  pub start_allowed : (width : ℕ) (start : State) (h : List Step) (deferred : DeferredValue) (n : ℕ) → IsBuilt s → Stage width s bodies start h w.state deferred out → MayStart s h n → CanBegin s n deferred out w
-  start_allowed width start h deferred n built stage may =
-      let holds = holds_there width s bodies start h w.state deferred out stage in
+  pub start_allowed : (sets : Option (List (List ℕ))) (width : ℕ) (start : State) (h : List Step) (deferred : DeferredValue) (n : ℕ) → IsBuilt s → Stage width (recording s sets) bodies start h w.state deferred out →
+      MayStart (recording s sets) h n → CanBegin s n deferred out w
+  start_allowed sets width start h deferred n built stage may =
+      let r : Schedule = recording s sets in
+      let holds = holds_there width r bodies start h w.state deferred out stage in
+      let lawful = wide_lawful width r h stage.wide in
       record {
         known = may.free.known;
-        fresh = interleaved_fresh s bodies start h (woven w.state deferred out) (wide_lawful width s h stage.wide) stage.meaning n may.free.waits;
-        given = ids-free s h n (run_with w.state deferred) (wide_lawful width s h stage.wide) may.free
-            (ids-interleaved s bodies start h (woven w.state deferred out) built (wide_lawful width s h stage.wide) stage.meaning);
-        home = start-free meaning fits where_is s bodies slots out w placed deferred h holds n may;
-        apart = apart-held meaning fits where_is s bodies slots out w placed deferred h holds (params_of s n) may.apart;
+        fresh = interleaved_fresh r bodies start h (woven w.state deferred out) lawful stage.sets stage.meaning n may.free.waits;
+        given = given-recording r s.sets n (grants_at deferred n)
+            (ids-free r h n (run_with w.state deferred) lawful may.free (ids-interleaved r bodies start h (woven w.state deferred out) (built-recording s sets built) lawful stage.meaning));
+        home = start-free meaning fits where_is s bodies slots out w placed sets deferred h holds n may;
+        there = sets_at r h;
+        among = all_among r bodies start h (woven w.state deferred out) stage.sets stage.meaning;
+        apart = apart-held meaning fits where_is s bodies slots out w placed sets deferred h holds (params_of s n) may.apart;
       }
 
   -- a condition may be asked
-  pub ask_allowed : (c : ℕ) (width : ℕ) (start : State) (h : List Step) (deferred : DeferredValue) → Stage width s bodies start h w.state deferred out → IsLayoutOf w.state.world.slots w.layout → MayAsk s h c →
-      AllByRecursion (λ query. ArePickedHome query w.layout) (access_of s c).queries
-  ask_allowed c width start h deferred stage laid may =
-      home-apart (store_of w) (held_by out) (access_of s c) laid placed.held
-      (apart-held meaning fits where_is s bodies slots out w placed deferred h (holds_there width s bodies start h w.state deferred out stage) (access_of s c) may.apart)
+  pub ask_allowed : (sets : Option (List (List ℕ))) (c : ℕ) (width : ℕ) (start : State) (h : List Step) (deferred : DeferredValue) → Stage width (recording s sets) bodies start h w.state deferred out →
+      IsLayoutOf w.state.world.slots w.layout → MayAsk (recording s sets) h c → AllByRecursion (λ query. ArePickedHome query w.layout) (access_of s c).queries
+  ask_allowed sets c width start h deferred stage laid may =
+      let r : Schedule = recording s sets in
+      home-apart (sets_at r h) (store_of w) (held_by out) (access_of s c) laid (all_among r bodies start h (woven w.state deferred out) stage.sets stage.meaning) placed.held
+      (apart-held meaning fits where_is s bodies slots out w placed sets deferred h (holds_there width r bodies start h w.state deferred out stage) (access_of s c) may.apart)
 
   -- at a later tick, with other memories, which are those of the schedule too
   pub placed_moved : (later : StateValue) → HasMemories s later.state → w.state.world.clock ≤ later.state.world.clock → later.state.world.slots ≡ w.state.world.slots → later.layout ≡ w.layout →
@@ -107,11 +116,12 @@ module _ {B : Type 0} (meaning : B → Params → BodyMeaning) (fits : B → Par
       (ap (λ (x : StateValue). x.state.world.slots) is) (ap (λ (x : StateValue). x.layout) is)
 
   -- before a sync point the systems of the level above it have left nothing
-  pub sync_fresh : (width : ℕ) (start : State) (h : List Step) (deferred : DeferredValue) (k : ℕ) → Stage width s bodies start h w.state deferred out → MaySync s h k →
-      (n : ℕ) → level_of s n ≡ suc k → commands_at deferred n ≡ []
-  sync_fresh width start h deferred k stage may n above =
-      interleaved_fresh s bodies start h (woven w.state deferred out) (wide_lawful width s h stage.wide) stage.meaning n
-      (false_from_ne_true (begun h n) (above_waits s h k n (wide_lawful width s h stage.wide) may.fresh (omega (arith, above))))
+  pub sync_fresh : (sets : Option (List (List ℕ))) (width : ℕ) (start : State) (h : List Step) (deferred : DeferredValue) (k : ℕ) → Stage width (recording s sets) bodies start h w.state deferred out →
+      MaySync (recording s sets) h k → (n : ℕ) → level_of s n ≡ suc k → commands_at deferred n ≡ []
+  sync_fresh sets width start h deferred k stage may n above =
+      let r : Schedule = recording s sets in
+      let lawful = wide_lawful width r h stage.wide in
+      interleaved_fresh r bodies start h (woven w.state deferred out) lawful stage.sets stage.meaning n (false_from_ne_true (begun h n) (above_waits r h k n lawful may.fresh (omega (arith, above))))
 
   -- after a sync point, where none is out
   pub placed_synced : (later : StateValue) → length out ≡ 0 → HasMemories s later.state → AreAllHome later.layout → Placed meaning fits where_is s bodies slots out later

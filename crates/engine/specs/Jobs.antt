@@ -1,9 +1,11 @@
 -- What is known of the jobs that are out in a run, and of the bodies that are at home.
-use Rattle.std.specs.Prelude.{ℕ, ◌<◌, ◌≤◌, ◌≡◌, Bool, true, false, List, [], ◌∷◌, length, map, flat_map, Option, Some, None}
+use Rattle.std.specs.Prelude.{ℕ, ◌<◌, ◌≤◌, ◌≡◌, Bool, true, false, List, [], ◌∷◌, length, get_or, map, flat_map, Option, Some, None}
 use Rattle.std.specs.List.{AllByRecursion}
 use Rattle.model.specs.Lists.{has, IsIn}
 use Rattle.model.specs.access.Access.{Params}
-use Rattle.model.specs.state.State.{State}
+use Rattle.model.specs.access.Meeting.{IsAmong}
+use Rattle.model.specs.state.State.{State, fresh_slot, is_living}
+use Rattle.model.specs.state.Rows.{kinds_of, row_at}
 use Rattle.model.specs.shown.Outcome.{BodyMeaning}
 use Rattle.model.specs.steps.Schedule.{Schedule, params_of}
 use Rattle.model.specs.runs.RunState.{RunningSystem, body_of}
@@ -86,10 +88,12 @@ pub record InHand {B : Type 0} (s : Schedule) (deferred : DeferredValue) (out : 
   pub showing : (job : JobOut B) → IsIn job out → CanBeShown (params_of s job.system) job.view.shown
 
 -- a system that may be started: it is one of the schedule, it isn't out and has deferred no commands, it was granted what it can be given, and none
--- that is out holds a column that it writes, or writes one that it reads
+-- that is out and holds a column meets it, as far as the sets of kinds tell that may be there: among them are those of all living entities
 pub record CanBegin {B : Type 0} (s : Schedule) (n : ℕ) (deferred : DeferredValue) (out : List (JobOut B)) (w : StateValue) : Type 0 where
   pub known : n < length s.systems
   pub home : has n (systems_of out) ≡ false
   pub fresh : commands_at deferred n ≡ []
   pub given : AreIdsFor s n (grants_at deferred n)
-  pub apart : AllByRecursion (IsApartFrom (params_of s n) w.layout) (lent_in (held_by out))
+  pub there : Option (List ℕ)
+  pub among : (index : ℕ) → is_living (get_or w.state.world.slots index fresh_slot).status ≡ true → IsAmong there (kinds_of (row_at w.state.world.slots index))
+  pub apart : AllByRecursion (IsApartFrom there (params_of s n) w.layout) (lent_in (held_by out))

@@ -1,4 +1,3 @@
-pub mod History
 pub mod Stops
 pub mod RunsAs
 pub mod Meanings

@@ -1,16 +1,20 @@
 // The turns of a run: what is ready is done while there is room for one more running system, else a job is waited for.
 
-ghost use Rattle.std.specs.Prelude.{◌≡◌, ◌<◌, ◌∷◌, [], ℕ, List, length, reverse, map, true, Some, Err, OnOk, IfErr, IfOk, IsTrue};
+ghost use Rattle.std.specs.Prelude.{◌≡◌, ◌∷◌, [], ℕ, List, get_or, length, is_some, option_map, true, Err, OnOk, IfErr, IfOk, IsTrue, Option, Some};
+ghost use Rattle.std.specs.List.{AllByRecursion};
 ghost use Rattle.model.specs.declared.steps.Step.{Step as Action};
 ghost use Rattle.model.specs.state.State.{State};
 ghost use Rattle.model.specs.shown.Outcome.{BodyMeaning};
-ghost use Rattle.model.specs.steps.Lawful.{May};
+ghost use Rattle.model.specs.steps.Schedule.{recording};
+ghost use Rattle.model.specs.declared.steps.Step.TheVariants.{Sync as Pass};
+ghost use Rattle.model.specs.steps.Lawful.{May, syncs_in};
 ghost use Rattle.model.specs.runs.WideRuns.{IsWideRun, AreWideRuns, WideStops, IsWideStopped};
 ghost use Rattle.executor_core.specs.Stands.{Stands};
+ghost use Rattle.executor_core.specs.Traces.{with_list};
 ghost use Rattle.engine.specs.Jobs.{AreKept};
 ghost use Rattle.engine.specs.Meanings.{meanings, AreFit};
-ghost use Rattle.engine.specs.History.{history_of};
 ghost use Rattle.engine.specs.Next.{IsAtRest, IsNext, IsTaken, KeepsNext, StopsNext};
+ghost use Rattle.engine.specs.Stage.{sets_after};
 ghost use Rattle.engine.specs.Stops.{StopsBy};
 ghost use Rattle.engine.specs.declared.stop.Stop.TheVariants as stop;
 
@@ -18,10 +22,11 @@ use crate::jobs::{Jobs, bring_home, finish, start};
 use crate::run_state::RunState;
 use crate::stop::Stop;
 use crate::turn::{Turn, next_turn};
-use body::Body;
+use body::{Body, OpenState};
 use executor_core::{Core, Ready, Step, Trace};
+use model::KindSets;
 use schedule_builder::Built;
-use std::alloc::AllocError;
+use std::alloc::{AllocError, Global};
 use worker_pool::Mode;
 
 /// The runs of a schedule, one after the other. After a stop all jobs have come back, and their bodies are in their places.
@@ -35,7 +40,8 @@ pub(crate) fn run_times<'s, M: Mode<'s>, B: Body + 's>(
     requires rest { IsAtRest B.meaning B.fits built.now jobs.old.bodies run.old.deferred run.old.state }
     requires empty { jobs.old.pool ≡ [] }
     ensures count { IfOk result (λ traces. length traces.items ≡ times) }
-    ensures ran { IfOk result (λ traces. AreWideRuns (M.width mode.now) built.now (meanings B.meaning built.now jobs.old.bodies) run.old.state.state (map history_of traces.items) run.new.state.state) }
+    ensures records { IfOk result (λ traces. AllByRecursion (λ r. is_some r.sets ≡ true) traces.items) }
+    ensures ran { IfOk result (λ traces. AreWideRuns (M.width mode.now) built.now (meanings B.meaning built.now jobs.old.bodies) run.old.state.state traces.items run.new.state.state) }
     ensures rest { OnOk result (IsAtRest B.meaning B.fits built.now jobs.new.bodies run.new.deferred run.new.state) }
     ensures stopped { IfErr result (StopsBy (M.has_scope mode.now) (IsWideStopped (M.width mode.now) built.now (meanings B.meaning built.now jobs.old.bodies) times run.old.state.state)) }
     ensures meanings { (result ≡ Err stop.NoWorker → IsTrue (M.stands mode.now)) → meanings B.meaning built.now jobs.new.bodies ≡ meanings B.meaning built.now jobs.old.bodies }
@@ -63,24 +69,26 @@ fn run_turns<'s, M: Mode<'s>, B: Body + 's>(
 ) -> Result<Trace, Stop>
     requires rest { IsAtRest B.meaning B.fits built.now jobs.old.bodies run.old.deferred run.old.state }
     requires empty { jobs.old.pool ≡ [] }
-    ensures ran { IfOk result (λ trace. IsWideRun (M.width mode.now) built.now (meanings B.meaning built.now jobs.old.bodies) run.old.state.state (history_of trace) run.new.state.state) }
+    ensures records { IfOk result (λ trace. is_some trace.sets ≡ true) }
+    ensures ran { IfOk result (λ trace. IsWideRun (M.width mode.now) (recording built.now trace.sets) (meanings B.meaning built.now jobs.old.bodies) run.old.state.state trace.steps run.new.state.state) }
     ensures rest { OnOk result (IsAtRest B.meaning B.fits built.now jobs.new.bodies run.new.deferred run.new.state) }
     ensures empty { OnOk result (jobs.new.pool ≡ []) }
     ensures stopped { IfErr result (StopsBy (M.has_scope mode.now) (WideStops (M.width mode.now) built.now (meanings B.meaning built.now jobs.old.bodies) run.old.state.state)) }
     ensures kept { (result ≡ Err stop.NoWorker → IsTrue (M.stands mode.now)) → AreKept B.meaning B.fits (M.has_scope mode.now) built.now (meanings B.meaning built.now jobs.old.bodies) jobs.new.bodies jobs.new.pool }
 {
     let width = mode.width();
-    let mut core = Core::new(run.alloc, built)?;
-    let mut steps = Vec::new(run.alloc);
     jobs.started = 0;
     run.deferred.clear();
     run.open(built)?;
+    let opening = run.state.kind_sets(run.alloc)?;
+    let mut core = Core::new_in(run.alloc, built, &opening)?;
+    let mut trace = Trace::new_in(run.alloc, opening)?;
     while let Some(turn) = next_turn(&core, jobs.pool.count(), width) {
         let step = do_turn(built, run, jobs, mode, turn)?;
-        take(&mut core, &mut steps, step)?;
+        take(run.alloc, &mut core, &mut trace, &run.state, step)?;
     }
     run.state.prove_law();
-    Ok(Trace { steps })
+    Ok(trace)
 }
 
 // Does what is next, and gives the step that it is.
@@ -91,8 +99,8 @@ fn do_turn<'s, M: Mode<'s>, B: Body + 's>(
     mode: &M,
     turn: Turn,
 ) -> Result<Step, Stop>
-    requires next { (bodies : List BodyMeaning) × (start : State) × (h : List Action) × IsNext B.meaning B.fits (M.has_scope mode.now) (M.width mode.now) built.now bodies start h jobs.old.bodies run.old.deferred jobs.old.pool run.old.state turn }
-    ensures taken { IfOk result (λ step. (bodies : List BodyMeaning) → (start : State) → (h : List Action) → IsNext B.meaning B.fits (M.has_scope mode.now) (M.width mode.now) built.now bodies start h jobs.old.bodies run.old.deferred jobs.old.pool run.old.state turn → IsTaken B.meaning B.fits (M.has_scope mode.now) (M.width mode.now) built.now bodies start h jobs.new.bodies run.new.deferred jobs.new.pool run.new.state step) }
+    requires next { (sets : Option (List (List ℕ))) × (bodies : List BodyMeaning) × (start : State) × (h : List Action) × IsNext B.meaning B.fits (M.has_scope mode.now) (M.width mode.now) built.now sets bodies start h jobs.old.bodies run.old.deferred jobs.old.pool run.old.state turn }
+    ensures taken { IfOk result (λ step. (sets : Option (List (List ℕ))) → (bodies : List BodyMeaning) → (start : State) → (h : List Action) → IsNext B.meaning B.fits (M.has_scope mode.now) (M.width mode.now) built.now sets bodies start h jobs.old.bodies run.old.deferred jobs.old.pool run.old.state turn → IsTaken B.meaning B.fits (M.has_scope mode.now) (M.width mode.now) built.now sets bodies start h jobs.new.bodies run.new.deferred jobs.new.pool run.new.state step) }
     ensures stopped { IfErr result (StopsNext B.meaning B.fits (M.has_scope mode.now) (M.width mode.now) built.now jobs.old.bodies run.old.deferred jobs.old.pool run.old.state turn) }
     ensures kept { IfErr result (KeepsNext B.meaning B.fits (M.has_scope mode.now) (M.stands mode.now) (M.width mode.now) built.now jobs.old.bodies run.old.deferred jobs.old.pool run.old.state turn jobs.new.bodies jobs.new.pool) }
 {
@@ -123,17 +131,60 @@ fn do_turn<'s, M: Mode<'s>, B: Body + 's>(
     }
 }
 
-// Takes a step that may come.
-fn take(core: &mut Core<'_>, steps: &mut Vec<Step>, step: Step) -> Result<(), AllocError>
-    requires stands { Stands core.old (reverse steps.old.items) }
-    requires may { May core.old.schedule (reverse steps.old.items) step }
-    ensures taken { OnOk result (reverse steps.new.items ≡ step ∷ reverse steps.old.items) }
-    ensures stands { OnOk result (Stands core.new (step ∷ reverse steps.old.items)) }
+// Takes a step that may come, and records it: with a sync point the kind sets that are there now.
+fn take(
+    alloc: Global,
+    core: &mut Core<'_>,
+    trace: &mut Trace,
+    state: &OpenState,
+    step: Step,
+) -> Result<(), AllocError>
+    requires records { is_some trace.old.sets ≡ true }
+    requires stands { Stands core.old trace.old.sets trace.old.steps }
+    requires may { May (recording core.old.schedule trace.old.sets) trace.old.steps step }
+    ensures steps { OnOk result (trace.new.steps ≡ step ∷ trace.old.steps) }
+    ensures sets { OnOk result (trace.new.sets ≡ sets_after step state.now.state trace.old.sets) }
+    ensures records { OnOk result (is_some trace.new.sets ≡ true) }
+    ensures stands { OnOk result (Stands core.new trace.new.sets trace.new.steps) }
     ensures schedule { core.new.schedule ≡ core.old.schedule }
 {
-    steps.push(step)?;
-    let Ok(()) = core.step(step) else {
+    let Step::Sync(point) = step else {
+        trace.push(step)?;
+        let Ok(()) = core.step(step) else {
+            unreachable!()
+        };
+        return Ok(());
+    };
+    let sets = state.kind_sets(alloc)?;
+    pass(core, trace, point, &sets);
+    trace.push_sync(point, sets)
+}
+
+// Takes a sync point that may come, after which these kind sets are there. Where they are those recorded last, the core keeps who meets whom.
+fn pass(core: &mut Core<'_>, trace: &Trace, point: u32, sets: &KindSets)
+    requires records { is_some trace.now.sets ≡ true }
+    requires stands { Stands core.old trace.now.sets trace.now.steps }
+    requires may { May (recording core.old.schedule trace.now.sets) trace.now.steps (Pass point) }
+    ensures stands { Stands core.new (with_list sets.now trace.now.sets) (Pass point ∷ trace.now.steps) }
+    ensures schedule { core.new.schedule ≡ core.old.schedule }
+{
+    if is_latest(trace, sets) {
+        let Ok(()) = core.sync_same(point) else {
+            unreachable!()
+        };
+        return;
+    }
+    let Ok(()) = core.sync_in(point, sets) else {
         unreachable!()
     };
-    Ok(())
+}
+
+// Whether these kind sets are those recorded last.
+fn is_latest(trace: &Trace, sets: &KindSets) -> bool
+    ensures { IsTrue result → option_map (λ lists. get_or lists (syncs_in trace.now.steps) []) trace.now.sets ≡ Some sets.now }
+{
+    match trace.latest() {
+        Some(latest) => latest.is_same(sets),
+        None => false,
+    }
 }

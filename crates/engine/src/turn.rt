@@ -1,6 +1,7 @@
 // The next turn of a run.
 
-ghost use Rattle.std.specs.Prelude.{◌<◌, ◌≤◌, List};
+ghost use Rattle.std.specs.Prelude.{ℕ, ◌<◌, ◌≤◌, List, Option};
+ghost use Rattle.model.specs.steps.Schedule.{recording};
 ghost use Rattle.model.specs.declared.steps.Step.{Step as Action};
 ghost use Rattle.executor_core.specs.Stands.{Stands};
 ghost use Rattle.engine.specs.Stage.{IsTurn};
@@ -21,8 +22,8 @@ pub enum Turn {
 pub(crate) fn next_turn(core: &Core<'_>, running: usize, width: usize) -> Option<Turn>
     requires room { running ≤ width }
     requires some { 0 < width }
-    requires stands { (h : List Action) × Stands core.now h }
-    ensures { (h : List Action) → Stands core.now h → IsTurn core.now.schedule h running width result }
+    requires stands { (sets : Option (List (List ℕ))) × (h : List Action) × Stands core.now sets h }
+    ensures { (sets : Option (List (List ℕ))) (h : List Action) → Stands core.now sets h → IsTurn (recording core.now.schedule sets) h running width result }
 {
     if running == width {
         return Some(Turn::Collect);

@@ -1,5 +1,5 @@
 -- From the sets of a core to what each step asks, for each history for which the core stands.
-use Rattle.std.proofs.Common.{ℕ, ◌<◌, ◌≤◌, Bool, true, false, not, ◌&&◌, nat_lt, ◌≡◌, inl, inr, List, [], ◌∷◌, length, refl, sym, ◌∙◌, ap, subst, arith, lt-ltb, ltb-true}
+use Rattle.std.proofs.Common.{ℕ, ◌<◌, ◌≤◌, Bool, true, false, not, ◌&&◌, nat_lt, ◌≡◌, inl, inr, List, [], ◌∷◌, length, Option, refl, sym, ◌∙◌, subst, arith, lt-ltb, ltb-true}
 use Rattle.std.proofs.lemmas.Bool.{both_ways, true_from_ne_false, false_from_ne_true, false≢true, cases_lt, cases_order}
 use Rattle.number_set.specs.Members.{contains}
 use Rattle.model.specs.declared.steps.Step.{Step}
@@ -7,9 +7,9 @@ use Rattle.model.specs.declared.steps.Step.TheVariants.{Cond, Start, Skip, Finis
 use Rattle.model.specs.declared.steps.StepFault.TheVariants.{Repeated, NotReady, ConditionOpen, ConditionFalse, ConditionTrue, NotRunning, LevelOpen}
 use Rattle.model.specs.declared.steps.StepFault.{StepFault}
 use Rattle.model.specs.declared.steps.StepFault.TheVariants as fault
-use Rattle.model.specs.steps.Schedule.{params_of, access_of, level_of, covers}
+use Rattle.model.specs.steps.Schedule.{recording, params_of, access_of, level_of, covers}
 use Rattle.model.specs.steps.Built.{IsBuilt}
-use Rattle.model.specs.steps.Lawful.{begun, ended, runs, synced, was_asked, answered, IsFree, HasFreeMember, HasOpen, HasFalse, MeetsRunning, MayAsk, MayStart, MaySkip, MayFinish, MaySync}
+use Rattle.model.specs.steps.Lawful.{ended, runs, synced, was_asked, answered, IsFree, HasFreeMember, HasOpen, HasFalse, MeetsRunning, MayAsk, MayStart, MaySkip, MayFinish, MaySync}
 use Rattle.model.specs.steps.Faults.{StartFault, SkipFault, IsFirst, IsFirstFault}
 use Rattle.model.proofs.order.Histories.{begun_from_runs, begun_runs_or_ended, runs_not-ended, runs_known, asked_answered, answered_asked, one_answer}
 use Rattle.model.proofs.faults.Decisions.{decide_meets}
@@ -31,277 +31,277 @@ not_below_past j k past = false_from_ne_true (nat_lt j k) (λ e. let low : j < k
 -- ---- what a history says where a core stands for it
 
 -- a sync point below the number of those done is done
-pub done_below : (core : Stand) (h : List Step) → Stands core h → (k : ℕ) → k < core.done → synced h k ≡ true
-done_below core h stands k low = stands.syncs k ∙ lt-ltb k core.done low
+pub done_below : (core : Stand) (sets : Option (List (List ℕ))) (h : List Step) → Stands core sets h → (k : ℕ) → k < core.done → synced h k ≡ true
+done_below core sets h stands k low = stands.syncs k ∙ lt-ltb k core.done low
 
 -- the next one isn't
-pub next_fresh : (core : Stand) (h : List Step) → Stands core h → (k : ℕ) → core.done ≤ k → synced h k ≡ false
-next_fresh core h stands k past = stands.syncs k ∙ not_below_past k core.done past
+pub next_fresh : (core : Stand) (sets : Option (List (List ℕ))) (h : List Step) → Stands core sets h → (k : ℕ) → core.done ≤ k → synced h k ≡ false
+next_fresh core sets h stands k past = stands.syncs k ∙ not_below_past k core.done past
 
 -- what has begun and is not over runs
-pub runs_of_sets : (core : Stand) (h : List Step) → Stands core h → (n : ℕ) → contains core.begun n ≡ true → contains core.over n ≡ false → runs h n ≡ true
-runs_of_sets core h stands n b o = elim (begun_runs_or_ended h n (stands.begins n ∙ b)) [
+pub runs_of_sets : (core : Stand) (sets : Option (List (List ℕ))) (h : List Step) → Stands core sets h → (n : ℕ) → contains core.begun n ≡ true → contains core.over n ≡ false → runs h n ≡ true
+runs_of_sets core sets h stands n b o = elim (begun_runs_or_ended h n (stands.begins n ∙ b)) [
   | inl r ↦ r
   | inr e ↦ absurd (both_ways _ (stands.ends n ∙ o) e)
 ]
 
 -- what runs has begun and is not over
-pub sets_of_runs : (core : Stand) (h : List Step) → Stands core h → (n : ℕ) → runs h n ≡ true → (contains core.begun n ≡ true) × (contains core.over n ≡ false)
-sets_of_runs core h stands n r = (
+pub sets_of_runs : (core : Stand) (sets : Option (List (List ℕ))) (h : List Step) → Stands core sets h → (n : ℕ) → runs h n ≡ true → (contains core.begun n ≡ true) × (contains core.over n ≡ false)
+sets_of_runs core sets h stands n r = (
   sym (stands.begins n) ∙ begun_from_runs h n r,
-  sym (stands.ends n) ∙ false_from_ne_true (ended h n) (λ e. runs_not-ended core.schedule h n stands.lawful r e),
+  sym (stands.ends n) ∙ false_from_ne_true (ended h n) (λ e. runs_not-ended (recording core.schedule sets) h n stands.lawful r e),
 )
 
 -- so a system runs exactly where the sets say so
-pub runs_is : (core : Stand) (h : List Step) → Stands core h → (n : ℕ) → runs h n ≡ (contains core.begun n && not (contains core.over n))
-runs_is core h stands n = go (contains core.begun n) (contains core.over n) refl refl
+pub runs_is : (core : Stand) (sets : Option (List (List ℕ))) (h : List Step) → Stands core sets h → (n : ℕ) → runs h n ≡ (contains core.begun n && not (contains core.over n))
+runs_is core sets h stands n = go (contains core.begun n) (contains core.over n) refl refl
   where
     go : (b o : Bool) → contains core.begun n ≡ b → contains core.over n ≡ o → runs h n ≡ (b && not o)
-    go true false p q = runs_of_sets core h stands n p q
-    go true true p q = false_from_ne_true _ (λ r. both_ways _ (sets_of_runs core h stands n r).1 q)
-    go false false p q = false_from_ne_true _ (λ r. both_ways _ p (sets_of_runs core h stands n r).0)
-    go false true p q = false_from_ne_true _ (λ r. both_ways _ p (sets_of_runs core h stands n r).0)
+    go true false p q = runs_of_sets core sets h stands n p q
+    go true true p q = false_from_ne_true _ (λ r. both_ways _ (sets_of_runs core sets h stands n r).1 q)
+    go false false p q = false_from_ne_true _ (λ r. both_ways _ p (sets_of_runs core sets h stands n r).0)
+    go false true p q = false_from_ne_true _ (λ r. both_ways _ p (sets_of_runs core sets h stands n r).0)
 
 -- ---- free systems
 
 -- a released system that hasn't begun is free
-pub free_from : (core : Stand) (h : List Step) (n : ℕ) → Stands core h → n < length core.schedule.systems → contains core.begun n ≡ false → IsReleased core n → IsFree core.schedule h n
-free_from core h n stands known fresh released = record {
+pub free_from : (core : Stand) (sets : Option (List (List ℕ))) (h : List Step) (n : ℕ) → Stands core sets h → n < length core.schedule.systems → contains core.begun n ≡ false → IsReleased core n → IsFree (recording core.schedule sets) h n
+free_from core sets h n stands known fresh released = record {
   known = known;
   waits = stands.begins n ∙ fresh;
   after = λ m edge. stands.ends m ∙ released.after m edge;
-  over = λ k low. let level : level_of core.schedule n ≤ core.done = released.level in done_below core h stands k (omega arith);
+  over = λ k low. let level : level_of core.schedule n ≤ core.done = released.level in done_below core sets h stands k (omega arith);
 }
 
 -- a free system is released
-pub released_from : (core : Stand) (h : List Step) (n : ℕ) → Stands core h → IsFree core.schedule h n → IsReleased core n
-released_from core h n stands free = record {
+pub released_from : (core : Stand) (sets : Option (List (List ℕ))) (h : List Step) (n : ℕ) → Stands core sets h → IsFree (recording core.schedule sets) h n → IsReleased core n
+released_from core sets h n stands free = record {
   after = λ m edge. sym (stands.ends m) ∙ free.after m edge;
   level = elim (cases_lt core.done (level_of core.schedule n)) [
-    | inl low ↦ absurd (both_ways _ (next_fresh core h stands core.done (omega arith)) (free.over core.done low))
+    | inl low ↦ absurd (both_ways _ (next_fresh core sets h stands core.done (omega arith)) (free.over core.done low))
     | inr high ↦ high
   ];
 }
 
 -- ---- conflicts
 
--- where each rival that has begun is over no running system meets this one
-pub no_meeting : (core : Stand) (h : List Step) (n : ℕ) → Stands core h → NoneMeets core n → MeetsRunning core.schedule h (params_of core.schedule n) → ⊥
-no_meeting core h n stands none meets =
-    let sets = sets_of_runs core h stands meets.0 meets.1 in
-    let known : meets.0 < length core.schedule.systems = runs_known core.schedule h meets.0 stands.lawful meets.1 in
-    both_ways _ sets.1 (none meets.0 (known, meets.2) sets.0)
+-- where each system that meets this one and has begun is over no running system meets it
+pub no_meeting : (core : Stand) (sets : Option (List (List ℕ))) (h : List Step) (n : ℕ) → Stands core sets h → NoneMeets core n → MeetsRunning (recording core.schedule sets) h (params_of core.schedule n) → ⊥
+no_meeting core sets h n stands none meets =
+    let bits = sets_of_runs core sets h stands meets.0 meets.1 in
+    let known : meets.0 < length core.schedule.systems = runs_known (recording core.schedule sets) h meets.0 stands.lawful meets.1 in
+    both_ways _ bits.1 (none meets.0 ((stands.meets n meets.0).1 (known, meets.2)) bits.0)
 
 -- and the other way round
-pub meeting : (core : Stand) (h : List Step) (n : ℕ) → Stands core h → (NoneMeets core n → ⊥) → MeetsRunning core.schedule h (params_of core.schedule n)
-meeting core h n stands some = elim (decide_meets core.schedule h (params_of core.schedule n) stands.lawful) [
+pub meeting : (core : Stand) (sets : Option (List (List ℕ))) (h : List Step) (n : ℕ) → Stands core sets h → (NoneMeets core n → ⊥) → MeetsRunning (recording core.schedule sets) h (params_of core.schedule n)
+meeting core sets h n stands some = elim (decide_meets (recording core.schedule sets) h (params_of core.schedule n) stands.lawful) [
   | inl meets ↦ meets
-  | inr none ↦ absurd (some (λ m rival b. true_from_ne_false (contains core.over m) (λ o. none (m, runs_of_sets core h stands m b o, rival.1))))
+  | inr none ↦ absurd (some (λ m rival b. true_from_ne_false (contains core.over m) (λ o. none (m, runs_of_sets core sets h stands m b o, ((stands.meets n m).0 rival).1))))
 ]
 
 -- ---- conditions
 
 -- a condition of the system that was not asked is open, and the other way round
-pub open_from : (core : Stand) (h : List Step) (n : ℕ) → Stands core h → HasUnasked core n → HasOpen core.schedule h n
-open_from core h n stands one = (one.0, one.1, stands.asks one.0 ∙ one.2)
+pub open_from : (core : Stand) (sets : Option (List (List ℕ))) (h : List Step) (n : ℕ) → Stands core sets h → HasUnasked core n → HasOpen (recording core.schedule sets) h n
+open_from core sets h n stands one = (one.0, one.1, stands.asks one.0 ∙ one.2)
 
-pub unasked_from : (core : Stand) (h : List Step) (n : ℕ) → Stands core h → HasOpen core.schedule h n → HasUnasked core n
-unasked_from core h n stands one = (one.0, one.1, sym (stands.asks one.0) ∙ one.2)
+pub unasked_from : (core : Stand) (sets : Option (List (List ℕ))) (h : List Step) (n : ℕ) → Stands core sets h → HasOpen (recording core.schedule sets) h n → HasUnasked core n
+unasked_from core sets h n stands one = (one.0, one.1, sym (stands.asks one.0) ∙ one.2)
 
 -- one that was asked and did not answer yes answered no, and the other way round
-pub false_from : (core : Stand) (h : List Step) (n : ℕ) → Stands core h → HasRefusing core n → HasFalse core.schedule h n
-false_from core h n stands one = elim (asked_answered h one.0 (stands.asks one.0 ∙ one.2)) [
+pub false_from : (core : Stand) (sets : Option (List (List ℕ))) (h : List Step) (n : ℕ) → Stands core sets h → HasRefusing core n → HasFalse (recording core.schedule sets) h n
+false_from core sets h n stands one = elim (asked_answered h one.0 (stands.asks one.0 ∙ one.2)) [
   | inl e ↦ absurd (both_ways (contains core.yes one.0) one.3 (sym (stands.yeses one.0) ∙ e))
   | inr e ↦ (one.0, one.1, e)
 ]
 
-pub refusing_from : (core : Stand) (h : List Step) (n : ℕ) → Stands core h → HasFalse core.schedule h n → HasRefusing core n
-refusing_from core h n stands one = (
+pub refusing_from : (core : Stand) (sets : Option (List (List ℕ))) (h : List Step) (n : ℕ) → Stands core sets h → HasFalse (recording core.schedule sets) h n → HasRefusing core n
+refusing_from core sets h n stands one = (
   one.0,
   one.1,
   sym (stands.asks one.0) ∙ answered_asked h one.0 false one.2,
-  false_from_ne_true (contains core.yes one.0) (λ e. one_answer core.schedule h one.0 stands.lawful (stands.yeses one.0 ∙ e) one.2),
+  false_from_ne_true (contains core.yes one.0) (λ e. one_answer (recording core.schedule sets) h one.0 stands.lawful (stands.yeses one.0 ∙ e) one.2),
 )
 
 -- where none is open and none refuses all were asked, and answered yes
-pub all_asked : (core : Stand) (h : List Step) (n : ℕ) → Stands core h → (HasUnasked core n → ⊥) → (c : ℕ) → covers core.schedule c n ≡ true → was_asked h c ≡ true
-all_asked core h n stands none c e = stands.asks c ∙ true_from_ne_false (contains core.asked c) (λ o. none (c, e, o))
+pub all_asked : (core : Stand) (sets : Option (List (List ℕ))) (h : List Step) (n : ℕ) → Stands core sets h → (HasUnasked core n → ⊥) → (c : ℕ) → covers core.schedule c n ≡ true → was_asked h c ≡ true
+all_asked core sets h n stands none c e = stands.asks c ∙ true_from_ne_false (contains core.asked c) (λ o. none (c, e, o))
 
-all_yes : (core : Stand) (h : List Step) (n : ℕ) → Stands core h → (HasUnasked core n → ⊥) → (HasRefusing core n → ⊥) → (c : ℕ) → covers core.schedule c n ≡ true → answered h c true ≡ true
-all_yes core h n stands none agreed c e = stands.yeses c ∙ true_from_ne_false (contains core.yes c) (λ o. agreed (c, e, sym (stands.asks c) ∙ all_asked core h n stands none c e, o))
+all_yes : (core : Stand) (sets : Option (List (List ℕ))) (h : List Step) (n : ℕ) → Stands core sets h → (HasUnasked core n → ⊥) → (HasRefusing core n → ⊥) → (c : ℕ) → covers core.schedule c n ≡ true → answered h c true ≡ true
+all_yes core sets h n stands none agreed c e = stands.yeses c ∙ true_from_ne_false (contains core.yes c) (λ o. agreed (c, e, sym (stands.asks c) ∙ all_asked core sets h n stands none c e, o))
 
--- where each system that conflicts with what is asked and has begun is over no running system meets it
-pub no_clash : (core : Stand) (h : List Step) (c : ℕ) → Stands core h → NoneClashes core c → MeetsRunning core.schedule h (access_of core.schedule c) → ⊥
-no_clash core h c stands none meets =
-    let sets = sets_of_runs core h stands meets.0 meets.1 in
-    let known : meets.0 < length core.schedule.systems = runs_known core.schedule h meets.0 stands.lawful meets.1 in
-    both_ways _ sets.1 (none meets.0 (known, meets.2) sets.0)
+-- where each system that meets what is asked and has begun is over no running system meets it
+pub no_clash : (core : Stand) (sets : Option (List (List ℕ))) (h : List Step) (c : ℕ) → Stands core sets h → NoneClashes core c → MeetsRunning (recording core.schedule sets) h (access_of core.schedule c) → ⊥
+no_clash core sets h c stands none meets =
+    let bits = sets_of_runs core sets h stands meets.0 meets.1 in
+    let known : meets.0 < length core.schedule.systems = runs_known (recording core.schedule sets) h meets.0 stands.lawful meets.1 in
+    both_ways _ bits.1 (none meets.0 ((stands.clashes c meets.0).1 (known, meets.2)) bits.0)
 
 -- and the other way round
-pub clash : (core : Stand) (h : List Step) (c : ℕ) → Stands core h → (NoneClashes core c → ⊥) → MeetsRunning core.schedule h (access_of core.schedule c)
-clash core h c stands some = elim (decide_meets core.schedule h (access_of core.schedule c) stands.lawful) [
+pub clash : (core : Stand) (sets : Option (List (List ℕ))) (h : List Step) (c : ℕ) → Stands core sets h → (NoneClashes core c → ⊥) → MeetsRunning (recording core.schedule sets) h (access_of core.schedule c)
+clash core sets h c stands some = elim (decide_meets (recording core.schedule sets) h (access_of core.schedule c) stands.lawful) [
   | inl meets ↦ meets
-  | inr none ↦ absurd (some (λ m rival b. true_from_ne_false (contains core.over m) (λ o. none (m, runs_of_sets core h stands m b o, rival.1))))
+  | inr none ↦ absurd (some (λ m rival b. true_from_ne_false (contains core.over m) (λ o. none (m, runs_of_sets core sets h stands m b o, ((stands.clashes c m).0 rival).1))))
 ]
 
 -- a waiting system is free, and the other way round
-pub free_waiting : (core : Stand) (h : List Step) (n : ℕ) → Stands core h → n < length core.schedule.systems → IsWaiting core n → IsFree core.schedule h n
-free_waiting core h n stands known waiting = free_from core h n stands known waiting.fresh waiting.released
+pub free_waiting : (core : Stand) (sets : Option (List (List ℕ))) (h : List Step) (n : ℕ) → Stands core sets h → n < length core.schedule.systems → IsWaiting core n → IsFree (recording core.schedule sets) h n
+free_waiting core sets h n stands known waiting = free_from core sets h n stands known waiting.fresh waiting.released
 
-pub waiting_free : (core : Stand) (h : List Step) (n : ℕ) → Stands core h → IsFree core.schedule h n → IsWaiting core n
-waiting_free core h n stands free = record { fresh = sym (stands.begins n) ∙ free.waits; released = released_from core h n stands free }
+pub waiting_free : (core : Stand) (sets : Option (List (List ℕ))) (h : List Step) (n : ℕ) → Stands core sets h → IsFree (recording core.schedule sets) h n → IsWaiting core n
+waiting_free core sets h n stands free = record { fresh = sym (stands.begins n) ∙ free.waits; released = released_from core sets h n stands free }
 
 pub past_none : (n count : ℕ) → n < count → count ≤ n → ⊥
 past_none n count low past = omega arith
 
 -- ---- starts and skips
 
-pub start_not-ready : (core : Stand) (h : List Step) (n : ℕ) → Stands core h → n < length core.schedule.systems → contains core.begun n ≡ false → (IsReleased core n → ⊥) →
-    IsFirstFault core.schedule h (Start n) NotReady
-start_not-ready core h n stands known fresh waits =
-    inr (past_none n _ known, inr (both_ways _ (stands.begins n ∙ fresh), inl (refl, λ free. waits (released_from core h n stands free))))
+pub start_not-ready : (core : Stand) (sets : Option (List (List ℕ))) (h : List Step) (n : ℕ) → Stands core sets h → n < length core.schedule.systems → contains core.begun n ≡ false → (IsReleased core n → ⊥) →
+    IsFirstFault (recording core.schedule sets) h (Start n) NotReady
+start_not-ready core sets h n stands known fresh waits =
+    inr (past_none n _ known, inr (both_ways _ (stands.begins n ∙ fresh), inl (refl, λ free. waits (released_from core sets h n stands free))))
 
 -- what is known of a system that was found released: no fault before those of its conditions
-start_passes : (core : Stand) (h : List Step) (n : ℕ) (told : StepFault) → Stands core h → n < length core.schedule.systems → contains core.begun n ≡ false → IsReleased core n →
-    IsFirst (StartFault core.schedule h n) (ConditionOpen ∷ ConditionFalse ∷ fault.Conflict ∷ []) told → IsFirstFault core.schedule h (Start n) told
-start_passes core h n told stands known fresh released rest =
+start_passes : (core : Stand) (sets : Option (List (List ℕ))) (h : List Step) (n : ℕ) (told : StepFault) → Stands core sets h → n < length core.schedule.systems → contains core.begun n ≡ false → IsReleased core n →
+    IsFirst (StartFault (recording core.schedule sets) h n) (ConditionOpen ∷ ConditionFalse ∷ fault.Conflict ∷ []) told → IsFirstFault (recording core.schedule sets) h (Start n) told
+start_passes core sets h n told stands known fresh released rest =
     inr (
       past_none n _ known,
-      inr (both_ways _ (stands.begins n ∙ fresh), inr ((λ not_free. not_free (free_from core h n stands known fresh released)), rest)),
+      inr (both_ways _ (stands.begins n ∙ fresh), inr ((λ not_free. not_free (free_from core sets h n stands known fresh released)), rest)),
     )
 
-pub start_open : (core : Stand) (h : List Step) (n : ℕ) → Stands core h → n < length core.schedule.systems → contains core.begun n ≡ false → IsReleased core n → HasUnasked core n →
-    IsFirstFault core.schedule h (Start n) ConditionOpen
-start_open core h n stands known fresh released one = start_passes core h n ConditionOpen stands known fresh released (inl (refl, open_from core h n stands one))
+pub start_open : (core : Stand) (sets : Option (List (List ℕ))) (h : List Step) (n : ℕ) → Stands core sets h → n < length core.schedule.systems → contains core.begun n ≡ false → IsReleased core n → HasUnasked core n →
+    IsFirstFault (recording core.schedule sets) h (Start n) ConditionOpen
+start_open core sets h n stands known fresh released one = start_passes core sets h n ConditionOpen stands known fresh released (inl (refl, open_from core sets h n stands one))
 
-pub start_false : (core : Stand) (h : List Step) (n : ℕ) → Stands core h → n < length core.schedule.systems → contains core.begun n ≡ false → IsReleased core n → (HasUnasked core n → ⊥) → HasRefusing core n →
-    IsFirstFault core.schedule h (Start n) ConditionFalse
-start_false core h n stands known fresh released none one =
-    start_passes core h n ConditionFalse stands known fresh released (inr ((λ open_one. none (unasked_from core h n stands open_one)), inl (refl, false_from core h n stands one)))
+pub start_false : (core : Stand) (sets : Option (List (List ℕ))) (h : List Step) (n : ℕ) → Stands core sets h → n < length core.schedule.systems → contains core.begun n ≡ false → IsReleased core n → (HasUnasked core n → ⊥) → HasRefusing core n →
+    IsFirstFault (recording core.schedule sets) h (Start n) ConditionFalse
+start_false core sets h n stands known fresh released none one =
+    start_passes core sets h n ConditionFalse stands known fresh released (inr ((λ open_one. none (unasked_from core sets h n stands open_one)), inl (refl, false_from core sets h n stands one)))
 
-pub start_conflict : (core : Stand) (h : List Step) (n : ℕ) → Stands core h → n < length core.schedule.systems → contains core.begun n ≡ false → IsReleased core n →
-    (HasUnasked core n → ⊥) → (HasRefusing core n → ⊥) → (NoneMeets core n → ⊥) → IsFirstFault core.schedule h (Start n) fault.Conflict
-start_conflict core h n stands known fresh released none agreed some =
-    start_passes core h n fault.Conflict stands known fresh released
-    (inr ((λ open_one. none (unasked_from core h n stands open_one)), inr ((λ false_one. agreed (refusing_from core h n stands false_one)), inl (refl, meeting core h n stands some))))
+pub start_conflict : (core : Stand) (sets : Option (List (List ℕ))) (h : List Step) (n : ℕ) → Stands core sets h → n < length core.schedule.systems → contains core.begun n ≡ false → IsReleased core n →
+    (HasUnasked core n → ⊥) → (HasRefusing core n → ⊥) → (NoneMeets core n → ⊥) → IsFirstFault (recording core.schedule sets) h (Start n) fault.Conflict
+start_conflict core sets h n stands known fresh released none agreed some =
+    start_passes core sets h n fault.Conflict stands known fresh released
+    (inr ((λ open_one. none (unasked_from core sets h n stands open_one)), inr ((λ false_one. agreed (refusing_from core sets h n stands false_one)), inl (refl, meeting core sets h n stands some))))
 
-pub start_may : (core : Stand) (h : List Step) (n : ℕ) → Stands core h → n < length core.schedule.systems → contains core.begun n ≡ false → IsReleased core n →
-    (HasUnasked core n → ⊥) → (HasRefusing core n → ⊥) → NoneMeets core n → MayStart core.schedule h n
-start_may core h n stands known fresh released none agreed clear = record {
-  free = free_from core h n stands known fresh released;
-  answers = all_yes core h n stands none agreed;
-  apart = no_meeting core h n stands clear;
+pub start_may : (core : Stand) (sets : Option (List (List ℕ))) (h : List Step) (n : ℕ) → Stands core sets h → n < length core.schedule.systems → contains core.begun n ≡ false → IsReleased core n →
+    (HasUnasked core n → ⊥) → (HasRefusing core n → ⊥) → NoneMeets core n → MayStart (recording core.schedule sets) h n
+start_may core sets h n stands known fresh released none agreed clear = record {
+  free = free_from core sets h n stands known fresh released;
+  answers = all_yes core sets h n stands none agreed;
+  apart = no_meeting core sets h n stands clear;
 }
 
-pub skip_not-ready : (core : Stand) (h : List Step) (n : ℕ) → Stands core h → n < length core.schedule.systems → contains core.begun n ≡ false → (IsReleased core n → ⊥) →
-    IsFirstFault core.schedule h (Skip n) NotReady
-skip_not-ready core h n stands known fresh waits =
-    inr (past_none n _ known, inr (both_ways _ (stands.begins n ∙ fresh), inl (refl, λ free. waits (released_from core h n stands free))))
+pub skip_not-ready : (core : Stand) (sets : Option (List (List ℕ))) (h : List Step) (n : ℕ) → Stands core sets h → n < length core.schedule.systems → contains core.begun n ≡ false → (IsReleased core n → ⊥) →
+    IsFirstFault (recording core.schedule sets) h (Skip n) NotReady
+skip_not-ready core sets h n stands known fresh waits =
+    inr (past_none n _ known, inr (both_ways _ (stands.begins n ∙ fresh), inl (refl, λ free. waits (released_from core sets h n stands free))))
 
-skip_passes : (core : Stand) (h : List Step) (n : ℕ) (told : StepFault) → Stands core h → n < length core.schedule.systems → contains core.begun n ≡ false → IsReleased core n →
-    IsFirst (SkipFault core.schedule h n) (ConditionOpen ∷ ConditionTrue ∷ []) told → IsFirstFault core.schedule h (Skip n) told
-skip_passes core h n told stands known fresh released rest =
+skip_passes : (core : Stand) (sets : Option (List (List ℕ))) (h : List Step) (n : ℕ) (told : StepFault) → Stands core sets h → n < length core.schedule.systems → contains core.begun n ≡ false → IsReleased core n →
+    IsFirst (SkipFault (recording core.schedule sets) h n) (ConditionOpen ∷ ConditionTrue ∷ []) told → IsFirstFault (recording core.schedule sets) h (Skip n) told
+skip_passes core sets h n told stands known fresh released rest =
     inr (
       past_none n _ known,
-      inr (both_ways _ (stands.begins n ∙ fresh), inr ((λ not_free. not_free (free_from core h n stands known fresh released)), rest)),
+      inr (both_ways _ (stands.begins n ∙ fresh), inr ((λ not_free. not_free (free_from core sets h n stands known fresh released)), rest)),
     )
 
-pub skip_open : (core : Stand) (h : List Step) (n : ℕ) → Stands core h → n < length core.schedule.systems → contains core.begun n ≡ false → IsReleased core n → HasUnasked core n →
-    IsFirstFault core.schedule h (Skip n) ConditionOpen
-skip_open core h n stands known fresh released one = skip_passes core h n ConditionOpen stands known fresh released (inl (refl, open_from core h n stands one))
+pub skip_open : (core : Stand) (sets : Option (List (List ℕ))) (h : List Step) (n : ℕ) → Stands core sets h → n < length core.schedule.systems → contains core.begun n ≡ false → IsReleased core n → HasUnasked core n →
+    IsFirstFault (recording core.schedule sets) h (Skip n) ConditionOpen
+skip_open core sets h n stands known fresh released one = skip_passes core sets h n ConditionOpen stands known fresh released (inl (refl, open_from core sets h n stands one))
 
-pub skip_true : (core : Stand) (h : List Step) (n : ℕ) → Stands core h → n < length core.schedule.systems → contains core.begun n ≡ false → IsReleased core n → (HasUnasked core n → ⊥) → (HasRefusing core n → ⊥) →
-    IsFirstFault core.schedule h (Skip n) ConditionTrue
-skip_true core h n stands known fresh released none agreed =
-    skip_passes core h n ConditionTrue stands known fresh released
-    (inr ((λ open_one. none (unasked_from core h n stands open_one)), inl (refl, λ false_one. agreed (refusing_from core h n stands false_one))))
+pub skip_true : (core : Stand) (sets : Option (List (List ℕ))) (h : List Step) (n : ℕ) → Stands core sets h → n < length core.schedule.systems → contains core.begun n ≡ false → IsReleased core n → (HasUnasked core n → ⊥) → (HasRefusing core n → ⊥) →
+    IsFirstFault (recording core.schedule sets) h (Skip n) ConditionTrue
+skip_true core sets h n stands known fresh released none agreed =
+    skip_passes core sets h n ConditionTrue stands known fresh released
+    (inr ((λ open_one. none (unasked_from core sets h n stands open_one)), inl (refl, λ false_one. agreed (refusing_from core sets h n stands false_one))))
 
-pub skip_may : (core : Stand) (h : List Step) (n : ℕ) → Stands core h → n < length core.schedule.systems → contains core.begun n ≡ false → IsReleased core n → (HasUnasked core n → ⊥) → HasRefusing core n →
-    MaySkip core.schedule h n
-skip_may core h n stands known fresh released none one = record {
-  free = free_from core h n stands known fresh released;
-  asked = all_asked core h n stands none;
-  refused = false_from core h n stands one;
+pub skip_may : (core : Stand) (sets : Option (List (List ℕ))) (h : List Step) (n : ℕ) → Stands core sets h → n < length core.schedule.systems → contains core.begun n ≡ false → IsReleased core n → (HasUnasked core n → ⊥) → HasRefusing core n →
+    MaySkip (recording core.schedule sets) h n
+skip_may core sets h n stands known fresh released none one = record {
+  free = free_from core sets h n stands known fresh released;
+  asked = all_asked core sets h n stands none;
+  refused = false_from core sets h n stands one;
 }
 
 -- ---- conditions that are asked
 
-pub ask_repeated : (core : Stand) (h : List Step) (c : ℕ) (answer : Bool) → Stands core h → c < length core.schedule.conditions → contains core.asked c ≡ true → IsFirstFault core.schedule h (Cond c answer) Repeated
-ask_repeated core h c answer stands known asked = inr (past_none c _ known, inl (refl, stands.asks c ∙ asked))
+pub ask_repeated : (core : Stand) (sets : Option (List (List ℕ))) (h : List Step) (c : ℕ) (answer : Bool) → Stands core sets h → c < length core.schedule.conditions → contains core.asked c ≡ true → IsFirstFault (recording core.schedule sets) h (Cond c answer) Repeated
+ask_repeated core sets h c answer stands known asked = inr (past_none c _ known, inl (refl, stands.asks c ∙ asked))
 
-pub ask_not-ready : (core : Stand) (h : List Step) (c : ℕ) (answer : Bool) → Stands core h → c < length core.schedule.conditions → contains core.asked c ≡ false → (HasWaitingMember core c → ⊥) →
-    IsFirstFault core.schedule h (Cond c answer) NotReady
-ask_not-ready core h c answer stands known fresh none =
-    inr (past_none c _ known, inr (both_ways _ (stands.asks c ∙ fresh), inl (refl, λ member. none (member.0, member.1, waiting_free core h member.0 stands member.2))))
+pub ask_not-ready : (core : Stand) (sets : Option (List (List ℕ))) (h : List Step) (c : ℕ) (answer : Bool) → Stands core sets h → c < length core.schedule.conditions → contains core.asked c ≡ false → (HasWaitingMember core c → ⊥) →
+    IsFirstFault (recording core.schedule sets) h (Cond c answer) NotReady
+ask_not-ready core sets h c answer stands known fresh none =
+    inr (past_none c _ known, inr (both_ways _ (stands.asks c ∙ fresh), inl (refl, λ member. none (member.0, member.1, waiting_free core sets h member.0 stands member.2))))
 
 -- a waiting member is a free one
-free_member : (core : Stand) (h : List Step) (c : ℕ) → Stands core h → IsBuilt core.schedule → HasWaitingMember core c → HasFreeMember core.schedule h c
-free_member core h c stands built one = (one.0, one.1, free_waiting core h one.0 stands (built.covered c one.0 one.1) one.2)
+free_member : (core : Stand) (sets : Option (List (List ℕ))) (h : List Step) (c : ℕ) → Stands core sets h → IsBuilt core.schedule → HasWaitingMember core c → HasFreeMember (recording core.schedule sets) h c
+free_member core sets h c stands built one = (one.0, one.1, free_waiting core sets h one.0 stands (built.covered c one.0 one.1) one.2)
 
-pub ask_conflict : (core : Stand) (h : List Step) (c : ℕ) (answer : Bool) → Stands core h → IsBuilt core.schedule → c < length core.schedule.conditions → contains core.asked c ≡ false → HasWaitingMember core c →
-    (NoneClashes core c → ⊥) → IsFirstFault core.schedule h (Cond c answer) fault.Conflict
-ask_conflict core h c answer stands built known fresh one some =
+pub ask_conflict : (core : Stand) (sets : Option (List (List ℕ))) (h : List Step) (c : ℕ) (answer : Bool) → Stands core sets h → IsBuilt core.schedule → c < length core.schedule.conditions → contains core.asked c ≡ false → HasWaitingMember core c →
+    (NoneClashes core c → ⊥) → IsFirstFault (recording core.schedule sets) h (Cond c answer) fault.Conflict
+ask_conflict core sets h c answer stands built known fresh one some =
     inr (
       past_none c _ known,
-      inr (both_ways _ (stands.asks c ∙ fresh), inr ((λ no_member. no_member (free_member core h c stands built one)), inl (refl, clash core h c stands some))),
+      inr (both_ways _ (stands.asks c ∙ fresh), inr ((λ no_member. no_member (free_member core sets h c stands built one)), inl (refl, clash core sets h c stands some))),
     )
 
-pub ask_may : (core : Stand) (h : List Step) (c : ℕ) → Stands core h → IsBuilt core.schedule → c < length core.schedule.conditions → contains core.asked c ≡ false → HasWaitingMember core c → NoneClashes core c →
-    MayAsk core.schedule h c
-ask_may core h c stands built known fresh one clear = record {
+pub ask_may : (core : Stand) (sets : Option (List (List ℕ))) (h : List Step) (c : ℕ) → Stands core sets h → IsBuilt core.schedule → c < length core.schedule.conditions → contains core.asked c ≡ false → HasWaitingMember core c → NoneClashes core c →
+    MayAsk (recording core.schedule sets) h c
+ask_may core sets h c stands built known fresh one clear = record {
   known = known;
   fresh = stands.asks c ∙ fresh;
-  member = free_member core h c stands built one;
-  apart = no_clash core h c stands clear;
+  member = free_member core sets h c stands built one;
+  apart = no_clash core sets h c stands clear;
 }
 
 -- ---- finishes
 
-pub finish_not-running : (core : Stand) (h : List Step) (n : ℕ) → Stands core h → n < length core.schedule.systems → (contains core.begun n && not (contains core.over n)) ≡ false →
-    IsFirstFault core.schedule h (Finish n) NotRunning
-finish_not-running core h n stands known idle = inr (past_none n _ known, inl (refl, runs_is core h stands n ∙ idle))
+pub finish_not-running : (core : Stand) (sets : Option (List (List ℕ))) (h : List Step) (n : ℕ) → Stands core sets h → n < length core.schedule.systems → (contains core.begun n && not (contains core.over n)) ≡ false →
+    IsFirstFault (recording core.schedule sets) h (Finish n) NotRunning
+finish_not-running core sets h n stands known idle = inr (past_none n _ known, inl (refl, runs_is core sets h stands n ∙ idle))
 
-pub finish_may : (core : Stand) (h : List Step) (n : ℕ) → Stands core h → (contains core.begun n && not (contains core.over n)) ≡ true → MayFinish core.schedule h n
-finish_may core h n stands running = record { running = runs_is core h stands n ∙ running }
+pub finish_may : (core : Stand) (sets : Option (List (List ℕ))) (h : List Step) (n : ℕ) → Stands core sets h → (contains core.begun n && not (contains core.over n)) ≡ true → MayFinish (recording core.schedule sets) h n
+finish_may core sets h n stands running = record { running = runs_is core sets h stands n ∙ running }
 
 -- ---- sync points
 
-pub sync_repeated : (core : Stand) (h : List Step) (k : ℕ) → Stands core h → k < core.schedule.syncs → k < core.done → IsFirstFault core.schedule h (Sync k) Repeated
-sync_repeated core h k stands known low = inr (past_none k _ known, inl (refl, done_below core h stands k low))
+pub sync_repeated : (core : Stand) (sets : Option (List (List ℕ))) (h : List Step) (k : ℕ) → Stands core sets h → k < core.schedule.syncs → k < core.done → IsFirstFault (recording core.schedule sets) h (Sync k) Repeated
+sync_repeated core sets h k stands known low = inr (past_none k _ known, inl (refl, done_below core sets h stands k low))
 
-pub sync_not-ready : (core : Stand) (h : List Step) (k : ℕ) → Stands core h → k < core.schedule.syncs → core.done < k → IsFirstFault core.schedule h (Sync k) NotReady
-sync_not-ready core h k stands known high =
-    inr (past_none k _ known, inr (both_ways _ (next_fresh core h stands k (omega arith)), inl (refl, (core.done, high, next_fresh core h stands core.done (omega arith)))))
+pub sync_not-ready : (core : Stand) (sets : Option (List (List ℕ))) (h : List Step) (k : ℕ) → Stands core sets h → k < core.schedule.syncs → core.done < k → IsFirstFault (recording core.schedule sets) h (Sync k) NotReady
+sync_not-ready core sets h k stands known high =
+    inr (past_none k _ known, inr (both_ways _ (next_fresh core sets h stands k (omega arith)), inl (refl, (core.done, high, next_fresh core sets h stands core.done (omega arith)))))
 
 -- no lower sync point is left where this one is the next
-next_waits-not : (core : Stand) (h : List Step) (k : ℕ) → Stands core h → k ≤ core.done → (j : ℕ) → j < k → synced h j ≡ true
-next_waits-not core h k stands low j below = done_below core h stands j (omega arith)
+next_waits-not : (core : Stand) (sets : Option (List (List ℕ))) (h : List Step) (k : ℕ) → Stands core sets h → k ≤ core.done → (j : ℕ) → j < k → synced h j ≡ true
+next_waits-not core sets h k stands low j below = done_below core sets h stands j (omega arith)
 
-pub sync_level-open : (core : Stand) (h : List Step) (k : ℕ) → Stands core h → k < core.schedule.syncs → core.done ≤ k → k ≤ core.done → IsOpen core k →
-    IsFirstFault core.schedule h (Sync k) LevelOpen
-sync_level-open core h k stands known high low one =
+pub sync_level-open : (core : Stand) (sets : Option (List (List ℕ))) (h : List Step) (k : ℕ) → Stands core sets h → k < core.schedule.syncs → core.done ≤ k → k ≤ core.done → IsOpen core k →
+    IsFirstFault (recording core.schedule sets) h (Sync k) LevelOpen
+sync_level-open core sets h k stands known high low one =
     inr (
       past_none k _ known,
       inr (
-        both_ways _ (next_fresh core h stands k high),
-        inr ((λ waits. both_ways _ waits.2 (next_waits-not core h k stands low waits.0 waits.1)), inl (refl, (one.0, one.1, one.2, stands.ends one.0 ∙ one.3))),
+        both_ways _ (next_fresh core sets h stands k high),
+        inr ((λ waits. both_ways _ waits.2 (next_waits-not core sets h k stands low waits.0 waits.1)), inl (refl, (one.0, one.1, one.2, stands.ends one.0 ∙ one.3))),
       ),
     )
 
-pub sync_may : (core : Stand) (h : List Step) (k : ℕ) → Stands core h → k < core.schedule.syncs → core.done ≤ k → k ≤ core.done → (IsOpen core k → ⊥) → MaySync core.schedule h k
-sync_may core h k stands known high low none = record {
+pub sync_may : (core : Stand) (sets : Option (List (List ℕ))) (h : List Step) (k : ℕ) → Stands core sets h → k < core.schedule.syncs → core.done ≤ k → k ≤ core.done → (IsOpen core k → ⊥) → MaySync (recording core.schedule sets) h k
+sync_may core sets h k stands known high low none = record {
   known = known;
-  fresh = next_fresh core h stands k high;
-  lower = next_waits-not core h k stands low;
+  fresh = next_fresh core sets h stands k high;
+  lower = next_waits-not core sets h k stands low;
   level = λ n inside level. stands.ends n ∙ true_from_ne_false (contains core.over n) (λ o. none (n, inside, level, o));
 }
 
 -- where the next sync point may not come none may
-pub no_sync : (core : Stand) (h : List Step) → Stands core h → (MaySync core.schedule h core.done → ⊥) → (k : ℕ) → MaySync core.schedule h k → ⊥
-no_sync core h stands none k may = elim (cases_order k core.done) [
-  | inl same ↦ none (subst (λ i. MaySync core.schedule h i) same may)
+pub no_sync : (core : Stand) (sets : Option (List (List ℕ))) (h : List Step) → Stands core sets h → (MaySync (recording core.schedule sets) h core.done → ⊥) → (k : ℕ) → MaySync (recording core.schedule sets) h k → ⊥
+no_sync core sets h stands none k may = elim (cases_order k core.done) [
+  | inl same ↦ none (subst (λ i. MaySync (recording core.schedule sets) h i) same may)
   | inr other ↦ elim other [
-    | inl below ↦ both_ways _ may.fresh (done_below core h stands k below)
-    | inr above ↦ both_ways _ (next_fresh core h stands core.done (omega arith)) (may.lower core.done above)
+    | inl below ↦ both_ways _ may.fresh (done_below core sets h stands k below)
+    | inr above ↦ both_ways _ (next_fresh core sets h stands core.done (omega arith)) (may.lower core.done above)
   ]
 ]

@@ -1,17 +1,16 @@
 -- What the public calls say of each history for which a core stands.
-use Rattle.std.proofs.Common.{ℕ, zero, suc, ◌+◌, ◌<◌, ◌≤◌, Bool, true, false, nat_le, ◌≡◌, ◌↔◌, inl, inr, List, [], ◌∷◌, length, drop, get_or, Option, Some, None, Result, Ok, Err, IsOk, IfErr, IfSome, IfNone, refl, sym, ◌∙◌, ap, subst, arith, leb-true, le-leb, add-one}
+use Rattle.std.proofs.Common.{ℕ, zero, suc, ◌+◌, ◌<◌, ◌≤◌, Bool, true, false, ◌≡◌, ◌↔◌, inl, inr, List, [], length, drop, get_or, Option, Some, None, Result, Ok, Err, IsOk, IfErr, IfSome, IfNone, refl, sym, ◌∙◌, subst, arith}
 use Rattle.std.specs.Bool.{OnFalse}
 use Rattle.std.proofs.lemmas.List.{drop_more, drop_all}
 use Rattle.std.proofs.lemmas.Bool.{both_ways, true_from_ne_false, false≢true, cases_lt}
 use Rattle.number_set.specs.Members.{contains}
 use Rattle.model.specs.declared.steps.Step.{Step}
-use Rattle.model.specs.declared.steps.Step.TheVariants.{Start}
 use Rattle.model.specs.declared.steps.StepFault.{StepFault}
 use Rattle.model.specs.declared.steps.Ready.{Ready}
 use Rattle.model.specs.declared.steps.Ready.TheVariants as ready
-use Rattle.model.specs.steps.Schedule.{Schedule, level_of}
+use Rattle.model.specs.steps.Schedule.{Schedule, recording, level_of}
 use Rattle.model.specs.steps.Built.{IsBuilt}
-use Rattle.model.specs.steps.Lawful.{ended, synced, IsFree, IsLawful, IsComplete, NoneRuns, May, MayStart, MaySkip}
+use Rattle.model.specs.steps.Lawful.{IsFree, IsLawful, IsComplete, NoneRuns, May, MayStart, MaySkip}
 use Rattle.model.specs.steps.Faults.{IsFirstFault}
 use Rattle.model.specs.steps.Ready.{IsAskable, IsReady, IsReadyAmong, Offers, OffersNothing, OnlyFinish, step_of}
 use Rattle.model.proofs.order.Histories.{level_ended, answered_asked}
@@ -45,57 +44,57 @@ pub unknown_offers-nothing : (s : Schedule) (h : List Step) (n : ℕ) → length
 unknown_offers-nothing s h n past r offers = let free : IsFree s h n = offers.0 in omega (arith, free.known)
 
 -- nor does one that doesn't wait
-pub busy_offers-nothing : (core : Stand) (h : List Step) (n : ℕ) → Stands core h → (IsWaiting core n → ⊥) → OffersNothing core.schedule h n
-busy_offers-nothing core h n stands none r offers = none (waiting_free core h n stands offers.0)
+pub busy_offers-nothing : (core : Stand) (sets : Option (List (List ℕ))) (h : List Step) (n : ℕ) → Stands core sets h → (IsWaiting core n → ⊥) → OffersNothing (recording core.schedule sets) h n
+busy_offers-nothing core sets h n stands none r offers = none (waiting_free core sets h n stands offers.0)
 
 -- what can be asked of the core can be asked after the history, and the other way round
-askable_from : (core : Stand) (h : List Step) (n c : ℕ) → Stands core h → CanAsk core n c → IsAskable core.schedule h n c
-askable_from core h n c stands can = (can.0, stands.asks c ∙ can.1.fresh, no_clash core h c stands can.1.clear)
+askable_from : (core : Stand) (sets : Option (List (List ℕ))) (h : List Step) (n c : ℕ) → Stands core sets h → CanAsk core n c → IsAskable (recording core.schedule sets) h n c
+askable_from core sets h n c stands can = (can.0, stands.asks c ∙ can.1.fresh, no_clash core sets h c stands can.1.clear)
 
-can_from : (core : Stand) (h : List Step) (n c : ℕ) → Stands core h → IsAskable core.schedule h n c → CanAsk core n c
-can_from core h n c stands askable = (
+can_from : (core : Stand) (sets : Option (List (List ℕ))) (h : List Step) (n c : ℕ) → Stands core sets h → IsAskable (recording core.schedule sets) h n c → CanAsk core n c
+can_from core sets h n c stands askable = (
   askable.0,
   record {
     fresh = sym (stands.asks c) ∙ askable.1;
-    clear = λ m clash b. true_from_ne_false (contains core.over m) (λ o. askable.2 (m, runs_of_sets core h stands m b o, clash.1));
+    clear = λ m clash b. true_from_ne_false (contains core.over m) (λ o. askable.2 (m, runs_of_sets core sets h stands m b o, ((stands.clashes c m).0 clash).1));
   },
 )
 
 -- a waiting system offers to ask its least condition that can be asked
-pub offers_ask : (core : Stand) (h : List Step) (n c : ℕ) → Stands core h → n < length core.schedule.systems → IsWaiting core n → IsLeastAskable core n c → Offers core.schedule h n (ready.Ask c)
-offers_ask core h n c stands known waiting least =
-    (free_waiting core h n stands known waiting, (askable_from core h n c stands least.0, λ j below askable. least.1 j below (can_from core h n j stands askable)))
+pub offers_ask : (core : Stand) (sets : Option (List (List ℕ))) (h : List Step) (n c : ℕ) → Stands core sets h → n < length core.schedule.systems → IsWaiting core n → IsLeastAskable core n c → Offers (recording core.schedule sets) h n (ready.Ask c)
+offers_ask core sets h n c stands known waiting least =
+    (free_waiting core sets h n stands known waiting, (askable_from core sets h n c stands least.0, λ j below askable. least.1 j below (can_from core sets h n j stands askable)))
 
 -- one with an open condition of which none can be asked offers nothing
-pub open_offers-nothing : (core : Stand) (h : List Step) (n : ℕ) → Stands core h → ((c : ℕ) → CanAsk core n c → ⊥) → HasUnasked core n → OffersNothing core.schedule h n
-open_offers-nothing core h n stands none one (ready.Ask c) offers = none c (can_from core h n c stands offers.1.0)
-open_offers-nothing core h n stands none one (ready.Skip m) offers = let may : MaySkip core.schedule h n = offers.1.1 in
+pub open_offers-nothing : (core : Stand) (sets : Option (List (List ℕ))) (h : List Step) (n : ℕ) → Stands core sets h → ((c : ℕ) → CanAsk core n c → ⊥) → HasUnasked core n → OffersNothing (recording core.schedule sets) h n
+open_offers-nothing core sets h n stands none one (ready.Ask c) offers = none c (can_from core sets h n c stands offers.1.0)
+open_offers-nothing core sets h n stands none one (ready.Skip m) offers = let may : MaySkip (recording core.schedule sets) h n = offers.1.1 in
     both_ways _ (stands.asks one.0 ∙ one.2) (may.asked one.0 one.1)
-open_offers-nothing core h n stands none one (ready.Start m) offers = let may : MayStart core.schedule h n = offers.1.1 in
+open_offers-nothing core sets h n stands none one (ready.Start m) offers = let may : MayStart (recording core.schedule sets) h n = offers.1.1 in
     both_ways _ (stands.asks one.0 ∙ one.2) (answered_asked h one.0 true (may.answers one.0 one.1))
-open_offers-nothing core h n stands none one (ready.Sync k) offers = offers.1
+open_offers-nothing core sets h n stands none one (ready.Sync k) offers = offers.1
 
 -- one of which a condition refuses offers to be skipped
-pub offers_skip : (core : Stand) (h : List Step) (n : ℕ) → Stands core h → n < length core.schedule.systems → IsWaiting core n → (HasUnasked core n → ⊥) → HasRefusing core n → Offers core.schedule h n (ready.Skip n)
-offers_skip core h n stands known waiting none one =
-    (free_waiting core h n stands known waiting, (refl, skip_may core h n stands known waiting.fresh waiting.released none one))
+pub offers_skip : (core : Stand) (sets : Option (List (List ℕ))) (h : List Step) (n : ℕ) → Stands core sets h → n < length core.schedule.systems → IsWaiting core n → (HasUnasked core n → ⊥) → HasRefusing core n → Offers (recording core.schedule sets) h n (ready.Skip n)
+offers_skip core sets h n stands known waiting none one =
+    (free_waiting core sets h n stands known waiting, (refl, skip_may core sets h n stands known waiting.fresh waiting.released none one))
 
 -- else one that meets no running system offers to start
-pub offers_start : (core : Stand) (h : List Step) (n : ℕ) → Stands core h → n < length core.schedule.systems → IsWaiting core n → (HasUnasked core n → ⊥) → (HasRefusing core n → ⊥) → NoneMeets core n →
-    Offers core.schedule h n (ready.Start n)
-offers_start core h n stands known waiting none agreed clear =
-    (free_waiting core h n stands known waiting, (refl, start_may core h n stands known waiting.fresh waiting.released none agreed clear))
+pub offers_start : (core : Stand) (sets : Option (List (List ℕ))) (h : List Step) (n : ℕ) → Stands core sets h → n < length core.schedule.systems → IsWaiting core n → (HasUnasked core n → ⊥) → (HasRefusing core n → ⊥) → NoneMeets core n →
+    Offers (recording core.schedule sets) h n (ready.Start n)
+offers_start core sets h n stands known waiting none agreed clear =
+    (free_waiting core sets h n stands known waiting, (refl, start_may core sets h n stands known waiting.fresh waiting.released none agreed clear))
 
 -- and one that meets one offers nothing
-pub meeting_offers-nothing : (core : Stand) (h : List Step) (n : ℕ) → Stands core h → (HasUnasked core n → ⊥) → (HasRefusing core n → ⊥) → (NoneMeets core n → ⊥) → OffersNothing core.schedule h n
-meeting_offers-nothing core h n stands none agreed some (ready.Ask c) offers = none (unasked_from core h n stands (c, offers.1.0.0, offers.1.0.1))
-meeting_offers-nothing core h n stands none agreed some (ready.Skip m) offers = let may : MaySkip core.schedule h n = offers.1.1 in agreed (refusing_from core h n stands may.refused)
-meeting_offers-nothing core h n stands none agreed some (ready.Start m) offers = let may : MayStart core.schedule h n = offers.1.1 in may.apart (meeting core h n stands some)
-meeting_offers-nothing core h n stands none agreed some (ready.Sync k) offers = offers.1
+pub meeting_offers-nothing : (core : Stand) (sets : Option (List (List ℕ))) (h : List Step) (n : ℕ) → Stands core sets h → (HasUnasked core n → ⊥) → (HasRefusing core n → ⊥) → (NoneMeets core n → ⊥) → OffersNothing (recording core.schedule sets) h n
+meeting_offers-nothing core sets h n stands none agreed some (ready.Ask c) offers = none (unasked_from core sets h n stands (c, offers.1.0.0, offers.1.0.1))
+meeting_offers-nothing core sets h n stands none agreed some (ready.Skip m) offers = let may : MaySkip (recording core.schedule sets) h n = offers.1.1 in agreed (refusing_from core sets h n stands may.refused)
+meeting_offers-nothing core sets h n stands none agreed some (ready.Start m) offers = let may : MayStart (recording core.schedule sets) h n = offers.1.1 in may.apart (meeting core sets h n stands some)
+meeting_offers-nothing core sets h n stands none agreed some (ready.Sync k) offers = offers.1
 
 -- a system that has begun offers nothing
-pub begun_offers-nothing : (core : Stand) (h : List Step) (n : ℕ) → Stands core h → contains core.begun n ≡ true → OffersNothing core.schedule h n
-begun_offers-nothing core h n stands b r offers = let free : IsFree core.schedule h n = offers.0 in both_ways _ free.waits (stands.begins n ∙ b)
+pub begun_offers-nothing : (core : Stand) (sets : Option (List (List ℕ))) (h : List Step) (n : ℕ) → Stands core sets h → contains core.begun n ≡ true → OffersNothing (recording core.schedule sets) h n
+begun_offers-nothing core sets h n stands b r offers = let free : IsFree (recording core.schedule sets) h n = offers.0 in both_ways _ free.waits (stands.begins n ∙ b)
 
 -- a system that offers nothing is passed over
 pub passed_over : (s : Schedule) (h : List Step) (order : List ℕ) (place next : ℕ) (r : Option Ready) → next ≡ place + 1 → place < length order → OffersNothing s h (get_or order place 0) →
@@ -104,29 +103,29 @@ passed_over s h order place next r same low nothing rest =
     subst (λ (xs : List ℕ). IsReadyAmong s h xs r) (sym (drop_more order place 0 low)) (inr (nothing, subst (λ (k : ℕ). IsReadyAmong s h (drop k order) r) same rest))
 
 -- so what is ready among the systems from a place on is ready, where those before it offer nothing
-pub ready_from : (core : Stand) (h : List Step) (r : Option Ready) → Stands core h → (place : ℕ) → place ≤ core.from →
-    IsReadyAmong core.schedule h (drop place core.schedule.order) r → IsReady core.schedule h r
-ready_from core h r stands zero low rest = rest
-ready_from core h r stands (suc place) low rest =
-    ready_from core h r stands place (omega arith) (elim (cases_lt place (length core.schedule.order)) [
-      | inl inside ↦ passed_over core.schedule h core.schedule.order place (suc place) r (omega arith) inside
-          (begun_offers-nothing core h (get_or core.schedule.order place 0) stands (stands.passed place (omega arith))) rest
-      | inr past ↦ subst (λ (xs : List ℕ). IsReadyAmong core.schedule h xs r) (drop_all (suc place) core.schedule.order (omega arith) ∙ sym (drop_all place core.schedule.order past)) rest
+pub ready_from : (core : Stand) (sets : Option (List (List ℕ))) (h : List Step) (r : Option Ready) → Stands core sets h → (place : ℕ) → place ≤ core.from →
+    IsReadyAmong (recording core.schedule sets) h (drop place core.schedule.order) r → IsReady (recording core.schedule sets) h r
+ready_from core sets h r stands zero low rest = rest
+ready_from core sets h r stands (suc place) low rest =
+    ready_from core sets h r stands place (omega arith) (elim (cases_lt place (length core.schedule.order)) [
+      | inl inside ↦ passed_over (recording core.schedule sets) h core.schedule.order place (suc place) r (omega arith) inside
+          (begun_offers-nothing core sets h (get_or core.schedule.order place 0) stands (stands.passed place (omega arith))) rest
+      | inr past ↦ subst (λ (xs : List ℕ). IsReadyAmong (recording core.schedule sets) h xs r) (drop_all (suc place) core.schedule.order (omega arith) ∙ sym (drop_all place core.schedule.order past)) rest
     ])
 
 -- what a system offers is ready, where those before it offer nothing
-pub ready_there : (core : Stand) (h : List Step) (place : ℕ) (offer : Ready) → place < length core.schedule.order →
-    ((r : Option Ready) → IsReadyAmong core.schedule h (drop place core.schedule.order) r → IsReady core.schedule h r) →
-    Offers core.schedule h (get_or core.schedule.order place 0) offer → IsReady core.schedule h (Some offer)
-ready_there core h place offer low before offers =
-    before (Some offer) (subst (λ (xs : List ℕ). IsReadyAmong core.schedule h xs (Some offer)) (sym (drop_more core.schedule.order place 0 low)) (inl (offer, refl, offers)))
+pub ready_there : (core : Stand) (sets : Option (List (List ℕ))) (h : List Step) (place : ℕ) (offer : Ready) → place < length core.schedule.order →
+    ((r : Option Ready) → IsReadyAmong (recording core.schedule sets) h (drop place core.schedule.order) r → IsReady (recording core.schedule sets) h r) →
+    Offers (recording core.schedule sets) h (get_or core.schedule.order place 0) offer → IsReady (recording core.schedule sets) h (Some offer)
+ready_there core sets h place offer low before offers =
+    before (Some offer) (subst (λ (xs : List ℕ). IsReadyAmong (recording core.schedule sets) h xs (Some offer)) (sym (drop_more core.schedule.order place 0 low)) (inl (offer, refl, offers)))
 
 -- where no system offers anything the sync point is ready
-pub ready_last : (core : Stand) (h : List Step) (place : ℕ) (r : Option Ready) → length core.schedule.order ≤ place →
-    ((x : Option Ready) → IsReadyAmong core.schedule h (drop place core.schedule.order) x → IsReady core.schedule h x) →
-    IsReadyAmong core.schedule h [] r → IsReady core.schedule h r
-ready_last core h place r past before is =
-    before r (subst (λ (xs : List ℕ). IsReadyAmong core.schedule h xs r) (sym (drop_all place core.schedule.order past)) is)
+pub ready_last : (core : Stand) (sets : Option (List (List ℕ))) (h : List Step) (place : ℕ) (r : Option Ready) → length core.schedule.order ≤ place →
+    ((x : Option Ready) → IsReadyAmong (recording core.schedule sets) h (drop place core.schedule.order) x → IsReady (recording core.schedule sets) h x) →
+    IsReadyAmong (recording core.schedule sets) h [] r → IsReady (recording core.schedule sets) h r
+ready_last core sets h place r past before is =
+    before r (subst (λ (xs : List ℕ). IsReadyAmong (recording core.schedule sets) h xs r) (sym (drop_all place core.schedule.order past)) is)
 
 -- what is ready is accepted
 pub ready_may : (s : Schedule) (h : List Step) (r : Option Ready) → IsBuilt s → IsLawful s h → IsReady s h r → IfSome r (λ offer. (answer : Bool) → May s h (step_of offer answer))
@@ -146,24 +145,24 @@ ready_complete s h (Some offer) built lawful is none = tt
 -- ---- completion
 
 -- with every sync point done the history is complete: each system has ended before the sync point of its level
-complete_from : (core : Stand) (h : List Step) → IsBuilt core.schedule → Stands core h → core.schedule.syncs ≤ core.done → IsComplete core.schedule h
-complete_from core h built stands all = record {
+complete_from : (core : Stand) (sets : Option (List (List ℕ))) (h : List Step) → IsBuilt core.schedule → Stands core sets h → core.schedule.syncs ≤ core.done → IsComplete (recording core.schedule sets) h
+complete_from core sets h built stands all = record {
   ends = λ n known.
       let level : level_of core.schedule n < core.schedule.syncs = built.levels n known in
-      level_ended core.schedule h (level_of core.schedule n) n stands.lawful (done_below core h stands (level_of core.schedule n) (omega arith)) known refl;
-  syncs = λ k known. done_below core h stands k (omega arith);
+      level_ended (recording core.schedule sets) h (level_of core.schedule n) n stands.lawful (done_below core sets h stands (level_of core.schedule n) (omega arith)) known refl;
+  syncs = λ k known. done_below core sets h stands k (omega arith);
 }
 
 -- and the other way round
-complete_syncs : (core : Stand) (h : List Step) → Stands core h → IsComplete core.schedule h → core.schedule.syncs ≤ core.done
-complete_syncs core h stands complete = elim (cases_lt core.done core.schedule.syncs) [
-  | inl wanting ↦ absurd (both_ways _ (next_fresh core h stands core.done (omega arith)) (complete.syncs core.done wanting))
+complete_syncs : (core : Stand) (sets : Option (List (List ℕ))) (h : List Step) → Stands core sets h → IsComplete (recording core.schedule sets) h → core.schedule.syncs ≤ core.done
+complete_syncs core sets h stands complete = elim (cases_lt core.done core.schedule.syncs) [
+  | inl wanting ↦ absurd (both_ways _ (next_fresh core sets h stands core.done (omega arith)) (complete.syncs core.done wanting))
   | inr all ↦ all
 ]
 
-pub tells_complete : (core : Stand) (h : List Step) (told : Bool) → (told ≡ true → core.schedule.syncs ≤ core.done) → (core.schedule.syncs ≤ core.done → told ≡ true) → IsBuilt core.schedule → Stands core h →
-    (told ≡ true) ↔ IsComplete core.schedule h
-tells_complete core h told all wanting built stands = ((λ e. complete_from core h built stands (all e)), (λ complete. wanting (complete_syncs core h stands complete)))
+pub tells_complete : (core : Stand) (sets : Option (List (List ℕ))) (h : List Step) (told : Bool) → (told ≡ true → core.schedule.syncs ≤ core.done) → (core.schedule.syncs ≤ core.done → told ≡ true) → IsBuilt core.schedule → Stands core sets h →
+    (told ≡ true) ↔ IsComplete (recording core.schedule sets) h
+tells_complete core sets h told all wanting built stands = ((λ e. complete_from core sets h built stands (all e)), (λ complete. wanting (complete_syncs core sets h stands complete)))
 
 -- a lawful history that is told not to be complete goes on
 pub goes_on : (s : Schedule) (h : List Step) (told : Bool) → IsBuilt s → IsLawful s h → (told ≡ true) ↔ IsComplete s h → OnFalse told ((step : Step) × May s h step)

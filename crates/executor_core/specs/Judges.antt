@@ -1,5 +1,5 @@
 -- What the parts of a core answer, of its sets and of each history for which it stands.
-use Rattle.std.specs.Prelude.{ℕ, ◌+◌, ◌/◌, ◌<◌, ◌≤◌, Bool, true, false, not, ◌&&◌, ◌≡◌, List, length, get_or, Option, Some, None, Result, Ok, Err}
+use Rattle.std.specs.Prelude.{ℕ, ◌+◌, ◌/◌, ◌<◌, ◌≤◌, Bool, true, false, not, ◌&&◌, ◌≡◌, List, [], length, get_or, Option, Some, None, Result, Ok, Err}
 use Rattle.number_set.specs.Members.{contains}
 use Rattle.model.specs.declared.steps.Step.{Step}
 use Rattle.model.specs.declared.steps.Step.TheVariants.{Cond, Start, Skip, Finish, Sync}
@@ -9,8 +9,6 @@ use Rattle.model.specs.steps.Schedule.{Schedule, ScheduledSystem, covers, has_ed
 use Rattle.model.specs.steps.Lawful.{May}
 use Rattle.model.specs.steps.Faults.{IsFirstFault}
 use Rattle.model.specs.steps.Ready.{Offers, OffersNothing}
-use Rattle.schedule_builder.specs.Rows.{IsRival}
-use Rattle.schedule_builder.specs.Conditions.{IsClash}
 use Rattle.model.specs.Counts.{count_below}
 use Rattle.schedule_builder.specs.Counts.{waits_for, is_at}
 use Rattle.executor_core.specs.Stands.{Stand}
@@ -24,6 +22,11 @@ pub record IsRoomy (count : ℕ) (begun_set over_set : List ℕ) : Type 0 where
 pub record IsAskRoomy (count : ℕ) (asked_set yes_set : List ℕ) : Type 0 where
   pub asked : length asked_set ≡ count / 64 + 1
   pub yes : length yes_set ≡ count / 64 + 1
+
+-- so many rows, each with room for all systems
+pub record AreRoomy (count rows_made : ℕ) (rows : List (List ℕ)) : Type 0 where
+  pub long : length rows ≡ rows_made
+  pub each : (n : ℕ) → n < rows_made → length (get_or rows n []) ≡ count / 64 + 1
 
 -- whether a system has an edge to this one and isn't over, and whether it is of the level and isn't over
 abbrev pub holds_up : List ScheduledSystem → List ℕ → ℕ → ℕ → Bool
@@ -45,9 +48,9 @@ HasCounts systems over_set open_counts level_counts = AreCounted systems over_se
 abbrev pub AllOver : Stand → ℕ → Type 0
 AllOver core n = (m : ℕ) → has_edge core.schedule m n ≡ true → contains core.over m ≡ true
 
--- each system that conflicts with this one and has begun is over
+-- each system that meets this one and has begun is over
 abbrev pub NoneMeets : Stand → ℕ → Type 0
-NoneMeets core n = (m : ℕ) → IsRival core.schedule.systems n m → contains core.begun m ≡ true → contains core.over m ≡ true
+NoneMeets core n = (m : ℕ) → contains (get_or core.met n []) m ≡ true → contains core.begun m ≡ true → contains core.over m ≡ true
 
 -- nothing that a system waits for is missing: the sync points below its level are done, and all with an edge to it are over
 pub record IsReleased (core : Stand) (n : ℕ) : Type 0 where
@@ -71,9 +74,9 @@ HasUnasked core n = (c : ℕ) × (covers core.schedule c n ≡ true) × (contain
 abbrev pub HasRefusing : Stand → ℕ → Type 0
 HasRefusing core n = (c : ℕ) × (covers core.schedule c n ≡ true) × (contains core.asked c ≡ true) × (contains core.yes c ≡ false)
 
--- each system that conflicts with what a condition asks about and has begun is over
+-- each system that meets what a condition asks about and has begun is over
 abbrev pub NoneClashes : Stand → ℕ → Type 0
-NoneClashes core c = (m : ℕ) → IsClash core.schedule.systems core.schedule.conditions c m → contains core.begun m ≡ true → contains core.over m ≡ true
+NoneClashes core c = (m : ℕ) → contains (get_or core.clashed c []) m ≡ true → contains core.begun m ≡ true → contains core.over m ≡ true
 
 -- a condition was not asked, and can be
 pub record IsAskableNow (core : Stand) (c : ℕ) : Type 0 where

@@ -1,2 +1,4 @@
 pub mod Stands
 pub mod Judges
+pub mod Meetings
+pub mod Traces

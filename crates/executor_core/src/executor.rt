@@ -1,27 +1,30 @@
 // The core of a run: which steps it has accepted, as sets of systems and counts beside them, and what may come next.
 
-ghost use Rattle.std.specs.Prelude.{ℕ, ◌≡◌, ◌+◌, ◌<◌, ◌≤◌, ◌↔◌, ◌||◌, ◌&&◌, ◌==◌, not, true, Bool, List, [], ◌∷◌, length, get_or, IsTrue, IsOk, IfOk, OnOk, IfErr, OnErr, IfSome, IfNone};
+ghost use Rattle.std.specs.Prelude.{ℕ, ◌≡◌, ◌+◌, ◌<◌, ◌≤◌, ◌↔◌, ◌||◌, ◌&&◌, ◌==◌, not, true, Bool, List, [], ◌∷◌, ◌++◌, length, get_or, Option, Some, None, IsTrue, IsOk, IfOk, OnOk, IfErr, OnErr, IfSome, IfNone};
 ghost use Rattle.std.specs.Bool.{OnFalse};
 ghost use Rattle.number_set.specs.Members.{contains};
 ghost use Rattle.model.specs.declared.steps.Step.{Step};
-ghost use Rattle.model.specs.steps.Schedule.{condition_at, level_of};
+ghost use Rattle.model.specs.declared.steps.Step.TheVariants.{Sync};
+ghost use Rattle.model.specs.steps.Schedule.{recording, condition_at, level_of};
 ghost use Rattle.model.specs.steps.Built.{IsBuilt};
-ghost use Rattle.model.specs.steps.Lawful.{IsLawful, IsComplete, NoneRuns, May};
+ghost use Rattle.model.specs.steps.Lawful.{IsLawful, IsComplete, NoneRuns, May, syncs_in};
 ghost use Rattle.model.specs.steps.Faults.{IsFirstFault};
 ghost use Rattle.model.specs.steps.Ready.{IsReady, OnlyFinish, step_of};
-ghost use Rattle.executor_core.specs.Stands.{Stands, IsPassed, room};
+ghost use Rattle.executor_core.specs.Stands.{Stands, IsPassed, IsPlainStep, MeetsAmong, ClashesAmong, room};
 ghost use Rattle.executor_core.specs.Judges.{AllOver, NoneMeets, NoneClashes, IsReleased, IsOpen, IsKnown};
 ghost use Rattle.schedule_builder.specs.Conditions.{IsCovering, IsRisingListing};
 
 use crate::counts::Counts;
-use model::{Ready, Step, StepFault};
+use crate::meetings::{clashes_of, renew_clashed, renew_met, rivals_of};
+use model::{KindSets, Ready, Step, StepFault};
 use number_set::NumberSet;
 use schedule_builder::Built;
 use std::alloc::{AllocError, Global};
 use std::marker::Model;
 
 /// What one run of a schedule has accepted. Contracts speak of each history for which a core stands, by `Stands`: such a
-/// history is lawful, and has the latest step first.
+/// history is lawful, and has the latest step first. Beside it stand the kind sets that the run records, if it does: a core doesn't keep
+/// them, but has for each system and condition the systems that meet it by the latest.
 #[derive(Drop)]
 pub struct Core<'a> {
     built: &'a Built,
@@ -33,27 +36,29 @@ pub struct Core<'a> {
     from: usize,
     waits: Counts,
     left: Counts,
+    met: Vec<NumberSet>,
+    clashed: Vec<NumberSet>,
 }
 
 impl<'a> Model for Core<'a> {
     ghost use Rattle.std.specs.Prelude.{length};
     ghost use Rattle.executor_core.specs.Stands.{Stand, stand_code};
-    ghost use Rattle.executor_core.specs.Judges.{IsRoomy, IsAskRoomy, HasCounts};
+    ghost use Rattle.executor_core.specs.Judges.{IsRoomy, IsAskRoomy, AreRoomy, HasCounts};
 
     ghost Value = { Stand };
 
     ghost coded = { stand_code };
 
-    ghost view = { λ c. record { schedule = c.built.now; begun = c.begun; over = c.over; asked = c.asked; yes = c.yes; done = c.done; from = c.from } };
+    ghost view = { λ c. record { schedule = c.built.now; begun = c.begun; over = c.over; asked = c.asked; yes = c.yes; done = c.done; from = c.from; met = c.met.items; clashed = c.clashed.items } };
 
-    ghost invariant = { λ c. IsRoomy (length c.built.now.systems) c.begun c.over × HasCounts c.built.now.systems c.over c.waits c.left × IsAskRoomy (length c.built.now.conditions) c.asked c.yes };
+    ghost invariant = { λ c. IsRoomy (length c.built.now.systems) c.begun c.over × HasCounts c.built.now.systems c.over c.waits c.left × IsAskRoomy (length c.built.now.conditions) c.asked c.yes × AreRoomy (length c.built.now.systems) (length c.built.now.systems) c.met.items × AreRoomy (length c.built.now.systems) (length c.built.now.conditions) c.clashed.items };
 }
 
 impl<'a> Core<'a> {
-    /// A core that has accepted nothing. No other call of a core takes memory.
+    /// A core that has accepted nothing, of a run that records no kind sets. But for `new_in` no other call of a core takes memory.
     pub fn new(alloc: Global, built: &'a Built) -> Result<Self, AllocError>
         ensures schedule { IfOk result (λ core. core.schedule ≡ built.now) }
-        ensures stands { IfOk result (λ core. Stands core []) }
+        ensures stands { IfOk result (λ core. Stands core None []) }
     {
         let begun = NumberSet::new(alloc, built.count())?;
         let over = NumberSet::new(alloc, built.count())?;
@@ -61,6 +66,8 @@ impl<'a> Core<'a> {
         let yes = NumberSet::new(alloc, built.condition_count())?;
         let waits = Counts::new(alloc, built.waits())?;
         let left = Counts::new(alloc, built.sizes())?;
+        let met = rivals_of(alloc, built)?;
+        let clashed = clashes_of(alloc, built)?;
         Ok(Core {
             built,
             begun,
@@ -71,22 +78,35 @@ impl<'a> Core<'a> {
             from: 0,
             waits,
             left,
+            met,
+            clashed,
         })
+    }
+
+    /// A core that has accepted nothing, of a run that records kind sets: these at its opening.
+    pub fn new_in(alloc: Global, built: &'a Built, sets: &KindSets) -> Result<Self, AllocError>
+        ensures schedule { IfOk result (λ core. core.schedule ≡ built.now) }
+        ensures stands { IfOk result (λ core. Stands core (Some (sets.now ∷ [])) []) }
+    {
+        let mut core = Core::new(alloc, built)?;
+        core.renew(sets);
+        Ok(core)
     }
 
     /// What `step` would answer.
     pub fn may(&self, step: Step) -> Result<(), StepFault>
-        ensures accepts { (h : List Step) → Stands self.now h → IsOk result ↔ May self.now.schedule h step }
-        ensures fault { (h : List Step) → Stands self.now h → IfErr result (λ fault. IsFirstFault self.now.schedule h step fault) }
+        ensures accepts { (sets : Option (List (List ℕ))) (h : List Step) → Stands self.now sets h → IsOk result ↔ May (recording self.now.schedule sets) h step }
+        ensures fault { (sets : Option (List (List ℕ))) (h : List Step) → Stands self.now sets h → IfErr result (λ fault. IsFirstFault (recording self.now.schedule sets) h step fault) }
     {
         self.judge(step)
     }
 
-    /// Takes a step: accepted exactly where it may come, else the first fault of it is told and nothing changes.
+    /// Takes a step: accepted exactly where it may come, else the first fault of it is told and nothing changes. Of a run that records kind
+    /// sets a sync point is taken by `sync_in`: after one that is taken here nothing is known of such a core.
     pub fn step(&mut self, step: Step) -> Result<(), StepFault>
-        ensures accepts { (h : List Step) → Stands self.old h → IsOk result ↔ May self.old.schedule h step }
-        ensures fault { (h : List Step) → Stands self.old h → IfErr result (λ fault. IsFirstFault self.old.schedule h step fault) }
-        ensures stands { OnOk result ((h : List Step) → Stands self.old h → Stands self.new (step ∷ h)) }
+        ensures accepts { (sets : Option (List (List ℕ))) (h : List Step) → Stands self.old sets h → IsOk result ↔ May (recording self.old.schedule sets) h step }
+        ensures fault { (sets : Option (List (List ℕ))) (h : List Step) → Stands self.old sets h → IfErr result (λ fault. IsFirstFault (recording self.old.schedule sets) h step fault) }
+        ensures stands { OnOk result ((sets : Option (List (List ℕ))) (h : List Step) → Stands self.old sets h → IsPlainStep sets step → Stands self.new sets (step ∷ h)) }
         ensures unchanged { OnErr result (self.new ≡ self.old) }
         ensures schedule { self.new.schedule ≡ self.old.schedule }
     {
@@ -97,13 +117,45 @@ impl<'a> Core<'a> {
         Ok(())
     }
 
+    /// Takes a sync point of a run that records kind sets: these after it. Accepted exactly where it may come, else its first fault is told and
+    /// nothing changes.
+    pub fn sync_in(&mut self, sync: u32, sets: &KindSets) -> Result<(), StepFault>
+        ensures accepts { (lists : Option (List (List ℕ))) (h : List Step) → Stands self.old lists h → IsOk result ↔ May (recording self.old.schedule lists) h (Sync sync) }
+        ensures fault { (lists : Option (List (List ℕ))) (h : List Step) → Stands self.old lists h → IfErr result (λ fault. IsFirstFault (recording self.old.schedule lists) h (Sync sync) fault) }
+        ensures stands { OnOk result ((lists : List (List ℕ)) (h : List Step) → Stands self.old (Some lists) h → Stands self.new (Some (lists ++ sets.now ∷ [])) (Sync sync ∷ h)) }
+        ensures unchanged { OnErr result (self.new ≡ self.old) }
+        ensures schedule { self.new.schedule ≡ self.old.schedule }
+    {
+        if let Err(fault) = self.judge(Step::Sync(sync)) {
+            return Err(fault);
+        }
+        self.pass_sync(sync);
+        self.renew(sets);
+        Ok(())
+    }
+
+    /// The same for a sync point after which the kind sets are those that were recorded last.
+    pub fn sync_same(&mut self, sync: u32) -> Result<(), StepFault>
+        ensures accepts { (lists : Option (List (List ℕ))) (h : List Step) → Stands self.old lists h → IsOk result ↔ May (recording self.old.schedule lists) h (Sync sync) }
+        ensures fault { (lists : Option (List (List ℕ))) (h : List Step) → Stands self.old lists h → IfErr result (λ fault. IsFirstFault (recording self.old.schedule lists) h (Sync sync) fault) }
+        ensures stands { OnOk result ((lists : List (List ℕ)) (h : List Step) → Stands self.old (Some lists) h → Stands self.new (Some (lists ++ get_or lists (syncs_in h) [] ∷ [])) (Sync sync ∷ h)) }
+        ensures unchanged { OnErr result (self.new ≡ self.old) }
+        ensures schedule { self.new.schedule ≡ self.old.schedule }
+    {
+        if let Err(fault) = self.judge(Step::Sync(sync)) {
+            return Err(fault);
+        }
+        self.pass_sync(sync);
+        Ok(())
+    }
+
     /// What can be done next: of the free systems in schedule order what the first offers that offers anything, else the sync
     /// point that is accepted. Finishes are not offered.
     pub fn ready(&self) -> Option<Ready>
-        ensures choice { (h : List Step) → Stands self.now h → IsReady self.now.schedule h result }
-        ensures may { (h : List Step) → Stands self.now h → IfSome result (λ offer. (answer : Bool) → May self.now.schedule h (step_of offer answer)) }
-        ensures nothing { (h : List Step) → Stands self.now h → IfNone result (OnlyFinish self.now.schedule h) }
-        ensures complete { (h : List Step) → Stands self.now h → NoneRuns h → IfNone result (IsComplete self.now.schedule h) }
+        ensures choice { (sets : Option (List (List ℕ))) (h : List Step) → Stands self.now sets h → IsReady (recording self.now.schedule sets) h result }
+        ensures may { (sets : Option (List (List ℕ))) (h : List Step) → Stands self.now sets h → IfSome result (λ offer. (answer : Bool) → May (recording self.now.schedule sets) h (step_of offer answer)) }
+        ensures nothing { (sets : Option (List (List ℕ))) (h : List Step) → Stands self.now sets h → IfNone result (OnlyFinish (recording self.now.schedule sets) h) }
+        ensures complete { (sets : Option (List (List ℕ))) (h : List Step) → Stands self.now sets h → NoneRuns h → IfNone result (IsComplete (recording self.now.schedule sets) h) }
     {
         self.built_law();
         self.first_offer()
@@ -111,8 +163,8 @@ impl<'a> Core<'a> {
 
     /// Whether every system has ended and every sync point is done. Where not, some step may come.
     pub fn complete(&self) -> bool
-        ensures exact { (h : List Step) → Stands self.now h → IsTrue result ↔ IsComplete self.now.schedule h }
-        ensures goes_on { (h : List Step) → Stands self.now h → OnFalse result ((step : Step) × May self.now.schedule h step) }
+        ensures exact { (sets : Option (List (List ℕ))) (h : List Step) → Stands self.now sets h → IsTrue result ↔ IsComplete (recording self.now.schedule sets) h }
+        ensures goes_on { (sets : Option (List (List ℕ))) (h : List Step) → Stands self.now sets h → OnFalse result ((step : Step) × May (recording self.now.schedule sets) h step) }
     {
         self.built_law();
         self.syncs() <= self.done()
@@ -120,8 +172,8 @@ impl<'a> Core<'a> {
 
     /// Each history for which a core stands is lawful, and has no more steps than the schedule has room for.
     pub fn prove_law(&self)
-        ensures lawful { (h : List Step) → Stands self.now h → IsLawful self.now.schedule h }
-        ensures bound { (h : List Step) → Stands self.now h → length h ≤ room self.now.schedule }
+        ensures lawful { (sets : Option (List (List ℕ))) (h : List Step) → Stands self.now sets h → IsLawful (recording self.now.schedule sets) h }
+        ensures bound { (sets : Option (List (List ℕ))) (h : List Step) → Stands self.now sets h → length h ≤ room self.now.schedule }
     {}
 
     // What holds of the schedule.
@@ -203,14 +255,12 @@ impl<'a> Core<'a> {
         !self.left.is_none(level)
     }
 
-    // Whether no system that conflicts with this one runs.
+    // Whether no system that meets this one runs.
     pub(crate) fn is_clear(&self, system: u32) -> bool
         requires { system < length self.now.schedule.systems }
         ensures { IsTrue result ↔ NoneMeets self.now system }
     {
-        self.built
-            .rivals(system)
-            .shares_only(&self.begun, &self.over)
+        self.met[system as usize].shares_only(&self.begun, &self.over)
     }
 
     // How many conditions there are.
@@ -250,21 +300,19 @@ impl<'a> Core<'a> {
         self.yes.contains(condition)
     }
 
-    // Whether no system that conflicts with what the condition asks about runs.
+    // Whether no system that meets what the condition asks about runs.
     pub(crate) fn is_clear_of(&self, condition: u32) -> bool
         requires { condition < length self.now.schedule.conditions }
         ensures { IsTrue result ↔ NoneClashes self.now condition }
     {
-        self.built
-            .clashes(condition)
-            .shares_only(&self.begun, &self.over)
+        self.clashed[condition as usize].shares_only(&self.begun, &self.over)
     }
 
     // Notes an accepted step.
     fn take(&mut self, step: Step)
         requires { IsKnown self.old.schedule step }
         ensures schedule { self.new.schedule ≡ self.old.schedule }
-        ensures stands { (h : List Step) → Stands self.old h → May self.old.schedule h step → Stands self.new (step ∷ h) }
+        ensures stands { (sets : Option (List (List ℕ))) (h : List Step) → Stands self.old sets h → May (recording self.old.schedule sets) h step → IsPlainStep sets step → Stands self.new sets (step ∷ h) }
     {
         match step {
             Step::Cond(condition, answer) => self.note(condition, answer),
@@ -324,6 +372,16 @@ impl<'a> Core<'a> {
         if sync < self.built.syncs() {
             self.done = sync + 1;
         }
+    }
+
+    // Makes the rows anew: those that meet each system and each condition where these are the kind sets that are there.
+    fn renew(&mut self, sets: &KindSets)
+        ensures rest { self.new ≡ record self.old { met = self.new.met; clashed = self.new.clashed } }
+        ensures met { (n m : ℕ) → MeetsAmong self.new (Some sets.now) n m }
+        ensures clashed { (c m : ℕ) → ClashesAmong self.new (Some sets.now) c m }
+    {
+        renew_met(self.met.as_mut_slice(), self.built, sets.numbers());
+        renew_clashed(self.clashed.as_mut_slice(), self.built, sets.numbers());
     }
 }
 

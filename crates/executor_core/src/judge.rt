@@ -1,9 +1,10 @@
 // Each kind of step is judged by its faults in their order.
 
-ghost use Rattle.std.specs.Prelude.{ℕ, ◌≡◌, ◌<◌, ◌↔◌, ◌&&◌, not, List, length, IsTrue, OnOk};
+ghost use Rattle.std.specs.Prelude.{ℕ, ◌≡◌, ◌<◌, ◌↔◌, ◌&&◌, not, List, Option, length, IsTrue, OnOk};
 ghost use Rattle.number_set.specs.Members.{contains};
 ghost use Rattle.model.specs.declared.steps.Step.{Step};
 ghost use Rattle.model.specs.declared.steps.Step.TheVariants.{Cond, Start, Skip, Finish, Sync};
+ghost use Rattle.model.specs.steps.Schedule.{recording};
 ghost use Rattle.executor_core.specs.Stands.{Stands};
 ghost use Rattle.executor_core.specs.Judges.{Judges, IsKnown, IsReleased, IsWaiting, HasWaitingMember, HasUnasked, HasRefusing};
 
@@ -13,7 +14,7 @@ use model::{Step, StepFault};
 impl<'a> Core<'a> {
     // Whether the step may come.
     pub(crate) fn judge(&self, step: Step) -> Result<(), StepFault>
-        ensures judged { (h : List Step) → Stands self.now h → Judges self.now.schedule h step result }
+        ensures judged { (sets : Option (List (List ℕ))) (h : List Step) → Stands self.now sets h → Judges (recording self.now.schedule sets) h step result }
         ensures known { OnOk result (IsKnown self.now.schedule step) }
     {
         match step {
@@ -27,7 +28,7 @@ impl<'a> Core<'a> {
 
     // Whether the condition may be asked.
     fn may_ask(&self, condition: u32, answer: bool) -> Result<(), StepFault>
-        ensures judged { (h : List Step) → Stands self.now h → Judges self.now.schedule h (Cond condition answer) result }
+        ensures judged { (sets : Option (List (List ℕ))) (h : List Step) → Stands self.now sets h → Judges (recording self.now.schedule sets) h (Cond condition answer) result }
         ensures known { OnOk result (condition < length self.now.schedule.conditions) }
     {
         self.built_law();
@@ -48,7 +49,7 @@ impl<'a> Core<'a> {
 
     // Whether the system may start.
     pub(crate) fn may_start(&self, system: u32) -> Result<(), StepFault>
-        ensures judged { (h : List Step) → Stands self.now h → Judges self.now.schedule h (Start system) result }
+        ensures judged { (sets : Option (List (List ℕ))) (h : List Step) → Stands self.now sets h → Judges (recording self.now.schedule sets) h (Start system) result }
         ensures known { OnOk result (system < length self.now.schedule.systems) }
     {
         if self.count() <= system {
@@ -74,7 +75,7 @@ impl<'a> Core<'a> {
 
     // Whether the system may be skipped.
     fn may_skip(&self, system: u32) -> Result<(), StepFault>
-        ensures judged { (h : List Step) → Stands self.now h → Judges self.now.schedule h (Skip system) result }
+        ensures judged { (sets : Option (List (List ℕ))) (h : List Step) → Stands self.now sets h → Judges (recording self.now.schedule sets) h (Skip system) result }
         ensures known { OnOk result (system < length self.now.schedule.systems) }
     {
         if self.count() <= system {
@@ -97,7 +98,7 @@ impl<'a> Core<'a> {
 
     // Whether the system may finish.
     fn may_finish(&self, system: u32) -> Result<(), StepFault>
-        ensures judged { (h : List Step) → Stands self.now h → Judges self.now.schedule h (Finish system) result }
+        ensures judged { (sets : Option (List (List ℕ))) (h : List Step) → Stands self.now sets h → Judges (recording self.now.schedule sets) h (Finish system) result }
         ensures known { OnOk result (system < length self.now.schedule.systems) }
     {
         if self.count() <= system {
@@ -111,7 +112,7 @@ impl<'a> Core<'a> {
 
     // Whether the sync point may be done.
     pub(crate) fn may_sync(&self, sync: u32) -> Result<(), StepFault>
-        ensures judged { (h : List Step) → Stands self.now h → Judges self.now.schedule h (Sync sync) result }
+        ensures judged { (sets : Option (List (List ℕ))) (h : List Step) → Stands self.now sets h → Judges (recording self.now.schedule sets) h (Sync sync) result }
         ensures known { OnOk result (sync < self.now.schedule.syncs) }
     {
         if self.syncs() <= sync {

@@ -4,6 +4,7 @@
 mod counts;
 pub mod executor;
 mod judge;
+mod meetings;
 mod offer;
 pub mod trace;
 

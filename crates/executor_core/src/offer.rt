@@ -1,8 +1,9 @@
 // What a core offers to be done next.
 
-ghost use Rattle.std.specs.Prelude.{ℕ, ◌<◌, ◌↔◌, List, length, IsTrue, IfSome, IfNone};
+ghost use Rattle.std.specs.Prelude.{ℕ, ◌<◌, ◌↔◌, List, Option, length, IsTrue, IfSome, IfNone};
 ghost use Rattle.model.specs.declared.steps.Step.{Step};
 ghost use Rattle.model.specs.steps.Ready.{IsReady, IsReadySync};
+ghost use Rattle.model.specs.steps.Schedule.{recording};
 ghost use Rattle.executor_core.specs.Stands.{Stands};
 ghost use Rattle.executor_core.specs.Judges.{TellsOffer, IsAskableNow, CanAsk, IsLeastAskable};
 
@@ -13,7 +14,7 @@ impl<'a> Core<'a> {
     // What the first system in schedule order offers that offers anything, else the sync point that is accepted. The systems
     // that need no more be looked at are passed over.
     pub(crate) fn first_offer(&self) -> Option<Ready>
-        ensures { (h : List Step) → Stands self.now h → IsReady self.now.schedule h result }
+        ensures { (sets : Option (List (List ℕ))) (h : List Step) → Stands self.now sets h → IsReady (recording self.now.schedule sets) h result }
     {
         let order = self.order();
         for place in self.from()..order.len() {
@@ -26,7 +27,7 @@ impl<'a> Core<'a> {
 
     // What the system offers: to ask its least condition that can be asked, or with all answered to skip or to start it.
     fn offer(&self, system: u32) -> Option<Ready>
-        ensures { (h : List Step) → Stands self.now h → TellsOffer self.now.schedule h system result }
+        ensures { (sets : Option (List (List ℕ))) (h : List Step) → Stands self.now sets h → TellsOffer (recording self.now.schedule sets) h system result }
     {
         if self.count() <= system {
             return None;
@@ -78,7 +79,7 @@ impl<'a> Core<'a> {
 
     // The sync point that is accepted.
     fn ready_sync(&self) -> Option<Ready>
-        ensures { (h : List Step) → Stands self.now h → IsReadySync self.now.schedule h result }
+        ensures { (sets : Option (List (List ℕ))) (h : List Step) → Stands self.now sets h → IsReadySync (recording self.now.schedule sets) h result }
     {
         match self.may_sync(self.done()) {
             Ok(()) => Some(Ready::Sync(self.done())),

@@ -1,10 +1,120 @@
-// The steps of a run.
+// What is recorded of a run.
 
-use model::Step;
+ghost use Rattle.std.specs.Prelude.{◌≡◌, ◌∷◌, [], get_or, reverse, IfOk, OnErr, OnOk, None, Some, option_map};
+ghost use Rattle.model.specs.steps.Lawful.{syncs_in};
+ghost use Rattle.model.specs.declared.steps.Step.TheVariants.{Sync as Synced};
+ghost use Rattle.executor_core.specs.Stands.{AreListed, IsPlainStep};
+ghost use Rattle.executor_core.specs.Traces.{with_list};
 
-/// The steps of a run, the oldest first.
-#[derive(PartialEq, Eq, Debug, Drop)]
+use model::{KindSets, Step};
+use std::alloc::{AllocError, Global};
+use std::marker::Model;
+
+/// What is recorded of a run: its steps, and where it records them the kind sets of the living entities, at its opening and after each sync
+/// point. Contracts see the steps with the latest first, as a history, and the lists of kind sets with that of the opening first.
+#[derive(Drop)]
 pub struct Trace {
+    steps: Vec<Step>,
+    sets: Option<Vec<KindSets>>,
+}
+
+impl Model for Trace {
+    ghost use Rattle.std.specs.Prelude.{reverse, option_map};
+    ghost use Rattle.model.specs.steps.Schedule.{Recorded};
+    ghost use Rattle.executor_core.specs.Stands.{AreListed};
+
+    ghost Value = { Recorded };
+
+    ghost view = { λ t. record { steps = reverse t.steps.items; sets = option_map (λ lists. lists.items) t.sets } };
+
+    ghost invariant = { λ t. AreListed (option_map (λ lists. lists.items) t.sets) (reverse t.steps.items) };
+}
+
+impl Trace {
+    /// Of a run without steps that records no kind sets.
+    pub fn new(alloc: Global) -> Self
+        ensures steps { result.steps ≡ [] }
+        ensures sets { result.sets ≡ None }
+    {
+        Trace {
+            steps: Vec::new(alloc),
+            sets: None,
+        }
+    }
+
+    /// Of a run without steps that records kind sets: these at its opening.
+    pub fn new_in(alloc: Global, opening: KindSets) -> Result<Self, AllocError>
+        ensures steps { IfOk result (λ trace. trace.steps ≡ []) }
+        ensures sets { IfOk result (λ trace. trace.sets ≡ Some (opening ∷ [])) }
+    {
+        let mut lists = Vec::new(alloc);
+        lists.push(opening)?;
+        Ok(Trace {
+            steps: Vec::new(alloc),
+            sets: Some(lists),
+        })
+    }
+
+    /// Adds a step: where kind sets are recorded, any but a sync point. Where an allocation fails the trace stays as it was.
+    pub fn push(&mut self, step: Step) -> Result<(), AllocError>
+        requires plain { IsPlainStep self.old.sets step }
+        ensures steps { OnOk result (self.new.steps ≡ step ∷ self.old.steps) }
+        ensures sets { OnOk result (self.new.sets ≡ self.old.sets) }
+        ensures err { OnErr result (self.new ≡ self.old) }
+    {
+        self.steps.push(step)?;
+        Ok(())
+    }
+
+    /// Adds a sync point, and the kind sets after it, where they are recorded.
+    pub fn push_sync(&mut self, sync: u32, sets: KindSets) -> Result<(), AllocError>
+        ensures steps { OnOk result (self.new.steps ≡ Synced sync ∷ self.old.steps) }
+        ensures sets { OnOk result (self.new.sets ≡ with_list sets self.old.sets) }
+        ensures err { OnErr result (self.new ≡ self.old) }
+    {
+        let Some(lists) = &mut self.sets else {
+            self.steps.push(Step::Sync(sync))?;
+            return Ok(());
+        };
+        lists.reserve(1)?;
+        self.steps.push(Step::Sync(sync))?;
+        let Ok(()) = lists.push(sets) else {
+            unreachable!()
+        };
+        Ok(())
+    }
+
     /// The steps, the oldest first.
-    pub steps: Vec<Step>,
+    pub fn steps(&self) -> &[Step]
+        ensures { self.now.steps ≡ reverse result.now }
+    {
+        &self.steps
+    }
+
+    /// The kind sets at the opening and after each sync point, if they are recorded.
+    pub fn sets(&self) -> Option<&[KindSets]>
+        ensures { self.now.sets ≡ option_map (λ lists. lists.now) result }
+    {
+        match &self.sets {
+            Some(lists) => Some(lists),
+            None => None,
+        }
+    }
+
+    /// The kind sets recorded last, if they are recorded.
+    pub fn latest(&self) -> Option<&KindSets>
+        ensures { option_map (λ sets. sets.now) result ≡ option_map (λ lists. get_or lists (syncs_in self.now.steps) []) self.now.sets }
+    {
+        match &self.sets {
+            Some(lists) => lists.last(),
+            None => None,
+        }
+    }
+
+    /// There are as many lists as places to record them at.
+    pub fn prove_law(&self)
+        ensures { AreListed self.now.sets self.now.steps }
+    {
+        let _ = &self.steps;
+    }
 }

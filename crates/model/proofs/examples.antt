@@ -7,6 +7,7 @@ pub mod Commands
 pub mod Conditions
 pub mod Filters
 pub mod Lawful
+pub mod Meetings
 pub mod Orders
 pub mod Levels
 pub mod Agreement

@@ -3,3 +3,4 @@ pub mod Members
 pub mod Searches
 pub mod Each
 pub mod Firsts
+pub mod Bits

@@ -1,3 +1,4 @@
 pub mod Histories
 pub mod Order
+pub mod Extending
 pub mod Hierarchies

@@ -4,4 +4,5 @@ pub mod Offers
 pub mod Single
 pub mod Width
 pub mod WideOfOne
+pub mod Unrecorded
 pub mod Determinism

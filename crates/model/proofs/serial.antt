@@ -1,5 +1,6 @@
 pub mod Conflicts
 pub mod ConflictTests
+pub mod MeetTests
 pub mod SelfConflicts
 pub mod Within
 pub mod Writes
@@ -7,8 +8,12 @@ pub mod Uses
 pub mod Grants
 pub mod Overlays
 pub mod Settling
+pub mod There
 pub mod Holding
 pub mod Interleaving
+pub mod Recording
+pub mod KindLists
+pub mod SetNumbers
 pub mod Engine
 pub mod Laying
 pub mod Soundness

@@ -1,6 +1,7 @@
 pub mod Query
 pub mod Access
 pub mod Conflict
+pub mod Meeting
 pub mod Condition
 pub mod QueryFaults
 pub mod SelfConflict

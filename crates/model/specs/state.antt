@@ -1,5 +1,6 @@
 pub mod State
 pub mod Rows
+pub mod KindSets
 pub mod Events
 pub mod Ids
 pub mod Commands

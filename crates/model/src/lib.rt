@@ -1,12 +1,13 @@
 // The meaning of a schedule's run, in definitions that every other crate cites, and its laws.
 #![tactic(auto)]
 
-ghost use Rattle.model.specs.runs.Laws.{ListsKeepOrder, ListsGoOn, ListsEnd, ListsComplete, ReadyIsAccepted, FaultsAreExact, FaultsAreComputed, ListsAreComputed, SingleIsWide, WideOfOneIsSingle, AtMostRun, FinishesWait, RunsAreSound, WideRunsAreSound, WideRunsOfOneAreSingle, WideStopsOfOneAreSingle, SameIsShown, InterleavedIsSerial, ConflictsAreTested, AnswersAreAsked, CausesAreExact, InterleavedKeepsShape, SerialKeepsShape, LoadedHasShape, SingleRunsAreSound, SingleRunIsOne, SingleRunsAreOne, DefinedRunsGoThrough, StopsAreOne, RunsAgree, WideRunsAgree, ReplayedRunAgrees, ReplaysAreOne};
+ghost use Rattle.model.specs.runs.Laws.{ListsKeepOrder, ListsGoOn, ListsEnd, ListsComplete, ReadyIsAccepted, FaultsAreExact, FaultsAreComputed, ListsAreComputed, SingleIsWide, WideOfOneIsSingle, AtMostRun, FinishesWait, RunsAreSound, WideRunsAreSound, WideRunsOfOneAreSingle, WideStopsOfOneAreSingle, SameIsShown, InterleavedIsSerial, ConflictsAreTested, MeetsAreTested, AnswersAreAsked, CausesAreExact, InterleavedKeepsShape, SerialKeepsShape, LoadedHasShape, SingleRunsAreSound, SingleRunIsOne, SingleRunsAreOne, DefinedRunsGoThrough, StopsAreOne, RunsAgree, WideRunsAgree, ReplayedRunAgrees, ReplaysAreOne};
 
 pub mod entities;
+pub mod kind_sets;
 pub mod steps;
 
-/// The order of lawful lists: systems that run together don't conflict, what an edge leads from has ended before what it
+/// The order of lawful lists: systems that run together don't meet, what an edge leads from has ended before what it
 /// leads to begins, sync points stand between the levels, and a system that is before another starts first.
 pub fn lists_are_in_order()
     ensures { ListsKeepOrder }
@@ -84,8 +85,8 @@ pub fn single_runs_are_one()
     ensures stops { StopsAreOne }
 {}
 
-/// A recorded run that is taken again on one thread comes to one thing: it leaves one state, or has one first wrong answer, or stops for
-/// one cause.
+/// A recorded run that is taken again on one thread comes to one thing: it leaves one state, or has one first wrong answer, or at one
+/// place first wrong kind sets, or stops for one cause.
 pub fn replays_are_one()
     ensures { ReplaysAreOne }
 {}
@@ -106,6 +107,11 @@ pub fn conflicts_are_tested()
     ensures { ConflictsAreTested }
 {}
 
+/// The computed test of two accesses that meet is exact, and where no kind sets are recorded they meet exactly where they conflict.
+pub fn meets_are_tested()
+    ensures { MeetsAreTested }
+{}
+
 /// A condition's answer depends only on what it is asked about.
 pub fn answers_are_asked()
     ensures { AnswersAreAsked }
@@ -117,4 +123,5 @@ pub fn causes_are_exact()
 {}
 
 pub use entities::Entity;
+pub use kind_sets::KindSets;
 pub use steps::{Ready, Step, StepFault};

@@ -49,6 +49,22 @@ impl NumberSet {
         put(self.words.as_mut_slice(), number);
     }
 
+    /// A set with the same room and the same members.
+    pub fn copy(&self, alloc: Global) -> Result<Self, AllocError>
+        ensures { IfOk result (λ set. set ≡ self.now) }
+    {
+        let words = Vec::from_slice(alloc, self.words.as_slice())?;
+        Ok(NumberSet { words })
+    }
+
+    /// Takes out every member. The room stays.
+    pub fn clear(&mut self)
+        ensures room { length self.new ≡ length self.old }
+        ensures empty { (n : ℕ) → contains self.new n ≡ false }
+    {
+        self.words.fill(0);
+    }
+
     /// Whether each member is one of the other set, which has the same room.
     pub fn is_within(&self, other: &NumberSet) -> bool
         requires { length self.now ≡ length other.now }

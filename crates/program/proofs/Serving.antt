@@ -29,7 +29,7 @@ use Rattle.program.specs.Setup.{IsScheduleOf, AreScriptsOf, declared_names, scri
 use Rattle.program.specs.Recorded.{IsTextOfRuns}
 use Rattle.program.specs.declared.answer.Answer.{Answer}
 use Rattle.program.specs.declared.fault.Fault.{Fault}
-use Rattle.program.specs.declared.fault.Fault.TheVariants.{TooLong, Content, Script, TraceTooLong, TraceLine, TraceOrder, BadStep, UnfinishedRun, WrongAnswer, ClockSpent, IdsSpent, BodyRefused, File, Write, Memory, NoWorker}
+use Rattle.program.specs.declared.fault.Fault.TheVariants.{TooLong, Content, Script, TraceTooLong, TraceLine, TraceOrder, TraceLists, BadStep, UnfinishedRun, WrongAnswer, WrongSets, ClockSpent, IdsSpent, BodyRefused, File, Write, Memory, NoWorker}
 use Rattle.program.specs.Fault.{fault_of_build, fault_of_file}
 use Rattle.program.specs.Accepted.{Accepted, meant_by, start_of}
 use Rattle.program.specs.Refused.{HasNoTables, IsRefusedBy, IsReplayRefused, IsRunRefused, IsTraceUnread, IsUngiven, IsUnread, IsUnreplayed, IsUnrun, IsUnscripted, LoadsWorld, ReadsTrace}
@@ -274,6 +274,7 @@ module _ (there : Bool) (width : ℕ) (bytes trace : Option (List ℕ)) where
     trace-refused w TraceTooLong reads h = inl (record { reads = reads; file = file; unread = h })
     trace-refused w (TraceLine line) reads h = record { reads = reads; file = file; unread = h }
     trace-refused w (TraceOrder line) reads h = record { reads = reads; file = file; unread = h }
+    trace-refused w (TraceLists line) reads h = record { reads = reads; file = file; unread = h }
     trace-refused w File reads h = tt
     trace-refused w Memory reads h = tt
     trace-refused w fault reads h = absurd h
@@ -306,6 +307,7 @@ module _ (there : Bool) (width : ℕ) (bytes trace : Option (List ℕ)) where
     replay-refused (BadStep run step wrong) h = stopped-replay (BadStep run step wrong) h
     replay-refused (UnfinishedRun run) h = stopped-replay (UnfinishedRun run) h
     replay-refused (WrongAnswer run step) h = stopped-replay (WrongAnswer run step) h
+    replay-refused (WrongSets run step) h = stopped-replay (WrongSets run step) h
     replay-refused ClockSpent h = stopped-replay ClockSpent h
     replay-refused IdsSpent h = inr (stopped-replay IdsSpent h)
     replay-refused BodyRefused h = stopped-replay BodyRefused h

@@ -1,9 +1,8 @@
 -- Where runs stop that come after others.
 use Rattle.std.proofs.Common.{◌≡◌, ◌≤◌, ℕ, ◌+◌, ◌++◌, Bool, List, length, length-append, subst, arith}
-use Rattle.model.specs.declared.steps.Step.{Step}
 use Rattle.model.specs.shown.Outcome.{BodyMeaning}
 use Rattle.model.specs.state.State.{State}
-use Rattle.model.specs.steps.Schedule.{Schedule}
+use Rattle.model.specs.steps.Schedule.{Schedule, Recorded}
 use Rattle.model.specs.runs.Causes.{Cause}
 use Rattle.model.specs.runs.WideRuns.{AreWideRuns, IsWideStopped}
 use Rattle.model.proofs.progress.Determinism.{defined_runs_go_through}
@@ -17,7 +16,7 @@ use Rattle.program.specs.Recorded.{HaveRun}
 use Rattle.program.specs.Refused.{IsStoppedRun, IsUnrun}
 use Rattle.program.proofs.Times.{more-wide}
 
-module _ (there : Bool) (width : ℕ) (s : Schedule) (bodies : List BodyMeaning) (start middle : State) (before : List (List Step)) (ran : AreWideRuns width s bodies start before middle) (count times : ℕ)
+module _ (there : Bool) (width : ℕ) (s : Schedule) (bodies : List BodyMeaning) (start middle : State) (before : List Recorded) (ran : AreWideRuns width s bodies start before middle) (count times : ℕ)
     (within : length before + count ≤ times) where
   -- runs that stop after others are among all that were asked for
   wide-later : (met : Cause) → IsWideStopped width s bodies count middle met → IsWideStopped width s bodies times start met
@@ -53,7 +52,7 @@ module _ (there : Bool) (width : ℕ) (s : Schedule) (bodies : List BodyMeaning)
   told-later recorded fault h = absurd h
 
 -- so too of runs of the same schedule with bodies that mean the same
-pub next-told : (there : Bool) (width : ℕ) (s z : Schedule) (bodies others : List BodyMeaning) (start middle : State) (before : List (List Step)) (count times : ℕ) (recorded : Bool) (fault : Fault) → z ≡ s → others ≡ bodies
+pub next-told : (there : Bool) (width : ℕ) (s z : Schedule) (bodies others : List BodyMeaning) (start middle : State) (before : List Recorded) (count times : ℕ) (recorded : Bool) (fault : Fault) → z ≡ s → others ≡ bodies
     → HaveRun width s bodies start before middle → length before + count ≤ times → IsStoppedRun there width z others count middle fault → IsUnrun there width s bodies times start recorded fault
 next-told there width s z bodies others start middle before count times recorded fault same_schedule same_bodies ran within h =
     told-later there width s bodies start middle before ran.ran count times within recorded fault

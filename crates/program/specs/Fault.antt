@@ -1,7 +1,7 @@
 -- The exit status and the line of a fault, and the faults of reading, of a program file, of a schedule, of a script, of ids and of a trace's text.
 use Rattle.std.specs.Prelude.{◌≡◌, ℕ, List, ◌∷◌, ◌++◌, codes, decimal, string_bytes}
 use Rattle.program.specs.declared.fault.Fault.{Fault}
-use Rattle.program.specs.declared.fault.Fault.TheVariants.{TooLong, Content, Build, Script, TraceTooLong, TraceLine, TraceOrder, BadStep, UnfinishedRun, WrongAnswer, ClockSpent, IdsSpent, BodyRefused, File, Write, Memory, NoWorker}
+use Rattle.program.specs.declared.fault.Fault.TheVariants.{TooLong, Content, Build, Script, TraceTooLong, TraceLine, TraceOrder, TraceLists, BadStep, UnfinishedRun, WrongAnswer, WrongSets, ClockSpent, IdsSpent, BodyRefused, File, Write, Memory, NoWorker}
 use Rattle.streams.specs.declared.reading.ReadFault.{ReadFault}
 use Rattle.streams.specs.declared.reading.ReadFault.TheVariants as read
 use Rattle.program_file.specs.declared.fault.FileFault.{FileFault}
@@ -35,9 +35,11 @@ fault_text (Script cause system block instruction) = codes "refused " ++ (cause_
 fault_text TraceTooLong = codes "refused L3"
 fault_text (TraceLine line) = codes "refused L1 " ++ decimal line
 fault_text (TraceOrder line) = codes "refused L2 " ++ decimal line
+fault_text (TraceLists line) = codes "refused L4 " ++ decimal line
 fault_text (BadStep run step fault) = codes "refused run " ++ (decimal run ++ (codes " step " ++ (decimal step ++ (codes " S" ++ decimal (fault_number fault)))))
 fault_text (UnfinishedRun run) = codes "refused run " ++ (decimal run ++ codes " unfinished")
 fault_text (WrongAnswer run step) = codes "refused run " ++ (decimal run ++ (codes " step " ++ (decimal step ++ codes " answer")))
+fault_text (WrongSets run step) = codes "refused run " ++ (decimal run ++ (codes " step " ++ (decimal step ++ codes " sets")))
 fault_text ClockSpent = codes "refused E2"
 fault_text IdsSpent = codes "refused E3"
 fault_text BodyRefused = codes "refused E6"
@@ -71,6 +73,7 @@ fault_of_grant grant.Memory = Memory
 abbrev pub fault_of_text : TextFault → Fault
 fault_of_text (text.Line line) = TraceLine line
 fault_of_text (text.Order line) = TraceOrder line
+fault_of_text (text.Lists line) = TraceLists line
 fault_of_text text.Memory = Memory
 
 -- the fault of a script, with the name of its system, for which an allocation may fail

@@ -16,10 +16,10 @@ use Rattle.script.specs.Faults.{script_fault}
 use Rattle.script.specs.declared.script_body.ScriptBody.{ScriptBody}
 use Rattle.engine.specs.Stops.{StopsAs}
 use Rattle.engine.specs.declared.faults.RunFault.TheVariants as stop
-use Rattle.trace_checker.specs.TextFaults.{IsLineFault, IsOrderFault}
+use Rattle.trace_checker.specs.TextFaults.{IsLineFault, IsListsFault, IsOrderFault}
 use Rattle.program.specs.Accepted.{Accepted, meant_by, start_of}
 use Rattle.program.specs.declared.fault.Fault.{Fault}
-use Rattle.program.specs.declared.fault.Fault.TheVariants.{TooLong, Content, Build, Script, TraceTooLong, TraceLine, TraceOrder, ClockSpent, IdsSpent, BodyRefused, File, Write, Memory, NoWorker}
+use Rattle.program.specs.declared.fault.Fault.TheVariants.{TooLong, Content, Build, Script, TraceTooLong, TraceLine, TraceOrder, TraceLists, ClockSpent, IdsSpent, BodyRefused, File, Write, Memory, NoWorker}
 use Rattle.program.specs.Recorded.{IsRecordTooLong}
 use Rattle.program.specs.Replayed.{IsRefusedReplay}
 use Rattle.program.specs.Said.{IsFileOf, declared_by, scripts_by}
@@ -68,6 +68,7 @@ abbrev pub IsTraceUnread : Option (List ℕ) → Fault → Type 0
 IsTraceUnread trace TraceTooLong = IfSome trace (λ text. 67108864 < length text)
 IsTraceUnread trace (TraceLine line) = IfSome trace (IsLineFault line)
 IsTraceUnread trace (TraceOrder line) = IfSome trace (IsOrderFault line)
+IsTraceUnread trace (TraceLists line) = IfSome trace (IsListsFault line)
 IsTraceUnread trace File = Unit {0}
 IsTraceUnread trace Memory = Unit {0}
 IsTraceUnread trace _ = ⊥
@@ -147,6 +148,7 @@ IsRefusedBy there width bytes trace w (Script cause system block instruction) =
 IsRefusedBy there width bytes trace w TraceTooLong = IsTraceRefused bytes trace w TraceTooLong ⊎ IsStopped there width bytes trace w TraceTooLong
 IsRefusedBy there width bytes trace w (TraceLine line) = IsTraceRefused bytes trace w (TraceLine line)
 IsRefusedBy there width bytes trace w (TraceOrder line) = IsTraceRefused bytes trace w (TraceOrder line)
+IsRefusedBy there width bytes trace w (TraceLists line) = IsTraceRefused bytes trace w (TraceLists line)
 IsRefusedBy there width bytes trace w IdsSpent = (LoadsWorld w × AreTooMany bytes) ⊎ IsStopped there width bytes trace w IdsSpent
 IsRefusedBy there width bytes trace w File = Unit {0}
 IsRefusedBy there width bytes trace w Memory = Unit {0}

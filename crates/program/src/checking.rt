@@ -2,7 +2,7 @@
 
 ghost use Rattle.std.specs.Prelude.{◌≡◌, string_bytes, IfOk, IfErr, IfSome};
 ghost use Rattle.std.specs.List.{list_all};
-ghost use Rattle.trace_checker.specs.Grammar.{AreFitting, steps_of, trace_text};
+ghost use Rattle.trace_checker.specs.Grammar.{AreFitting, trace_text};
 ghost use Rattle.trace_checker.specs.Verdicts.{is_complete};
 ghost use Rattle.program.specs.Checked.{IsCheckOf};
 ghost use Rattle.program.specs.Refused.{IsTraceUnread};
@@ -45,8 +45,8 @@ pub fn check_trace<T: Read>(alloc: Global, built: &Built, trace: &mut T) -> Resu
 
 /// The traces that a reader has, at most 67,108,864 bytes.
 pub fn traces_of<T: Read>(alloc: Global, trace: &mut T) -> Result<Vec<Trace>, Fault>
-    ensures fitting { IfOk result (λ traces. AreFitting (steps_of traces.items)) }
-    ensures read { IfOk result (λ traces. IfSome (T.remaining trace.old) (λ bytes. bytes ≡ trace_text (steps_of traces.items))) }
+    ensures fitting { IfOk result (λ traces. AreFitting traces.items) }
+    ensures read { IfOk result (λ traces. IfSome (T.remaining trace.old) (λ bytes. bytes ≡ trace_text traces.items)) }
     ensures refused { IfErr result (IsTraceUnread (T.remaining trace.old)) }
 {
     let bytes = match read_whole(alloc, trace, MOST_TRACE_BYTES) {

@@ -38,6 +38,8 @@ pub enum Fault {
     TraceLine(usize),
     /// This line of a trace, counted from 1, begins another run than the next one, or is a step before any run.
     TraceOrder(usize),
+    /// Where this line of a trace, counted from 1, stands or is missing, kind sets are wanted and not told, or told and not wanted.
+    TraceLists(usize),
     /// This step of this run of a trace, both counted from 1, is the first that may not come, for this fault.
     BadStep {
         run: usize,
@@ -50,6 +52,12 @@ pub enum Fault {
     },
     /// This step of this run of a trace, both counted from 1, is the first whose recorded answer isn't what its condition means there.
     WrongAnswer {
+        run: usize,
+        step: usize,
+    },
+    /// The kind sets that this run of a trace, counted from 1, recorded after this step, or at its opening for 0, are the first that aren't those
+    /// of the living entities there.
+    WrongSets {
         run: usize,
         step: usize,
     },
@@ -86,12 +94,14 @@ impl fmt::Display for Fault {
             Fault::TraceTooLong => write!(f, "refused L3"),
             Fault::TraceLine(line) => write!(f, "refused L1 {line}"),
             Fault::TraceOrder(line) => write!(f, "refused L2 {line}"),
+            Fault::TraceLists(line) => write!(f, "refused L4 {line}"),
             Fault::BadStep { run, step, fault } => {
                 let number = number_of(*fault);
                 write!(f, "refused run {run} step {step} S{number}")
             }
             Fault::UnfinishedRun { run } => write!(f, "refused run {run} unfinished"),
             Fault::WrongAnswer { run, step } => write!(f, "refused run {run} step {step} answer"),
+            Fault::WrongSets { run, step } => write!(f, "refused run {run} step {step} sets"),
             Fault::ClockSpent => write!(f, "refused E2"),
             Fault::IdsSpent => write!(f, "refused E3"),
             Fault::BodyRefused => write!(f, "refused E6"),
@@ -200,6 +210,7 @@ impl From<TextFault> for Fault {
         match error {
             TextFault::Line(line) => Fault::TraceLine(line),
             TextFault::Order(line) => Fault::TraceOrder(line),
+            TextFault::Lists(line) => Fault::TraceLists(line),
             TextFault::Memory => Fault::Memory,
         }
     }

@@ -1,8 +1,7 @@
 // The record of runs: the text of their traces, while that may be written.
 
-ghost use Rattle.std.specs.Prelude.{◌≡◌, ◌<◌, ◌+◌, ◌^◌, ◌∷◌, ◌++◌, [], List, length, map, IfOk};
-ghost use Rattle.model.specs.declared.steps.Step.{Step};
-ghost use Rattle.engine.specs.History.{history_of};
+ghost use Rattle.std.specs.Prelude.{◌≡◌, ◌<◌, ◌+◌, ◌^◌, ◌∷◌, ◌++◌, [], List, length, IfOk};
+ghost use Rattle.model.specs.steps.Schedule.{Recorded};
 ghost use Rattle.program.specs.Recorded.{IsKeptOf};
 
 use crate::checking::MOST_TRACE_BYTES;
@@ -17,7 +16,7 @@ pub fn note_all(
     traces: &[Trace],
 ) -> Result<Option<String>, AllocError>
     requires { before + length traces.now < 2 ^ 32 }
-    ensures { IfOk result (λ kept. (histories : List (List Step)) → length histories ≡ before → IsKeptOf histories text → IsKeptOf (histories ++ map history_of traces.now) kept) }
+    ensures { IfOk result (λ kept. (others : List Recorded) → length others ≡ before → IsKeptOf others text → IsKeptOf (others ++ traces.now) kept) }
 {
     let Some((trace, others)) = traces.split_first() else {
         return Ok(text);
@@ -28,7 +27,7 @@ pub fn note_all(
 
 // What is kept of a record once the run of this number stands behind those that it has.
 fn note(text: Option<String>, number: u32, trace: &Trace) -> Result<Option<String>, AllocError>
-    ensures { IfOk result (λ kept. (histories : List (List Step)) → length histories + 1 ≡ number → IsKeptOf histories text → IsKeptOf (histories ++ history_of trace.now ∷ []) kept) }
+    ensures { IfOk result (λ kept. (others : List Recorded) → length others + 1 ≡ number → IsKeptOf others text → IsKeptOf (others ++ trace.now ∷ []) kept) }
 {
     let Some(mut text) = text else {
         return Ok(None);

@@ -1,11 +1,11 @@
 // The recorded runs of a trace, taken again.
 
-ghost use Rattle.std.specs.Prelude.{◌≡◌, ◌⊎◌, map, length, reverse, string_bytes, IfOk, IfErr, Some};
+ghost use Rattle.std.specs.Prelude.{◌≡◌, ◌⊎◌, map, length, string_bytes, IfOk, IfErr, Some};
 ghost use Rattle.model.specs.state.Loaded.{loaded};
 ghost use Rattle.archetype_store.specs.Layout.{AreAllHome};
 ghost use Rattle.engine.specs.Meanings.{Suits};
-ghost use Rattle.trace_checker.specs.Grammar.{steps_of};
 ghost use Rattle.model.specs.runs.Replays.{IsReplayed};
+ghost use Rattle.model.specs.steps.Schedule.{recording};
 ghost use Rattle.program.specs.Load.{entity_given};
 ghost use Rattle.program.specs.Refused.{IsUnreplayed, IsUngiven};
 ghost use Rattle.program.specs.Replayed.{AreReplayed, IsRefusedAmong, IsRefusedRun, IsTextOfReplay};
@@ -69,8 +69,8 @@ fn replay_runs(
     traces: &[Trace],
 ) -> Result<State, Fault>
     requires { Suits script_suits built.now (map Some bodies.old) state }
-    ensures replayed { IfOk result (λ left. AreReplayed built.now (meanings_of_scripts built.now bodies.old) state (steps_of traces.now) left) }
-    ensures refused { IfErr result (IsRefusedAmong built.now (meanings_of_scripts built.now bodies.old) state (steps_of traces.now)) }
+    ensures replayed { IfOk result (λ left. AreReplayed built.now (meanings_of_scripts built.now bodies.old) state traces.now left) }
+    ensures refused { IfErr result (IsRefusedAmong built.now (meanings_of_scripts built.now bodies.old) state traces.now) }
 {
     let mut number = 0;
     for trace in traces {
@@ -90,8 +90,8 @@ fn replay_run(
     run: usize,
 ) -> Result<State, Fault>
     requires { Suits script_suits built.now (map Some bodies.old) state }
-    ensures replayed { IfOk result (IsReplayed built.now (meanings_of_scripts built.now bodies.old) state (reverse trace.now.steps.items)) }
-    ensures refused { IfErr result (IsRefusedRun built.now (meanings_of_scripts built.now bodies.old) state trace.now.steps.items run) }
+    ensures replayed { IfOk result (IsReplayed (recording built.now trace.now.sets) (meanings_of_scripts built.now bodies.old) state trace.now.steps) }
+    ensures refused { IfErr result (IsRefusedRun built.now (meanings_of_scripts built.now bodies.old) state trace.now run) }
     ensures suits { IfOk result (λ left. Suits script_suits built.now (map Some bodies.new) left) }
     ensures meanings { meanings_of_scripts built.now bodies.new ≡ meanings_of_scripts built.now bodies.old }
 {
@@ -100,6 +100,7 @@ fn replay_run(
         Err(ReplayFault::Bad(step, fault)) => Err(Fault::BadStep { run, step, fault }),
         Err(ReplayFault::Unfinished) => Err(Fault::UnfinishedRun { run }),
         Err(ReplayFault::WrongAnswer(step)) => Err(Fault::WrongAnswer { run, step }),
+        Err(ReplayFault::WrongSets(step)) => Err(Fault::WrongSets { run, step }),
         Err(ReplayFault::Run(RunFault::Memory)) => Err(Fault::Memory),
         Err(ReplayFault::Run(RunFault::ClockSpent)) => Err(Fault::ClockSpent),
         Err(ReplayFault::Run(RunFault::IdsSpent)) => Err(Fault::IdsSpent),

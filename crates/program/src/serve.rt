@@ -2,7 +2,6 @@
 
 ghost use Rattle.std.specs.Prelude.{◌≡◌, ◌∷◌, [], map, length, string_bytes, IfOk, IfErr, IfSome, Some, OnOk, IsFalse};
 ghost use Rattle.archetype_store.specs.Layout.{AreAllHome};
-ghost use Rattle.engine.specs.History.{history_of};
 ghost use Rattle.engine.specs.Meanings.{meanings};
 ghost use Rattle.program.specs.Fault.{fault_text};
 ghost use Rattle.program.specs.Recorded.{HaveNoted, HaveRun, IsTextOfRuns};
@@ -211,7 +210,7 @@ fn run_some<'s, M: Mode<'s>>(
 ) -> Result<Vec<Trace>, Fault>
     requires { IsFalse engine.old.spoiled }
     ensures count { IfOk result (λ traces. length traces.items ≡ times) }
-    ensures ran { IfOk result (λ traces. HaveRun (M.width mode.now) engine.old.schedule (meanings script_means engine.old.schedule engine.old.bodies) engine.old.state (map history_of traces.items) engine.new.state) }
+    ensures ran { IfOk result (λ traces. HaveRun (M.width mode.now) engine.old.schedule (meanings script_means engine.old.schedule engine.old.bodies) engine.old.state traces.items engine.new.state) }
     ensures schedule { engine.new.schedule ≡ engine.old.schedule }
     ensures meant { OnOk result (meanings script_means engine.old.schedule engine.new.bodies ≡ meanings script_means engine.old.schedule engine.old.bodies) }
     ensures sound { OnOk result (IsFalse engine.new.spoiled) }

@@ -9,7 +9,7 @@ use Rattle.cycle_search.specs.declared.order.Order.{Order}
 
 -- a schedule of these parts
 abbrev pub schedule_with : List ScheduledSystem → List ScheduledCondition → ℕ → List ℕ → List (List ℕ) → Schedule
-schedule_with systems conditions syncs order silences = record { systems = systems; conditions = conditions; syncs = syncs; order = order; silences = silences }
+schedule_with systems conditions syncs order silences = record { systems = systems; conditions = conditions; syncs = syncs; order = order; silences = silences; sets = None }
 
 -- a schedule of these systems in this order, with one sync point
 abbrev pub schedule_of : List ScheduledSystem → List ℕ → Schedule

@@ -1,6 +1,6 @@
 // A built schedule, and what it tells of its systems.
 
-ghost use Rattle.std.specs.Prelude.{◌≡◌, ◌<◌, ℕ, [], length, get_or, IfOk};
+ghost use Rattle.std.specs.Prelude.{◌≡◌, ◌<◌, ℕ, [], None, length, get_or, IfOk};
 ghost use Rattle.model.specs.access.SelfConflict.{ConflictWithin};
 ghost use Rattle.model.specs.steps.Schedule.{system_at, condition_at, params_of, level_of, is_silenced};
 ghost use Rattle.model.specs.steps.Built.{IsBuilt};
@@ -42,7 +42,7 @@ pub struct Built {
 }
 
 impl Model for Built {
-    ghost use Rattle.std.specs.Prelude.{[], ◌≡◌};
+    ghost use Rattle.std.specs.Prelude.{[], None, ◌≡◌};
     ghost use Rattle.model.specs.steps.Schedule.{Schedule};
     ghost use Rattle.model.specs.steps.Built.{IsBuilt};
     ghost use Rattle.model.specs.steps.Codes.{schedule_code};
@@ -54,9 +54,9 @@ impl Model for Built {
 
     ghost coded = { schedule_code };
 
-    ghost view = { λ b. record { systems = b.systems.items; conditions = b.conditions.items; syncs = b.syncs; order = b.order.items; silences = b.silences.items } };
+    ghost view = { λ b. record { systems = b.systems.items; conditions = b.conditions.items; syncs = b.syncs; order = b.order.items; silences = b.silences.items; sets = None } };
 
-    ghost invariant = { λ b. IsBuilt (record { systems = b.systems.items; conditions = b.conditions.items; syncs = b.syncs; order = b.order.items; silences = b.silences.items }) × HasConditionRows b.systems.items b.conditions.items b.asked_by.items b.clashes.items × HasRows b.systems.items b.before.items b.rivals.items × AreApart b.systems.items × HasCounts b.systems.items b.after.items b.waits.items b.sizes.items };
+    ghost invariant = { λ b. IsBuilt (record { systems = b.systems.items; conditions = b.conditions.items; syncs = b.syncs; order = b.order.items; silences = b.silences.items; sets = None }) × HasConditionRows b.systems.items b.conditions.items b.asked_by.items b.clashes.items × HasRows b.systems.items b.before.items b.rivals.items × AreApart b.systems.items × HasCounts b.systems.items b.after.items b.waits.items b.sizes.items };
 }
 
 impl Built {
@@ -102,7 +102,7 @@ impl Built {
     /// The schedule with no system and one sync point.
     #[tactic(auto, unfolding(crate::specs::Counts::HasCounts, crate::specs::Conditions::HasConditionRows))]
     pub fn empty(alloc: Global) -> Self
-        ensures { result ≡ record { systems = []; conditions = []; syncs = 1; order = []; silences = [] } }
+        ensures { result ≡ record { systems = []; conditions = []; syncs = 1; order = []; silences = []; sets = None } }
     {
         Built {
             systems: Vec::new(alloc),

@@ -5,7 +5,7 @@ use Rattle.parsing.specs.Reads.{SpellsNone, SpellsOnly}
 use Rattle.model.specs.declared.steps.Step.TheVariants.{Cond, Start, Skip, Finish, Sync}
 use Rattle.trace_checker.specs.Grammar.{IsAnswerTail, IsLine}
 use Rattle.trace_checker.specs.declared.line.Line.{Line}
-use Rattle.trace_checker.specs.declared.line.Line.TheVariants.{Begin, Take}
+use Rattle.trace_checker.specs.declared.line.Line.TheVariants.{Begin, Take, There}
 
 -- no other line than that of a condition begins with its letter
 pub none_asked : (tail : List ℕ) → SpellsNone IsAnswerTail tail → SpellsNone IsLine (67 ∷ 32 ∷ tail)
@@ -15,6 +15,7 @@ none_asked tail none (Take (Start n)) h = absurd (omega (arith, ap (λ b. get_or
 none_asked tail none (Take (Skip n)) h = absurd (omega (arith, ap (λ b. get_or b 0 0) h.1))
 none_asked tail none (Take (Finish n)) h = absurd (omega (arith, ap (λ b. get_or b 0 0) h.1))
 none_asked tail none (Take (Sync k)) h = absurd (omega (arith, ap (λ b. get_or b 0 0) h.1))
+none_asked tail none (There ns) h = absurd (omega (arith, ap (λ b. get_or b 0 0) h.1))
 
 pub only_asked : (tail : List ℕ) (c : ℕ) (answer : Bool) → SpellsOnly IsAnswerTail tail (c, answer) → SpellsOnly IsLine (67 ∷ 32 ∷ tail) (Take (Cond c answer))
 only_asked tail c answer only = ((only.0.0, ap (λ b. 67 ∷ 32 ∷ b) only.0.1), other) where
@@ -28,6 +29,7 @@ only_asked tail c answer only = ((only.0.0, ap (λ b. 67 ∷ 32 ∷ b) only.0.1)
   other (Take (Skip n)) h = absurd (omega (arith, ap (λ b. get_or b 0 0) h.1))
   other (Take (Finish n)) h = absurd (omega (arith, ap (λ b. get_or b 0 0) h.1))
   other (Take (Sync k)) h = absurd (omega (arith, ap (λ b. get_or b 0 0) h.1))
+  other (There ns) h = absurd (omega (arith, ap (λ b. get_or b 0 0) h.1))
 
 -- bytes of which the first two are known
 opened : (bytes : List ℕ) (a b : ℕ) → 2 ≤ length bytes → get_or bytes 0 0 ≡ a → get_or bytes 1 0 ≡ b → bytes ≡ a ∷ b ∷ take (length bytes - 2) (drop 2 bytes)

@@ -5,12 +5,17 @@ use Rattle.std.proofs.Math.Seq.{take-length, get_or-append_seam}
 use Rattle.std.proofs.lemmas.Bool.{eqb-false, eqb-true, ne_eqb, cases_Bool, ltb-false}
 use Rattle.std.proofs.lemmas.List.Quantifiers.{position-Some}
 use Rattle.std.proofs.lemmas.List.Sums.{position_or_len_is}
-use Rattle.std.proofs.lemmas.List.{length-append, length-drop}
+use Rattle.std.proofs.lemmas.List.{length-append, length-drop, get_or-drop, get_or_past}
+use Rattle.std.proofs.lemmas.List.Sums.{fails_before_first}
 use Rattle.std.specs.List.{position, position_or_len}
-use Rattle.parsing.specs.Reads.{SpellsNone, SpellsOnly}
+use Rattle.std.specs.Prelude.{cond, ◌==◌, Result, Err}
+use Rattle.parsing.specs.Reads.{SpellsNone, SpellsOnly, Refuses}
+use Rattle.parsing.specs.declared.read_error.ReadError.{ReadError}
+use Rattle.parsing.specs.declared.read_error.ReadError.TheVariants.{Outside, Memory}
 use Rattle.parsing.specs.Words.{Lacks}
 use Rattle.trace_checker.specs.declared.line.Line.{Line}
 use Rattle.trace_checker.specs.Grammar.{is_end, line_text, IsLine, IsLineBefore}
+use Rattle.trace_checker.specs.TextFaults.{is_listed}
 use Rattle.trace_checker.proofs.Lines.{line_lacks, same_cut}
 
 -- no end stands before the first
@@ -82,3 +87,36 @@ rest_behind text i =
     let next : i + 1 ≡ suc i = omega arith in
     let n : length text - (i + 1) ≡ length (drop (suc i) text) = omega (arith, length-drop (suc i) text) in
     ap (λ k. take (length text - (i + 1)) (drop k text)) next ∙ (ap (λ k. take k (drop (suc i) text)) n ∙ take-length (drop (suc i) text))
+
+-- ---- whether a text tells kind sets
+
+-- it is told by the byte behind the first end of a line
+pub listed_behind : (a rest : List ℕ) → Lacks 10 a → is_listed (a ++ 10 ∷ rest) ≡ (get_or rest 0 0 == 65)
+listed_behind [] rest lacks = refl
+listed_behind (b ∷ a) rest lacks = ap (λ t. cond t (get_or (a ++ 10 ∷ rest) 0 0 == 65) (is_listed (a ++ 10 ∷ rest))) (ne_eqb b 10 lacks.0) ∙ listed_behind a rest lacks.1
+
+unlisted : (text : List ℕ) → ((k : ℕ) → k < length text → is_end (get_or text k 0) ≡ false) → is_listed text ≡ false
+unlisted [] none = refl
+unlisted (b ∷ text) none = ap (λ t. cond t (get_or text 0 0 == 65) (is_listed text)) (none 0 (omega arith)) ∙ unlisted text (λ k below. none (suc k) (omega (arith, below)))
+
+-- where no line ends none is
+pub unlisted_without_end : (text : List ℕ) → position is_end text ≡ None → is_listed text ≡ false
+unlisted_without_end text none = elim (cases_Bool (nat_lt (position_or_len is_end text) (length text))) [
+  | inl t ↦ absurd (found_is_some text t none)
+  | inr f ↦ unlisted text (λ k below. fails_before_first is_end text k 0 (let past = ltb-false _ _ f in omega (arith, past, below)))
+]
+
+-- where one does
+pub listed_at : (text : List ℕ) (i : ℕ) → position is_end text ≡ Some i → is_listed text ≡ (get_or text (i + 1) 0 == 65)
+listed_at text i found =
+    let next : suc i + 0 ≡ i + 1 = omega arith in
+    ap is_listed (whole text i found) ∙ (listed_behind (take i text) (drop (suc i) text) (plain text i found) ∙ ap (λ b. b == 65) (get_or-drop (suc i) text 0 0 ∙ ap (λ k. get_or text k 0) next))
+
+-- no byte stands past the end
+pub unlisted_past : (text : List ℕ) (i : ℕ) → position is_end text ≡ Some i → length text ≤ i + 1 → is_listed text ≡ false
+unlisted_past text i found past = listed_at text i found ∙ ap (λ b. b == 65) (get_or_past text (i + 1) 0 past)
+
+-- an error that says that the text is outside the grammar
+pub outside_refuses : {A T R : Type 0} (Spells : A → T → Type 0) (text : T) (error : ReadError) → ◌≡◌ {A = Result R ReadError} (Err error) (Err Outside) → Refuses Spells text error → SpellsNone Spells text
+outside_refuses Spells text Outside told none = none
+outside_refuses Spells text Memory told none = absurd (cc)

@@ -1,12 +1,16 @@
 pub mod Numerals
+pub mod SetTexts
 pub mod Answers
 pub mod Lines
 pub mod Runs
+pub mod Recording
+pub mod StepsRecording
 pub mod Verdicts
 pub mod ReplayFaults
 pub mod WholeStarts
 pub mod Taking
 pub mod Agreeing
 pub mod Ends
+pub mod Adding
 pub mod Writing
 pub mod Reading

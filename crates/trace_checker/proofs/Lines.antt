@@ -3,17 +3,19 @@ use Rattle.std.proofs.Common.{◌≡◌, ◌≢◌, ℕ, suc, ◌<◌, ◌^◌, 
 use Rattle.std.specs.Prelude.{cond}
 use Rattle.std.specs.List.{AllByRecursion}
 use Rattle.std.specs.Fmt.{decimal}
-use Rattle.std.specs.Str.Parse.{AllDigits, digits_value}
+use Rattle.std.specs.Str.Parse.{digits_value}
 use Rattle.std.proofs.Math.Seq.{take-append_seam}
 use Rattle.std.proofs.lemmas.Fmt.{decimal_is_IsNumeral}
 use Rattle.std.proofs.lemmas.List.{append_assoc, get_or-append-add, length-append}
-use Rattle.std.proofs.lemmas.Str.Parse.{digit_from_value}
+use Rattle.std.proofs.lemmas.Bool.{false≢true}
 use Rattle.model.specs.declared.steps.Step.TheVariants.{Cond, Start, Skip, Finish, Sync}
 use Rattle.parsing.specs.Words.{Lacks}
 use Rattle.trace_checker.specs.declared.line.Line.{Line}
-use Rattle.trace_checker.specs.declared.line.Line.TheVariants.{Begin, Take}
+use Rattle.trace_checker.specs.declared.line.Line.TheVariants.{Begin, Take, There}
 use Rattle.trace_checker.specs.Grammar.{answer_code, answer_text, line_text, lines_text, IsFitting}
+use Rattle.trace_checker.specs.TextFaults.{is_told}
 use Rattle.trace_checker.proofs.Numerals.{wide}
+use Rattle.trace_checker.proofs.SetTexts.{lacks_decimal, lacks_append, wide_sets, sets_lack, same_sets}
 
 -- ---- a line is found again in its text
 
@@ -55,30 +57,47 @@ asked_back c answer below =
     ∙ (ap (λ n. Take (Cond n (nat_eq (get_or (67 ∷ 32 ∷ answer_text c answer) (length (67 ∷ 32 ∷ answer_text c answer) - 1) 0) 49))) (value_back c below)
     ∙ (ap (λ b. Take (Cond c (nat_eq b 49))) (last_of (decimal c) 32 (answer_code answer)) ∙ ap (λ a. Take (Cond c a)) (answer_back answer)))
 
-line_back : (line : Line) → IsFitting line → line_from (line_text line) ≡ line
-line_back (Begin n) below = ap Begin (value_back n below)
-line_back (Take (Cond c answer)) below = asked_back c answer below
-line_back (Take (Start n)) below = ap (λ m. Take (Start m)) (value_back n below)
-line_back (Take (Skip n)) below = ap (λ m. Take (Skip m)) (value_back n below)
-line_back (Take (Finish n)) below = ap (λ m. Take (Finish m)) (value_back n below)
-line_back (Take (Sync k)) below = ap (λ m. Take (Sync m)) (value_back k below)
+line_back : (line : Line) → is_told line ≡ false → IsFitting line → line_from (line_text line) ≡ line
+line_back (Begin n) plain below = ap Begin (value_back n below)
+line_back (Take (Cond c answer)) plain below = asked_back c answer below
+line_back (Take (Start n)) plain below = ap (λ m. Take (Start m)) (value_back n below)
+line_back (Take (Skip n)) plain below = ap (λ m. Take (Skip m)) (value_back n below)
+line_back (Take (Finish n)) plain below = ap (λ m. Take (Finish m)) (value_back n below)
+line_back (Take (Sync k)) plain below = ap (λ m. Take (Sync m)) (value_back k below)
+line_back (There ns) plain below = absurd (false≢true (sym plain))
+
+-- the first letter tells whether a line tells kind sets
+pub told_by : (line : Line) → nat_eq (get_or (line_text line) 0 0) 65 ≡ is_told line
+told_by (Begin n) = refl
+told_by (Take (Cond c answer)) = refl
+told_by (Take (Start n)) = refl
+told_by (Take (Skip n)) = refl
+told_by (Take (Finish n)) = refl
+told_by (Take (Sync k)) = refl
+told_by (There ns) = refl
+
+-- a line that tells kind sets is that of those
+same_there : (ns : List ℕ) (m : Line) → IsFitting (There ns) → IsFitting m → is_told m ≡ true → line_text (There ns) ≡ line_text m → There ns ≡ m
+same_there ns (Begin n) a b told e = absurd (false≢true told)
+same_there ns (Take step) a b told e = absurd (false≢true told)
+same_there ns (There ms) a b told e = ap There (same_sets ns ms (wide_sets ns a) (wide_sets ms b) (ap (drop 1) e))
 
 -- one line has a text
 pub same_line : (l m : Line) → IsFitting l → IsFitting m → line_text l ≡ line_text m → l ≡ m
-same_line l m a b e = sym (line_back l a) ∙ (ap line_from e ∙ line_back m b)
+same_line l m a b e = by (is_told l) refl where
+  alike : is_told l ≡ is_told m
+  alike = sym (told_by l) ∙ (ap (λ t. nat_eq (get_or t 0 0) 65) e ∙ told_by m)
+
+  there : (k : Line) → IsFitting k → is_told k ≡ true → is_told m ≡ true → line_text k ≡ line_text m → k ≡ m
+  there (Begin n) f t u g = absurd (false≢true t)
+  there (Take step) f t u g = absurd (false≢true t)
+  there (There ns) f t u g = same_there ns m f b u g
+
+  by : (t : Bool) → is_told l ≡ t → l ≡ m
+  by true f = there l a f (sym alike ∙ f) e
+  by false f = sym (line_back l f a) ∙ (ap line_from e ∙ line_back m (sym alike ∙ f) b)
 
 -- ---- no line holds the end of one
-
-lacks_digits : (ds : List ℕ) → AllDigits 10 ds → Lacks 10 ds
-lacks_digits [] h = tt
-lacks_digits (d ∷ ds) h = ((λ e. let k = digit_from_value d h.0 in omega (arith, e, k.0)), lacks_digits ds h.1)
-
-lacks_append : (c : ℕ) (a b : List ℕ) → Lacks c a → Lacks c b → Lacks c (a ++ b)
-lacks_append c [] b h k = k
-lacks_append c (x ∷ a) b h k = (h.0, lacks_append c a b h.1 k)
-
-lacks_decimal : (n : ℕ) → n < 2 ^ 32 → Lacks 10 (decimal n)
-lacks_decimal n below = lacks_digits (decimal n) (decimal_is_IsNumeral n (wide n below)).0.1
 
 -- two bytes before digits
 lacks_opened : (a b : ℕ) (ds : List ℕ) → a ≢ 10 → b ≢ 10 → Lacks 10 ds → Lacks 10 (a ∷ b ∷ ds)
@@ -89,13 +108,14 @@ answer_lacks true = λ e. omega (arith, e)
 answer_lacks false = λ e. omega (arith, e)
 
 pub line_lacks : (line : Line) → IsFitting line → Lacks 10 (line_text line)
-line_lacks (Begin n) below = lacks_opened 82 32 _ (λ e. omega (arith, e)) (λ e. omega (arith, e)) (lacks_decimal n below)
+line_lacks (Begin n) below = lacks_opened 82 32 _ (λ e. omega (arith, e)) (λ e. omega (arith, e)) (lacks_decimal 10 n (omega arith) below)
 line_lacks (Take (Cond c answer)) below = lacks_opened 67 32 _ (λ e. omega (arith, e)) (λ e. omega (arith, e))
-    (lacks_append 10 (decimal c) (32 ∷ answer_code answer ∷ []) (lacks_decimal c below) ((λ e. omega (arith, e)), (answer_lacks answer, tt)))
-line_lacks (Take (Start n)) below = lacks_opened 83 32 _ (λ e. omega (arith, e)) (λ e. omega (arith, e)) (lacks_decimal n below)
-line_lacks (Take (Skip n)) below = lacks_opened 75 32 _ (λ e. omega (arith, e)) (λ e. omega (arith, e)) (lacks_decimal n below)
-line_lacks (Take (Finish n)) below = lacks_opened 70 32 _ (λ e. omega (arith, e)) (λ e. omega (arith, e)) (lacks_decimal n below)
-line_lacks (Take (Sync k)) below = lacks_opened 89 32 _ (λ e. omega (arith, e)) (λ e. omega (arith, e)) (lacks_decimal k below)
+    (lacks_append 10 (decimal c) (32 ∷ answer_code answer ∷ []) (lacks_decimal 10 c (omega arith) below) ((λ e. omega (arith, e)), (answer_lacks answer, tt)))
+line_lacks (Take (Start n)) below = lacks_opened 83 32 _ (λ e. omega (arith, e)) (λ e. omega (arith, e)) (lacks_decimal 10 n (omega arith) below)
+line_lacks (Take (Skip n)) below = lacks_opened 75 32 _ (λ e. omega (arith, e)) (λ e. omega (arith, e)) (lacks_decimal 10 n (omega arith) below)
+line_lacks (Take (Finish n)) below = lacks_opened 70 32 _ (λ e. omega (arith, e)) (λ e. omega (arith, e)) (lacks_decimal 10 n (omega arith) below)
+line_lacks (Take (Sync k)) below = lacks_opened 89 32 _ (λ e. omega (arith, e)) (λ e. omega (arith, e)) (lacks_decimal 10 k (omega arith) below)
+line_lacks (There ns) below = ((λ e. omega (arith, e)), sets_lack ns (wide_sets ns below))
 
 -- ---- lines one after the other
 

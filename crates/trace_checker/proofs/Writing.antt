@@ -1,115 +1,134 @@
 -- The text of lines and runs, one more at a time.
-use Rattle.std.proofs.Common.{◌≡◌, ℕ, zero, suc, ◌<◌, ◌≤◌, ◌+◌, ◌-◌, List, [], ◌∷◌, ◌++◌, length, take, drop, map, get_or, set, sym, ap, subst, ◌∙◌, arith}
+use Rattle.std.proofs.Common.{◌≡◌, ℕ, suc, ◌<◌, ◌≤◌, ◌+◌, List, [], ◌∷◌, ◌++◌, Option, Some, None, length, reverse, take, drop, get_or, refl, sym, ap, ◌∙◌, arith}
 use Rattle.std.proofs.Math.Seq.{take-suc}
-use Rattle.std.proofs.lemmas.List.{append_assoc, append-nil, map-append, map-set, length-append, length-map, get_or-map, length-take-le, take-append-drop}
+use Rattle.std.proofs.lemmas.List.{append_assoc, length-append, length-reverse, length-take-le, take-append-drop, reverse-append}
 use Rattle.model.specs.declared.steps.Step.{Step}
-use Rattle.executor_core.specs.declared.trace.Trace.{Trace}
+use Rattle.model.specs.declared.steps.Step.TheVariants.{Cond, Start, Skip, Finish, Sync}
+use Rattle.model.specs.steps.Schedule.{Recorded}
+use Rattle.model.specs.steps.Lawful.{syncs_in}
+use Rattle.executor_core.specs.Stands.{AreListed}
 use Rattle.trace_checker.specs.declared.line.Line.{Line}
 use Rattle.trace_checker.specs.declared.line.Line.TheVariants.{Begin, Take}
-use Rattle.trace_checker.specs.Grammar.{lines_text, run_lines, lines_from, trace_text, steps_of}
+use Rattle.trace_checker.specs.Grammar.{AreWithin, sets_line, step_lines, history_lines, line_text, lines_text, run_lines, lines_from, trace_text}
 use Rattle.trace_checker.proofs.Lines.{lines_append}
+use Rattle.trace_checker.proofs.Adding.{lines_from_append, lines_from_pushed}
+
+-- ---- the steps so far
+
+-- one more
+take-more : {A : Type 0} (l : List A) (i : ℕ) (d : A) → i < length l → take (i + 1) l ≡ take i l ++ get_or l i d ∷ []
+take-more l i d below = let next : i + 1 ≡ suc i = omega arith in ap (λ k. take k l) next ∙ take-suc l i d below
+
+-- the latest of them first
+pub turned_more : (steps : List Step) (i : ℕ) (d : Step) → i < length steps → reverse (take (i + 1) steps) ≡ get_or steps i d ∷ reverse (take i steps)
+turned_more steps i d below = ap reverse (take-more steps i d below) ∙ reverse-append (take i steps) (get_or steps i d ∷ [])
+
+-- no more sync points than steps
+syncs-le : (h : List Step) → syncs_in h ≤ length h
+syncs-le [] = omega arith
+syncs-le (Cond c answer ∷ h) = omega (arith, syncs-le h)
+syncs-le (Start n ∷ h) = omega (arith, syncs-le h)
+syncs-le (Skip n ∷ h) = omega (arith, syncs-le h)
+syncs-le (Finish n ∷ h) = omega (arith, syncs-le h)
+syncs-le (Sync k ∷ h) = omega (arith, syncs-le h)
+
+pub syncs_within : (steps : List Step) (i : ℕ) → i ≤ length steps → syncs_in (reverse (take i steps)) ≤ i
+syncs_within steps i below = omega (arith, syncs-le (reverse (take i steps)), length-reverse (take i steps), length-take-le i steps below)
+
+syncs-append : (a b : List Step) → syncs_in (a ++ b) ≡ syncs_in a + syncs_in b
+syncs-append [] b = omega arith
+syncs-append (Cond c answer ∷ a) b = syncs-append a b
+syncs-append (Start n ∷ a) b = syncs-append a b
+syncs-append (Skip n ∷ a) b = syncs-append a b
+syncs-append (Finish n ∷ a) b = syncs-append a b
+syncs-append (Sync k ∷ a) b = omega (arith, syncs-append a b)
+
+-- there is a list for each place so far
+pub place_within : (sets : Option (List (List ℕ))) (h steps : List Step) (i place : ℕ) → h ≡ reverse steps → AreListed sets h → place ≡ syncs_in (reverse (take i steps)) → AreWithin place sets
+place_within None h steps i place turned listed here = tt
+place_within (Some lists) h steps i place turned listed here =
+    let parts : reverse steps ≡ reverse (drop i steps) ++ reverse (take i steps) = ap reverse (sym (take-append-drop i steps)) ∙ reverse-append (take i steps) (drop i steps) in
+    let sum : syncs_in h ≡ syncs_in (reverse (drop i steps)) + syncs_in (reverse (take i steps)) = ap syncs_in (turned ∙ parts) ∙ syncs-append (reverse (drop i steps)) (reverse (take i steps)) in
+    omega (arith, listed, here, sum)
 
 -- ---- writing
 
--- one more
-take_more : {A : Type 0} (l : List A) (i : ℕ) (d : A) → i < length l → take (i + 1) l ≡ take i l ++ get_or l i d ∷ []
-take_more l i d below = let next : i + 1 ≡ suc i = omega arith in ap (λ k. take k l) next ∙ take-suc l i d below
+-- lines more
+pub lines_more : (n : ℕ) (lines more : List Line) (front now next : List ℕ) → now ≡ front ++ lines_text (Begin n ∷ lines) → next ≡ now ++ lines_text more → next ≡ front ++ lines_text (Begin n ∷ (lines ++ more))
+lines_more n lines more front now next before after =
+    after ∙ (ap (λ l. l ++ lines_text more) before ∙ (append_assoc front (lines_text (Begin n ∷ lines)) (lines_text more) ∙ ap (λ l. front ++ l) (sym (lines_append (Begin n ∷ lines) more))))
 
--- the lines of a step more
-pub run_lines_more : (n i : ℕ) (steps : List Step) (d : Step) → i < length steps → run_lines n (take (i + 1) steps) ≡ run_lines n (take i steps) ++ Take (get_or steps i d) ∷ []
-run_lines_more n i steps d below = ap (λ l. Begin n ∷ l) (ap (map Take) (take_more steps i d below) ∙ map-append Take (take i steps) (get_or steps i d ∷ []))
+-- a step more that is no sync point
+plain-lines : (sets : Option (List (List ℕ))) (h : List Step) (step : Step) → ((k : ℕ) → step ≡ Sync k → ⊥) → step_lines sets h step ≡ Take step ∷ []
+plain-lines sets h (Cond c answer) other = refl
+plain-lines sets h (Start n) other = refl
+plain-lines sets h (Skip n) other = refl
+plain-lines sets h (Finish n) other = refl
+plain-lines sets h (Sync k) other = absurd (other k refl)
 
--- their text
-pub run_text_more : (n i : ℕ) (items steps : List Step) (d : Step) (front now next : List ℕ) → items ≡ steps → i < length items → now ≡ front ++ lines_text (run_lines n (take i steps))
-    → next ≡ now ++ lines_text (Take (get_or items i d) ∷ []) → next ≡ front ++ lines_text (run_lines n (take (i + 1) steps))
-run_text_more n i items steps d front now next e within before after =
-    let lines = run_lines n (take i steps) in
-    let line = Take (get_or steps i d) in
-    let below : i < length steps = subst (λ l. i < length l) e within in
-    after ∙ (ap (λ l. now ++ lines_text (Take (get_or l i d) ∷ [])) e ∙ (ap (λ l. l ++ lines_text (line ∷ [])) before ∙ (append_assoc front (lines_text lines) (lines_text (line ∷ []))
-    ∙ (ap (λ l. front ++ l) (sym (lines_append lines (line ∷ []))) ∙ ap (λ l. front ++ lines_text l) (sym (run_lines_more n i steps d below))))))
+plain-syncs : (h : List Step) (step : Step) → ((k : ℕ) → step ≡ Sync k → ⊥) → syncs_in (step ∷ h) ≡ syncs_in h
+plain-syncs h (Cond c answer) other = refl
+plain-syncs h (Start n) other = refl
+plain-syncs h (Skip n) other = refl
+plain-syncs h (Finish n) other = refl
+plain-syncs h (Sync k) other = absurd (other k refl)
 
--- the lines of runs, and of those behind them
-pub lines_from_append : (n : ℕ) (a b : List (List Step)) → lines_from n (a ++ b) ≡ lines_from n a ++ lines_from (n + length a) b
-lines_from_append n [] b = ap (λ k. lines_from k b) (omega arith)
-lines_from_append n (run ∷ a) b =
-    let k : suc n + length a ≡ n + length (run ∷ a) = omega arith in
-    ap (λ l. run_lines n run ++ l) (lines_from_append (suc n) a b ∙ ap (λ m. lines_from (suc n) a ++ lines_from m b) k) ∙ sym (append_assoc (run_lines n run) (lines_from (suc n) a) (lines_from (n + length (run ∷ a)) b))
+-- steps so far of which the next is known
+module _ (steps : List Step) (i : ℕ) (d step : Step) (below : i < length steps) (is : get_or steps i d ≡ step) where
+  next-turned : reverse (take (i + 1) steps) ≡ step ∷ reverse (take i steps)
+  next-turned = turned_more steps i d below ∙ ap (λ s. s ∷ reverse (take i steps)) is
 
--- a run behind others
-pub lines_from_pushed : (n : ℕ) (a : List (List Step)) (run : List Step) → lines_from n (a ++ run ∷ []) ≡ lines_from n a ++ run_lines (n + length a) run
-lines_from_pushed n a run = lines_from_append n a (run ∷ []) ∙ ap (λ l. lines_from n a ++ l) (append-nil (run_lines (n + length a) run))
+  pub plain_place : (place : ℕ) → ((k : ℕ) → step ≡ Sync k → ⊥) → place ≡ syncs_in (reverse (take i steps)) → place ≡ syncs_in (reverse (take (i + 1) steps))
+  plain_place place other here = here ∙ sym (ap syncs_in next-turned ∙ plain-syncs (reverse (take i steps)) step other)
+
+  pub plain_written : (n : ℕ) (sets : Option (List (List ℕ))) (front now next : List ℕ) → ((k : ℕ) → step ≡ Sync k → ⊥) → now ≡ front ++ lines_text (Begin n ∷ history_lines sets (reverse (take i steps)))
+      → next ≡ now ++ lines_text (Take step ∷ []) → next ≡ front ++ lines_text (Begin n ∷ history_lines sets (reverse (take (i + 1) steps)))
+  plain_written n sets front now next other before after =
+      lines_more n (history_lines sets (reverse (take i steps))) (Take step ∷ []) front now next before after
+      ∙ ap (λ l. front ++ lines_text (Begin n ∷ l)) (ap (λ l. history_lines sets (reverse (take i steps)) ++ l) (sym (plain-lines sets (reverse (take i steps)) step other)) ∙ ap (history_lines sets) (sym next-turned))
+
+-- and so where that is a sync point
+module _ (steps : List Step) (i : ℕ) (d : Step) (k : ℕ) (below : i < length steps) (is : get_or steps i d ≡ Sync k) (place : ℕ) (here : place ≡ syncs_in (reverse (take i steps))) where
+  pub sync_place : place + 1 ≡ syncs_in (reverse (take (i + 1) steps))
+  sync_place = let e : syncs_in (reverse (take (i + 1) steps)) ≡ suc (syncs_in (reverse (take i steps))) = ap syncs_in (next-turned steps i d (Sync k) below is) in omega (arith, e, here)
+
+  pub sync_written : (n : ℕ) (sets : Option (List (List ℕ))) (front now mid next : List ℕ) → now ≡ front ++ lines_text (Begin n ∷ history_lines sets (reverse (take i steps)))
+      → mid ≡ now ++ lines_text (Take (Sync k) ∷ []) → next ≡ mid ++ lines_text (sets_line sets (place + 1)) → next ≡ front ++ lines_text (Begin n ∷ history_lines sets (reverse (take (i + 1) steps)))
+  sync_written n sets front now mid next before middle after =
+      let there : place + 1 ≡ suc (syncs_in (reverse (take i steps))) = omega (arith, here) in
+      let both : next ≡ now ++ lines_text (Take (Sync k) ∷ sets_line sets (suc (syncs_in (reverse (take i steps))))) =
+      after ∙ (ap (λ m. m ++ lines_text (sets_line sets (place + 1))) middle ∙ (append_assoc now (lines_text (Take (Sync k) ∷ [])) (lines_text (sets_line sets (place + 1)))
+      ∙ (ap (λ l. now ++ l) (append_assoc (line_text (Take (Sync k))) (10 ∷ []) (lines_text (sets_line sets (place + 1)))) ∙ ap (λ p. now ++ lines_text (Take (Sync k) ∷ sets_line sets p)) there))) in
+      lines_more n (history_lines sets (reverse (take i steps))) (Take (Sync k) ∷ sets_line sets (suc (syncs_in (reverse (take i steps))))) front now next before both
+      ∙ ap (λ h. front ++ lines_text (Begin n ∷ history_lines sets h)) (sym (next-turned steps i d (Sync k) below is))
 
 -- the text of a run more
-pub trace_text_more : (i : ℕ) (traces : List Trace) (d : Trace) → i < length traces
-    → trace_text (steps_of (take (i + 1) traces)) ≡ trace_text (steps_of (take i traces)) ++ lines_text (run_lines (i + 1) (get_or traces i d).steps.items)
-trace_text_more i traces d below =
-    let runs = steps_of (take i traces) in
-    let run = (get_or traces i d).steps.items in
-    let more : steps_of (take (i + 1) traces) ≡ runs ++ run ∷ [] = ap steps_of (take_more traces i d below) ∙ map-append (λ t. t.steps.items) (take i traces) (get_or traces i d ∷ []) in
-    let count : 1 + length runs ≡ i + 1 = omega (arith, length-map (take i traces) (λ t. t.steps.items), length-take-le i traces (omega (arith, below))) in
-    ap trace_text more ∙ (ap lines_text (lines_from_pushed 1 runs run ∙ ap (λ k. lines_from 1 runs ++ run_lines k run) count) ∙ lines_append (lines_from 1 runs) (run_lines (i + 1) run))
+trace-text-more : (i : ℕ) (traces : List Recorded) (d : Recorded) → i < length traces
+    → trace_text (take (i + 1) traces) ≡ trace_text (take i traces) ++ lines_text (run_lines (i + 1) (get_or traces i d))
+trace-text-more i traces d below =
+    let runs = take i traces in
+    let run = get_or traces i d in
+    let count : 1 + length runs ≡ i + 1 = omega (arith, length-take-le i traces (omega (arith, below))) in
+    ap trace_text (take-more traces i d below) ∙ (ap lines_text (lines_from_pushed 1 runs run ∙ ap (λ k. lines_from 1 runs ++ run_lines k run) count) ∙ lines_append (lines_from 1 runs) (run_lines (i + 1) run))
 
 -- a text that is written so far
-pub text_more : (traces : List Trace) (i : ℕ) (d t : Trace) (number : ℕ) (now next : List ℕ) → t ≡ get_or traces i d → i < length traces → number ≡ i → now ≡ trace_text (steps_of (take i traces))
-    → next ≡ now ++ lines_text (run_lines (number + 1) t.steps.items) → next ≡ trace_text (steps_of (take (i + 1) traces))
+pub text_more : (traces : List Recorded) (i : ℕ) (d t : Recorded) (number : ℕ) (now next : List ℕ) → t ≡ get_or traces i d → i < length traces → number ≡ i → now ≡ trace_text (take i traces)
+    → next ≡ now ++ lines_text (run_lines (number + 1) t) → next ≡ trace_text (take (i + 1) traces)
 text_more traces i d t number now next there below count before after =
-    after ∙ (ap (λ l. l ++ lines_text (run_lines (number + 1) t.steps.items)) before
-    ∙ (ap (λ u. trace_text (steps_of (take i traces)) ++ lines_text (run_lines (number + 1) u.steps.items)) there
-    ∙ (ap (λ k. trace_text (steps_of (take i traces)) ++ lines_text (run_lines (k + 1) (get_or traces i d).steps.items)) count ∙ sym (trace_text_more i traces d below))))
+    after ∙ (ap (λ l. l ++ lines_text (run_lines (number + 1) t)) before
+    ∙ (ap (λ u. trace_text (take i traces) ++ lines_text (run_lines (number + 1) u)) there
+    ∙ (ap (λ k. trace_text (take i traces) ++ lines_text (run_lines (k + 1) (get_or traces i d))) count ∙ sym (trace-text-more i traces d below))))
 
 -- the text of some runs is no longer than that of all
-pub trace_text_front : (i : ℕ) (traces : List Trace) → length (trace_text (steps_of (take i traces))) ≤ length (trace_text (steps_of traces))
-trace_text_front i traces =
-    let e : steps_of traces ≡ steps_of (take i traces) ++ steps_of (drop i traces) = ap steps_of (sym (take-append-drop i traces)) ∙ map-append (λ t. t.steps.items) (take i traces) (drop i traces) in
-    let f = ap trace_text e ∙ (ap lines_text (lines_from_append 1 (steps_of (take i traces)) (steps_of (drop i traces))) ∙ lines_append (lines_from 1 (steps_of (take i traces))) (lines_from (1 + length (steps_of (take i traces))) (steps_of (drop i traces)))) in
-    omega (arith, ap length f, length-append (lines_text (lines_from 1 (steps_of (take i traces)))) (lines_text (lines_from (1 + length (steps_of (take i traces))) (steps_of (drop i traces)))))
+trace-text-front : (i : ℕ) (traces : List Recorded) → length (trace_text (take i traces)) ≤ length (trace_text traces)
+trace-text-front i traces =
+    let e : traces ≡ take i traces ++ drop i traces = sym (take-append-drop i traces) in
+    let f = ap trace_text e ∙ (ap lines_text (lines_from_append 1 (take i traces) (drop i traces)) ∙ lines_append (lines_from 1 (take i traces)) (lines_from (1 + length (take i traces)) (drop i traces))) in
+    omega (arith, ap length f, length-append (lines_text (lines_from 1 (take i traces))) (lines_text (lines_from (1 + length (take i traces)) (drop i traces))))
 
 -- a text that is too long so far
-pub text_too_long : (traces : List Trace) (i : ℕ) (d t : Trace) (number : ℕ) (now next : List ℕ) (len limit : ℕ) → t ≡ get_or traces i d → i < length traces → number ≡ i
-    → now ≡ trace_text (steps_of (take i traces)) → next ≡ now ++ lines_text (run_lines (number + 1) t.steps.items) → len ≡ length next → limit < len → limit < length (trace_text (steps_of traces))
+pub text_too_long : (traces : List Recorded) (i : ℕ) (d t : Recorded) (number : ℕ) (now next : List ℕ) (len limit : ℕ) → t ≡ get_or traces i d → i < length traces → number ≡ i
+    → now ≡ trace_text (take i traces) → next ≡ now ++ lines_text (run_lines (number + 1) t) → len ≡ length next → limit < len → limit < length (trace_text traces)
 text_too_long traces i d t number now next len limit there below count before after size past =
     let e = text_more traces i d t number now next there below count before after in
-    omega (arith, ap length e, size, past, trace_text_front (i + 1) traces)
-
--- ---- adding
-
--- a run that begins
-pub begun_more : (runs : List (List Step)) (n : ℕ) → n ≡ length runs + 1 → lines_from 1 (runs ++ [] ∷ []) ≡ lines_from 1 runs ++ Begin n ∷ []
-begun_more runs n e = lines_from_pushed 1 runs [] ∙ ap (λ k. lines_from 1 runs ++ Begin k ∷ []) (omega (arith, e))
-
--- a step of the last run
-taken_at : (n i : ℕ) (runs : List (List Step)) (step : Step) → suc i ≡ length runs
-    → lines_from n (set runs i (get_or runs i [] ++ step ∷ [])) ≡ lines_from n runs ++ Take step ∷ []
-taken_at n i [] step e = absurd (omega (arith, e))
-taken_at n zero (run ∷ []) step e =
-    ap (λ l. Begin n ∷ l) (append-nil (map Take (run ++ step ∷ [])) ∙ (map-append Take run (step ∷ []) ∙ ap (λ l. l ++ Take step ∷ []) (sym (append-nil (map Take run)))))
-taken_at n zero (run ∷ other ∷ runs) step e = absurd (omega (arith, e))
-taken_at n (suc i) (run ∷ runs) step e =
-    ap (λ l. run_lines n run ++ l) (taken_at (suc n) i runs step (omega (arith, e))) ∙ sym (append_assoc (run_lines n run) (lines_from (suc n) runs) (Take step ∷ []))
-
--- traces of which the last has one more step
-pub taken_more : (items : List Trace) (d t : Trace) (step : Step) → 0 < length items → t.steps.items ≡ (get_or items (length items - 1) d).steps.items ++ step ∷ []
-    → lines_from 1 (steps_of (set items (length items - 1) t)) ≡ lines_from 1 (steps_of items) ++ Take step ∷ []
-taken_more items d t step filled e =
-    let i = length items - 1 in
-    let below : i < length items = omega (arith, filled) in
-    let count : suc i ≡ length (steps_of items) = omega (arith, filled, length-map items (λ u. u.steps.items)) in
-    let last : get_or (steps_of items) i [] ≡ (get_or items i d).steps.items = get_or-map (λ (u : Trace). u.steps.items) items i d [] below in
-    ap (lines_from 1) (map-set (λ u. u.steps.items) items i t ∙ ap (λ x. set (steps_of items) i x) (e ∙ ap (λ l. l ++ step ∷ []) (sym last))) ∙ taken_at 1 i (steps_of items) step count
-
--- traces of which the last begins a run
-pub begun_added : (items next : List Trace) (t : Trace) (n : ℕ) (line : Line) → line ≡ Begin n → next ≡ items ++ t ∷ [] → t.steps.items ≡ [] → n ≡ length items + 1
-    → lines_from 1 (steps_of next) ≡ lines_from 1 (steps_of items) ++ line ∷ []
-begun_added items next t n line is e none count =
-    let f : steps_of next ≡ steps_of items ++ [] ∷ [] = ap steps_of e ∙ (map-append (λ u. u.steps.items) items (t ∷ []) ∙ ap (λ l. steps_of items ++ l ∷ []) none) in
-    ap (lines_from 1) f ∙ (begun_more (steps_of items) n (omega (arith, count, length-map items (λ u. u.steps.items))) ∙ ap (λ l. lines_from 1 (steps_of items) ++ l ∷ []) (sym is))
-
--- traces of which the last has one more step, as they are written back
-pub taken_added : (items : List Trace) (len : ℕ) (d t last : Trace) (step : Step) (line : Line) → line ≡ Take step → len ≡ length items → 0 < len
-    → last ≡ get_or items (len - 1) d → t.steps.items ≡ last.steps.items ++ step ∷ []
-    → lines_from 1 (steps_of (set items (len - 1) t)) ≡ lines_from 1 (steps_of items) ++ line ∷ []
-taken_added items len d t last step line is size filled there pushed =
-    let here : last ≡ get_or items (length items - 1) d = there ∙ ap (λ k. get_or items (k - 1) d) size in
-    ap (λ k. lines_from 1 (steps_of (set items (k - 1) t))) size
-    ∙ (taken_more items d t step (omega (arith, size, filled)) (pushed ∙ ap (λ u. u.steps.items ++ step ∷ []) here) ∙ ap (λ l. lines_from 1 (steps_of items) ++ l ∷ []) (sym is))
+    omega (arith, ap length e, size, past, trace-text-front (i + 1) traces)

@@ -1,11 +1,16 @@
 // What a schedule says of a trace.
 
-ghost use Rattle.std.specs.Prelude.{◌≡◌, IfOk};
+ghost use Rattle.std.specs.Prelude.{ℕ, ◌≡◌, ◌+◌, ◌≤◌, ◌<◌, List, [], ◌∷◌, Option, MatchOption, length, IfOk, IfErr, OnOk};
+ghost use Rattle.model.specs.declared.steps.Step.{Step as AStep};
+ghost use Rattle.model.specs.declared.steps.Step.TheVariants.{Sync as Synced};
+ghost use Rattle.model.specs.steps.Schedule.{recording};
+ghost use Rattle.model.specs.steps.Faults.{IsFirstFault};
+ghost use Rattle.model.specs.steps.Lawful.{syncs_in};
+ghost use Rattle.executor_core.specs.Stands.{Stands};
 ghost use Rattle.trace_checker.specs.declared.check.Verdict.{Verdict};
-ghost use Rattle.trace_checker.specs.Grammar.{steps_of};
-ghost use Rattle.trace_checker.specs.Verdicts.{IsVerdict, AreVerdicts, is_complete, fault_number};
+ghost use Rattle.trace_checker.specs.Verdicts.{IsVerdict, AreVerdicts, is_complete, fault_number, sets_so_far};
 
-use executor_core::{Core, StepFault, Trace};
+use executor_core::{Core, Step, StepFault, Trace};
 use schedule_builder::Built;
 use std::alloc::{AllocError, Global};
 use std::fmt;
@@ -70,7 +75,7 @@ pub fn number_of(fault: StepFault) -> u8
 
 /// What a schedule says of each of these traces, by itself.
 pub fn check_all(alloc: Global, built: &Built, traces: &[Trace]) -> Result<Vec<Verdict>, AllocError>
-    ensures { IfOk result (λ verdicts. AreVerdicts built.now (steps_of traces.now) verdicts.items) }
+    ensures { IfOk result (λ verdicts. AreVerdicts built.now traces.now verdicts.items) }
 {
     let mut verdicts = Vec::new(alloc);
     for trace in traces {
@@ -79,16 +84,21 @@ pub fn check_all(alloc: Global, built: &Built, traces: &[Trace]) -> Result<Vec<V
     Ok(verdicts)
 }
 
-/// What a schedule says of a trace: exactly one verdict is that of it. Recorded answers are not compared with a world.
+/// What a schedule says of a trace: exactly one verdict is that of it. Where the trace records kind sets, two systems meet by those that were
+/// recorded last. Recorded answers and kind sets are not compared with a world.
 pub fn check(alloc: Global, built: &Built, trace: &Trace) -> Result<Verdict, AllocError>
-    ensures verdict { IfOk result (λ verdict. IsVerdict built.now trace.now.steps.items verdict) }
-    ensures only { (other : Verdict) → IsVerdict built.now trace.now.steps.items other → IfOk result (λ verdict. verdict ≡ other) }
+    ensures verdict { IfOk result (λ verdict. IsVerdict built.now trace.now verdict) }
+    ensures only { (other : Verdict) → IsVerdict built.now trace.now other → IfOk result (λ verdict. verdict ≡ other) }
 {
-    let mut core = Core::new(alloc, built)?;
+    trace.prove_law();
+    let mut core = opened(alloc, built, trace)?;
     let mut number = 0;
-    for step in &trace.steps {
+    let mut place = 0;
+    let steps = trace.steps();
+    for step in steps {
         number += 1;
-        if let Err(fault) = core.step(*step) {
+        place += syncs_of(*step);
+        if let Err(fault) = take(&mut core, *step, trace, place) {
             return Ok(Verdict::Bad(number, fault));
         }
     }
@@ -96,4 +106,43 @@ pub fn check(alloc: Global, built: &Built, trace: &Trace) -> Result<Verdict, All
         return Ok(Verdict::Complete);
     }
     Ok(Verdict::Unfinished)
+}
+
+// A core at the opening of a recorded run.
+fn opened<'a>(alloc: Global, built: &'a Built, trace: &Trace) -> Result<Core<'a>, AllocError>
+    ensures schedule { IfOk result (λ core. core.schedule ≡ built.now) }
+    ensures stands { IfOk result (λ core. Stands core (sets_so_far trace.now.sets []) []) }
+{
+    trace.prove_law();
+    match trace.sets() {
+        Some(lists) => Core::new_in(alloc, built, &lists[0]),
+        None => Core::new(alloc, built),
+    }
+}
+
+// Takes a step of a recorded run, up to which there are so many sync points.
+fn take(core: &mut Core, step: Step, trace: &Trace, place: usize) -> Result<(), StepFault>
+    requires listed { (k : ℕ) → step ≡ Synced k → MatchOption trace.now.sets (Unit {0}) (λ lists. place < length lists) }
+    ensures fault { (sets : Option (List (List ℕ))) (h : List AStep) → Stands core.old sets h → IfErr result (λ fault. IsFirstFault (recording core.old.schedule sets) h step fault) }
+    ensures stands { OnOk result ((h : List AStep) → Stands core.old (sets_so_far trace.now.sets h) h → place ≡ syncs_in (step ∷ h) → Stands core.new (sets_so_far trace.now.sets (step ∷ h)) (step ∷ h)) }
+    ensures schedule { core.new.schedule ≡ core.old.schedule }
+{
+    let Step::Sync(point) = step else {
+        return core.step(step);
+    };
+    let Some(lists) = trace.sets() else {
+        return core.step(step);
+    };
+    core.sync_in(point, &lists[place])
+}
+
+// How many sync points a step is: one or none.
+pub(crate) fn syncs_of(step: Step) -> usize
+    ensures counted { (h : List AStep) → syncs_in (step ∷ h) ≡ syncs_in h + result }
+    ensures one { result ≤ 1 }
+{
+    match step {
+        Step::Sync(_) => 1,
+        Step::Cond(_, _) | Step::Start(_) | Step::Skip(_) | Step::Finish(_) => 0,
+    }
 }

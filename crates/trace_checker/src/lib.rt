@@ -6,6 +6,7 @@ pub mod line;
 mod numeral;
 pub mod read;
 pub mod replay;
+mod sets;
 pub mod write;
 
 pub use check::Verdict;

@@ -1,19 +1,26 @@
 // The lines of a trace's text.
 
-ghost use Rattle.parsing.specs.Reads.{Reads};
-ghost use Rattle.trace_checker.specs.Grammar.{IsLine, IsAnswerTail};
+ghost use Rattle.std.specs.Prelude.{◌≢◌, get_or};
+ghost use Rattle.std.specs.Fmt.{WritesOnOk};
+ghost use Rattle.parsing.specs.Reads.{Reads, ReadsUnlessMemory};
+ghost use Rattle.trace_checker.specs.Grammar.{IsLine, IsAnswerTail, sets_text};
 
 use crate::numeral::numeral_of;
-use model::Step;
+use crate::sets::sets_of;
+use model::{KindSets, Step};
+use parsing::ReadError;
+use std::alloc::Global;
 use std::fmt;
 
 /// A line of a trace's text.
-#[derive(Clone, Copy, PartialEq, Eq, Debug)]
+#[derive(Drop)]
 pub enum Line {
     /// The run of this number begins.
     Begin(u32),
     /// The next step of the run.
     Take(Step),
+    /// The kind sets of the living entities, at the opening of the run or after the sync point before.
+    There(KindSets),
 }
 
 impl fmt::Display for Line {
@@ -31,27 +38,71 @@ impl fmt::Display for Line {
             Line::Take(Step::Skip(system)) => write!(f, "K {system}"),
             Line::Take(Step::Finish(system)) => write!(f, "F {system}"),
             Line::Take(Step::Sync(sync)) => write!(f, "Y {sync}"),
+            Line::There(sets) => {
+                let told = Told(sets);
+                write!(f, "{told}")
+            }
         }
     }
 }
 
+/// Kind sets, as the line that tells them.
+#[derive(Clone, Copy)]
+pub(crate) struct Told<'a>(pub &'a KindSets);
+
+impl fmt::Display for Told<'_> {
+    ghost use Rattle.std.specs.Prelude.{Some, ◌∷◌};
+    ghost use Rattle.trace_checker.specs.Grammar.{sets_text};
+
+    ghost output = { λ told. Some (65 ∷ sets_text told.0.now) };
+
+    fn fmt<W: fmt::Write>(&self, f: &mut fmt::Formatter<W>) -> fmt::Result {
+        write!(f, "A")?;
+        write_numbers(f, self.0.numbers())
+    }
+}
+
+// Writes numbers, a space before each.
+fn write_numbers<W: fmt::Write>(f: &mut fmt::Formatter<W>, numbers: &[u32]) -> fmt::Result
+    ensures { WritesOnOk W.write_str_gives f.old result (sets_text numbers.now) f.new }
+{
+    for number in numbers {
+        write!(f, " {number}")?;
+    }
+    Ok(())
+}
+
 impl Line {
     /// Reads a line without its end.
-    pub fn read(bytes: &[u8]) -> Option<Line>
-        ensures { Reads IsLine bytes.now result }
+    pub fn read(alloc: Global, bytes: &[u8]) -> Result<Line, ReadError>
+        ensures { ReadsUnlessMemory IsLine bytes.now result }
     {
-        match bytes {
-            [b'R', b' ', number @ ..] => Some(Line::Begin(numeral_of(number)?)),
-            [b'S', b' ', number @ ..] => Some(Line::Take(Step::Start(numeral_of(number)?))),
-            [b'K', b' ', number @ ..] => Some(Line::Take(Step::Skip(numeral_of(number)?))),
-            [b'F', b' ', number @ ..] => Some(Line::Take(Step::Finish(numeral_of(number)?))),
-            [b'Y', b' ', number @ ..] => Some(Line::Take(Step::Sync(numeral_of(number)?))),
-            [b'C', b' ', tail @ ..] => {
-                let (condition, answer) = answer_of(tail)?;
-                Some(Line::Take(Step::Cond(condition, answer)))
-            }
-            _ => None,
+        if let [b'A', tail @ ..] = bytes {
+            return Ok(Line::There(sets_of(alloc, tail)?));
         }
+        match plain_line(bytes) {
+            Some(line) => Ok(line),
+            None => Err(ReadError::Outside),
+        }
+    }
+}
+
+// Reads a line that tells no kind sets, without its end.
+fn plain_line(bytes: &[u8]) -> Option<Line>
+    requires { get_or bytes.now 0 0 ≢ 65 }
+    ensures { Reads IsLine bytes.now result }
+{
+    match bytes {
+        [b'R', b' ', number @ ..] => Some(Line::Begin(numeral_of(number)?)),
+        [b'S', b' ', number @ ..] => Some(Line::Take(Step::Start(numeral_of(number)?))),
+        [b'K', b' ', number @ ..] => Some(Line::Take(Step::Skip(numeral_of(number)?))),
+        [b'F', b' ', number @ ..] => Some(Line::Take(Step::Finish(numeral_of(number)?))),
+        [b'Y', b' ', number @ ..] => Some(Line::Take(Step::Sync(numeral_of(number)?))),
+        [b'C', b' ', tail @ ..] => {
+            let (condition, answer) = answer_of(tail)?;
+            Some(Line::Take(Step::Cond(condition, answer)))
+        }
+        _ => None,
     }
 }
 

@@ -1,13 +1,13 @@
 // A recorded run taken again on one thread, each system whole at its start.
 
-ghost use Rattle.std.specs.Prelude.{◌≡◌, ◌⊎◌, ◌<◌, ℕ, [], suc, Result, length, map, reverse, slice_get, false, Some, Err, IfOk, IfErr, OnOk, IsTrue};
+ghost use Rattle.std.specs.Prelude.{◌≡◌, ◌⊎◌, ◌<◌, ℕ, [], suc, Result, length, map, slice_get, MatchOption, false, Some, Err, IfOk, IfErr, OnOk, IsTrue};
 ghost use Rattle.model.specs.state.Agreement.{AgreesWithAll};
 ghost use Rattle.model.specs.state.State.{State as Now};
 ghost use Rattle.model.specs.shown.Input.{shown};
 ghost use Rattle.model.specs.shown.Outcome.{untouched};
 ghost use Rattle.model.specs.steps.Lawful.{IsLawful, IsComplete};
 ghost use Rattle.model.specs.declared.steps.Step.TheVariants.{Start as Begin, Sync};
-ghost use Rattle.model.specs.steps.Schedule.{level_of};
+ghost use Rattle.model.specs.steps.Schedule.{level_of, recording};
 ghost use Rattle.model.specs.state.Shape.{AreIdsFor};
 ghost use Rattle.kinds.specs.Components.{widths};
 ghost use Rattle.body.specs.Keeps.{CanBeShown};
@@ -19,10 +19,10 @@ ghost use Rattle.engine.specs.Meanings.{meanings, AllKeepWithin, Suits};
 ghost use Rattle.engine.specs.Stops.{StopsBy, fault_of};
 ghost use Rattle.trace_checker.specs.declared.replay.ReplayFault.TheVariants.{Run};
 ghost use Rattle.model.specs.runs.Causes.{serial_cause_of};
-ghost use Rattle.model.specs.runs.Replays.{IsStepTaken};
-ghost use Rattle.trace_checker.specs.ReplayFaults.{HasRun, IsKnown, IsReplay, IsReplayFault, IsStepFault};
+ghost use Rattle.model.specs.runs.Replays.{IsListOf, IsStepTaken};
+ghost use Rattle.trace_checker.specs.ReplayFaults.{AreWrongHere, HasRun, IsKnown, IsReplay, IsReplayFault, IsStepFault, list_at};
 
-use crate::check::{Verdict, check};
+use crate::check::{Verdict, check, syncs_of};
 use body::{Body, BodyFault, State, View};
 use engine::fitting::prove_fitting_keep;
 use engine::{Deferred, RunFault, RunState, Stop};
@@ -43,6 +43,10 @@ pub enum ReplayFault {
     /// This step, counted from 1, is the first whose recorded answer isn't what its condition means there.
     #[error("the recorded answer of step {0} is not what its condition means there")]
     WrongAnswer(usize),
+    /// The kind sets that were recorded after this step, counted from 1, or at the opening for 0, are the first that aren't those of the living
+    /// entities there.
+    #[error("the kind sets recorded after step {0} are not those of the living entities")]
+    WrongSets(usize),
     /// What stops a run: a failed allocation, of a tick, of ids or of an event number, or a body that refuses.
     #[error("{0}")]
     Run(RunFault),
@@ -66,7 +70,8 @@ impl From<Stop> for ReplayFault {
 
 /// Takes a recorded run again, on one thread: each step in the order in which it stands, and each system whole at its start; what its body
 /// commands is done at the sync point of its level. The steps are checked first, as `check` does; a condition is asked where it was asked, and
-/// what was recorded is compared with what it answers. The state that is deferred is that of the recorded run, stamp for stamp, however many systems
+/// what was recorded is compared with what it answers. Where the trace records kind sets, those at the opening and after each sync point are
+/// compared with those of the living entities. The state that is deferred is that of the recorded run, stamp for stamp, however many systems
 /// ran at once; where the schedule is settled it agrees with what any one run with true answers leaves of any state that agrees with the one
 /// before. Each fault drops the state. The bodies that have run mean what they meant.
 pub fn replay<B: Body>(
@@ -77,8 +82,8 @@ pub fn replay<B: Body>(
     trace: &Trace,
 ) -> Result<State, ReplayFault>
     requires { Suits B.fits built.now (map Some bodies.old) state }
-    ensures replayed { IsReplay built.now (meanings B.meaning built.now (map Some bodies.old)) state trace.now.steps.items result }
-    ensures only { (other : Result Now ReplayFault) → IsReplay built.now (meanings B.meaning built.now (map Some bodies.old)) state trace.now.steps.items other → (other ≡ Err (ReplayFault.Run RunFault.Memory)) ⊎ ((result ≡ Err (ReplayFault.Run RunFault.Memory)) ⊎ (result ≡ other)) }
+    ensures replayed { IsReplay built.now (meanings B.meaning built.now (map Some bodies.old)) state trace.now result }
+    ensures only { (other : Result Now ReplayFault) → IsReplay built.now (meanings B.meaning built.now (map Some bodies.old)) state trace.now other → (other ≡ Err (ReplayFault.Run RunFault.Memory)) ⊎ ((result ≡ Err (ReplayFault.Run RunFault.Memory)) ⊎ (result ≡ other)) }
     ensures agreement { IfOk result (λ final. AgreesWithAll widths built.now (meanings B.meaning built.now (map Some bodies.old)) state 1 final) }
     ensures meanings { meanings B.meaning built.now (map Some bodies.new) ≡ meanings B.meaning built.now (map Some bodies.old) }
     ensures suits { IfOk result (λ final. Suits B.fits built.now (map Some bodies.new) final) }
@@ -96,40 +101,85 @@ pub fn replay<B: Body>(
         state: state.into_open(),
         deferred: Deferred::new(alloc, built)?,
     };
-    take_steps(built, bodies, &mut run, &trace.steps)?;
+    take_steps(built, bodies, &mut run, trace)?;
     run.state.prove_law();
     Ok(run.state.into_state())
 }
 
-// Takes all steps of a run, from its opening on, where no system has deferred anything.
+// Takes all steps of a recorded run, from its opening on, where no system has deferred anything.
 fn take_steps<B: Body>(
     built: &Built,
     bodies: &mut [B],
     run: &mut RunState,
-    steps: &[Step],
+    trace: &Trace,
 ) -> Result<(), ReplayFault>
     requires suits { Suits B.fits built.now (map Some bodies.old) run.old.state.state }
     requires keep { AllKeepWithin built.now (meanings B.meaning built.now (map Some bodies.old)) }
     requires out { AreOut (store_of run.old.state) [] }
     requires deferred { IsDeferredFor built.now run.old.deferred }
     requires nothing { IsNothingDeferred run.old.deferred }
-    requires lawful { IsLawful built.now (reverse steps.now) }
-    requires complete { IsComplete built.now (reverse steps.now) }
-    ensures replayed { OnOk result (IsReplay built.now (meanings B.meaning built.now (map Some bodies.old)) run.old.state.state steps.now (Ok run.new.state.state)) }
-    ensures stopped { IfErr result (IsReplayFault built.now (meanings B.meaning built.now (map Some bodies.old)) run.old.state.state steps.now) }
+    requires lawful { IsLawful (recording built.now trace.now.sets) trace.now.steps }
+    requires complete { IsComplete (recording built.now trace.now.sets) trace.now.steps }
+    ensures replayed { OnOk result (IsReplay built.now (meanings B.meaning built.now (map Some bodies.old)) run.old.state.state trace.now (Ok run.new.state.state)) }
+    ensures stopped { IfErr result (IsReplayFault built.now (meanings B.meaning built.now (map Some bodies.old)) run.old.state.state trace.now) }
     ensures suits { OnOk result (Suits B.fits built.now (map Some bodies.new) run.new.state.state) }
     ensures out { OnOk result (AreOut (store_of run.new.state) []) }
     ensures meanings { meanings B.meaning built.now (map Some bodies.new) ≡ meanings B.meaning built.now (map Some bodies.old) }
 {
     built.prove_law();
     run.state.prove_law();
+    trace.prove_law();
     run.open(built)?;
+    compare_sets(run, trace, 0, 0)?;
     let mut number = 0;
+    let mut place = 0;
+    let steps = trace.steps();
     for step in steps {
         number += 1;
+        place += syncs_of(*step);
         take(built, bodies, run, *step, number)?;
+        compare_after(run, trace, *step, place, number)?;
     }
     Ok(())
+}
+
+// Compares the kind sets that are recorded at a place, if they are, with those of the living entities, after the step of this number.
+fn compare_sets(
+    run: &RunState,
+    trace: &Trace,
+    place: usize,
+    number: usize,
+) -> Result<(), ReplayFault>
+    requires listed { MatchOption trace.now.sets (Unit {0}) (λ lists. place < length lists) }
+    ensures right { OnOk result (IsListOf (list_at trace.now.sets place) (Some (run_with run.now.state.state run.now.deferred))) }
+    ensures wrong { IfErr result (AreWrongHere (list_at trace.now.sets place) run.now.state.state.world.slots number) }
+{
+    let Some(lists) = trace.sets() else {
+        return Ok(());
+    };
+    let there = run.state.kind_sets(run.alloc)?;
+    if !lists[place].is_same(&there) {
+        return Err(ReplayFault::WrongSets(number));
+    }
+    Ok(())
+}
+
+// The same right after a step, up to which there are so many sync points: where it is one of them.
+fn compare_after(
+    run: &RunState,
+    trace: &Trace,
+    step: Step,
+    place: usize,
+    number: usize,
+) -> Result<(), ReplayFault>
+    requires listed { MatchOption trace.now.sets (Unit {0}) (λ lists. place < length lists) }
+    ensures right { OnOk result ((k : ℕ) → step ≡ Sync k → IsListOf (list_at trace.now.sets place) (Some (run_with run.now.state.state run.now.deferred))) }
+    ensures wrong { IfErr result (λ fault. ((k : ℕ) × (step ≡ Sync k)) × AreWrongHere (list_at trace.now.sets place) run.now.state.state.world.slots number fault) }
+{
+    let Step::Sync(_) = step else {
+        return Ok(());
+    };
+    compare_sets(run, trace, place, number)
 }
 
 // Takes the step of this number. A system that starts has deferred nothing and was granted what it can be given, and so have those of the level

@@ -1,10 +1,11 @@
 // The text of traces.
 
 ghost use Rattle.std.specs.Prelude.{◌≡◌, ◌<◌, ◌≤◌, ◌^◌, ◌++◌, ◌∷◌, [], length, string_bytes, IfOk, OnOk, IsErrOf};
-ghost use Rattle.trace_checker.specs.Grammar.{lines_text, run_lines, steps_of, trace_text};
+ghost use Rattle.trace_checker.specs.Grammar.{AreAlike, AreWithin, lines_text, run_lines, sets_line, trace_text};
 
-use crate::line::Line;
+use crate::line::{Line, Told};
 use executor_core::Trace;
+use model::Step;
 use std::alloc::{AllocError, Global};
 use thiserror::Error;
 
@@ -30,12 +31,13 @@ impl From<AllocError> for WriteFault {
     }
 }
 
-/// The text of traces, which has at most so many bytes. It ends with the first run that passes them.
+/// The text of traces, all of which record kind sets or none, which has at most so many bytes. It ends with the first run that passes them.
 pub fn text_of_traces(alloc: Global, traces: &[Trace], limit: usize) -> Result<String, WriteFault>
-    requires { length traces.now < 2 ^ 32 }
-    ensures written { IfOk result (λ text. string_bytes text ≡ trace_text (steps_of traces.now)) }
+    requires count { length traces.now < 2 ^ 32 }
+    requires alike { AreAlike traces.now }
+    ensures written { IfOk result (λ text. string_bytes text ≡ trace_text traces.now) }
     ensures within { IfOk result (λ text. length (string_bytes text) ≤ limit) }
-    ensures long { IsErrOf result WriteFault.TooLong → limit < length (trace_text (steps_of traces.now)) }
+    ensures long { IsErrOf result WriteFault.TooLong → limit < length (trace_text traces.now) }
 {
     let mut text = String::new(alloc);
     let mut number = 0;
@@ -51,13 +53,33 @@ pub fn text_of_traces(alloc: Global, traces: &[Trace], limit: usize) -> Result<S
 
 /// Adds the lines of a run of this number to a text.
 pub fn push_run(text: &mut String, number: u32, trace: &Trace) -> Result<(), AllocError>
-    ensures { OnOk result (string_bytes text.new ≡ string_bytes text.old ++ lines_text (run_lines number trace.now.steps.items)) }
+    ensures { OnOk result (string_bytes text.new ≡ string_bytes text.old ++ lines_text (run_lines number trace.now)) }
 {
+    trace.prove_law();
+    let steps = trace.steps();
     push_line(text, Line::Begin(number))?;
-    for step in &trace.steps {
+    push_sets(text, trace, 0)?;
+    let mut place = 0;
+    for step in steps {
         push_line(text, Line::Take(*step))?;
+        if let Step::Sync(_) = step {
+            place += 1;
+            push_sets(text, trace, place)?;
+        }
     }
     Ok(())
+}
+
+// Adds the line of the kind sets that a run records at a place, where it records them.
+fn push_sets(text: &mut String, trace: &Trace, place: usize) -> Result<(), AllocError>
+    requires { AreWithin place trace.now.sets }
+    ensures { OnOk result (string_bytes text.new ≡ string_bytes text.old ++ lines_text (sets_line trace.now.sets place)) }
+{
+    let Some(lists) = trace.sets() else {
+        return Ok(());
+    };
+    let told = Told(&lists[place]);
+    writeln!(text, "{told}")
 }
 
 // Adds a line and its end.

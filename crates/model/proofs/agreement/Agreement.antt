@@ -11,16 +11,15 @@ use Rattle.model.specs.access.Query.{Term, matches, touched}
 use Rattle.model.specs.access.Query.Term.{Entity, Read, Mut, Opt, With, Without, Added, Changed, AnyOf}
 use Rattle.model.specs.access.Access.{names_resource}
 use Rattle.model.specs.shown.Input.{passes}
-use Rattle.model.specs.shown.Overlay.{slot_after, slots_after}
 use Rattle.model.specs.access.Condition.{Condition, watched_of, resources_of}
 use Rattle.model.specs.access.Condition.Condition.{RunOnce, ResourceEquals, ResourceAtLeast, ResourceChanged, AnyWith, OnEvent, Not, And, Or}
 use Rattle.model.specs.steps.Schedule.{Schedule, watches, condition_of}
 use Rattle.model.specs.runs.RunState.{opening}
 use Rattle.model.specs.state.Agreement.{Observer, Agrees, access_of_observer, last_run_of, changed_of, without_stamps, component_without_stamps, slot_without_stamps, cell_without_stamps}
 use Rattle.model.specs.state.Agreement.Observer.{OfCondition}
-use Rattle.model.proofs.lists.Lists.{list_any-IsIn, ==-same, get_or-map_index-view, IsIn-append, IsIn_left, IsIn_right, has-IsIn, IsIn_from_has}
+use Rattle.model.proofs.lists.Lists.{list_any-IsIn, ==-same, IsIn-append, IsIn_left, IsIn_right, has-IsIn, IsIn_from_has}
 use Rattle.model.proofs.serial.Conflicts.{unseen, unread_resource}
-use Rattle.model.proofs.serial.Writes.{kinds_of-slots_after, within_same}
+use Rattle.model.proofs.serial.Writes.{kinds_of-slots_after, status-slots_after, within_same}
 use Rattle.model.proofs.agreement.Swaps.{AreApart}
 use Rattle.model.proofs.agreement.Visits.{Effect, Fits, visit, come, values_of, without_stamps-visit, visit-swap}
 use Rattle.model.proofs.agreement.Stamps.{IsKnown, is_own, own-same, IsTimed, in_time-later, test_after, passes_after, passes-visit, newer-visit, never-visit, timed-visit}
@@ -103,11 +102,6 @@ agrees_trans s v w x h g = record {
 
 -- ---- a visit keeps agreement
 
--- the status of an index stays
-pub status-slots_after : (t : ℕ) (f : ℕ → ℕ → Option (List ℤ)) (slots : List Slot) (index : ℕ) → (get_or (slots_after t f slots) index fresh_slot).status ≡ (get_or slots index fresh_slot).status
-unfolding slots_after
-status-slots_after t f slots index = get_or-map_index-view (λ (slot : Slot). slot.status) (λ i. slot_after t (f i)) slots index fresh_slot (λ j slot. refl)
-
 -- states that agree do so after one visit
 pub agrees-visit : (s : Schedule) (a : Observer) (e : Effect) (v w : State) → IsKnown s a → IsTimed s v → IsTimed s w → Agrees s v w
     → Agrees s (come s a e v) (come s a e w)
@@ -173,7 +167,7 @@ unseen-term : (s : Schedule) (a b o : Observer) (f : Effect) (w : State) (query 
     → IsIn query (access_of_observer s o).queries → IsIn term query → matches query (kinds_of (row_at w.world.slots index)) ≡ true
     → term ≡ Changed k → is_own a o ≡ true → f.words index k ≡ None
 unseen-term s a b o f w query term index k h fit i j m e own =
-    unseen (access_of_observer s b) (access_of_observer s a) w.world.slots f.words query h.apart fit
+    unseen None (access_of_observer s b) (access_of_observer s a) w.world.slots f.words query h.apart fit
     (subst (λ x. IsIn query (access_of_observer s x).queries) (sym (own-same a o own)) i) index k m
     (list_any-IsIn (λ t. is_number k (touched t)) term query j (ap (λ t. is_number k (touched t)) e ∙ ==-same k))
 
@@ -202,13 +196,13 @@ watched-asked (OnEvent k) n i = absurd i
 -- what a condition watches isn't written by who is apart
 unseen-resource : (s : Schedule) (a b : Observer) (c n : ℕ) (f : Effect) → AreApart s b a → watches s c n ≡ true → is_own a (OfCondition c) ≡ true → values_of s b f n ≡ None
 unseen-resource s a b c n f h watched own =
-    unread_resource (access_of_observer s b) (access_of_observer s a) f.values n h.apart
+    unread_resource None (access_of_observer s b) (access_of_observer s a) f.values n h.apart
     (subst (λ x. names_resource (access_of_observer s x) n ≡ true) (sym (own-same a (OfCondition c) own))
     (or_left _ _ (has-IsIn n (resources_of (condition_of s c)) (watched-asked (condition_of s c) n (IsIn_from_has n _ watched)))))
 
 -- writes fit a state but for stamps
 fits-without_stamps : (s : Schedule) (a : Observer) (e : Effect) (w : State) → Fits s a e w.world.slots → Fits s a e (without_stamps w).world.slots
-fits-without_stamps s a e w fit = within_same (access_of_observer s a).queries w.world.slots (without_stamps w).world.slots e.words (kinds_at-without_stamps w) fit
+fits-without_stamps s a e w fit = within_same None (access_of_observer s a).queries w.world.slots (without_stamps w).world.slots e.words (kinds_at-without_stamps w) fit
 
 -- two visits but for stamps
 two-without_stamps : (t u : ℕ) (s : Schedule) (a b : Observer) (e f : Effect) (w : State) → without_stamps (visit u s b f (visit t s a e w)) ≡ visit 0 s b f (visit 0 s a e (without_stamps w))

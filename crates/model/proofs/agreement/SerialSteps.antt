@@ -56,15 +56,15 @@ enter s bodies given a w = come s a (effect_by s bodies given a w) w
 
 -- nothing fits
 no_effect-fits : (s : Schedule) (a : Observer) (w : State) → Fits s a no_effect w.world.slots
-no_effect-fits s a w = record { at = λ e k x h. absurd (cc) }
+no_effect-fits s a w = record { at = λ e k x h. absurd (cc); among = λ e k x h. absurd (cc) }
 
 -- what an answer writes fits
 answer-fits : (s : Schedule) (n : ℕ) (ids : List Entity) (w : State) (answer : Result Outcome ℕ)
     → Fits s (OfSystem n) (effect_of s n (shown_at s n ids w) answer) w.world.slots
 unfolding shown
 answer-fits s n ids w (Err refusal) = no_effect-fits s (OfSystem n) w
-answer-fits s n ids w (Ok o) = words_written-within w.world.slots (params_of s n).queries _ o.cells
-    (rows_of_each-match (params_of s n).queries (memory_of_system w n).last_run w.world.slots)
+answer-fits s n ids w (Ok o) = words_written-within None w.world.slots (params_of s n).queries _ o.cells
+    (rows_of_each-match None (params_of s n).queries (memory_of_system w n).last_run w.world.slots (λ index l. tt))
 
 -- what an observer writes fits
 pub effect-fits : (s : Schedule) (bodies : List BodyMeaning) (given : ℕ → List Entity) (a : Observer) (w : State)

@@ -210,12 +210,12 @@ looks-visit s a b e w h fit = record {
   rows = λ query i.
       ap (λ (m : Memory). rows_of query m.last_run (come s a e w).world.slots) memory
       ∙ rows_of-slots_after query (last_run_of w b) (suc w.world.clock) e.words w.world.slots
-      (λ index k m t. unseen (access_of_observer s a) (access_of_observer s b) w.world.slots e.words query h.apart fit i index k m t);
+      (λ index k m t. unseen None (access_of_observer s a) (access_of_observer s b) w.world.slots e.words query h.apart fit i index k m t);
   never = ap (λ (m : Memory). m.last_run == 0) memory;
   values = λ n i. ap (λ (r : Resource). r.value) (resource n i);
   newer = λ c n q watched. ap₂ (λ (m : Memory) (r : Resource). nat_lt m.last_run r.changed) memory (resource n (watched-named s b c n q watched));
   queues = λ k i. queue_of-queues_after (sent_of s a e) w.events k
-      (unread_event (access_of_observer s a) (access_of_observer s b) e.sent k h.apart (or_left _ _ (has-IsIn k (access_of_observer s b).reads i)));
+      (unread_event None (access_of_observer s a) (access_of_observer s b) e.sent k h.apart (or_left _ _ (has-IsIn k (access_of_observer s b).reads i)));
   cursors = ap (λ (m : Memory). m.cursors) memory;
   registers = ap (λ (m : Memory). m.registers) memory;
 }
@@ -225,4 +225,4 @@ looks-visit s a b e w h fit = record {
 
     resource : (n : ℕ) → names_resource (access_of_observer s b) n ≡ true → get_or (come s a e w).world.resources n no_resource ≡ get_or w.world.resources n no_resource
     resource n i = get_or-resources_after (suc w.world.clock) (values_of s a e) w.world.resources n
-        (unread_resource (access_of_observer s a) (access_of_observer s b) e.values n h.apart i)
+        (unread_resource None (access_of_observer s a) (access_of_observer s b) e.values n h.apart i)

@@ -1,6 +1,6 @@
 -- Two steps that are both allowed by the marks of a settled schedule are one step, or either is allowed after the other
 -- and they touch nothing in common.
-use Rattle.std.proofs.Common.{ℕ, ◌<◌, Bool, true, false, ◌≡◌, ◌≢◌, ◌⊎◌, inl, inr, List, length, refl, sym, ap, subst}
+use Rattle.std.proofs.Common.{ℕ, ◌<◌, Bool, true, false, ◌≡◌, ◌≢◌, ◌⊎◌, inl, inr, List, length, None, refl, sym, ap, subst}
 use Rattle.std.proofs.lemmas.Bool.{or_right, or_from, both_ways, cases_eq, cases_order, ne_eqb}
 use Rattle.model.specs.declared.steps.Step.{Step}
 use Rattle.model.specs.declared.steps.Step.TheVariants.{Cond, Start, Skip, Finish, Sync}
@@ -14,7 +14,7 @@ use Rattle.model.specs.steps.Ambiguity.Reaches.{Edge, Onward}
 use Rattle.model.specs.steps.Ambiguity.Before.{ByPath, ByLevel}
 use Rattle.model.specs.state.Agreement.{Observer, access_of_observer}
 use Rattle.model.specs.state.Agreement.Observer.{OfSystem, OfCondition}
-use Rattle.model.proofs.serial.Conflicts.{Apart, apart_swap}
+use Rattle.model.proofs.serial.Conflicts.{ApartBy, conflict_from_meet, apart_swap}
 use Rattle.model.proofs.agreement.Marks.{Marks, mark, begins, IsOpen, CanStart, CanSkip, CanAsk, CanSync, Can, IsOrderly}
 
 -- every condition only reads
@@ -24,7 +24,7 @@ ConditionsRead s = (c : ℕ) (query : List Term) → IsIn query (access_of s c).
 -- two observers are two, and their accesses don't conflict
 pub record AreApart (s : Schedule) (a b : Observer) : Type 0 where
   pub differ : a ≡ b → ⊥
-  pub apart : Apart (access_of_observer s a) (access_of_observer s b)
+  pub apart : ApartBy None (access_of_observer s a) (access_of_observer s b)
 
 -- two steps touch nothing in common. A sync point is apart from nothing
 abbrev pub StepsApart : Schedule → Step → Step → Type 0
@@ -104,22 +104,22 @@ pub open-unordered : (s : Schedule) (m : Marks) (p n : ℕ) → IsOrderly s m �
 open-unordered s m p n ord first free b = both_ways (m.begun p) first.waits (before-begun s m p n ord first.known free b)
 
 -- two open systems don't conflict
-pub open-apart : (s : Schedule) (m : Marks) (i j : ℕ) → Settled s → IsOrderly s m → IsOpen s m i → IsOpen s m j → i ≢ j → Apart (params_of s i) (params_of s j)
-open-apart s m i j settled ord first free differ conflict = settled.systems i j (record {
+pub open-apart : (s : Schedule) (m : Marks) (i j : ℕ) → Settled s → IsOrderly s m → IsOpen s m i → IsOpen s m j → i ≢ j → ApartBy None (params_of s i) (params_of s j)
+open-apart s m i j settled ord first free differ meeting = settled.systems i j (record {
   first_known = first.known;
   second_known = free.known;
   differ = differ;
-  conflict = conflict;
+  conflict = conflict_from_meet None _ _ meeting;
   not_before = open-unordered s m i j ord first free;
   not_after = open-unordered s m j i ord free first;
 })
 
 -- a system that is open, no member of a condition that can be asked, doesn't conflict with the condition
-pub ask-apart : (s : Schedule) (m : Marks) (n c : ℕ) → Settled s → IsOrderly s m → IsOpen s m n → CanAsk s m c → (covers s c n ≡ true → ⊥) → Apart (params_of s n) (access_of s c)
-ask-apart s m n c settled ord free can outside conflict = settled.conditions c n (record {
+pub ask-apart : (s : Schedule) (m : Marks) (n c : ℕ) → Settled s → IsOrderly s m → IsOpen s m n → CanAsk s m c → (covers s c n ≡ true → ⊥) → ApartBy None (params_of s n) (access_of s c)
+ask-apart s m n c settled ord free can outside meeting = settled.conditions c n (record {
   condition_known = can.known;
   system_known = free.known;
-  conflict = conflict;
+  conflict = conflict_from_meet None _ _ meeting;
   no_member = λ member. outside member.covered;
   not_before = λ all. open-unordered s m n can.member ord free can.free
       (all can.member (record { known = can.free.known; covered = can.covering }));
@@ -154,8 +154,8 @@ pub start-or-skip : (s : Schedule) (m : Marks) (n : ℕ) → IsOrderly s m → C
 start-or-skip s m n ord start skip = ord.one_answer skip.refusing (start.answers skip.refusing skip.covering) skip.refused
 
 -- two conditions don't conflict
-pub conditions-apart : (s : Schedule) → ConditionsRead s → (c d : ℕ) → Apart (access_of s c) (access_of s d)
-conditions-apart s read c d (OfKind kind, (q, r, i, j, at)) =
+pub conditions-apart : (s : Schedule) → ConditionsRead s → (c d : ℕ) → ApartBy None (access_of s c) (access_of s d)
+conditions-apart s read c d (OfKind kind, (q, r, i, j, at, among)) =
     both_ways _ (or_from _ _ (read c q i kind) (read d r j kind)) at.one_writes
 conditions-apart s read c d (OfResource number, at) = both_ways false refl at.one_writes
 conditions-apart s read c d (OfEvent kind, at) = both_ways false refl at.one_writes
@@ -224,7 +224,7 @@ skips-swap s m i j can could differ = record {
 
 -- observers are apart from either side
 pub are_apart_swap : (s : Schedule) (a b : Observer) → AreApart s a b → AreApart s b a
-are_apart_swap s a b h = record { differ = λ e. h.differ (sym e); apart = apart_swap _ _ h.apart }
+are_apart_swap s a b h = record { differ = λ e. h.differ (sym e); apart = apart_swap None _ _ h.apart }
 
 -- so are steps
 pub steps_apart_swap : (s : Schedule) (x y : Step) → StepsApart s x y → StepsApart s y x

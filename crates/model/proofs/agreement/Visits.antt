@@ -63,7 +63,7 @@ come s a e w = visit (suc w.world.clock) s a e w
 
 -- what a visit writes to components is within the queries of its access
 abbrev pub Fits : Schedule → Observer → Effect → List Slot → Type 0
-Fits s a e slots = WritesWithin (access_of_observer s a).queries slots e.words
+Fits s a e slots = WritesWithin None (access_of_observer s a).queries slots e.words
 
 -- ---- lists
 
@@ -171,7 +171,7 @@ without_stamps-visit t s a e w = λ i. record {
 pub cursors-visit : (s : Schedule) (a b : Observer) (e : Effect) (queues : List EventQueue) → AreApart s a b →
     end_cursors (queues_after (sent_of s a e) queues) (access_of_observer s b).reads ≡ end_cursors queues (access_of_observer s b).reads
 cursors-visit s a b e queues h = end_cursors-same _ _ _ (λ k i. queue_of-queues_after (sent_of s a e) queues k
-    (unread_event (access_of_observer s a) (access_of_observer s b) e.sent k h.apart (or_left _ _ (has-IsIn k (access_of_observer s b).reads i))))
+    (unread_event None (access_of_observer s a) (access_of_observer s b) e.sent k h.apart (or_left _ _ (has-IsIn k (access_of_observer s b).reads i))))
 
 -- the memories of systems after two visits that are apart, in either order
 systems-swap : (t u : ℕ) (s : Schedule) (a b : Observer) (e f : Effect) (w : State) → AreApart s a b → AreApart s b a
@@ -212,11 +212,11 @@ pub visit-swap : (t u : ℕ) (s : Schedule) (a b : Observer) (e f : Effect) (w :
     → Fits s a e w.world.slots → Fits s b f w.world.slots → visit u s b f (visit t s a e w) ≡ visit t s a e (visit u s b f w)
 visit-swap t u s a b e f w h g fit other = λ i. record {
   world = record {
-    slots = slots_after-comm u t f.words e.words w.world.slots (one_writer _ _ w.world.slots f.words e.words g.apart other fit) i;
-    resources = resources_after-comm u t (values_of s b f) (values_of s a e) w.world.resources (λ n. one_setter _ _ f.values e.values n g.apart) i;
+    slots = slots_after-comm u t f.words e.words w.world.slots (one_writer None _ _ w.world.slots f.words e.words g.apart other fit) i;
+    resources = resources_after-comm u t (values_of s b f) (values_of s a e) w.world.resources (λ n. one_setter None _ _ f.values e.values n g.apart) i;
     clock = suc (suc w.world.clock);
   };
-  events = queues_after-comm (sent_of s b f) (sent_of s a e) w.events (λ k. one_sender _ _ f.sent e.sent k g.apart) i;
+  events = queues_after-comm (sent_of s b f) (sent_of s a e) w.events (λ k. one_sender None _ _ f.sent e.sent k g.apart) i;
   systems = systems-swap t u s a b e f w h g i;
   conditions = conditions-swap t u s a b e f w h g i;
   passed_over = w.passed_over;

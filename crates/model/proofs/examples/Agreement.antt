@@ -24,7 +24,8 @@ use Rattle.model.proofs.agreement.Agreement.{agrees_refl}
 use Rattle.model.proofs.agreement.SerialRuns.{runs_agree}
 use Rattle.model.proofs.shape.Runs.{interleaved-keeps}
 use Rattle.model.proofs.shape.Loaded.{loaded-shape}
-use Rattle.model.proofs.examples.Bodies.{round, total, system, plain, zeros, sets, history, computed}
+use Rattle.model.proofs.progress.Unrecorded.{none_told}
+use Rattle.model.proofs.examples.Bodies.{round, total, system, plain, zeros, sets, history, unrecorded, computed}
 use Rattle.model.proofs.examples.Orders.{no_conflict}
 
 abbrev first : Params
@@ -168,6 +169,7 @@ one_run = record {
   lawful = (lists_are_computed apart (history one_way)).0 refl;
   complete = (lists_are_computed apart (history one_way)).1 refl;
   answers = (tt, (tt, (tt, (tt, (tt, tt)))));
+  sets = none_told apart setters start (history one_way);
 }
 
 other_run : IsRun apart setters start (history other_way)
@@ -175,6 +177,7 @@ other_run = record {
   lawful = (lists_are_computed apart (history other_way)).0 refl;
   complete = (lists_are_computed apart (history other_way)).1 refl;
   answers = (tt, (tt, (tt, (tt, (tt, tt)))));
+  sets = none_told apart setters start (history other_way);
 }
 
 -- a resource that nobody wrote
@@ -195,17 +198,17 @@ end_at a b = record {
   passed_over = 0;
 }
 
-one_end : after_runs apart setters start (history one_way ∷ []) ≡ Some (end_at 3 4)
+one_end : after_runs apart setters start (unrecorded one_way ∷ []) ≡ Some (end_at 3 4)
 unfolding computed
 one_end = refl
 
-other_end : after_runs apart setters start (history other_way ∷ []) ≡ Some (end_at 4 3)
+other_end : after_runs apart setters start (unrecorded other_way ∷ []) ≡ Some (end_at 4 3)
 unfolding computed
 other_end = refl
 
 -- the two ends differ in stamps and agree
 ends_agree : Agrees apart (end_at 3 4) (end_at 4 3)
-ends_agree = runs_agree widths apart setters start start (history one_way ∷ []) (history other_way ∷ []) (end_at 3 4) (end_at 4 3)
+ends_agree = runs_agree widths apart setters start start (unrecorded one_way ∷ []) (unrecorded other_way ∷ []) (end_at 3 4) (end_at 4 3)
     (two_built first second) apart_settled setters_within start_shape start_shape (agrees_refl apart start) refl
     (one_run, λ end e. tt) (other_run, λ end e. tt) one_end other_end
 
@@ -217,6 +220,6 @@ end_has_shape : woven_end
 end_has_shape w e = interleaved-keeps widths apart setters start (history other_way) w (two_built first second) setters_within start_shape other_run.lawful e
 
 -- the clock of the other end: an opening, two starts and a sync point after clock 1
-other_clock : option_map (λ (w : State). w.world.clock) (after_runs apart setters start (history other_way ∷ [])) ≡ Some 5
+other_clock : option_map (λ (w : State). w.world.clock) (after_runs apart setters start (unrecorded other_way ∷ [])) ≡ Some 5
 unfolding computed
 other_clock = refl

@@ -8,7 +8,7 @@ use Rattle.model.specs.access.Access.{Params, no_params}
 use Rattle.model.specs.shown.Input.{Shown, ShownRow}
 use Rattle.model.specs.shown.Outcome.{Command, BodyMeaning, untouched}
 use Rattle.model.specs.access.Condition.{Condition}
-use Rattle.model.specs.steps.Schedule.{Schedule, ScheduledSystem, ScheduledCondition}
+use Rattle.model.specs.steps.Schedule.{Schedule, ScheduledSystem, ScheduledCondition, Recorded}
 use Rattle.model.specs.runs.Meaning.{serial, interleaved}
 use Rattle.model.specs.state.Loaded.{Given}
 use Rattle.model.specs.shown.Input.{shown, rows_from}
@@ -33,6 +33,9 @@ score = 6
 
 abbrev pub frozen : ℕ
 frozen = 10
+
+abbrev pub hidden : ℕ
+hidden = 11
 
 abbrev pub round : ℕ
 round = 0
@@ -59,7 +62,7 @@ system params = system_after [] params
 
 -- a schedule of one level and these systems in this order, without conditions
 abbrev pub plain : List ScheduledSystem → List ℕ → Schedule
-plain systems order = record { systems = systems; conditions = []; syncs = 1; order = order; silences = [] }
+plain systems order = record { systems = systems; conditions = []; syncs = 1; order = order; silences = []; sets = None }
 
 -- a condition that covers these
 abbrev pub condition : Condition → List ℕ → ScheduledCondition
@@ -124,6 +127,10 @@ computed = tt
 -- the history of a list of steps
 abbrev pub history : List Step → List Step
 history steps = reverse steps
+
+-- a run of these steps that records no kind sets
+abbrev pub unrecorded : List Step → Recorded
+unrecorded steps = record { steps = history steps; sets = None }
 
 -- the state after a serial run
 abbrev pub serially : Schedule → List BodyMeaning → State → List Step → Option State

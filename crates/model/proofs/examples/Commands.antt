@@ -1,5 +1,5 @@
 -- Commands and ids: spawning, insertion before a spawn, despawning twice, removal of what is absent, ids that come back.
-use Rattle.std.proofs.Common.{◌≡◌, ℕ, ℤ, pos, List, [], ◌∷◌, map, Some, option_map, refl, length}
+use Rattle.std.proofs.Common.{◌≡◌, ℕ, ℤ, pos, List, [], ◌∷◌, map, Some, None, option_map, refl, length}
 use Rattle.model.specs.declared.steps.Step.{Step}
 use Rattle.model.specs.declared.steps.Step.TheVariants.{Start, Finish, Sync}
 use Rattle.model.specs.state.State.{State, Slot, Component}
@@ -171,6 +171,7 @@ deferring = record {
   syncs = 2;
   order = 0 ∷ 1 ∷ [];
   silences = [];
+  sets = None;
 }
 
 seen_after_sync : option_map (λ (w : State). value_of w.world.resources total) (serially deferring counting (loaded deferring [] zeros) (Start 0 ∷ Finish 0 ∷ Sync 0 ∷ Start 1 ∷ Finish 1 ∷ Sync 1 ∷ [])) ≡ Some (pos 1)

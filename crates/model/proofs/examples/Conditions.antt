@@ -38,6 +38,7 @@ guarded = record {
   syncs = 1;
   order = 0 ∷ 1 ∷ 2 ∷ 3 ∷ [];
   silences = [];
+  sets = None;
 }
 
 abbrev guarded_bodies : List BodyMeaning
@@ -75,6 +76,7 @@ changing = record {
   syncs = 1;
   order = 0 ∷ 1 ∷ 2 ∷ [];
   silences = [];
+  sets = None;
 }
 
 abbrev changers : List BodyMeaning
@@ -129,6 +131,7 @@ telling least = record {
   syncs = 1;
   order = 0 ∷ 1 ∷ 2 ∷ [];
   silences = [];
+  sets = None;
 }
 
 abbrev tellers : List BodyMeaning
@@ -192,7 +195,7 @@ abbrev two_readers : Condition
 two_readers = And (OnEvent hit) (Not (OnEvent hit))
 
 abbrev asking : Schedule
-asking = record { systems = system no_params ∷ []; conditions = condition two_readers (0 ∷ []) ∷ []; syncs = 1; order = 0 ∷ []; silences = [] }
+asking = record { systems = system no_params ∷ []; conditions = condition two_readers (0 ∷ []) ∷ []; syncs = 1; order = 0 ∷ []; silences = []; sets = None }
 
 abbrev one_kept : State
 one_kept = record (loaded asking [] zeros) {
@@ -207,7 +210,7 @@ own_cursors = refl
 -- ---- a schedule without systems: one sync point
 
 abbrev empty : Schedule
-empty = record { systems = []; conditions = []; syncs = 1; order = []; silences = [] }
+empty = record { systems = []; conditions = []; syncs = 1; order = []; silences = []; sets = None }
 
 empty_run : option_map (λ (w : State). w.world.clock) (serially empty [] (loaded empty [] zeros) (Sync 0 ∷ [])) ≡ Some 3
 unfolding computed

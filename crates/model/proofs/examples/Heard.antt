@@ -28,7 +28,8 @@ use Rattle.model.proofs.order.Histories.{same_or}
 use Rattle.model.proofs.faults.Judging.{lists_are_computed}
 use Rattle.model.proofs.agreement.OneWithAll.{LeaveAs, run_before, all_agree}
 use Rattle.model.proofs.shape.Loaded.{loaded-shape}
-use Rattle.model.proofs.examples.Bodies.{round, total, hit, system, system_after, condition, zeros, adds, history, computed}
+use Rattle.model.proofs.progress.Unrecorded.{none_told}
+use Rattle.model.proofs.examples.Bodies.{round, total, hit, system, system_after, condition, zeros, adds, history, unrecorded, computed}
 use Rattle.model.proofs.examples.Orders.{no_conflict, each_below_three}
 
 -- ---- the schedule
@@ -50,6 +51,7 @@ heard = record {
   syncs = 1;
   order = 0 ∷ 1 ∷ 2 ∷ [];
   silences = [];
+  sets = None;
 }
 
 abbrev sends : BodyMeaning
@@ -268,6 +270,7 @@ run_from w steps lawful complete answers = record {
   lawful = (lists_are_computed heard (history steps)).0 lawful;
   complete = (lists_are_computed heard (history steps)).1 complete;
   answers = answers;
+  sets = none_told heard bodies w (history steps);
 }
 
 one_first_run : IsRun heard bodies start (history one_way)
@@ -293,17 +296,17 @@ leaves (Some end) w e = (end, refl, cc)
 
 -- two runs, one after the other
 two_runs : (first second : List Step) (middle last : State) → IsRun heard bodies start (history first) → left_by start first ≡ Some middle → IsRun heard bodies middle (history second) → left_by middle second ≡ Some last →
-    LeaveAs heard bodies start (history first ∷ history second ∷ []) last
+    LeaveAs heard bodies start (unrecorded first ∷ unrecorded second ∷ []) last
 two_runs first second middle last r e q f =
     let a = leaves (interleaved heard bodies start (history first)) middle e in
     let b = leaves (interleaved heard bodies middle (history second)) last f in
-    run_before heard bodies start (history first) (history second ∷ []) a.0 middle last r a.1 a.2
-    (run_before heard bodies middle (history second) [] b.0 last last q b.1 b.2 (record { are = tt; leaves = refl }))
+    run_before heard bodies start (unrecorded first) (unrecorded second ∷ []) a.0 middle last r a.1 a.2
+    (run_before heard bodies middle (unrecorded second) [] b.0 last last q b.1 b.2 (record { are = tt; leaves = refl }))
 
-one_end : LeaveAs heard bodies start (history one_way ∷ history other_way ∷ []) (left_at twice 2 10 9 11)
+one_end : LeaveAs heard bodies start (unrecorded one_way ∷ unrecorded other_way ∷ []) (left_at twice 2 10 9 11)
 one_end = two_runs one_way other_way (left_at once 1 3 4 5) (left_at twice 2 10 9 11) one_first_run one_first one_second_run one_second
 
-other_end : LeaveAs heard bodies start (history other_way ∷ history one_way ∷ []) (left_at twice 2 9 10 11)
+other_end : LeaveAs heard bodies start (unrecorded other_way ∷ unrecorded one_way ∷ []) (left_at twice 2 9 10 11)
 other_end = two_runs other_way one_way (left_at once 1 4 3 5) (left_at twice 2 9 10 11) other_first_run other_first other_second_run other_second
 
 -- ---- what they leave agrees
@@ -316,8 +319,8 @@ start_agrees = record { same = refl; never = λ a. refl; terms = λ a query term
 
 -- what the two runs leave in the one order agrees with what any two runs leave
 one_with_all : AgreesWithAll widths heard bodies start 2 (left_at twice 2 10 9 11)
-one_with_all = all_agree widths heard bodies start (history one_way ∷ history other_way ∷ []) (left_at twice 2 10 9 11) heard_built bodies_within start_shape one_end
+one_with_all = all_agree widths heard bodies start (unrecorded one_way ∷ unrecorded other_way ∷ []) (left_at twice 2 10 9 11) heard_built bodies_within start_shape one_end
 
 -- so with what they leave in the other
 ends_agree : Agrees heard (left_at twice 2 10 9 11) (left_at twice 2 9 10 11)
-ends_agree = one_with_all start (history other_way ∷ history one_way ∷ []) (left_at twice 2 9 10 11) heard_settled start_shape start_agrees refl other_end.are other_end.leaves
+ends_agree = one_with_all start (unrecorded other_way ∷ unrecorded one_way ∷ []) (left_at twice 2 9 10 11) heard_settled start_shape start_agrees refl other_end.are other_end.leaves

@@ -53,6 +53,7 @@ writer_and_asker = record {
   syncs = 1;
   order = 0 ∷ 1 ∷ [];
   silences = [];
+  sets = None;
 }
 
 asked_too_early : fault_after writer_and_asker (Start 0 ∷ []) (Cond 0 true) ≡ Some Conflict
@@ -67,7 +68,7 @@ abbrev unconditional : Schedule
 unconditional = plain (system no_params ∷ []) (0 ∷ [])
 
 abbrev conditional : Schedule
-conditional = record { systems = system no_params ∷ []; conditions = condition (ResourceEquals round (pos 9)) (0 ∷ []) ∷ []; syncs = 1; order = 0 ∷ []; silences = [] }
+conditional = record { systems = system no_params ∷ []; conditions = condition (ResourceEquals round (pos 9)) (0 ∷ []) ∷ []; syncs = 1; order = 0 ∷ []; silences = []; sets = None }
 
 skip_without_condition : fault_after unconditional [] (Skip 0) ≡ Some ConditionTrue
 skip_without_condition = refl
@@ -128,6 +129,7 @@ asked_rivals = record {
   syncs = 1;
   order = 0 ∷ 1 ∷ [];
   silences = [];
+  sets = None;
 }
 
 open_before_conflict : fault_after asked_rivals (Start 0 ∷ []) (Start 1) ≡ Some ConditionOpen

@@ -25,7 +25,8 @@ use Rattle.model.proofs.faults.Judging.{lists_are_computed}
 use Rattle.model.proofs.agreement.Agreement.{agrees_refl}
 use Rattle.model.proofs.agreement.SerialRuns.{runs_agree}
 use Rattle.model.proofs.shape.Loaded.{loaded-shape}
-use Rattle.model.proofs.examples.Bodies.{health, score, frozen, round, total, asks, system, condition, given, zeros, adds, issues, adds_to_first, first_granted, entities_of, history, serially, woven, runs_from, computed}
+use Rattle.model.proofs.progress.Unrecorded.{none_told}
+use Rattle.model.proofs.examples.Bodies.{health, score, frozen, round, total, asks, system, condition, given, zeros, adds, issues, adds_to_first, first_granted, entities_of, history, unrecorded, serially, woven, runs_from, computed}
 use Rattle.model.proofs.examples.Commands.{seen, living, vacant, granting}
 use Rattle.model.proofs.examples.Agreement.{of_two, each_below_two, two_built, none_ambiguous, registers_of, seen_by, same_outcome}
 
@@ -99,6 +100,7 @@ guarded = record {
   syncs = 1;
   order = 0 ∷ 1 ∷ [];
   silences = [];
+  sets = None;
 }
 
 abbrev guarded_start : State
@@ -135,6 +137,7 @@ levelled = record {
   syncs = 2;
   order = 0 ∷ 1 ∷ [];
   silences = [];
+  sets = None;
 }
 
 abbrev levelled_bodies : List BodyMeaning
@@ -220,6 +223,7 @@ tallied_above = record {
   syncs = 2;
   order = 0 ∷ 1 ∷ [];
   silences = [];
+  sets = None;
 }
 
 ordered_filter_unsettled : Settled tallied_above → ⊥
@@ -258,6 +262,7 @@ watching = record {
   syncs = 1;
   order = 0 ∷ 1 ∷ [];
   silences = [];
+  sets = None;
 }
 
 abbrev watching_bodies : List BodyMeaning
@@ -354,6 +359,7 @@ one_run = record {
   lawful = (lists_are_computed pair (history one_way)).0 refl;
   complete = (lists_are_computed pair (history one_way)).1 refl;
   answers = (tt, (tt, (tt, (tt, (tt, tt)))));
+  sets = none_told pair spawners nobody (history one_way);
 }
 
 other_run : IsRun pair spawners nobody (history other_way)
@@ -361,6 +367,7 @@ other_run = record {
   lawful = (lists_are_computed pair (history other_way)).0 refl;
   complete = (lists_are_computed pair (history other_way)).1 refl;
   answers = (tt, (tt, (tt, (tt, (tt, tt)))));
+  sets = none_told pair spawners nobody (history other_way);
 }
 
 -- the end where the two systems started at these ticks
@@ -373,16 +380,16 @@ end_at a b = record {
   passed_over = 0;
 }
 
-one_end : after_runs pair spawners nobody (history one_way ∷ []) ≡ Some (end_at 3 4)
+one_end : after_runs pair spawners nobody (unrecorded one_way ∷ []) ≡ Some (end_at 3 4)
 unfolding computed
 one_end = refl
 
-other_end : after_runs pair spawners nobody (history other_way ∷ []) ≡ Some (end_at 4 3)
+other_end : after_runs pair spawners nobody (unrecorded other_way ∷ []) ≡ Some (end_at 4 3)
 unfolding computed
 other_end = refl
 
 -- the two ends differ in last runs and agree
 ends_agree : Agrees pair (end_at 3 4) (end_at 4 3)
-ends_agree = runs_agree widths pair spawners nobody nobody (history one_way ∷ []) (history other_way ∷ []) (end_at 3 4) (end_at 4 3)
+ends_agree = runs_agree widths pair spawners nobody nobody (unrecorded one_way ∷ []) (unrecorded other_way ∷ []) (end_at 3 4) (end_at 4 3)
     (two_built (granting 1) (granting 1)) pair_settled spawners_within nobody_shape nobody_shape (agrees_refl pair nobody) refl
     (one_run, λ end e. tt) (other_run, λ end e. tt) one_end other_end

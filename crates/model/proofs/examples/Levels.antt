@@ -1,5 +1,5 @@
 -- The schedule order of a schedule with two levels: a system of the lower level stands before what only waits for an edge.
-use Rattle.std.proofs.Common.{◌≡◌, ℕ, zero, suc, ◌<◌, true, false, List, [], ◌∷◌, refl, sym, ◌∙◌, arith, true≢false}
+use Rattle.std.proofs.Common.{◌≡◌, ℕ, zero, suc, ◌<◌, true, false, List, [], ◌∷◌, None, refl, sym, ◌∙◌, arith, true≢false}
 use Rattle.model.specs.Lists.{has}
 use Rattle.model.specs.access.Access.{no_params}
 use Rattle.model.specs.steps.Schedule.{Schedule, ScheduledSystem, level_of}
@@ -19,6 +19,7 @@ levelled order = record {
   syncs = 2;
   order = order;
   silences = [];
+  sets = None;
 }
 
 -- a list that places b before u is no schedule order

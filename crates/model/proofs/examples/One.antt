@@ -1,5 +1,5 @@
 -- The run of a schedule whose condition answers no is one; on a false answer its list would go another way, and stop.
-use Rattle.std.proofs.Common.{◌≡◌, Bool, false, true, pos, List, [], ◌∷◌, Some, Err, inl, inr, refl, arith, true≢false}
+use Rattle.std.proofs.Common.{◌≡◌, Bool, false, true, pos, List, [], ◌∷◌, Some, None, Err, inl, inr, refl, arith, true≢false}
 use Rattle.std.proofs.lemmas.Bool.{both_ways}
 use Rattle.model.specs.declared.steps.Step.{Step}
 use Rattle.model.specs.declared.steps.Step.TheVariants.{Cond, Start, Skip, Sync}
@@ -19,11 +19,12 @@ use Rattle.model.specs.state.Loaded.{loaded}
 use Rattle.model.specs.runs.Runs.{IsSingleRun, IsStopped}
 use Rattle.model.proofs.faults.Judging.{lists_are_computed}
 use Rattle.model.proofs.progress.Determinism.{single_run_is_one, defined_runs_go_through}
+use Rattle.model.proofs.progress.Unrecorded.{none_told}
 use Rattle.model.proofs.examples.Bodies.{round, system, condition, zeros, computed}
 
 -- a system whose body refuses with 7, where Round is 9
 abbrev guarded : Schedule
-guarded = record { systems = system no_params ∷ []; conditions = condition (ResourceEquals round (pos 9)) (0 ∷ []) ∷ []; syncs = 1; order = 0 ∷ []; silences = [] }
+guarded = record { systems = system no_params ∷ []; conditions = condition (ResourceEquals round (pos 9)) (0 ∷ []) ∷ []; syncs = 1; order = 0 ∷ []; silences = []; sets = None }
 
 abbrev refusing : List BodyMeaning
 refusing = (λ shown. Err 7) ∷ []
@@ -83,7 +84,7 @@ unfolding computed
 clock = refl
 
 run : IsSingleRun guarded refusing start whole end.state
-run = record { single = single; lawful = lawful; complete = complete; answers = answers; end = end; meaning = meaning; leaves = refl }
+run = record { single = single; lawful = lawful; complete = complete; answers = answers; sets = none_told guarded refusing start whole; end = end; meaning = meaning; leaves = refl }
 
 -- every run from there has these steps
 same_steps : (h : List Step) (w' : State) → IsSingleRun guarded refusing start h w' → h ≡ whole
@@ -92,7 +93,7 @@ same_steps h w' other = (single_run_is_one guarded refusing start h whole w' end
 -- and none stops
 none_stops : (cause : Cause) → IsStopped guarded refusing 1 start cause → ⊥
 none_stops cause = defined_runs_go_through guarded refusing 1 start cause
-    (record { runs = whole ∷ []; count = refl; end = end.state; ran = (end.state, run, refl) })
+    (record { runs = record { steps = whole; sets = None } ∷ []; count = refl; end = end.state; ran = (end.state, run, refl) })
 
 -- ---- on a false answer
 

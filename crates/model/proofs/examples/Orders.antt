@@ -1,6 +1,6 @@
 -- Which schedules are settled: a writer beside a condition that reads the same, and two systems that share nothing, run in two orders.
 use Rattle.std.specs.Option.{is_some}
-use Rattle.std.proofs.Common.{◌≡◌, ◌≢◌, ℕ, zero, suc, ◌<◌, pos, true, false, List, [], ◌∷◌, ◌⊎◌, inl, inr, refl, sym, subst, arith, true≢false}
+use Rattle.std.proofs.Common.{◌≡◌, ◌≢◌, ℕ, zero, suc, ◌<◌, pos, true, false, List, [], ◌∷◌, None, ◌⊎◌, inl, inr, refl, sym, subst, arith, true≢false}
 use Rattle.std.proofs.lemmas.Bool.{both_ways}
 use Rattle.model.specs.access.Access.{Params, no_params}
 use Rattle.model.specs.access.Conflict.{Conflict, conflicts}
@@ -43,6 +43,7 @@ with_set predecessors = record {
   syncs = 1;
   order = 0 ∷ 1 ∷ 2 ∷ [];
   silences = [];
+  sets = None;
 }
 
 -- no path leads from the writer to a system without predecessors

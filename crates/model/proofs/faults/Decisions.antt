@@ -1,13 +1,13 @@
 -- What the laws of faults ask of a history is decided: each word holds or is refuted, by a test or a bounded search.
-use Rattle.std.proofs.Common.{ℕ, ◌≤◌, true, false, ◌≡◌, ◌⊎◌, inl, inr, List, length, arith}
+use Rattle.std.proofs.Common.{ℕ, ◌≤◌, true, false, ◌≡◌, ◌⊎◌, inl, inr, List, length, Option, arith}
 use Rattle.std.proofs.lemmas.Bool.{cases_lt, cases_eq, both_ways, true_from_ne_false}
 use Rattle.model.specs.declared.steps.Step.{Step}
 use Rattle.model.specs.access.Access.{Params}
-use Rattle.model.specs.access.Conflict.{Conflict, conflicts}
+use Rattle.model.specs.access.Meeting.{Meet, meet}
 use Rattle.model.specs.steps.Schedule.{Schedule, system_at, condition_at, covers, level_of, params_of}
-use Rattle.model.specs.steps.Lawful.{begun, ended, runs, synced, was_asked, answered, MeetsRunning, IsFree, HasFreeMember, HasOpen, HasFalse, IsLawful}
+use Rattle.model.specs.steps.Lawful.{begun, ended, runs, synced, was_asked, answered, sets_at, MeetsRunning, IsFree, HasFreeMember, HasOpen, HasFalse, IsLawful}
 use Rattle.model.specs.steps.Faults.{WaitsForSync, IsLevelOpen}
-use Rattle.model.proofs.serial.ConflictTests.{conflict-found, conflict-tested}
+use Rattle.model.proofs.serial.MeetTests.{meet-found, meet-tested}
 use Rattle.model.proofs.order.Histories.{runs_known}
 use Rattle.model.proofs.lists.Searches.{decide_true, decide_false, decide_both, least_below, FirstIn, NoneIn, first_in, found_has}
 use Rattle.model.proofs.progress.Progress.{covered_known}
@@ -16,17 +16,17 @@ use Rattle.model.proofs.progress.Progress.{covered_known}
 pub decide_at_most : (m n : ℕ) → (m ≤ n) ⊎ (m ≤ n → ⊥)
 decide_at_most m n = elim (cases_lt n m) [ inl l ↦ inr (λ k. omega arith) | inr k ↦ inl k ]
 
--- two accesses conflict or not
-pub decide_conflict : (a b : Params) → Conflict a b ⊎ (Conflict a b → ⊥)
-decide_conflict a b = elim (decide_true (conflicts a b)) [
-  | inl e ↦ inl (conflict-found a b e)
-  | inr none ↦ inr (λ c. none (conflict-tested a b c))
+-- two accesses meet or not
+pub decide_meet : (sets : Option (List ℕ)) (a b : Params) → Meet sets a b ⊎ (Meet sets a b → ⊥)
+decide_meet sets a b = elim (decide_true (meet sets a b)) [
+  | inl e ↦ inl (meet-found sets a b e)
+  | inr none ↦ inr (λ c. none (meet-tested sets a b c))
 ]
 
 -- a running system meets an access or none does
 pub decide_meets : (s : Schedule) (h : List Step) (access : Params) → IsLawful s h → MeetsRunning s h access ⊎ (MeetsRunning s h access → ⊥)
-decide_meets s h access lawful = elim (least_below (λ m. (runs h m ≡ true) × Conflict (params_of s m) access)
-    (λ m. decide_both (decide_true (runs h m)) (decide_conflict (params_of s m) access)) (length s.systems)) [
+decide_meets s h access lawful = elim (least_below (λ m. (runs h m ≡ true) × Meet (sets_at s h) (params_of s m) access)
+    (λ m. decide_both (decide_true (runs h m)) (decide_meet (sets_at s h) (params_of s m) access)) (length s.systems)) [
       | inl found ↦ inl (found.number, found.holds.0, found.holds.1)
       | inr none ↦ inr (λ meets. none meets.0 (runs_known s h meets.0 lawful meets.1) (meets.1, meets.2))
     ]

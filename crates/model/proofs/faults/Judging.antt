@@ -9,13 +9,13 @@ use Rattle.model.specs.declared.steps.StepFault.{StepFault}
 use Rattle.model.specs.declared.steps.StepFault.TheVariants.{Unknown, Repeated, NotReady, ConditionOpen, ConditionFalse, ConditionTrue, Conflict, NotRunning, LevelOpen}
 use Rattle.model.specs.access.Access.{Params}
 use Rattle.model.specs.Lists.{has}
-use Rattle.model.specs.access.Conflict as conflict
+use Rattle.model.specs.access.Meeting.{meet}
 use Rattle.model.specs.steps.Schedule.{Schedule, system_at, condition_at, params_of, access_of, level_of, covers}
-use Rattle.model.specs.steps.Lawful.{begun, ended, runs, synced, was_asked, answered, IsFree, HasFreeMember, HasOpen, HasFalse, MeetsRunning, May, IsLawful, IsComplete}
+use Rattle.model.specs.steps.Lawful.{begun, ended, runs, synced, was_asked, answered, sets_at, IsFree, HasFreeMember, HasOpen, HasFalse, MeetsRunning, May, IsLawful, IsComplete}
 use Rattle.model.specs.steps.Faults.{WaitsForSync, IsLevelOpen, faults_of, AskFault, StartFault, SkipFault, FinishFault, SyncFault, HasFault, IsFirst, IsFirstFault}
 use Rattle.model.specs.steps.Judged.{any_below, waits_for_sync, is_free, has_free_member, has_open, has_false, meets_running, is_level_open, ask_fault, start_fault, skip_fault, finish_fault, sync_fault, has_fault, fault_of, is_lawful, is_complete}
 use Rattle.model.specs.runs.Laws.{FaultsAreComputed, ListsAreComputed}
-use Rattle.model.proofs.serial.ConflictTests.{conflict-found, conflict-tested}
+use Rattle.model.proofs.serial.MeetTests.{meet-found, meet-tested}
 use Rattle.model.proofs.order.Histories.{same_or, runs_known}
 use Rattle.model.proofs.progress.Progress.{covered_known}
 use Rattle.model.proofs.faults.ExactFaults.{NoneOf, may_from}
@@ -151,11 +151,11 @@ tells_refused s h n = record {
 
 tells_meets : (s : Schedule) (h : List Step) (access : Params) → IsLawful s h → Tells (meets_running s h access) (MeetsRunning s h access)
 tells_meets s h access lawful = record {
-  sound = λ e. let found : SomeBelow (λ m. runs h m && conflict.conflicts (params_of s m) access) (length s.systems) = found_below _ _ e in
-      let both : (runs h found.0 ≡ true) × (conflict.conflicts (params_of s found.0) access ≡ true) = and_parts _ _ found.2 in
-      (found.0, both.0, conflict-found (params_of s found.0) access both.1);
-  exact = λ meets. below_found (λ m. runs h m && conflict.conflicts (params_of s m) access) (length s.systems) meets.0 (runs_known s h meets.0 lawful meets.1)
-      (and_from _ _ meets.1 (conflict-tested (params_of s meets.0) access meets.2));
+  sound = λ e. let found : SomeBelow (λ m. runs h m && meet (sets_at s h) (params_of s m) access) (length s.systems) = found_below _ _ e in
+      let both : (runs h found.0 ≡ true) × (meet (sets_at s h) (params_of s found.0) access ≡ true) = and_parts _ _ found.2 in
+      (found.0, both.0, meet-found (sets_at s h) (params_of s found.0) access both.1);
+  exact = λ meets. below_found (λ m. runs h m && meet (sets_at s h) (params_of s m) access) (length s.systems) meets.0 (runs_known s h meets.0 lawful meets.1)
+      (and_from _ _ meets.1 (meet-tested (sets_at s h) (params_of s meets.0) access meets.2));
 }
 
 tells_level : (s : Schedule) (h : List Step) (k : ℕ) → Tells (is_level_open s h k) (IsLevelOpen s h k)

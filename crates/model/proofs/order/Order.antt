@@ -1,39 +1,40 @@
--- The order of lawful lists: running systems don't conflict, edges and sync points are kept, starts are in order.
+-- The order of lawful lists: running systems don't meet, edges and sync points are kept, starts are in order.
 use Rattle.std.proofs.Common.{ℕ, ◌<◌, true, false, true≢false, ◌≡◌, ◌≢◌, ◌⊎◌, inl, inr, List, [], ◌∷◌, ◌++◌, length, refl, sym, ◌∙◌, subst}
 use Rattle.std.proofs.lemmas.Bool.{or_cases, or_left, false_from_ne_true}
 use Rattle.model.specs.declared.steps.Step.{Step}
 use Rattle.model.specs.declared.steps.Step.TheVariants.{Cond, Start, Skip, Finish, Sync}
-use Rattle.model.specs.access.Conflict.{Conflict}
+use Rattle.model.specs.access.Meeting.{Meet}
 use Rattle.model.specs.steps.Schedule.{Schedule, level_of, params_of, has_edge}
-use Rattle.model.specs.steps.Lawful.{is_skip, started, skipped, begun, ended, runs, May, MayStart, MaySync, IsLawful}
+use Rattle.model.specs.steps.Lawful.{is_skip, started, skipped, begun, ended, runs, sets_at, May, MayStart, MaySync, IsLawful}
 use Rattle.model.specs.steps.Ambiguity.{Reaches, Before}
 use Rattle.model.specs.steps.Ambiguity.Reaches.{Edge, Onward}
 use Rattle.model.specs.steps.Ambiguity.Before.{ByPath, ByLevel}
 use Rattle.model.specs.runs.Laws.{ListsKeepOrder}
-use Rattle.model.proofs.serial.Conflicts.{conflict_swap}
+use Rattle.model.proofs.serial.Conflicts.{meet_swap}
 use Rattle.model.proofs.order.Histories.{any_later, lawful_before, may_at, ended_begun, started_not-skipped, HasBegun, free_found, begun_found, runs-start, runs-finish, level_ended, above_waits, idle}
 
 -- a system that may start meets no running one
-pub starts_apart : (s : Schedule) (h : List Step) (j m n : ℕ) → MayStart s h j → j ≡ m → runs h n ≡ true → Conflict (params_of s n) (params_of s m) → ⊥
-starts_apart s h j m n may q r c = may.apart (n, r, subst (λ k. Conflict (params_of s n) (params_of s k)) (sym q) c)
+pub starts_apart : (s : Schedule) (h : List Step) (j m n : ℕ) → MayStart s h j → j ≡ m → runs h n ≡ true → Meet (sets_at s h) (params_of s n) (params_of s m) → ⊥
+starts_apart s h j m n may q r c = may.apart (n, r, subst (λ k. Meet (sets_at s h) (params_of s n) (params_of s k)) (sym q) c)
 
--- no two systems that run together conflict
-pub none_conflict : (s : Schedule) (h : List Step) (m n : ℕ) → IsLawful s h → runs h m ≡ true → runs h n ≡ true → m ≢ n → Conflict (params_of s m) (params_of s n) → ⊥
-none_conflict s [] m n lawful p q differ c = true≢false (sym p)
-none_conflict s (Start j ∷ h) m n lawful p q differ c = elim (runs-start h j m p) [
+-- no two systems that run together meet
+pub none_meet : (s : Schedule) (h : List Step) (m n : ℕ) → IsLawful s h → runs h m ≡ true → runs h n ≡ true → m ≢ n →
+    Meet (sets_at s h) (params_of s m) (params_of s n) → ⊥
+none_meet s [] m n lawful p q differ c = true≢false (sym p)
+none_meet s (Start j ∷ h) m n lawful p q differ c = elim (runs-start h j m p) [
   | inl u ↦ elim (runs-start h j n q) [
     | inl v ↦ differ (sym u ∙ v)
-    | inr y ↦ starts_apart s h j m n lawful.0 u y (conflict_swap _ _ c)
+    | inr y ↦ starts_apart s h j m n lawful.0 u y (meet_swap (sets_at s h) _ _ c)
   ]
   | inr x ↦ elim (runs-start h j n q) [
     | inl v ↦ starts_apart s h j n m lawful.0 v x c
-    | inr y ↦ none_conflict s h m n lawful.1 x y differ c
+    | inr y ↦ none_meet s h m n lawful.1 x y differ c
   ]
 ]
-none_conflict s (Finish j ∷ h) m n lawful p q differ c = none_conflict s h m n lawful.1 (runs-finish h j m p).1 (runs-finish h j n q).1 differ c
-none_conflict s (Skip j ∷ h) m n lawful p q differ c = none_conflict s h m n lawful.1 p q differ c
-none_conflict s (Cond j a ∷ h) m n lawful p q differ c = none_conflict s h m n lawful.1 p q differ c
-none_conflict s (Sync j ∷ h) m n lawful p q differ c = none_conflict s h m n lawful.1 p q differ c
+none_meet s (Finish j ∷ h) m n lawful p q differ c = none_meet s h m n lawful.1 (runs-finish h j m p).1 (runs-finish h j n q).1 differ c
+none_meet s (Skip j ∷ h) m n lawful p q differ c = none_meet s h m n lawful.1 p q differ c
+none_meet s (Cond j a ∷ h) m n lawful p q differ c = none_meet s h m n lawful.1 p q differ c
+none_meet s (Sync j ∷ h) m n lawful p q differ c = absurd (idle s h j m lawful.1 lawful.0 p)
 
 -- the end of a system stands before what an edge leads to
 pub edges_kept : (s : Schedule) (later h : List Step) (m n : ℕ) (step : Step) → IsLawful s (later ++ step ∷ h) → (step ≡ Start n) ⊎ (step ≡ Skip n) →
@@ -79,7 +80,7 @@ order_is_topological s later h m n lawful before e = elim (or_cases (started h m
 -- a lawful list keeps the order that the schedule asks for
 pub lists_keep_order : ListsKeepOrder
 lists_keep_order s h lawful = record {
-  apart = λ later front m n e. none_conflict s front m n (lawful_before s later front (subst (IsLawful s) e lawful));
+  apart = λ later front m n e. none_meet s front m n (lawful_before s later front (subst (IsLawful s) e lawful));
   edges = λ later front step m n e. edges_kept s later front m n step (subst (IsLawful s) e lawful);
   syncs = λ later front k n e. syncs_kept s later front k n (subst (IsLawful s) e lawful);
   order = λ later front m n e before start. order_is_topological s later front m n (subst (IsLawful s) e lawful) before (subst (λ l. started l m ≡ true) e start);

@@ -10,20 +10,24 @@ use Rattle.model.specs.declared.steps.Ready.TheVariants as ready
 use Rattle.model.specs.Lists.{first_some}
 use Rattle.model.specs.state.State.{State}
 use Rattle.model.specs.shown.Outcome.{BodyMeaning}
-use Rattle.model.specs.steps.Schedule.{Schedule}
+use Rattle.model.specs.steps.Schedule.{Schedule, Recorded, recording}
 use Rattle.model.specs.steps.Lawful.{IsFree, May, MaySync, IsLawful, IsComplete, was_asked}
 use Rattle.model.specs.steps.Ready.{IsAskable, Offers, IsReadySync, IsReadyAmong, step_of}
 use Rattle.model.specs.steps.Widths.{just_started, IsNextSingle, IsSingle}
 use Rattle.model.specs.runs.RunState.{RunState, opening}
-use Rattle.model.specs.runs.Meaning.{Interleaved, interleaved, interleaved_step, with_running_systems, serial, serial_step, IsTrueAnswer, HasTrueAnswers}
+use Rattle.model.specs.runs.Meaning.{Interleaved, interleaved, interleaved_step, with_running_systems, serial, serial_step, IsTrueAnswer, HasTrueAnswers, HasTrueSets}
 use Rattle.model.specs.runs.Causes.{Cause, cause_of_opening, serial_cause_of, serial_cause_at, serial_cause}
-use Rattle.model.specs.runs.Runs.{IsSingleRun, AreSingleRuns}
+use Rattle.model.specs.runs.Runs.{IsSingleRun, AreSingleRuns, IsStopped}
 use Rattle.model.specs.runs.Laws.{SingleRunIsOne, SingleRunsAreOne, DefinedRunsGoThrough, StopsAreOne}
 use Rattle.model.proofs.order.Histories.{may_at, ended_begun, idle_at_end, answered_asked, one_answer}
 use Rattle.model.proofs.faults.Causes.{LacksFor, then-parts, lacks-serial, lacks-serial_step}
 use Rattle.model.proofs.progress.Single.{single_is_wide, wide_lawful}
 use Rattle.model.proofs.serial.Soundness.{sound_run}
-use Rattle.model.proofs.progress.WideOfOne.{idle_same, none_runs}
+use Rattle.model.proofs.serial.Interleaving.{idle_same}
+use Rattle.model.proofs.serial.There.{sets_before, sets_front}
+use Rattle.model.proofs.serial.Recording.{answers-recording, cause-recording}
+use Rattle.model.proofs.progress.WideOfOne.{none_runs}
+use Rattle.model.proofs.progress.Unrecorded.{single-recording, none_told, plain_run}
 
 -- ---- one thing is ready
 
@@ -206,14 +210,15 @@ single_run_is_one s bodies w h g w' v' r q =
     let end : r.end ≡ q.end = cc in
     (same, sym r.leaves ∙ (ap (λ run. run.state) end ∙ q.leaves))
 
--- as many runs from one state have the same steps and the same end
+-- as many runs from one state have the same steps and the same end: compared as if they recorded nothing
 pub single_runs_are_one : SingleRunsAreOne
 single_runs_are_one s bodies w [] [] w' v' count ran other = (refl, sym ran ∙ other)
-single_runs_are_one s bodies w [] (g ∷ gs) w' v' count ran other = absurd (omega (arith, count))
-single_runs_are_one s bodies w (h ∷ hs) [] w' v' count ran other = absurd (omega (arith, count))
-single_runs_are_one s bodies w (h ∷ hs) (g ∷ gs) w' v' count ran other =
-    let first = single_run_is_one s bodies w h g ran.0 other.0 ran.1 other.1 in
-    let rest = single_runs_are_one s bodies ran.0 hs gs w' v' (omega (arith, count)) ran.2 (subst (λ v. AreSingleRuns s bodies v gs v') (sym first.1) other.2) in
+single_runs_are_one s bodies w [] (q ∷ qs) w' v' count ran other = absurd (omega (arith, count))
+single_runs_are_one s bodies w (r ∷ rs) [] w' v' count ran other = absurd (omega (arith, count))
+single_runs_are_one s bodies w (r ∷ rs) (q ∷ qs) w' v' count ran other =
+    let first = single_run_is_one (recording s None) bodies w r.steps q.steps ran.0 other.0
+    (plain_run (recording s r.sets) bodies w r.steps ran.0 ran.1) (plain_run (recording s q.sets) bodies w q.steps other.0 other.1) in
+    let rest = single_runs_are_one s bodies ran.0 rs qs w' v' (omega (arith, count)) ran.2 (subst (λ v. AreSingleRuns s bodies v qs v') (sym first.1) other.2) in
     (ap₂ (λ x xs. x ∷ xs) first.0 rest.0, rest.1)
 
 -- ---- what has a meaning doesn't stop
@@ -228,24 +233,46 @@ run_goes_through s bodies w h w' front cause r single answers stops =
     let bad : None ≡ Some there.0 = sym lacks ∙ there.1 in
     cc
 
+-- a front that stops
+record StopsOn (s : Schedule) (bodies : List BodyMeaning) (w : State) (front : List Step) (cause : Cause) : Type 0 where
+  single : IsSingle s front
+  answers : HasTrueAnswers s bodies w front
+  stops : serial_cause s bodies w front ≡ Some cause
+
+-- each is one of a run that records nothing
+plain_stop : (s : Schedule) (bodies : List BodyMeaning) (w : State) (front : List Step) (cause : Cause) → IsSingle s front → HasTrueAnswers s bodies w front →
+    serial_cause s bodies w front ≡ Some cause → StopsOn (recording s None) bodies w front cause
+plain_stop s bodies w front cause single answers stops = record {
+  single = single-recording s None front single;
+  answers = answers-recording s None bodies w front answers;
+  stops = cause-recording s None bodies w front ∙ stops;
+}
+
+-- so is that of a stop
+stop_of : (s : Schedule) (bodies : List BodyMeaning) (times : ℕ) (w : State) (cause : Cause) (stopped : IsStopped s bodies times w cause) →
+    StopsOn (recording s None) bodies stopped.middle stopped.front.steps cause
+stop_of s bodies times w cause stopped =
+    plain_stop (recording s stopped.front.sets) bodies stopped.middle stopped.front.steps cause stopped.single stopped.answers stopped.stops
+
 -- so many runs stop nowhere before their end
-runs_go_through : (s : Schedule) (bodies : List BodyMeaning) (w : State) (hs gs : List (List Step)) (w' middle : State) (front : List Step) (cause : Cause)
-    → AreSingleRuns s bodies w hs w' → AreSingleRuns s bodies w gs middle → length gs < length hs
-    → IsSingle s front → HasTrueAnswers s bodies middle front → serial_cause s bodies middle front ≡ Some cause → ⊥
-runs_go_through s bodies w [] gs w' middle front cause ran before fewer single answers stops = omega (arith, fewer)
-runs_go_through s bodies w (h ∷ hs) [] w' middle front cause ran before fewer single answers stops =
-    run_goes_through s bodies w h ran.0 front cause ran.1 single (subst (λ v. HasTrueAnswers s bodies v front) (sym before) answers)
-    (subst (λ v. serial_cause s bodies v front ≡ Some cause) (sym before) stops)
-runs_go_through s bodies w (h ∷ hs) (g ∷ gs) w' middle front cause ran before fewer single answers stops =
-    let first = single_run_is_one s bodies w h g ran.0 before.0 ran.1 before.1 in
-    runs_go_through s bodies ran.0 hs gs w' middle front cause ran.2 (subst (λ v. AreSingleRuns s bodies v gs middle) (sym first.1) before.2)
-    (omega (arith, fewer)) single answers stops
+runs_go_through : (s : Schedule) (bodies : List BodyMeaning) (w : State) (rs qs : List Recorded) (w' middle : State) (front : List Step) (cause : Cause)
+    → AreSingleRuns s bodies w rs w' → AreSingleRuns s bodies w qs middle → length qs < length rs → StopsOn (recording s None) bodies middle front cause → ⊥
+runs_go_through s bodies w [] qs w' middle front cause ran before fewer stop = omega (arith, fewer)
+runs_go_through s bodies w (r ∷ rs) [] w' middle front cause ran before fewer stop =
+    run_goes_through (recording s None) bodies w r.steps ran.0 front cause (plain_run (recording s r.sets) bodies w r.steps ran.0 ran.1) stop.single
+    (subst (λ v. HasTrueAnswers (recording s None) bodies v front) (sym before) stop.answers)
+    (subst (λ v. serial_cause (recording s None) bodies v front ≡ Some cause) (sym before) stop.stops)
+runs_go_through s bodies w (r ∷ rs) (q ∷ qs) w' middle front cause ran before fewer stop =
+    let first = single_run_is_one (recording s None) bodies w r.steps q.steps ran.0 before.0
+    (plain_run (recording s r.sets) bodies w r.steps ran.0 ran.1) (plain_run (recording s q.sets) bodies w q.steps before.0 before.1) in
+    runs_go_through s bodies ran.0 rs qs w' middle front cause ran.2 (subst (λ v. AreSingleRuns s bodies v qs middle) (sym first.1) before.2)
+    (omega (arith, fewer)) stop
 
 -- where so many runs have a meaning, so many runs stop for no cause
 pub defined_runs_go_through : DefinedRunsGoThrough
 defined_runs_go_through s bodies times w cause defined stopped =
-    runs_go_through s bodies w defined.runs stopped.complete_runs defined.end stopped.middle stopped.front cause defined.ran stopped.ran
-    (subst (λ n. length stopped.complete_runs < n) (sym defined.count) stopped.fewer) stopped.single stopped.answers stopped.stops
+    runs_go_through s bodies w defined.runs stopped.complete_runs defined.end stopped.middle stopped.front.steps cause defined.ran stopped.ran
+    (subst (λ n. length stopped.complete_runs < n) (sym defined.count) stopped.fewer) (stop_of s bodies times w cause stopped)
 
 -- ---- runs stop for one cause
 
@@ -294,8 +321,8 @@ stops_at s bodies w (x ∷ h) cause e = go (serial_cause s bodies w h) refl (ser
 
 -- after a front that has a meaning one step with a true answer is next
 one_same_next : (s : Schedule) (bodies : List BodyMeaning) (w : State) (h : List Step) (x y : Step) (run : RunState) → IsSingle s (x ∷ h) → IsSingle s (y ∷ h)
-    → HasTrueAnswers s bodies w (x ∷ h) → HasTrueAnswers s bodies w (y ∷ h) → serial s bodies w h ≡ Some run → x ≡ y
-one_same_next s bodies w h x y run single_x single_y answers_x answers_y e = go (just_started h) refl single_x.0 single_y.0
+    → HasTrueAnswers s bodies w (x ∷ h) → HasTrueAnswers s bodies w (y ∷ h) → HasTrueSets s bodies w h → serial s bodies w h ≡ Some run → x ≡ y
+one_same_next s bodies w h x y run single_x single_y answers_x answers_y sets e = go (just_started h) refl single_x.0 single_y.0
   where
     lawful : IsLawful s h
     lawful = wide_lawful 1 s h (single_is_wide s h single_x.1)
@@ -304,18 +331,18 @@ one_same_next s bodies w h x y run single_x single_y answers_x answers_y e = go 
     go (Some n) q p r = p ∙ sym r
     go None q p r =
         let there : interleaved s bodies w h ≡ Some (record { run = run; running_systems = [] }) =
-        idle_same s bodies w h lawful (none_runs s h single_x.1 lawful q) ∙ ap (with_running_systems []) e in
+        idle_same s bodies w h lawful sets (none_runs s h single_x.1 lawful q) ∙ ap (with_running_systems []) e in
         one_next s h (record { run = run; running_systems = [] }) x y None lawful p r
         (subst (IsTrueAnswer s x) there answers_x.0) (subst (IsTrueAnswer s y) there answers_y.0)
 
 -- of two fronts that have a meaning one begins with the other
 comparable : (s : Schedule) (bodies : List BodyMeaning) (w : State) (h k : List Step) (run : RunState) → IsSingle s h → IsSingle s k
-    → HasTrueAnswers s bodies w h → HasTrueAnswers s bodies w k → serial s bodies w h ≡ Some run
+    → HasTrueAnswers s bodies w h → HasTrueAnswers s bodies w k → HasTrueSets s bodies w h → serial s bodies w h ≡ Some run
     → ((later : List Step) × (k ≡ later ++ h)) ⊎ ((later : List Step) × (h ≡ later ++ k))
-comparable s bodies w [] k run single_h single_k answers_h answers_k e = inl (k, sym (append-nil k))
-comparable s bodies w (x ∷ h) k run single_h single_k answers_h answers_k e =
+comparable s bodies w [] k run single_h single_k answers_h answers_k sets e = inl (k, sym (append-nil k))
+comparable s bodies w (x ∷ h) k run single_h single_k answers_h answers_k sets e =
     let before = then-parts (serial s bodies w h) (serial_step s bodies x) run e in
-    go before.0 before.1 (comparable s bodies w h k before.0 single_h.1 single_k answers_h.1 answers_k before.1)
+    go before.0 before.1 (comparable s bodies w h k before.0 single_h.1 single_k answers_h.1 answers_k (sets_before s bodies w x h sets) before.1)
   where
     go : (there : RunState) → serial s bodies w h ≡ Some there → ((later : List Step) × (k ≡ later ++ h)) ⊎ ((later : List Step) × (h ≡ later ++ k))
         → ((later : List Step) × (k ≡ later ++ x ∷ h)) ⊎ ((later : List Step) × (x ∷ h ≡ later ++ k))
@@ -325,7 +352,7 @@ comparable s bodies w (x ∷ h) k run single_h single_k answers_h answers_k e =
       | inr found ↦
           let single_y : IsSingle s (found.1 ∷ h) = single_before s found.0 (found.1 ∷ h) (subst (IsSingle s) found.2 single_k) in
           let answers_y : HasTrueAnswers s bodies w (found.1 ∷ h) = answers_before s bodies w found.0 (found.1 ∷ h) (subst (HasTrueAnswers s bodies w) found.2 answers_k) in
-          let same : found.1 ≡ x = one_same_next s bodies w h found.1 x there single_y single_h answers_y answers_h f in
+          let same : found.1 ≡ x = one_same_next s bodies w h found.1 x there single_y single_h answers_y answers_h (sets_before s bodies w x h sets) f in
           inl (found.0, found.2 ∙ ap (λ y. found.0 ++ y ∷ h) same)
     ]
 
@@ -333,15 +360,17 @@ comparable s bodies w (x ∷ h) k run single_h single_k answers_h answers_k e =
 record StoppedList (s : Schedule) (bodies : List BodyMeaning) (w : State) (step : Step) (front : List Step) (run : RunState) (cause : Cause) : Type 0 where
   single : IsSingle s (step ∷ front)
   answers : HasTrueAnswers s bodies w (step ∷ front)
+  sets : HasTrueSets s bodies w front
   meaning : serial s bodies w front ≡ Some run
   stops : serial_cause_of s bodies step run ≡ Some cause
 
 -- the list of a stop
 stopped_list : (s : Schedule) (bodies : List BodyMeaning) (w : State) (list : List Step) (cause : Cause) → IsSingle s list → HasTrueAnswers s bodies w list
-    → (r : StopsAt s bodies w list cause) → StoppedList s bodies w r.step r.front r.run cause
-stopped_list s bodies w list cause single answers r = record {
+    → HasTrueSets s bodies w list → (r : StopsAt s bodies w list cause) → StoppedList s bodies w r.step r.front r.run cause
+stopped_list s bodies w list cause single answers sets r = record {
   single = single_before s r.later (r.step ∷ r.front) (subst (IsSingle s) r.whole single);
   answers = answers_before s bodies w r.later (r.step ∷ r.front) (subst (HasTrueAnswers s bodies w) r.whole answers);
+  sets = sets_before s bodies w r.step r.front (sets_front s bodies w r.later (r.step ∷ r.front) (subst (HasTrueSets s bodies w) r.whole sets));
   meaning = r.meaning;
   stops = r.stops;
 }
@@ -353,7 +382,7 @@ stop_within s bodies w x y h k run end cause other p q later e = elim (next_afte
   | inl same ↦
       let single_y : IsSingle s (y ∷ h) = subst (λ l. IsSingle s (y ∷ l)) same q.single in
       let answers_y : HasTrueAnswers s bodies w (y ∷ h) = subst (λ l. HasTrueAnswers s bodies w (y ∷ l)) same q.answers in
-      let steps : x ≡ y = one_same_next s bodies w h x y run p.single single_y p.answers answers_y p.meaning in
+      let steps : x ≡ y = one_same_next s bodies w h x y run p.single single_y p.answers answers_y p.sets p.meaning in
       let ends : Some run ≡ Some end = sym p.meaning ∙ (ap (serial s bodies w) (sym same) ∙ q.meaning) in
       let runs : run ≡ end = cc in
       let causes : Some cause ≡ Some other = sym p.stops ∙ (ap₂ (serial_cause_of s bodies) steps runs ∙ q.stops) in
@@ -361,7 +390,7 @@ stop_within s bodies w x y h k run end cause other p q later e = elim (next_afte
   | inr found ↦
       let single_z : IsSingle s (found.1 ∷ h) = single_before s found.0 (found.1 ∷ h) (subst (IsSingle s) found.2 q.single.1) in
       let answers_z : HasTrueAnswers s bodies w (found.1 ∷ h) = answers_before s bodies w found.0 (found.1 ∷ h) (subst (HasTrueAnswers s bodies w) found.2 q.answers.1) in
-      let steps : found.1 ≡ x = one_same_next s bodies w h found.1 x run single_z p.single answers_z p.answers p.meaning in
+      let steps : found.1 ≡ x = one_same_next s bodies w h found.1 x run single_z p.single answers_z p.answers p.sets p.meaning in
       let there = serial_before s bodies w found.0 (found.1 ∷ h) end (subst (λ l. serial s bodies w l ≡ Some end) found.2 q.meaning) in
       let goes : serial_step s bodies x run ≡ Some there.0 =
       sym (ap (option_and_then (serial_step s bodies x)) p.meaning) ∙ (ap (λ z. serial s bodies w (z ∷ h)) (sym steps) ∙ there.1) in
@@ -379,8 +408,9 @@ opened s bodies w h run e none =
 
 -- two lists from one state stop for one cause
 one_cause : (s : Schedule) (bodies : List BodyMeaning) (w : State) (f g : List Step) (cause other : Cause) → IsSingle s f → IsSingle s g
-    → HasTrueAnswers s bodies w f → HasTrueAnswers s bodies w g → serial_cause s bodies w f ≡ Some cause → serial_cause s bodies w g ≡ Some other → cause ≡ other
-one_cause s bodies w f g cause other single_f single_g answers_f answers_g stops_f stops_g = go (stops_at s bodies w f cause stops_f) (stops_at s bodies w g other stops_g)
+    → HasTrueAnswers s bodies w f → HasTrueAnswers s bodies w g → HasTrueSets s bodies w f → HasTrueSets s bodies w g
+    → serial_cause s bodies w f ≡ Some cause → serial_cause s bodies w g ≡ Some other → cause ≡ other
+one_cause s bodies w f g cause other single_f single_g answers_f answers_g sets_f sets_g stops_f stops_g = go (stops_at s bodies w f cause stops_f) (stops_at s bodies w g other stops_g)
   where
     unopened : (c : Cause) → cause_of_opening s w ≡ Some c → serial s bodies w [] ≡ None
     unopened c e = (lacks-serial s bodies w []).1 (subst IsSome (sym e) refl)
@@ -391,22 +421,27 @@ one_cause s bodies w f g cause other single_f single_g answers_f answers_g stops
     go (inl p) (inr q) = absurd (opened s bodies w q.front q.run q.meaning (unopened cause p))
     go (inr p) (inl q) = absurd (opened s bodies w p.front p.run p.meaning (unopened other q))
     go (inr p) (inr q) =
-        let a = stopped_list s bodies w f cause single_f answers_f p in
-        let b = stopped_list s bodies w g other single_g answers_g q in
-        elim (comparable s bodies w p.front q.front p.run a.single.1 b.single.1 a.answers.1 b.answers.1 p.meaning) [
+        let a = stopped_list s bodies w f cause single_f answers_f sets_f p in
+        let b = stopped_list s bodies w g other single_g answers_g sets_g q in
+        elim (comparable s bodies w p.front q.front p.run a.single.1 b.single.1 a.answers.1 b.answers.1 a.sets p.meaning) [
           | inl longer ↦ stop_within s bodies w p.step q.step p.front q.front p.run q.run cause other a b longer.0 longer.1
           | inr shorter ↦ sym (stop_within s bodies w q.step p.step q.front p.front q.run p.run other cause b a shorter.0 shorter.1)
         ]
+
+-- two lists that record nothing stop for one cause
+one_plain : (s : Schedule) (bodies : List BodyMeaning) (w : State) (f g : List Step) (cause other : Cause) → StopsOn (recording s None) bodies w f cause → StopsOn (recording s None) bodies w g other → cause ≡ other
+one_plain s bodies w f g cause other p q =
+    one_cause (recording s None) bodies w f g cause other p.single q.single p.answers q.answers (none_told s bodies w f) (none_told s bodies w g) p.stops q.stops
 
 -- runs on one thread stop for one cause
 pub stops_are_one : StopsAreOne
 stops_are_one s bodies times others w cause other p q = elim (cases_order (length p.complete_runs) (length q.complete_runs)) [
   | inl same ↦
       let ends = (single_runs_are_one s bodies w p.complete_runs q.complete_runs p.middle q.middle same p.ran q.ran).1 in
-      one_cause s bodies p.middle p.front q.front cause other p.single q.single p.answers
-      (subst (λ v. HasTrueAnswers s bodies v q.front) (sym ends) q.answers) p.stops (subst (λ v. serial_cause s bodies v q.front ≡ Some other) (sym ends) q.stops)
+      one_plain s bodies p.middle p.front.steps q.front.steps cause other (stop_of s bodies times w cause p)
+      (subst (λ v. StopsOn (recording s None) bodies v q.front.steps other) (sym ends) (stop_of s bodies others w other q))
   | inr differ ↦ elim differ [
-    | inl fewer ↦ absurd (runs_go_through s bodies w q.complete_runs p.complete_runs q.middle p.middle p.front cause q.ran p.ran fewer p.single p.answers p.stops)
-    | inr more ↦ absurd (runs_go_through s bodies w p.complete_runs q.complete_runs p.middle q.middle q.front other p.ran q.ran more q.single q.answers q.stops)
+    | inl fewer ↦ absurd (runs_go_through s bodies w q.complete_runs p.complete_runs q.middle p.middle p.front.steps cause q.ran p.ran fewer (stop_of s bodies times w cause p))
+    | inr more ↦ absurd (runs_go_through s bodies w p.complete_runs q.complete_runs p.middle q.middle q.front.steps other p.ran q.ran more (stop_of s bodies others w other q))
   ]
 ]

@@ -1,5 +1,5 @@
 -- With room for one, the lists, runs and stops of a coordinator are those of one thread.
-use Rattle.std.proofs.Common.{ℕ, ◌<◌, ◌==◌, Bool, true, false, ◌≡◌, List, [], ◌∷◌, length, Option, Some, None, IsSome, is_some, option_map, option_and_then, refl, sym, ap, ap₂, ◌∙◌, subst, inl, inr, arith}
+use Rattle.std.proofs.Common.{ℕ, ◌<◌, ◌==◌, Bool, true, false, ◌≡◌, List, [], ◌∷◌, length, Option, Some, None, IsSome, is_some, option_and_then, refl, sym, ap, ap₂, ◌∙◌, subst, inl, inr, arith}
 use Rattle.std.proofs.lemmas.Bool.{or_cases, eqb-true, eq-eqb, both_ways, false≢true, cond-true}
 use Rattle.model.specs.declared.steps.Step.{Step}
 use Rattle.model.specs.declared.steps.Step.TheVariants.{Cond, Start, Skip, Finish, Sync}
@@ -7,17 +7,17 @@ use Rattle.model.specs.declared.steps.Ready.TheVariants as ready
 use Rattle.model.specs.Lists.{has, provided, first_some}
 use Rattle.model.specs.state.State.{State}
 use Rattle.model.specs.shown.Outcome.{BodyMeaning}
-use Rattle.model.specs.steps.Schedule.{Schedule}
+use Rattle.model.specs.steps.Schedule.{Schedule, recording}
 use Rattle.model.specs.steps.Lawful.{runs, NoneRuns, May, IsLawful}
-use Rattle.model.specs.steps.Widths.{IsChosen, just_started, IsNextSingle, IsSingle, running_after, IsNextWide}
+use Rattle.model.specs.steps.Widths.{IsChosen, just_started, IsNextSingle, IsSingle, running_after, IsNextWide, IsWide}
 use Rattle.model.specs.runs.RunState.{RunState, can_start, started_system, after_start}
-use Rattle.model.specs.runs.Meaning.{Interleaved, running_system, with_running_systems, interleaved, interleaved_step, serial}
+use Rattle.model.specs.runs.Meaning.{running_system, with_running_systems, interleaved, interleaved_step, serial, HasTrueSets}
 use Rattle.model.specs.runs.Causes.{Cause, cause_of_opening, cause_of_start, cause_of_finish, cause_of_running, serial_cause_at, serial_cause, interleaved_cause_at, interleaved_cause}
 use Rattle.model.specs.runs.Runs.{IsSingleRun}
 use Rattle.model.specs.runs.WideRuns.{IsWideRun}
 use Rattle.model.specs.runs.Laws.{WideOfOneIsSingle, WideRunsOfOneAreSingle, WideStopsOfOneAreSingle}
 use Rattle.model.proofs.serial.Holding.{system_of-started}
-use Rattle.model.proofs.serial.Interleaving.{idle_none, interleaved_idle}
+use Rattle.model.proofs.serial.Interleaving.{idle_same}
 use Rattle.model.proofs.faults.Causes.{LacksFor, lacks-serial, lacks-start}
 use Rattle.model.proofs.progress.Single.{wide_lawful, alone, running_alone}
 use Rattle.model.proofs.progress.Width.{running_is}
@@ -56,14 +56,16 @@ single_run s bodies w h w' r = let lawful = wide_lawful 1 s h r.wide in record {
   lawful = lawful;
   complete = r.complete;
   answers = r.answers;
+  sets = r.sets;
   end = r.end.run;
-  meaning = serial_of s bodies w h r.end lawful r.complete r.meaning;
+  meaning = serial_of s bodies w h r.end lawful r.complete r.sets r.meaning;
   leaves = r.leaves;
 }
 
 pub wide_runs_of_one_are_single : WideRunsOfOneAreSingle
 wide_runs_of_one_are_single s bodies w [] w' ran = ran
-wide_runs_of_one_are_single s bodies w (h ∷ hs) w' ran = (ran.0, single_run s bodies w h ran.0 ran.1, wide_runs_of_one_are_single s bodies ran.0 hs w' ran.2)
+wide_runs_of_one_are_single s bodies w (r ∷ rs) w' ran =
+    (ran.0, single_run (recording s r.sets) bodies w r.steps ran.0 ran.1, wide_runs_of_one_are_single s bodies ran.0 rs w' ran.2)
 
 -- ---- stops
 
@@ -76,14 +78,6 @@ first_some-none (Some c) = refl
 first_some-three : (o p q : Option Cause) → first_some (first_some o p) q ≡ first_some o (first_some p q)
 first_some-three None p q = refl
 first_some-three (Some c) p q = refl
-
--- where nothing runs, an interleaved run is one of a thread with no running systems
-pub idle_same : (s : Schedule) (bodies : List BodyMeaning) (w : State) (h : List Step) → IsLawful s h → NoneRuns h → interleaved s bodies w h ≡ with_running_systems [] (serial s bodies w h)
-idle_same s bodies w h lawful none = go (interleaved s bodies w h) refl ∙ ap (with_running_systems []) (interleaved_idle s bodies w h lawful none)
-  where
-    go : (o : Option Interleaved) → interleaved s bodies w h ≡ o → o ≡ with_running_systems [] (option_map (λ x. x.run) o)
-    go None e = refl
-    go (Some x) e = ap (λ ps. Some (record { run = x.run; running_systems = ps })) (idle_none s bodies w h x lawful none e)
 
 -- in a list of one thread in which nothing was just started, nothing runs
 pub none_runs : (s : Schedule) (h : List Step) → IsSingle s h → IsLawful s h → just_started h ≡ None → NoneRuns h
@@ -184,35 +178,35 @@ same_so_far s bodies w h e same = sym (first_some-none (interleaved_cause s bodi
     ∙ ap (first_some (interleaved_cause s bodies w h)) (sym (late_none s bodies w h e)) ∙ same
 
 -- one more step that is no start, after a list in which nothing was just started
-same_step : (s : Schedule) (bodies : List BodyMeaning) (w : State) (h : List Step) (step : Step) → IsSingle s h → IsLawful s h → just_started h ≡ None →
+same_step : (s : Schedule) (bodies : List BodyMeaning) (w : State) (h : List Step) (step : Step) → IsSingle s h → IsLawful s h → HasTrueSets s bodies w h → just_started h ≡ None →
     ((o : Option RunState) → interleaved_cause_at s bodies step (with_running_systems [] o) ≡ serial_cause_at s bodies step o) →
     first_some (interleaved_cause s bodies w h) (late_cause s bodies w h) ≡ serial_cause s bodies w h →
     first_some (interleaved_cause s bodies w (step ∷ h)) None ≡ serial_cause s bodies w (step ∷ h)
-same_step s bodies w h step single lawful none step_same before =
+same_step s bodies w h step single lawful sets none step_same before =
     first_some-none (interleaved_cause s bodies w (step ∷ h))
     ∙ ap₂ first_some (same_so_far s bodies w h none before)
-    (ap (interleaved_cause_at s bodies step) (idle_same s bodies w h lawful (none_runs s h single lawful none)) ∙ step_same (serial s bodies w h))
+    (ap (interleaved_cause_at s bodies step) (idle_same s bodies w h lawful sets (none_runs s h single lawful none)) ∙ step_same (serial s bodies w h))
 
 -- one more start
-same_start : (s : Schedule) (bodies : List BodyMeaning) (w : State) (h : List Step) (n : ℕ) → IsSingle s h → IsLawful s h → just_started h ≡ None →
+same_start : (s : Schedule) (bodies : List BodyMeaning) (w : State) (h : List Step) (n : ℕ) → IsSingle s h → IsLawful s h → HasTrueSets s bodies w h → just_started h ≡ None →
     first_some (interleaved_cause s bodies w h) (late_cause s bodies w h) ≡ serial_cause s bodies w h →
     first_some (interleaved_cause s bodies w (Start n ∷ h)) (late_cause s bodies w (Start n ∷ h)) ≡ serial_cause s bodies w (Start n ∷ h)
-same_start s bodies w h n single lawful none before =
+same_start s bodies w h n single lawful sets none before =
     first_some-three (interleaved_cause s bodies w h) (interleaved_cause_at s bodies (Start n) (interleaved s bodies w h)) (late_cause s bodies w (Start n ∷ h))
     ∙ ap₂ first_some (same_so_far s bodies w h none before)
     (ap (λ o. first_some (interleaved_cause_at s bodies (Start n) o) (finish_cause s bodies n (serial s bodies w h)))
-    (idle_same s bodies w h lawful (none_runs s h single lawful none))
+    (idle_same s bodies w h lawful sets (none_runs s h single lawful none))
     ∙ start_causes s bodies n (serial s bodies w h))
 
 -- the finish of what was just started
-same_finish : (s : Schedule) (bodies : List BodyMeaning) (w : State) (h : List Step) (n : ℕ) → IsSingle s h → IsLawful s h → just_started h ≡ None →
+same_finish : (s : Schedule) (bodies : List BodyMeaning) (w : State) (h : List Step) (n : ℕ) → IsSingle s h → IsLawful s h → HasTrueSets s bodies w h → just_started h ≡ None →
     first_some (interleaved_cause s bodies w h) (late_cause s bodies w h) ≡ serial_cause s bodies w h →
     first_some (interleaved_cause s bodies w (Finish n ∷ Start n ∷ h)) None ≡ serial_cause s bodies w (Finish n ∷ Start n ∷ h)
-same_finish s bodies w h n single lawful none before =
+same_finish s bodies w h n single lawful sets none before =
     first_some-none (interleaved_cause s bodies w (Finish n ∷ Start n ∷ h))
     ∙ ap (λ o. first_some (first_some (interleaved_cause s bodies w h) (interleaved_cause_at s bodies (Start n) o))
     (interleaved_cause_at s bodies (Finish n) (option_and_then (interleaved_step s bodies (Start n)) o)))
-    (idle_same s bodies w h lawful (none_runs s h single lawful none))
+    (idle_same s bodies w h lawful sets (none_runs s h single lawful none))
     ∙ ap (λ cause. first_some (first_some cause (interleaved_cause_at s bodies (Start n) (with_running_systems [] (serial s bodies w h))))
     (interleaved_cause_at s bodies (Finish n) (option_and_then (interleaved_step s bodies (Start n)) (with_running_systems [] (serial s bodies w h)))))
     (same_so_far s bodies w h none before)
@@ -221,40 +215,45 @@ same_finish s bodies w h n single lawful none before =
     ∙ ap (first_some (serial_cause s bodies w (Start n ∷ h))) (sym (finish_none s bodies n (serial s bodies w (Start n ∷ h))))
 
 -- interleaved and then late, the causes of a list of one thread are those of one thread
-causes_same : (s : Schedule) (bodies : List BodyMeaning) (w : State) (h : List Step) → IsSingle s h → IsLawful s h →
+causes_same : (s : Schedule) (bodies : List BodyMeaning) (w : State) (h : List Step) → IsSingle s h → IsLawful s h → HasTrueSets s bodies w h →
     first_some (interleaved_cause s bodies w h) (late_cause s bodies w h) ≡ serial_cause s bodies w h
-causes_same s bodies w [] single lawful = first_some-none (cause_of_opening s w)
-causes_same s bodies w (Cond c answer ∷ h) single lawful =
-    same_step s bodies w h (Cond c answer) single.1 lawful.1 (quiet s h (Cond c answer) (just_started h) (λ n e. cc) single.0) (cond_causes s bodies c answer)
-    (causes_same s bodies w h single.1 lawful.1)
-causes_same s bodies w (Skip n ∷ h) single lawful =
-    same_step s bodies w h (Skip n) single.1 lawful.1 (quiet s h (Skip n) (just_started h) (λ m e. cc) single.0) (skip_causes s bodies n)
-    (causes_same s bodies w h single.1 lawful.1)
-causes_same s bodies w (Sync k ∷ h) single lawful =
-    same_step s bodies w h (Sync k) single.1 lawful.1 (quiet s h (Sync k) (just_started h) (λ n e. cc) single.0) (sync_causes s bodies k)
-    (causes_same s bodies w h single.1 lawful.1)
-causes_same s bodies w (Start n ∷ h) single lawful =
-    same_start s bodies w h n single.1 lawful.1 (quiet s h (Start n) (just_started h) (λ m e. cc) single.0) (causes_same s bodies w h single.1 lawful.1)
-causes_same s bodies w (Finish m ∷ Start n ∷ h) single lawful = let same : n ≡ m = cc (single.0) in
+causes_same s bodies w [] single lawful sets = first_some-none (cause_of_opening s w)
+causes_same s bodies w (Cond c answer ∷ h) single lawful sets =
+    same_step s bodies w h (Cond c answer) single.1 lawful.1 sets (quiet s h (Cond c answer) (just_started h) (λ n e. cc) single.0) (cond_causes s bodies c answer)
+    (causes_same s bodies w h single.1 lawful.1 sets)
+causes_same s bodies w (Skip n ∷ h) single lawful sets =
+    same_step s bodies w h (Skip n) single.1 lawful.1 sets (quiet s h (Skip n) (just_started h) (λ m e. cc) single.0) (skip_causes s bodies n)
+    (causes_same s bodies w h single.1 lawful.1 sets)
+causes_same s bodies w (Sync k ∷ h) single lawful sets =
+    same_step s bodies w h (Sync k) single.1 lawful.1 sets.1 (quiet s h (Sync k) (just_started h) (λ n e. cc) single.0) (sync_causes s bodies k)
+    (causes_same s bodies w h single.1 lawful.1 sets.1)
+causes_same s bodies w (Start n ∷ h) single lawful sets =
+    same_start s bodies w h n single.1 lawful.1 sets (quiet s h (Start n) (just_started h) (λ m e. cc) single.0) (causes_same s bodies w h single.1 lawful.1 sets)
+causes_same s bodies w (Finish m ∷ Start n ∷ h) single lawful sets = let same : n ≡ m = cc (single.0) in
     subst (λ k. first_some (interleaved_cause s bodies w (Finish k ∷ Start n ∷ h)) None ≡ serial_cause s bodies w (Finish k ∷ Start n ∷ h)) same
-    (same_finish s bodies w h n single.1.1 lawful.1.1 (quiet s h (Start n) (just_started h) (λ k e. cc) single.1.0) (causes_same s bodies w h single.1.1 lawful.1.1))
-causes_same s bodies w (Finish m ∷ []) single lawful = absurd (chosen_other s [] m single.0)
-causes_same s bodies w (Finish m ∷ Cond c answer ∷ h) single lawful = absurd (chosen_other s (Cond c answer ∷ h) m single.0)
-causes_same s bodies w (Finish m ∷ Skip n ∷ h) single lawful = absurd (chosen_other s (Skip n ∷ h) m single.0)
-causes_same s bodies w (Finish m ∷ Finish n ∷ h) single lawful = absurd (chosen_other s (Finish n ∷ h) m single.0)
-causes_same s bodies w (Finish m ∷ Sync k ∷ h) single lawful = absurd (chosen_other s (Sync k ∷ h) m single.0)
+    (same_finish s bodies w h n single.1.1 lawful.1.1 sets (quiet s h (Start n) (just_started h) (λ k e. cc) single.1.0) (causes_same s bodies w h single.1.1 lawful.1.1 sets))
+causes_same s bodies w (Finish m ∷ []) single lawful sets = absurd (chosen_other s [] m single.0)
+causes_same s bodies w (Finish m ∷ Cond c answer ∷ h) single lawful sets = absurd (chosen_other s (Cond c answer ∷ h) m single.0)
+causes_same s bodies w (Finish m ∷ Skip n ∷ h) single lawful sets = absurd (chosen_other s (Skip n ∷ h) m single.0)
+causes_same s bodies w (Finish m ∷ Finish n ∷ h) single lawful sets = absurd (chosen_other s (Finish n ∷ h) m single.0)
+causes_same s bodies w (Finish m ∷ Sync k ∷ h) single lawful sets = absurd (chosen_other s (Sync k ∷ h) m single.0)
 
 -- a front that stops interleaved stops on one thread, for the same cause
+front_stops : (s : Schedule) (bodies : List BodyMeaning) (w : State) (h : List Step) (cause : Cause) → IsWide 1 s h → HasTrueSets s bodies w h →
+    interleaved_cause s bodies w h ≡ Some cause → serial_cause s bodies w h ≡ Some cause
+front_stops s bodies w h cause wide sets stops =
+    sym (causes_same s bodies w h (wide_of_one_is_single s h wide) (wide_lawful 1 s h wide) sets) ∙ ap (λ o. first_some o (late_cause s bodies w h)) stops
+
+-- so do the runs of one thread
 pub wide_stops_of_one_are_single : WideStopsOfOneAreSingle
-wide_stops_of_one_are_single s bodies times w cause stopped = record {
+wide_stops_of_one_are_single s bodies times w cause stopped = let front = stopped.stopped.front in record {
   complete_runs = stopped.complete_runs;
   fewer = stopped.fewer;
   middle = stopped.middle;
   ran = wide_runs_of_one_are_single s bodies w stopped.complete_runs stopped.middle stopped.ran;
-  front = stopped.stopped.front;
-  single = wide_of_one_is_single s stopped.stopped.front stopped.stopped.wide;
+  front = front;
+  single = wide_of_one_is_single (recording s front.sets) front.steps stopped.stopped.wide;
   answers = stopped.stopped.answers;
-  stops = sym (causes_same s bodies stopped.middle stopped.stopped.front (wide_of_one_is_single s stopped.stopped.front stopped.stopped.wide)
-      (wide_lawful 1 s stopped.stopped.front stopped.stopped.wide))
-      ∙ ap (λ o. first_some o (late_cause s bodies stopped.middle stopped.stopped.front)) stopped.stopped.stops;
+  sets = stopped.stopped.sets;
+  stops = front_stops (recording s front.sets) bodies stopped.middle front.steps cause stopped.stopped.wide stopped.stopped.sets stopped.stopped.stops;
 }

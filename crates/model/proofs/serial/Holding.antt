@@ -7,22 +7,25 @@ use Rattle.model.specs.declared.steps.Step.TheVariants.{Cond, Start, Skip, Finis
 use Rattle.model.specs.Lists.{IsIn}
 use Rattle.model.specs.state.State.{State}
 use Rattle.model.specs.steps.Schedule.{Schedule, params_of}
-use Rattle.model.specs.steps.Lawful.{started, finished, runs, begun, MayStart, MaySync, May, IsLawful}
+use Rattle.model.specs.steps.Lawful.{started, finished, runs, begun, sets_at, MayStart, MaySync, May, IsLawful}
 use Rattle.model.specs.shown.Outcome.{BodyMeaning}
 use Rattle.model.specs.runs.RunState.{RunState, RunningSystem, begin_run, has_tick, can_start, can_sync, started_system, after_start, finish, after_condition, after_sync}
-use Rattle.model.specs.runs.Meaning.{Interleaved, running_system, without_system, with_running_systems, interleaved_step, interleaved}
+use Rattle.model.specs.runs.Meaning.{Interleaved, running_system, without_system, with_running_systems, interleaved_step, interleaved, HasTrueSets}
 use Rattle.model.proofs.lists.Lists.{IsIn-append, provided-Some}
-use Rattle.model.proofs.serial.Conflicts.{Apart}
+use Rattle.model.proofs.serial.Conflicts.{ApartBy}
 use Rattle.model.proofs.order.Histories.{runs_parts, runs_from, begun_from_runs, runs-start, runs-finish, start_runs, idle}
 use Rattle.model.proofs.serial.Overlays.{Fits, fits-started_system, fits-after_start, fits-after_condition}
 use Rattle.model.proofs.serial.Settling.{IsBeside, AreBeside, AllFit, fits-finish}
+use Rattle.model.proofs.serial.Within.{AllAmong}
+use Rattle.model.proofs.serial.There.{sets_before, with_running_systems-Some, all_among}
 
--- each running system runs in the history, each that runs in it is there, each fits, and each two are beside each other
+-- each running system runs in the history, each that runs in it is there, each fits, and each two are beside each other, by the kind sets
+-- recorded last
 pub record Holds (s : Schedule) (h : List Step) (w : Interleaved) : Type 0 where
   pub alive : (p : RunningSystem) → IsIn p w.running_systems → runs h p.system ≡ true
   pub listed : (n : ℕ) → runs h n ≡ true → (p : RunningSystem) × (running_system n w.running_systems ≡ Some p)
-  pub fit : AllFit s w.running_systems w.run
-  pub beside : AreBeside s w.running_systems
+  pub fit : AllFit (sets_at s h) s w.running_systems w.run
+  pub beside : AreBeside (sets_at s h) s w.running_systems
 
 -- ---- one more running system
 
@@ -47,13 +50,13 @@ running_system-append_new n (q ∷ ps) x e = go (q.system == n) (running_system-
     go false f = f
 
 -- one more that is beside all
-are_beside-append : (s : Schedule) (ps : List RunningSystem) (x : RunningSystem) → AreBeside s ps → ((p : RunningSystem) → IsIn p ps → IsBeside s p x) → AreBeside s (ps ++ x ∷ [])
-are_beside-append s [] x b h = ((λ q i. absurd i), tt)
-are_beside-append s (p ∷ ps) x b h =
-    ((λ q i. ⊎_elim (λ j. b.0 q j) (λ j. go q j) (IsIn-append q ps (x ∷ []) i)), are_beside-append s ps x b.1 (λ q i. h q (inr i)))
+are_beside-append : (there : Option (List ℕ)) (s : Schedule) (ps : List RunningSystem) (x : RunningSystem) → AreBeside there s ps → ((p : RunningSystem) → IsIn p ps → IsBeside there s p x) → AreBeside there s (ps ++ x ∷ [])
+are_beside-append there s [] x b h = ((λ q i. absurd i), tt)
+are_beside-append there s (p ∷ ps) x b h =
+    ((λ q i. ⊎_elim (λ j. b.0 q j) (λ j. go q j) (IsIn-append q ps (x ∷ []) i)), are_beside-append there s ps x b.1 (λ q i. h q (inr i)))
   where
-    go : (q : RunningSystem) → IsIn q (x ∷ []) → IsBeside s p q
-    go q (inl e) = subst (IsBeside s p) (sym e) (h p (inl refl))
+    go : (q : RunningSystem) → IsIn q (x ∷ []) → IsBeside there s p q
+    go q (inl e) = subst (IsBeside there s p) (sym e) (h p (inl refl))
     go q (inr e) = absurd e
 
 -- ---- one less
@@ -69,9 +72,9 @@ without_system-IsIn n (p ∷ ps) q i = go (p.system == n) i (without_system-IsIn
     go false (inr i) f = inr (f i)
 
 -- they are others
-without_system-other : (s : Schedule) (n : ℕ) (ps : List RunningSystem) (q : RunningSystem) → AreBeside s ps → IsIn q (without_system n ps) → q.system ≢ n
-without_system-other s n [] q b i = absurd i
-without_system-other s n (p ∷ ps) q b i = go (p.system == n) refl i (without_system-other s n ps q b.1)
+without_system-other : (there : Option (List ℕ)) (s : Schedule) (n : ℕ) (ps : List RunningSystem) (q : RunningSystem) → AreBeside there s ps → IsIn q (without_system n ps) → q.system ≢ n
+without_system-other there s n [] q b i = absurd i
+without_system-other there s n (p ∷ ps) q b i = go (p.system == n) refl i (without_system-other there s n ps q b.1)
   where
     go : (t : Bool) → (p.system == n) ≡ t → IsIn q (cond t ps (p ∷ without_system n ps)) → (IsIn q (without_system n ps) → q.system ≢ n) → q.system ≢ n
     go true e i f same = (b.0 q i).other (eqb-true p.system n e ∙ sym same)
@@ -79,11 +82,11 @@ without_system-other s n (p ∷ ps) q b i = go (p.system == n) refl i (without_s
     go false e (inr i) f same = f i same
 
 -- they are beside each other
-are_beside-without : (s : Schedule) (n : ℕ) (ps : List RunningSystem) → AreBeside s ps → AreBeside s (without_system n ps)
-are_beside-without s n [] b = tt
-are_beside-without s n (p ∷ ps) b = go (p.system == n) (are_beside-without s n ps b.1)
+are_beside-without : (there : Option (List ℕ)) (s : Schedule) (n : ℕ) (ps : List RunningSystem) → AreBeside there s ps → AreBeside there s (without_system n ps)
+are_beside-without there s n [] b = tt
+are_beside-without there s n (p ∷ ps) b = go (p.system == n) (are_beside-without there s n ps b.1)
   where
-    go : (t : Bool) → AreBeside s (without_system n ps) → AreBeside s (cond t ps (p ∷ without_system n ps))
+    go : (t : Bool) → AreBeside there s (without_system n ps) → AreBeside there s (cond t ps (p ∷ without_system n ps))
     go true f = b.1
     go false f = ((λ q i. b.0 q (without_system-IsIn n ps q i)), f)
 
@@ -116,11 +119,11 @@ system_of-started s n run = refl
 -- after a condition
 holds_cond : (s : Schedule) (h : List Step) (c : ℕ) (answer : Bool) (w : Interleaved) → Holds s h w →
     Holds s (Cond c answer ∷ h) (record { run = after_condition s c w.run; running_systems = w.running_systems })
-holds_cond s h c answer w k = record { alive = k.alive; listed = k.listed; fit = (λ p i. fits-after_condition s p c w.run (k.fit p i)); beside = k.beside }
+holds_cond s h c answer w k = record { alive = k.alive; listed = k.listed; fit = (λ p i. fits-after_condition (sets_at s h) s p c w.run (k.fit p i)); beside = k.beside }
 
 -- a running system is another than one that may start, and apart from it
 pub apart_start : (s : Schedule) (h : List Step) (n : ℕ) (w : Interleaved) → MayStart s h n → Holds s h w → (p : RunningSystem) → IsIn p w.running_systems →
-    (p.system ≢ n) × Apart (params_of s p.system) (params_of s n)
+    (p.system ≢ n) × ApartBy (sets_at s h) (params_of s p.system) (params_of s n)
 apart_start s h n w may k p i = (
   (λ e. both_ways (begun h n) may.free.waits (begun_from_runs h n (subst (λ m. runs h m ≡ true) e (k.alive p i)))),
   (λ c. may.apart (p.system, k.alive p i, c)),
@@ -128,87 +131,88 @@ apart_start s h n w may k p i = (
 
 -- so it is beside it as it runs
 beside_start : (s : Schedule) (h : List Step) (n : ℕ) (w : Interleaved) → MayStart s h n → Holds s h w → (p : RunningSystem) → IsIn p w.running_systems →
-    IsBeside s p (started_system s n w.run)
+    IsBeside (sets_at s h) s p (started_system s n w.run)
 unfolding started_system
 beside_start s h n w may k p i = record { other = (apart_start s h n w may k p i).0; apart = (apart_start s h n w may k p i).1 }
 
 -- after a start
-holds_start : (s : Schedule) (h : List Step) (n : ℕ) (w : Interleaved) → IsLawful s h → MayStart s h n → Holds s h w →
+holds_start : (s : Schedule) (h : List Step) (n : ℕ) (w : Interleaved) → IsLawful s h → MayStart s h n → AllAmong (sets_at s h) w.run.state.world.slots → Holds s h w →
     Holds s (Start n ∷ h) (record { run = after_start s n w.run; running_systems = w.running_systems ++ started_system s n w.run ∷ [] })
-holds_start s h n w lawful may k = record {
+holds_start s h n w lawful may all k = record {
   alive = λ p i. ⊎_elim (λ j. runs_after-start h n p.system (k.alive p j)) (λ j. new_alive p j) (IsIn-append p w.running_systems (started_system s n w.run ∷ []) i);
   listed = λ m r. ⊎_elim (λ e. running_system-append_new m w.running_systems (started_system s n w.run) (system_of-started s n w.run ∙ e))
       (λ q. let f : (p : RunningSystem) × (running_system m w.running_systems ≡ Some p) = k.listed m q in
       (f.0, running_system-append m w.running_systems (started_system s n w.run) f.0 f.1)) (runs-start h n m r);
-  fit = λ p i. ⊎_elim (λ j. fits-after_start s p n w.run (k.fit p j)) (λ j. new_fit p j) (IsIn-append p w.running_systems (started_system s n w.run ∷ []) i);
-  beside = are_beside-append s w.running_systems (started_system s n w.run) k.beside (beside_start s h n w may k);
+  fit = λ p i. ⊎_elim (λ j. fits-after_start (sets_at s h) s p n w.run (k.fit p j)) (λ j. new_fit p j) (IsIn-append p w.running_systems (started_system s n w.run ∷ []) i);
+  beside = are_beside-append (sets_at s h) s w.running_systems (started_system s n w.run) k.beside (beside_start s h n w may k);
 }
   where
     new_alive : (p : RunningSystem) → IsIn p (started_system s n w.run ∷ []) → runs (Start n ∷ h) p.system ≡ true
     new_alive p (inl e) = subst (λ m. runs (Start n ∷ h) m ≡ true) (sym (ap (λ (q : RunningSystem). q.system) e ∙ system_of-started s n w.run)) (start_runs s h n lawful may.free)
     new_alive p (inr e) = absurd e
 
-    new_fit : (p : RunningSystem) → IsIn p (started_system s n w.run ∷ []) → Fits s p (after_start s n w.run).state.world.slots
-    new_fit p (inl e) = subst (λ (q : RunningSystem). Fits s q (after_start s n w.run).state.world.slots) (sym e)
-        (fits-after_start s (started_system s n w.run) n w.run (fits-started_system s n w.run))
+    new_fit : (p : RunningSystem) → IsIn p (started_system s n w.run ∷ []) → Fits (sets_at s h) s p (after_start s n w.run).state.world.slots
+    new_fit p (inl e) = subst (λ (q : RunningSystem). Fits (sets_at s h) s q (after_start s n w.run).state.world.slots) (sym e)
+        (fits-after_start (sets_at s h) s (started_system s n w.run) n w.run (fits-started_system (sets_at s h) s n w.run all))
     new_fit p (inr e) = absurd e
 
 -- after a finish
 holds_finish : (s : Schedule) (bodies : List BodyMeaning) (h : List Step) (n : ℕ) (w : Interleaved) (p : RunningSystem) (after : RunState) → Holds s h w →
     finish s bodies p w.run ≡ Some after → Holds s (Finish n ∷ h) (record { run = after; running_systems = without_system n w.running_systems })
 holds_finish s bodies h n w p after k e = record {
-  alive = λ q i. runs_after-finish h n q.system (without_system-other s n w.running_systems q k.beside i) (k.alive q (without_system-IsIn n w.running_systems q i));
+  alive = λ q i. runs_after-finish h n q.system (without_system-other (sets_at s h) s n w.running_systems q k.beside i) (k.alive q (without_system-IsIn n w.running_systems q i));
   listed = λ m r.
       let d : (n ≡ m → ⊥) × (runs h m ≡ true) = runs-finish h n m r in
       let f : (q : RunningSystem) × (running_system m w.running_systems ≡ Some q) = k.listed m d.1 in
       (f.0, running_system-without m n w.running_systems d.0 ∙ f.1);
-  fit = λ q i. fits-finish s bodies q p w.run after e (k.fit q (without_system-IsIn n w.running_systems q i));
-  beside = are_beside-without s n w.running_systems k.beside;
+  fit = λ q i. fits-finish (sets_at s h) s bodies q p w.run after e (k.fit q (without_system-IsIn n w.running_systems q i));
+  beside = are_beside-without (sets_at s h) s n w.running_systems k.beside;
 }
 
--- after a sync point
+-- no running system, no list
+pub none_running : (ps : List RunningSystem) → ((p : RunningSystem) → IsIn p ps → ⊥) → ps ≡ []
+none_running [] h = refl
+none_running (p ∷ ps) h = absurd (h p (inl refl))
+
+-- after a sync point, where nothing runs
 holds_sync : (s : Schedule) (h : List Step) (k : ℕ) (w : Interleaved) → IsLawful s h → MaySync s h k → Holds s h w →
     Holds s (Sync k ∷ h) (record { run = after_sync s k w.run; running_systems = w.running_systems })
 holds_sync s h k w lawful may hold = record {
   alive = hold.alive;
   listed = hold.listed;
   fit = (λ p i. absurd (idle s h k p.system lawful may (hold.alive p i)));
-  beside = hold.beside;
+  beside = subst (AreBeside (sets_at s (Sync k ∷ h)) s) (sym (none_running w.running_systems (λ p i. idle s h k p.system lawful may (hold.alive p i)))) tt;
 }
 
--- a run state with running systems that is there
-with_running_systems-Some : (ps : List RunningSystem) (o : Option RunState) (w : Interleaved) → with_running_systems ps o ≡ Some w →
-    (run : RunState) × (o ≡ Some run) × (record { run = run; running_systems = ps } ≡ w)
-with_running_systems-Some ps None w h = absurd (cc)
-with_running_systems-Some ps (Some run) w h = (run, refl, same_Some (record { run = run; running_systems = ps }) w h)
-
 -- after a step that may come
-holds_step : (s : Schedule) (bodies : List BodyMeaning) (h : List Step) (step : Step) (w after : Interleaved) → IsLawful s h → May s h step → Holds s h w →
-    interleaved_step s bodies step w ≡ Some after → Holds s (step ∷ h) after
-holds_step s bodies h (Cond c answer) w after lawful may k e =
+holds_step : (s : Schedule) (bodies : List BodyMeaning) (h : List Step) (step : Step) (w after : Interleaved) → IsLawful s h → May s h step →
+    AllAmong (sets_at s h) w.run.state.world.slots → Holds s h w → interleaved_step s bodies step w ≡ Some after → Holds s (step ∷ h) after
+holds_step s bodies h (Cond c answer) w after lawful may all k e =
     subst (Holds s (Cond c answer ∷ h)) (provided-Some (has_tick w.run.state) (record { run = after_condition s c w.run; running_systems = w.running_systems }) after e).1
     (holds_cond s h c answer w k)
-holds_step s bodies h (Start n) w after lawful may k e =
+holds_step s bodies h (Start n) w after lawful may all k e =
     subst (Holds s (Start n ∷ h)) (provided-Some (can_start w.run) (record { run = after_start s n w.run; running_systems = w.running_systems ++ started_system s n w.run ∷ [] }) after e).1
-    (holds_start s h n w lawful may k)
-holds_step s bodies h (Skip n) w after lawful may k e =
+    (holds_start s h n w lawful may all k)
+holds_step s bodies h (Skip n) w after lawful may all k e =
     let same : Holds s (Skip n ∷ h) w = record { alive = k.alive; listed = k.listed; fit = k.fit; beside = k.beside } in
     subst (Holds s (Skip n ∷ h)) (same_Some w after e) same
-holds_step s bodies h (Finish n) w after lawful may k e =
+holds_step s bodies h (Finish n) w after lawful may all k e =
     option_and_then_some (λ p. with_running_systems (without_system n w.running_systems) (finish s bodies p w.run)) (running_system n w.running_systems) after e (λ p i f.
     let r : (run : RunState) × (finish s bodies p w.run ≡ Some run) × (record { run = run; running_systems = without_system n w.running_systems } ≡ after)
     = with_running_systems-Some (without_system n w.running_systems) (finish s bodies p w.run) after f in
     subst (Holds s (Finish n ∷ h)) r.2 (holds_finish s bodies h n w p r.0 k r.1))
-holds_step s bodies h (Sync j) w after lawful may k e =
+holds_step s bodies h (Sync j) w after lawful may all k e =
     subst (Holds s (Sync j ∷ h)) (provided-Some (can_sync s j w.run) (record { run = after_sync s j w.run; running_systems = w.running_systems }) after e).1
     (holds_sync s h j w lawful may k)
 
--- after a lawful history
-pub holds : (s : Schedule) (bodies : List BodyMeaning) (start : State) (h : List Step) (w : Interleaved) → IsLawful s h → interleaved s bodies start h ≡ Some w → Holds s h w
-holds s bodies start [] w lawful e =
+-- after a lawful history whose kind sets are true
+pub holds : (s : Schedule) (bodies : List BodyMeaning) (start : State) (h : List Step) (w : Interleaved) → IsLawful s h → HasTrueSets s bodies start h →
+    interleaved s bodies start h ≡ Some w → Holds s h w
+holds s bodies start [] w lawful sets e =
     let r : (run : RunState) × (begin_run s start ≡ Some run) × (record { run = run; running_systems = [] } ≡ w) = with_running_systems-Some [] (begin_run s start) w e in
     let first : Holds s [] (record { run = r.0; running_systems = [] }) = record { alive = (λ p i. absurd i); listed = (λ n i. absurd (cc)); fit = (λ p i. absurd i); beside = tt } in
     subst (Holds s []) r.2 first
-holds s bodies start (step ∷ h) w lawful e =
+holds s bodies start (step ∷ h) w lawful sets e =
     option_and_then_some (interleaved_step s bodies step) (interleaved s bodies start h) w e (λ v d f.
-    holds_step s bodies h step v w lawful.1 lawful.0 (holds s bodies start h v lawful.1 d) f)
+    let before = sets_before s bodies start step h sets in
+    holds_step s bodies h step v w lawful.1 lawful.0 (all_among s bodies start h v before d) (holds s bodies start h v lawful.1 before d) f)

@@ -3,10 +3,10 @@ use Rattle.std.proofs.Common.{◌≡◌, ℕ, List, [], ◌∷◌, Option, Some,
 use Rattle.model.specs.declared.steps.Step.{Step}
 use Rattle.model.specs.state.State.{State}
 use Rattle.model.specs.shown.Outcome.{BodyMeaning}
-use Rattle.model.specs.steps.Schedule.{Schedule}
+use Rattle.model.specs.steps.Schedule.{Schedule, recording}
 use Rattle.model.specs.steps.Lawful.{IsLawful, IsComplete}
 use Rattle.model.specs.runs.RunState.{RunState}
-use Rattle.model.specs.runs.Meaning.{Interleaved, interleaved, serial}
+use Rattle.model.specs.runs.Meaning.{Interleaved, interleaved, serial, HasTrueSets}
 use Rattle.model.specs.runs.Runs.{IsSingleRun, IsSoundRun}
 use Rattle.model.specs.runs.WideRuns.{IsWideRun}
 use Rattle.model.specs.runs.Laws.{RunsAreSound, WideRunsAreSound, SingleRunsAreSound}
@@ -16,29 +16,30 @@ use Rattle.model.proofs.progress.Single.{wide_lawful}
 
 -- the serial meaning of a complete list whose interleaved meaning is this
 pub serial_of : (s : Schedule) (bodies : List BodyMeaning) (w : State) (h : List Step) (end : Interleaved) → IsLawful s h → IsComplete s h →
-    interleaved s bodies w h ≡ Some end → serial s bodies w h ≡ Some end.run
-serial_of s bodies w h end lawful complete e = sym (interleaved_serial s bodies w h lawful complete) ∙ ap (option_map (λ (x : Interleaved). x.run)) e
+    HasTrueSets s bodies w h → interleaved s bodies w h ≡ Some end → serial s bodies w h ≡ Some end.run
+serial_of s bodies w h end lawful complete sets e = sym (interleaved_serial s bodies w h lawful complete sets) ∙ ap (option_map (λ (x : Interleaved). x.run)) e
 
 -- a complete lawful list that has a meaning
 pub runs_are_sound : RunsAreSound
-runs_are_sound s bodies w h end lawful complete e = record {
+runs_are_sound s bodies w h end lawful complete sets e = record {
   keeps = lists_keep_order s h lawful;
   woven = end;
   woven_meaning = e;
   woven_leaves = refl;
   whole = end.run;
-  serial_meaning = serial_of s bodies w h end lawful complete e;
+  serial_meaning = serial_of s bodies w h end lawful complete sets e;
   serial_leaves = refl;
 }
 
 -- the runs of a coordinator
 wide_run : (width : ℕ) (s : Schedule) (bodies : List BodyMeaning) (w : State) (h : List Step) (w' : State) → IsWideRun width s bodies w h w' → IsSoundRun s bodies w h w'
 wide_run width s bodies w h w' r =
-    subst (IsSoundRun s bodies w h) r.leaves (runs_are_sound s bodies w h r.end (wide_lawful width s h r.wide) r.complete r.meaning)
+    subst (IsSoundRun s bodies w h) r.leaves (runs_are_sound s bodies w h r.end (wide_lawful width s h r.wide) r.complete r.sets r.meaning)
 
 pub wide_runs_are_sound : WideRunsAreSound
 wide_runs_are_sound width s bodies w [] w' ran = ran
-wide_runs_are_sound width s bodies w (h ∷ hs) w' ran = (ran.0, wide_run width s bodies w h ran.0 ran.1, wide_runs_are_sound width s bodies ran.0 hs w' ran.2)
+wide_runs_are_sound width s bodies w (r ∷ rs) w' ran =
+    (ran.0, wide_run width (recording s r.sets) bodies w r.steps ran.0 ran.1, wide_runs_are_sound width s bodies ran.0 rs w' ran.2)
 
 -- ---- one thread
 
@@ -51,11 +52,11 @@ woven_of (Some w) run e = (w, cc, cc)
 pub sound_run : (s : Schedule) (bodies : List BodyMeaning) (w : State) (h : List Step) (w' : State) → IsSingleRun s bodies w h w' → IsSoundRun s bodies w h w'
 sound_run s bodies w h w' r =
     let found : (end : Interleaved) × (interleaved s bodies w h ≡ Some end) × (end.run ≡ r.end) =
-    woven_of (interleaved s bodies w h) r.end (interleaved_serial s bodies w h r.lawful r.complete ∙ r.meaning) in
+    woven_of (interleaved s bodies w h) r.end (interleaved_serial s bodies w h r.lawful r.complete r.sets ∙ r.meaning) in
     let leaves : found.0.run.state ≡ w' = (λ i. (found.2 i).state) ∙ r.leaves in
-    subst (IsSoundRun s bodies w h) leaves (runs_are_sound s bodies w h found.0 r.lawful r.complete found.1)
+    subst (IsSoundRun s bodies w h) leaves (runs_are_sound s bodies w h found.0 r.lawful r.complete r.sets found.1)
 
 -- runs one after the other
 pub single_runs_are_sound : SingleRunsAreSound
 single_runs_are_sound s bodies w [] w' ran = ran
-single_runs_are_sound s bodies w (h ∷ hs) w' ran = (ran.0, sound_run s bodies w h ran.0 ran.1, single_runs_are_sound s bodies ran.0 hs w' ran.2)
+single_runs_are_sound s bodies w (r ∷ rs) w' ran = (ran.0, sound_run (recording s r.sets) bodies w r.steps ran.0 ran.1, single_runs_are_sound s bodies ran.0 rs w' ran.2)

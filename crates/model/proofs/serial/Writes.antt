@@ -7,6 +7,7 @@ use Rattle.model.specs.Lists.{IsIn, is_number}
 use Rattle.model.specs.state.State.{Cell, Component, Slot, fresh_slot, is_living}
 use Rattle.model.specs.state.Rows.{row_at, cell_at, kinds_of}
 use Rattle.model.specs.access.Query.{Term, matches, touched, touches}
+use Rattle.model.specs.access.Meeting.{IsAmong}
 use Rattle.model.specs.access.Query.Term.{Read, Mut, Opt, Added, Changed}
 use Rattle.model.specs.shown.Input.{added_since, changed_since, passes, words_of, fetch, is_row, shown_row, rows_from, rows_of}
 use Rattle.model.specs.shown.Overlay.{cell_after, row_after, slot_after, slots_after}
@@ -57,12 +58,18 @@ unfolding slots_after
 kinds_of-slots_after tick f slots index =
     get_or-map_index-view (λ (slot : Slot). kinds_of slot.row) (λ j. slot_after tick (f j)) slots index fresh_slot (λ j slot. kinds_of-row_after tick (f j) slot.row)
 
+-- the status of each index stays
+pub status-slots_after : (tick : ℕ) (f : ℕ → ℕ → Option (List ℤ)) (slots : List Slot) (index : ℕ) →
+    (get_or (slots_after tick f slots) index fresh_slot).status ≡ (get_or slots index fresh_slot).status
+unfolding slots_after
+status-slots_after tick f slots index = get_or-map_index-view (λ (slot : Slot). slot.status) (λ j. slot_after tick (f j)) slots index fresh_slot (λ j slot. refl)
+
 -- what is written within stays so where the kinds stay
-pub within_same : (queries : List (List Term)) (slots others : List Slot) (f : ℕ → ℕ → Option (List ℤ)) →
-    ((index : ℕ) → kinds_of (row_at others index) ≡ kinds_of (row_at slots index)) → WritesWithin queries slots f → WritesWithin queries others f
-within_same queries slots others f h w = record {
-  at = λ index kind x e.
-      subst (λ kinds. WritesIn queries kinds kind) (sym (h index)) (w.at index kind x e);
+pub within_same : (there : Option (List ℕ)) (queries : List (List Term)) (slots others : List Slot) (f : ℕ → ℕ → Option (List ℤ)) →
+    ((index : ℕ) → kinds_of (row_at others index) ≡ kinds_of (row_at slots index)) → WritesWithin there queries slots f → WritesWithin there queries others f
+within_same there queries slots others f h w = record {
+  at = λ index kind x e. subst (λ kinds. WritesIn queries kinds kind) (sym (h index)) (w.at index kind x e);
+  among = λ index kind x e. subst (IsAmong there) (sym (h index)) (w.among index kind x e);
 }
 
 -- ---- two writers

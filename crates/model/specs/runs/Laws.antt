@@ -1,6 +1,6 @@
 -- The laws of a run.
 use Rattle.std.specs.List.{AllByRecursion}
-use Rattle.std.specs.Prelude.{ℕ, ℤ, Bool, true, ◌≡◌, ◌<◌, List, ◌∷◌, ◌++◌, length, Some, None, IsSome, MatchOption, option_map, ◌⊎◌, ◌↔◌, ◌+◌, ◌*◌, ◌≤◌}
+use Rattle.std.specs.Prelude.{ℕ, ℤ, Bool, true, ◌≡◌, ◌<◌, List, ◌∷◌, ◌++◌, map, length, Option, Some, None, IsSome, MatchOption, option_map, ◌⊎◌, ◌↔◌, ◌+◌, ◌*◌, ◌≤◌}
 use Rattle.model.specs.declared.steps.Step.{Step}
 use Rattle.model.specs.declared.steps.Step.TheVariants.{Cond, Start, Finish}
 use Rattle.model.specs.declared.steps.Ready.{Ready}
@@ -10,9 +10,10 @@ use Rattle.model.specs.state.State.{State, most_indices, resource_count}
 use Rattle.model.specs.state.Loaded.{Given, loaded}
 use Rattle.model.specs.access.Access.{Params}
 use Rattle.model.specs.access.Conflict.{Conflict, conflicts, IsLeastDatum, least_datum}
+use Rattle.model.specs.access.Meeting.{Meet, meet}
 use Rattle.model.specs.access.Condition.{means}
 use Rattle.model.specs.shown.Outcome.{BodyMeaning}
-use Rattle.model.specs.steps.Schedule.{Schedule, condition_of}
+use Rattle.model.specs.steps.Schedule.{Schedule, Recorded, recording, condition_of}
 use Rattle.model.specs.steps.Built.{IsBuilt}
 use Rattle.model.specs.steps.Lawful.{May, IsLawful, IsComplete, NoneRuns, runs}
 use Rattle.model.specs.steps.Faults.{IsFirstFault}
@@ -20,7 +21,7 @@ use Rattle.model.specs.steps.Judged.{fault_of, is_lawful, is_complete}
 use Rattle.model.specs.steps.Ready.{IsReady, OnlyFinish, step_of}
 use Rattle.model.specs.steps.Widths.{IsSingle, IsWide, running_after}
 use Rattle.model.specs.runs.RunState.{RunState, started_system, asked_of, answer_of}
-use Rattle.model.specs.runs.Meaning.{Interleaved, serial, interleaved}
+use Rattle.model.specs.runs.Meaning.{Interleaved, serial, interleaved, HasTrueSets}
 use Rattle.model.specs.runs.Causes.{Cause, serial_cause, interleaved_cause}
 use Rattle.model.specs.steps.Ambiguity.{Settled}
 use Rattle.model.specs.steps.Order.{KeepsOrder}
@@ -38,15 +39,16 @@ ListsKeepOrder = (s : Schedule) (h : List Step) → IsLawful s h → KeepsOrder 
 
 -- ---- one thread
 
--- the run state of a complete list, interleaved, is that of one thread, and the one is defined exactly where the other is
+-- the run state of a complete list, interleaved, is that of one thread, and the one is defined exactly where the other is. What the list
+-- records of kind sets is true
 abbrev pub InterleavedIsSerial : Type 0
 InterleavedIsSerial = (s : Schedule) (bodies : List BodyMeaning) (start : State) (h : List Step) → IsLawful s h → IsComplete s h →
-    option_map (λ w. w.run) (interleaved s bodies start h) ≡ serial s bodies start h
+    HasTrueSets s bodies start h → option_map (λ w. w.run) (interleaved s bodies start h) ≡ serial s bodies start h
 
 -- what a start shows and a condition is asked about is the same, interleaved and serial
 abbrev pub SameIsShown : Type 0
 SameIsShown = (s : Schedule) (bodies : List BodyMeaning) (start : State) (h : List Step) (w : Interleaved) (run : RunState) → IsLawful s h →
-    interleaved s bodies start h ≡ Some w → serial s bodies start h ≡ Some run →
+    HasTrueSets s bodies start h → interleaved s bodies start h ≡ Some w → serial s bodies start h ≡ Some run →
     ((n : ℕ) → May s h (Start n) → started_system s n w.run ≡ started_system s n run)
     × ((c : ℕ) (answer : Bool) → May s h (Cond c answer) → asked_of s c w.run ≡ asked_of s c run)
 
@@ -54,7 +56,7 @@ SameIsShown = (s : Schedule) (bodies : List BodyMeaning) (start : State) (h : Li
 
 -- under the same bodies any two lists of as many runs of a settled schedule, from states that agree, leave states that agree
 abbrev pub RunsAgree : Type 0
-RunsAgree = (widths : ℕ → ℕ) (s : Schedule) (bodies : List BodyMeaning) (v w : State) (hs gs : List (List Step)) (v' w' : State) →
+RunsAgree = (widths : ℕ → ℕ) (s : Schedule) (bodies : List BodyMeaning) (v w : State) (hs gs : List Recorded) (v' w' : State) →
     IsBuilt s → Settled s → BodiesKeepWithin widths s bodies →
     IsStateOf widths s v → IsStateOf widths s w → Agrees s v w → length hs ≡ length gs →
     AreRuns s bodies v hs → AreRuns s bodies w gs →
@@ -62,15 +64,15 @@ RunsAgree = (widths : ℕ → ℕ) (s : Schedule) (bodies : List BodyMeaning) (v
 
 -- so what the runs of a coordinator leave agrees with what any as many runs leave
 abbrev pub WideRunsAgree : Type 0
-WideRunsAgree = (widths : ℕ → ℕ) (width : ℕ) (s : Schedule) (bodies : List BodyMeaning) (v : State) (hs : List (List Step)) (v' : State) →
+WideRunsAgree = (widths : ℕ → ℕ) (width : ℕ) (s : Schedule) (bodies : List BodyMeaning) (v : State) (hs : List Recorded) (v' : State) →
     IsBuilt s → BodiesKeepWithin widths s bodies → IsStateOf widths s v →
     AreWideRuns width s bodies v hs v' → AgreesWithAll widths s bodies v (length hs) v'
 
 -- and what a run leaves that was taken again agrees with what any run leaves
 abbrev pub ReplayedRunAgrees : Type 0
-ReplayedRunAgrees = (widths : ℕ → ℕ) (s : Schedule) (bodies : List BodyMeaning) (v : State) (h : List Step) (v' : State) →
+ReplayedRunAgrees = (widths : ℕ → ℕ) (s : Schedule) (bodies : List BodyMeaning) (v : State) (r : Recorded) (v' : State) →
     IsBuilt s → BodiesKeepWithin widths s bodies → IsStateOf widths s v →
-    IsReplayed s bodies v h v' → AgreesWithAll widths s bodies v 1 v'
+    IsReplayed (recording s r.sets) bodies v r.steps v' → AgreesWithAll widths s bodies v 1 v'
 
 -- ---- continuation
 
@@ -155,6 +157,11 @@ LoadedHasShape = (widths : ℕ → ℕ) (s : Schedule) (entities : List (List Gi
 abbrev pub ConflictsAreTested : Type 0
 ConflictsAreTested = (a b : Params) → ((conflicts a b ≡ true) ↔ Conflict a b) × IsLeastDatum a b (least_datum a b)
 
+-- the computed test of two accesses that meet is true exactly where they do, and where no kind sets are recorded they meet exactly where
+-- they conflict
+abbrev pub MeetsAreTested : Type 0
+MeetsAreTested = (sets : Option (List ℕ)) (a b : Params) → ((meet sets a b ≡ true) ↔ Meet sets a b) × (Meet None a b ↔ Conflict a b)
+
 -- a condition's answer depends only on what it is asked about
 abbrev pub AnswersAreAsked : Type 0
 AnswersAreAsked = (s : Schedule) (c : ℕ) (run : RunState) → answer_of s c run ≡ means (condition_of s c) (asked_of s c run)
@@ -170,16 +177,16 @@ CausesAreExact = (s : Schedule) (bodies : List BodyMeaning) (start : State) (h :
 -- a complete lawful list that has a meaning is a sound run, however many systems run at once
 abbrev pub RunsAreSound : Type 0
 RunsAreSound = (s : Schedule) (bodies : List BodyMeaning) (w : State) (h : List Step) (end : Interleaved) → IsLawful s h → IsComplete s h →
-    interleaved s bodies w h ≡ Some end → IsSoundRun s bodies w h end.run.state
+    HasTrueSets s bodies w h → interleaved s bodies w h ≡ Some end → IsSoundRun s bodies w h end.run.state
 
 -- so are the runs of a coordinator, one after the other
 abbrev pub WideRunsAreSound : Type 0
-WideRunsAreSound = (width : ℕ) (s : Schedule) (bodies : List BodyMeaning) (w : State) (hs : List (List Step)) (w' : State) →
+WideRunsAreSound = (width : ℕ) (s : Schedule) (bodies : List BodyMeaning) (w : State) (hs : List Recorded) (w' : State) →
     AreWideRuns width s bodies w hs w' → AreSoundRuns s bodies w hs w'
 
 -- with room for one, the runs of a coordinator are those of one thread
 abbrev pub WideRunsOfOneAreSingle : Type 0
-WideRunsOfOneAreSingle = (s : Schedule) (bodies : List BodyMeaning) (w : State) (hs : List (List Step)) (w' : State) →
+WideRunsOfOneAreSingle = (s : Schedule) (bodies : List BodyMeaning) (w : State) (hs : List Recorded) (w' : State) →
     AreWideRuns 1 s bodies w hs w' → AreSingleRuns s bodies w hs w'
 
 -- and where they stop, the runs of one thread stop for the same cause
@@ -191,7 +198,7 @@ WideStopsOfOneAreSingle = (s : Schedule) (bodies : List BodyMeaning) (times : �
 
 -- the runs of one thread are sound
 abbrev pub SingleRunsAreSound : Type 0
-SingleRunsAreSound = (s : Schedule) (bodies : List BodyMeaning) (w : State) (hs : List (List Step)) (w' : State) →
+SingleRunsAreSound = (s : Schedule) (bodies : List BodyMeaning) (w : State) (hs : List Recorded) (w' : State) →
     AreSingleRuns s bodies w hs w' → AreSoundRuns s bodies w hs w'
 
 -- the list of a run on one thread is one, and so is its end
@@ -199,10 +206,10 @@ abbrev pub SingleRunIsOne : Type 0
 SingleRunIsOne = (s : Schedule) (bodies : List BodyMeaning) (w : State) (h g : List Step) (w' v' : State) →
     IsSingleRun s bodies w h w' → IsSingleRun s bodies w g v' → (h ≡ g) × (w' ≡ v')
 
--- so are the lists and the end of as many runs
+-- so are the steps and the end of as many runs, whatever they record
 abbrev pub SingleRunsAreOne : Type 0
-SingleRunsAreOne = (s : Schedule) (bodies : List BodyMeaning) (w : State) (hs gs : List (List Step)) (w' v' : State) →
-    length hs ≡ length gs → AreSingleRuns s bodies w hs w' → AreSingleRuns s bodies w gs v' → (hs ≡ gs) × (w' ≡ v')
+SingleRunsAreOne = (s : Schedule) (bodies : List BodyMeaning) (w : State) (hs gs : List Recorded) (w' v' : State) →
+    length hs ≡ length gs → AreSingleRuns s bodies w hs w' → AreSingleRuns s bodies w gs v' → (map (λ r. r.steps) hs ≡ map (λ r. r.steps) gs) × (w' ≡ v')
 
 -- where so many runs have a meaning none of them stops, for any cause
 abbrev pub DefinedRunsGoThrough : Type 0
@@ -216,7 +223,7 @@ StopsAreOne = (s : Schedule) (bodies : List BodyMeaning) (times others : ℕ) (w
 
 -- ---- runs taken again
 
--- a run that is taken again comes to one thing: it leaves one state, or has one first wrong answer, or stops for one cause
+-- a run that is taken again comes to one thing: it leaves one state, or has one first wrong answer or record, or stops for one cause
 abbrev pub ReplaysAreOne : Type 0
 ReplaysAreOne = (s : Schedule) (bodies : List BodyMeaning) (w : State) (h : List Step) (one other : Replay) →
     ComesTo s bodies w h one → ComesTo s bodies w h other → one ≡ other

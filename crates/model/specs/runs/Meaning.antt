@@ -5,8 +5,10 @@ use Rattle.model.specs.declared.steps.Step.{Step}
 use Rattle.model.specs.declared.steps.Step.TheVariants.{Cond, Start, Skip, Finish, Sync}
 use Rattle.model.specs.Lists.{provided}
 use Rattle.model.specs.state.State.{State}
+use Rattle.model.specs.state.KindSets.{kind_sets_of}
 use Rattle.model.specs.shown.Outcome.{BodyMeaning}
 use Rattle.model.specs.steps.Schedule.{Schedule}
+use Rattle.model.specs.steps.Lawful.{sets_at}
 use Rattle.model.specs.runs.RunState.{RunState, RunningSystem, begin_run, can_ask, can_sync, can_start, started_system, after_start, finish, answer_of, after_condition, after_sync}
 
 -- ---- interleaved
@@ -76,3 +78,19 @@ IsTrueAnswer s step w = Unit {0}
 abbrev pub HasTrueAnswers : Schedule → List BodyMeaning → State → List Step → Type 0
 HasTrueAnswers s bodies start [] = Unit {0}
 HasTrueAnswers s bodies start (step ∷ h) = IsTrueAnswer s step (interleaved s bodies start h) × HasTrueAnswers s bodies start h
+
+-- ---- kind sets
+
+-- recorded kind sets, where there are any, are those of the living entities of a run, where it is defined
+abbrev pub AreSetsOf : Option (List ℕ) → Option Interleaved → Type 0
+AreSetsOf (Some numbers) (Some w) = numbers ≡ kind_sets_of w.run.state.world.slots
+AreSetsOf sets w = Unit {0}
+
+-- all that is recorded is true: at the opening, and after each sync point
+abbrev pub HasTrueSets : Schedule → List BodyMeaning → State → List Step → Type 0
+HasTrueSets s bodies start [] = AreSetsOf (sets_at s []) (interleaved s bodies start [])
+HasTrueSets s bodies start (Cond c answer ∷ h) = HasTrueSets s bodies start h
+HasTrueSets s bodies start (Start n ∷ h) = HasTrueSets s bodies start h
+HasTrueSets s bodies start (Skip n ∷ h) = HasTrueSets s bodies start h
+HasTrueSets s bodies start (Finish n ∷ h) = HasTrueSets s bodies start h
+HasTrueSets s bodies start (Sync k ∷ h) = AreSetsOf (sets_at s (Sync k ∷ h)) (interleaved s bodies start (Sync k ∷ h)) × HasTrueSets s bodies start h

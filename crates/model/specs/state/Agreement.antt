@@ -9,12 +9,12 @@ use Rattle.model.specs.access.Query.{Term, matches}
 use Rattle.model.specs.access.Access.{Params}
 use Rattle.model.specs.shown.Input.{passes}
 use Rattle.model.specs.shown.Outcome.{BodyMeaning}
-use Rattle.model.specs.steps.Schedule.{Schedule, params_of, access_of, watches}
+use Rattle.model.specs.steps.Schedule.{Schedule, Recorded, recording, params_of, access_of, watches}
 use Rattle.model.specs.steps.Lawful.{IsComplete, IsLawful}
 use Rattle.model.specs.steps.Ambiguity.{Settled}
 use Rattle.model.specs.state.Shape.{IsStateOf}
 use Rattle.model.specs.runs.RunState.{memory_of_system, memory_of_condition}
-use Rattle.model.specs.runs.Meaning.{HasTrueAnswers, Interleaved, interleaved}
+use Rattle.model.specs.runs.Meaning.{HasTrueAnswers, HasTrueSets, Interleaved, interleaved}
 
 -- ---- observers
 
@@ -92,23 +92,24 @@ pub record Agrees (s : Schedule) (v w : State) : Type 0 where
 
 -- ---- lists of runs, the first run first
 
--- a run from a state: a complete lawful history with true answers
+-- a run from a state: a complete lawful history with true answers and true kind sets
 pub record IsRun (s : Schedule) (bodies : List BodyMeaning) (w : State) (h : List Step) : Type 0 where
   pub lawful : IsLawful s h
   pub complete : IsComplete s h
   pub answers : HasTrueAnswers s bodies w h
+  pub sets : HasTrueSets s bodies w h
 
 -- each is a run from the state that the runs before it leave
-abbrev pub AreRuns : Schedule → List BodyMeaning → State → List (List Step) → Type 0
+abbrev pub AreRuns : Schedule → List BodyMeaning → State → List Recorded → Type 0
 AreRuns s bodies w [] = Unit {0}
-AreRuns s bodies w (h ∷ hs) = IsRun s bodies w h × ((end : Interleaved) → interleaved s bodies w h ≡ Some end → AreRuns s bodies end.run.state hs)
+AreRuns s bodies w (r ∷ rs) = IsRun (recording s r.sets) bodies w r.steps × ((end : Interleaved) → interleaved s bodies w r.steps ≡ Some end → AreRuns s bodies end.run.state rs)
 
 -- the state that the runs leave
-abbrev pub after_runs : Schedule → List BodyMeaning → State → List (List Step) → Option State
+abbrev pub after_runs : Schedule → List BodyMeaning → State → List Recorded → Option State
 after_runs s bodies w [] = Some w
-after_runs s bodies w (h ∷ hs) = option_and_then (λ (end : Interleaved). after_runs s bodies end.run.state hs) (interleaved s bodies w h)
+after_runs s bodies w (r ∷ rs) = option_and_then (λ (end : Interleaved). after_runs s bodies end.run.state rs) (interleaved s bodies w r.steps)
 
 -- what so many runs leave of a state agrees with what any as many runs leave of any state that agrees with the one, where the schedule is settled
 abbrev pub AgreesWithAll : (ℕ → ℕ) → Schedule → List BodyMeaning → State → ℕ → State → Type 0
-AgreesWithAll widths s bodies v times v' = (w : State) (gs : List (List Step)) (w' : State) → Settled s → IsStateOf widths s w → Agrees s v w → length gs ≡ times →
+AgreesWithAll widths s bodies v times v' = (w : State) (gs : List Recorded) (w' : State) → Settled s → IsStateOf widths s w → Agrees s v w → length gs ≡ times →
     AreRuns s bodies w gs → after_runs s bodies w gs ≡ Some w' → Agrees s v' w'

@@ -179,7 +179,7 @@ scheduled_condition_code = code_by (Condition × List ℕ) (coded× condition_co
     (λ c. (c.condition, c.covers)) (λ p. record { condition = p.0; covers = p.1 }) (λ _. refl)
 
 abbrev pub schedule_code : Coded Schedule
-schedule_code = code_by (List ScheduledSystem × (List ScheduledCondition × (ℕ × (List ℕ × List (List ℕ)))))
-    (coded× (coded_list system_code) (coded× (coded_list scheduled_condition_code) (coded× coded_ℕ (coded× (coded_list coded_ℕ) (coded_list (coded_list coded_ℕ))))))
-    (λ s. (s.systems, (s.conditions, (s.syncs, (s.order, s.silences)))))
-    (λ p. record { systems = p.0; conditions = p.1.0; syncs = p.1.1.0; order = p.1.1.1.0; silences = p.1.1.1.1 }) (λ _. refl)
+schedule_code = code_by (List ScheduledSystem × (List ScheduledCondition × (ℕ × (List ℕ × (List (List ℕ) × Option (List (List ℕ)))))))
+    (coded× (coded_list system_code) (coded× (coded_list scheduled_condition_code) (coded× coded_ℕ (coded× (coded_list coded_ℕ) (coded× (coded_list (coded_list coded_ℕ)) (coded_option (coded_list (coded_list coded_ℕ))))))))
+    (λ s. (s.systems, (s.conditions, (s.syncs, (s.order, (s.silences, s.sets))))))
+    (λ p. record { systems = p.0; conditions = p.1.0; syncs = p.1.1.0; order = p.1.1.1.0; silences = p.1.1.1.1.0; sets = p.1.1.1.1.1 }) (λ _. refl)

@@ -6,9 +6,9 @@ use Rattle.model.specs.declared.steps.Step.TheVariants.{Cond, Start, Skip, Finis
 use Rattle.model.specs.declared.steps.StepFault.{StepFault}
 use Rattle.model.specs.declared.steps.StepFault.TheVariants.{Unknown, Repeated, NotReady, ConditionOpen, ConditionFalse, ConditionTrue, Conflict, NotRunning, LevelOpen}
 use Rattle.model.specs.access.Access.{Params}
-use Rattle.model.specs.access.Conflict.{conflicts}
+use Rattle.model.specs.access.Meeting.{meet}
 use Rattle.model.specs.steps.Schedule.{Schedule, system_at, condition_at, params_of, access_of, level_of, covers}
-use Rattle.model.specs.steps.Lawful.{begun, ended, runs, synced, was_asked, answered}
+use Rattle.model.specs.steps.Lawful.{begun, ended, runs, synced, was_asked, answered, sets_at}
 use Rattle.model.specs.steps.Faults.{faults_of}
 
 -- whether some number below a bound passes
@@ -37,7 +37,7 @@ has_false s h n = any_below (λ c. covers s c n && answered h c false) (length s
 
 -- whether a running system meets the access
 abbrev pub meets_running : Schedule → List Step → Params → Bool
-meets_running s h access = any_below (λ m. runs h m && conflicts (params_of s m) access) (length s.systems)
+meets_running s h access = any_below (λ m. runs h m && meet (sets_at s h) (params_of s m) access) (length s.systems)
 
 -- whether a system of the level hasn't ended
 abbrev pub is_level_open : Schedule → List Step → ℕ → Bool

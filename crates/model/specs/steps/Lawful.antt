@@ -1,10 +1,10 @@
 -- Lists of steps that are lawful. A history has the latest step first, so what stands before a step is its tail.
-use Rattle.std.specs.Prelude.{ℕ, ◌<◌, Bool, true, false, not, ◌==◌, ◌&&◌, ◌||◌, ◌≡◌, List, [], ◌∷◌, length}
+use Rattle.std.specs.Prelude.{ℕ, suc, ◌<◌, Bool, true, false, not, ◌==◌, ◌&&◌, ◌||◌, ◌≡◌, List, [], ◌∷◌, length, get_or, Option, option_map}
 use Rattle.std.specs.List.{list_any}
 use Rattle.model.specs.declared.steps.Step.{Step}
 use Rattle.model.specs.declared.steps.Step.TheVariants.{Cond, Start, Skip, Finish, Sync}
 use Rattle.model.specs.access.Access.{Params}
-use Rattle.model.specs.access.Conflict.{Conflict}
+use Rattle.model.specs.access.Meeting.{Meet}
 use Rattle.model.specs.steps.Schedule.{Schedule, params_of, covers, access_of, level_of, has_edge}
 
 -- ---- what stands in a history
@@ -80,11 +80,27 @@ runs h n = started h n && not (finished h n)
 abbrev pub NoneRuns : List Step → Type 0
 NoneRuns h = (n : ℕ) → runs h n ≡ false
 
+-- ---- the kind sets that were recorded
+
+-- how many sync points a history has
+abbrev pub syncs_in : List Step → ℕ
+syncs_in [] = 0
+syncs_in (Cond c answer ∷ h) = syncs_in h
+syncs_in (Start n ∷ h) = syncs_in h
+syncs_in (Skip n ∷ h) = syncs_in h
+syncs_in (Finish n ∷ h) = syncs_in h
+syncs_in (Sync k ∷ h) = suc (syncs_in h)
+
+-- the kind sets that were recorded last, where they are recorded: at the opening, or after the latest sync point
+abbrev pub sets_at : Schedule → List Step → Option (List ℕ)
+sets_at s h = option_map (λ lists. get_or lists (syncs_in h) []) s.sets
+
 -- ---- words on what is open
 
--- after a history an access meets a running system where it conflicts with it: what may not be while that system runs
+-- after a history an access meets a running system, by the kind sets recorded last: what may not be while that system runs. Where none are
+-- recorded it meets it where it conflicts with it
 abbrev pub Meets : Schedule → List Step → ℕ → Params → Type 0
-Meets s h m access = Conflict (params_of s m) access
+Meets s h m access = Meet (sets_at s h) (params_of s m) access
 
 -- some running system meets the access
 abbrev pub MeetsRunning : Schedule → List Step → Params → Type 0

@@ -1,5 +1,6 @@
 -- A built schedule, as data, and the tests on it. It holds no bodies.
-use Rattle.std.specs.Prelude.{ℕ, Bool, List, [], get_or}
+use Rattle.std.specs.Prelude.{ℕ, Bool, List, [], get_or, Option}
+use Rattle.model.specs.declared.steps.Step.{Step}
 use Rattle.model.specs.Lists.{has}
 use Rattle.model.specs.access.Access.{Params, no_params}
 use Rattle.model.specs.access.Condition.{Condition, access_of_condition, watched_of}
@@ -16,14 +17,32 @@ pub record ScheduledCondition : Type 0 where
   pub condition : Condition
   pub covers : List ℕ
 
--- systems in declared order, conditions by number, how many sync points, the schedule order, and for each system those with which it
--- may be ambiguous
+-- systems in declared order, conditions by number, how many sync points, the schedule order, for each system those with which it may be
+-- ambiguous; and, of a run that records them, the kind sets that are there at its opening and after each of its sync points, by number
 pub record Schedule : Type 0 where
   pub systems : List ScheduledSystem
   pub conditions : List ScheduledCondition
   pub syncs : ℕ
   pub order : List ℕ
   pub silences : List (List ℕ)
+  pub sets : Option (List (List ℕ))
+
+-- the schedule in a run that records these kind sets, or none
+abbrev pub recording : Schedule → Option (List (List ℕ)) → Schedule
+recording s sets = record {
+  systems = s.systems;
+  conditions = s.conditions;
+  syncs = s.syncs;
+  order = s.order;
+  silences = s.silences;
+  sets = sets;
+}
+
+-- a run as it is recorded: its steps, the latest first, and the kind sets at its opening and after each sync point, the first first, where
+-- it records them
+pub record Recorded : Type 0 where
+  pub steps : List Step
+  pub sets : Option (List (List ℕ))
 
 -- the system of a number
 abbrev pub system_at : Schedule → ℕ → ScheduledSystem

@@ -1,11 +1,14 @@
-use Rattle.std.proofs.Common.{◌≡◌, ◌∷◌, List, true, false, length, Some, refl, sym, ap, subst}
+use Rattle.std.proofs.Common.{◌≡◌, ◌∷◌, List, true, false, length, Some, refl, sym, ap, ◌∙◌, subst}
 use Rattle.model.specs.declared.steps.Ready.{Ready}
-use Rattle.model.specs.declared.steps.Step.TheVariants.{Cond, Start as Begin, Finish}
+use Rattle.model.specs.declared.steps.Step.TheVariants.{Cond, Start as Begin, Finish, Sync}
 use Rattle.model.specs.Lists.{IsIn}
 use Rattle.model.specs.shown.Outcome.{BodyMeaning}
 use Rattle.model.specs.runs.Causes.{interleaved_cause_of}
 use Rattle.model.specs.runs.WideRuns.{WideStops}
+use Rattle.model.specs.state.KindSets.{kind_sets_of}
+use Rattle.model.specs.steps.Schedule.{recording}
 use Rattle.model.specs.steps.Lawful.{runs}
+use Rattle.model.proofs.serial.Recording.{answer-recording, interleaved_cause-recording, interleaved_step-recording}
 use Rattle.body.specs.Steps.{StateValue}
 use Rattle.worker_pool.specs.JobOut.{JobOut}
 use Rattle.engine.specs.declared.turn.Turn.{Turn}
@@ -15,7 +18,8 @@ use Rattle.engine.specs.Next.{KeepsNext, StopsNext}
 use Rattle.engine.specs.Stage.{Stage, IsTake, IsTurn}
 use Rattle.engine.specs.Stops.{CannotSync, LacksTick}
 use Rattle.engine.proofs.Placing.{placed_kept}
-use Rattle.engine.proofs.Staging.{stage_start, stage_ask, stage_skip, stage_sync, stage_finish, running_there, none_out, stops_start, stops_ask, stops_sync, stops_finish}
+use Rattle.engine.proofs.Staging.{stage_start, stage_ask, stage_skip, stage_finish, running_there, none_out, stops_start, stops_ask, stops_sync, stops_finish, stops_plain}
+use Rattle.engine.proofs.Recorded.{listed_synced, stage_synced}
 use Rattle.engine.proofs.Remembering.{memories_synced}
 use Rattle.engine.proofs.Stops.{handed_on, stops_among, stops_up}
 use Rattle.engine.proofs.Turns.{start_allowed, ask_allowed, sync_fresh, placed_asked, placed_synced, in_hand_none, in_hand_asked, home_end}
@@ -32,12 +36,13 @@ start-requires g c = λ lifetimes.
     let deferred = c.args.run.now.deferred in
     let out = c.args.jobs.now.pool in
     let w = c.args.run.now.state in
-    let bodies = c.requires.next.0 in
-    let start = c.requires.next.1 in
-    let h = c.requires.next.2 in
-    let known = c.requires.next.3 in
-    let next = subst (λ (r : Ready). IsTake s h (length out) width r) c.in-Start.is (subst (λ (t : Turn). IsTurn s h (length out) width (Some t)) c.in-Take.is known.following) in
-    let allowed = start_allowed meaning fits there s bodies slots out w known.between.placed width start h deferred c.in-Start.system c.prove_law.ensures known.between.stage (next.allowed false) in
+    let sets = c.requires.next.0 in
+    let bodies = c.requires.next.1 in
+    let start = c.requires.next.2 in
+    let h = c.requires.next.3 in
+    let known = c.requires.next.4 in
+    let next = subst (λ (r : Ready). IsTake (recording s sets) h (length out) width r) c.in-Start.is (subst (λ (t : Turn). IsTurn (recording s sets) h (length out) width (Some t)) c.in-Take.is known.following) in
+    let allowed = start_allowed meaning fits there s bodies slots out w known.between.placed sets width start h deferred c.in-Start.system c.prove_law.ensures known.between.stage (next.allowed false) in
     (c.type_bounds.send-B, (c.type_bounds.send-M-Line, (c.type_bounds.send-M-Gate, (c.type_bounds.sync-M-Gate, ((refl, tt), (allowed, ((bodies, known.between.placed), known.between.hand)))))))
 
 pub finish-requires : goal.finish-requires
@@ -45,10 +50,11 @@ finish-requires g c = λ lifetimes.
     let width = g.M.Mode.width c.args.mode.now in
     let s = c.args.built.now in
     let out = c.args.jobs.now.pool in
-    let bodies = c.requires.next.0 in
-    let h = c.requires.next.2 in
-    let known = c.requires.next.3 in
-    let next = subst (λ (t : Turn). IsTurn s h (length out) width (Some t)) c.in-Collect.is known.following in
+    let sets = c.requires.next.0 in
+    let bodies = c.requires.next.1 in
+    let h = c.requires.next.3 in
+    let known = c.requires.next.4 in
+    let next = subst (λ (t : Turn). IsTurn (recording s sets) h (length out) width (Some t)) c.in-Collect.is known.following in
     (c.type_bounds.send-B, (c.type_bounds.send-M-Line, (c.type_bounds.send-M-Gate, (c.type_bounds.sync-M-Gate, ((refl, tt), (next.0, ((bodies, known.between.placed), known.between.hand.suits)))))))
 
 pub ask-requires-clause-known : goal.ask-requires-clause-known
@@ -56,14 +62,15 @@ ask-requires-clause-known g c =
     let width = g.M.Mode.width c.args.mode.now in
     let s = c.args.built.now in
     let out = c.args.jobs.now.pool in
-    let h = c.requires.next.2 in
-    let known = c.requires.next.3 in
-    let next = subst (λ (r : Ready). IsTake s h (length out) width r) c.in-Ask.is (subst (λ (t : Turn). IsTurn s h (length out) width (Some t)) c.in-Take.is known.following) in
+    let sets = c.requires.next.0 in
+    let h = c.requires.next.3 in
+    let known = c.requires.next.4 in
+    let next = subst (λ (r : Ready). IsTake (recording s sets) h (length out) width r) c.in-Ask.is (subst (λ (t : Turn). IsTurn (recording s sets) h (length out) width (Some t)) c.in-Take.is known.following) in
     (next.allowed false).known
 
 pub ask-requires-clause-memories : goal.ask-requires-clause-memories
 ask-requires-clause-memories g c =
-    let known = c.requires.next.3 in
+    let known = c.requires.next.4 in
     known.between.placed.memories
 
 pub ask-requires-clause-home : goal.ask-requires-clause-home
@@ -77,31 +84,33 @@ ask-requires-clause-home g c =
     let deferred = c.args.run.now.deferred in
     let out = c.args.jobs.now.pool in
     let w = c.args.run.now.state in
-    let bodies = c.requires.next.0 in
-    let start = c.requires.next.1 in
-    let h = c.requires.next.2 in
-    let known = c.requires.next.3 in
-    let next = subst (λ (r : Ready). IsTake s h (length out) width r) c.in-Ask.is (subst (λ (t : Turn). IsTurn s h (length out) width (Some t)) c.in-Take.is known.following) in
-    ask_allowed meaning fits there s bodies slots out w known.between.placed c.in-Ask.condition width start h deferred known.between.stage c.prove_law-in-Take.ensures.laid (next.allowed false)
+    let sets = c.requires.next.0 in
+    let bodies = c.requires.next.1 in
+    let start = c.requires.next.2 in
+    let h = c.requires.next.3 in
+    let known = c.requires.next.4 in
+    let next = subst (λ (r : Ready). IsTake (recording s sets) h (length out) width r) c.in-Ask.is (subst (λ (t : Turn). IsTurn (recording s sets) h (length out) width (Some t)) c.in-Take.is known.following) in
+    ask_allowed meaning fits there s bodies slots out w known.between.placed sets c.in-Ask.condition width start h deferred known.between.stage c.prove_law-in-Take.ensures.laid (next.allowed false)
 
 pub sync-requires-clause-known : goal.sync-requires-clause-known
 sync-requires-clause-known g c =
     let width = g.M.Mode.width c.args.mode.now in
     let s = c.args.built.now in
     let out = c.args.jobs.now.pool in
-    let h = c.requires.next.2 in
-    let known = c.requires.next.3 in
-    let next = subst (λ (r : Ready). IsTake s h (length out) width r) c.in-Sync.is (subst (λ (t : Turn). IsTurn s h (length out) width (Some t)) c.in-Take.is known.following) in
+    let sets = c.requires.next.0 in
+    let h = c.requires.next.3 in
+    let known = c.requires.next.4 in
+    let next = subst (λ (r : Ready). IsTake (recording s sets) h (length out) width r) c.in-Sync.is (subst (λ (t : Turn). IsTurn (recording s sets) h (length out) width (Some t)) c.in-Take.is known.following) in
     (next.allowed false).known
 
 pub sync-requires-clause-suits : goal.sync-requires-clause-suits
 sync-requires-clause-suits g c =
-    let known = c.requires.next.3 in
+    let known = c.requires.next.4 in
     known.between.hand.suits
 
 pub sync-requires-clause-in_hand : goal.sync-requires-clause-in_hand
 sync-requires-clause-in_hand g c =
-    let known = c.requires.next.3 in
+    let known = c.requires.next.4 in
     known.between.hand.ids
 
 pub sync-requires-clause-fresh : goal.sync-requires-clause-fresh
@@ -115,12 +124,13 @@ sync-requires-clause-fresh g c =
     let deferred = c.args.run.now.deferred in
     let out = c.args.jobs.now.pool in
     let w = c.args.run.now.state in
-    let bodies = c.requires.next.0 in
-    let start = c.requires.next.1 in
-    let h = c.requires.next.2 in
-    let known = c.requires.next.3 in
-    let next = subst (λ (r : Ready). IsTake s h (length out) width r) c.in-Sync.is (subst (λ (t : Turn). IsTurn s h (length out) width (Some t)) c.in-Take.is known.following) in
-    sync_fresh meaning fits there s bodies slots out w known.between.placed width start h deferred c.in-Sync.point known.between.stage (next.allowed false)
+    let sets = c.requires.next.0 in
+    let bodies = c.requires.next.1 in
+    let start = c.requires.next.2 in
+    let h = c.requires.next.3 in
+    let known = c.requires.next.4 in
+    let next = subst (λ (r : Ready). IsTake (recording s sets) h (length out) width r) c.in-Sync.is (subst (λ (t : Turn). IsTurn (recording s sets) h (length out) width (Some t)) c.in-Take.is known.following) in
+    sync_fresh meaning fits there s bodies slots out w known.between.placed sets width start h deferred c.in-Sync.point known.between.stage (next.allowed false)
 
 pub sync-requires-clause-home : goal.sync-requires-clause-home
 sync-requires-clause-home g c =
@@ -133,12 +143,13 @@ sync-requires-clause-home g c =
     let deferred = c.args.run.now.deferred in
     let out = c.args.jobs.now.pool in
     let w = c.args.run.now.state in
-    let bodies = c.requires.next.0 in
-    let start = c.requires.next.1 in
-    let h = c.requires.next.2 in
-    let known = c.requires.next.3 in
-    let next = subst (λ (r : Ready). IsTake s h (length out) width r) c.in-Sync.is (subst (λ (t : Turn). IsTurn s h (length out) width (Some t)) c.in-Take.is known.following) in
-    let none = none_out width s bodies start h w.state deferred out known.between.stage c.in-Sync.point (next.allowed false) in
+    let sets = c.requires.next.0 in
+    let bodies = c.requires.next.1 in
+    let start = c.requires.next.2 in
+    let h = c.requires.next.3 in
+    let known = c.requires.next.4 in
+    let next = subst (λ (r : Ready). IsTake (recording s sets) h (length out) width r) c.in-Sync.is (subst (λ (t : Turn). IsTurn (recording s sets) h (length out) width (Some t)) c.in-Take.is known.following) in
+    let none = none_out width (recording s sets) bodies start h w.state deferred out known.between.stage c.in-Sync.point (next.allowed false) in
     home_end meaning fits there s bodies slots out w known.between.placed none c.prove_law-in-Take.ensures.laid
 
 pub returns-in_err-start-in-Start-clause-stopped : goal.returns-in_err-start-in-Start-clause-stopped
@@ -154,9 +165,9 @@ returns-in_err-start-in-Start-clause-stopped g c =
     let w = c.args.run.now.state in
     let told = c.in_err-start-in-Start.field-0.0 in
     handed_on (StopsNext meaning fits there width s slots deferred out w c.args.turn) c.from_residual-in_err-start-in-Start.result told c.from_residual-in_err-start-in-Start.ensures.1
-    (λ bodies start h known.
-    let next = subst (λ (r : Ready). IsTake s h (length out) width r) c.in-Start.is (subst (λ (t : Turn). IsTurn s h (length out) width (Some t)) c.in-Take.is known.following) in
-    stops_up there (λ met. (bodies : List BodyMeaning) → interleaved_cause_of s bodies (Begin c.in-Start.system) (woven w.state deferred out) ≡ Some met) (WideStops width s bodies start) told (λ met e. stops_start width s bodies start h w.state deferred out known.between.stage c.in-Start.system met next (e bodies)) c.in_err-start-in-Start.ensures.stopped)
+    (λ sets bodies start h known.
+    let next = subst (λ (r : Ready). IsTake (recording s sets) h (length out) width r) c.in-Start.is (subst (λ (t : Turn). IsTurn (recording s sets) h (length out) width (Some t)) c.in-Take.is known.following) in
+    stops_up there (λ met. (bodies : List BodyMeaning) → interleaved_cause_of s bodies (Begin c.in-Start.system) (woven w.state deferred out) ≡ Some met) (WideStops width s bodies start) told (λ met e. stops_plain width s sets bodies start met (stops_start width (recording s sets) bodies start h w.state deferred out known.between.stage c.in-Start.system met next (e bodies))) c.in_err-start-in-Start.ensures.stopped)
 
 pub returns-in_err-answer-in-Ask-clause-stopped : goal.returns-in_err-answer-in-Ask-clause-stopped
 returns-in_err-answer-in-Ask-clause-stopped g c =
@@ -171,9 +182,9 @@ returns-in_err-answer-in-Ask-clause-stopped g c =
     let w = c.args.run.now.state in
     let told = c.in_err-answer-in-Ask.field-0.0 in
     handed_on (StopsNext meaning fits there width s slots deferred out w c.args.turn) c.from_residual-in_err-answer-in-Ask.result told c.from_residual-in_err-answer-in-Ask.ensures.1
-    (λ bodies start h known.
-    let next = subst (λ (r : Ready). IsTake s h (length out) width r) c.in-Ask.is (subst (λ (t : Turn). IsTurn s h (length out) width (Some t)) c.in-Take.is known.following) in
-    stops_among there (LacksTick w.state) (WideStops width s bodies start) told (λ met e. stops_ask width s bodies start h w.state deferred out known.between.stage c.in-Ask.condition met next e) c.in_err-answer-in-Ask.ensures.stopped)
+    (λ sets bodies start h known.
+    let next = subst (λ (r : Ready). IsTake (recording s sets) h (length out) width r) c.in-Ask.is (subst (λ (t : Turn). IsTurn (recording s sets) h (length out) width (Some t)) c.in-Take.is known.following) in
+    stops_among there (LacksTick w.state) (WideStops width s bodies start) told (λ met e. stops_plain width s sets bodies start met (stops_ask width (recording s sets) bodies start h w.state deferred out known.between.stage c.in-Ask.condition met next e)) c.in_err-answer-in-Ask.ensures.stopped)
 
 pub returns-in_err-sync-in-Sync-clause-stopped : goal.returns-in_err-sync-in-Sync-clause-stopped
 returns-in_err-sync-in-Sync-clause-stopped g c =
@@ -188,9 +199,10 @@ returns-in_err-sync-in-Sync-clause-stopped g c =
     let w = c.args.run.now.state in
     let told = c.in_err-sync-in-Sync.field-0.0 in
     handed_on (StopsNext meaning fits there width s slots deferred out w c.args.turn) c.from_residual-in_err-sync-in-Sync.result told c.from_residual-in_err-sync-in-Sync.ensures.1
-    (λ bodies start h known.
-    let next = subst (λ (r : Ready). IsTake s h (length out) width r) c.in-Sync.is (subst (λ (t : Turn). IsTurn s h (length out) width (Some t)) c.in-Take.is known.following) in
-    stops_among there (CannotSync s c.in-Sync.point (run_with w.state deferred)) (WideStops width s bodies start) told (λ met e. stops_sync width s bodies start h w.state deferred out known.between.stage c.in-Sync.point met next e) c.in_err-sync-in-Sync.ensures.stopped)
+    (λ sets bodies start h known.
+    let next = subst (λ (r : Ready). IsTake (recording s sets) h (length out) width r) c.in-Sync.is (subst (λ (t : Turn). IsTurn (recording s sets) h (length out) width (Some t)) c.in-Take.is known.following) in
+    stops_among there (CannotSync s c.in-Sync.point (run_with w.state deferred)) (WideStops width s bodies start) told (λ met e. stops_plain width s sets bodies start met (stops_sync width (recording s sets) bodies start h w.state deferred out known.between.stage c.in-Sync.point met next
+    (interleaved_cause-recording s sets bodies (Sync c.in-Sync.point) (woven w.state deferred out) ∙ e))) c.in_err-sync-in-Sync.ensures.stopped)
 
 pub returns-in_err-system-in-Collect-clause-stopped : goal.returns-in_err-system-in-Collect-clause-stopped
 returns-in_err-system-in-Collect-clause-stopped g c =
@@ -205,10 +217,11 @@ returns-in_err-system-in-Collect-clause-stopped g c =
     let w = c.args.run.now.state in
     let told = c.in_err-system-in-Collect.field-0.0 in
     handed_on (StopsNext meaning fits there width s slots deferred out w c.args.turn) c.from_residual.result told c.from_residual.ensures.1
-    (λ bodies start h known.
-    let next = subst (λ (t : Turn). IsTurn s h (length out) width (Some t)) c.in-Collect.is known.following in
+    (λ sets bodies start h known.
+    let next = subst (λ (t : Turn). IsTurn (recording s sets) h (length out) width (Some t)) c.in-Collect.is known.following in
     stops_up there (λ met. (job : JobOut g.row.B.Denot) × IsIn job out × (interleaved_cause_of s bodies (Finish job.system) (woven w.state deferred out) ≡ Some met)) (WideStops width s bodies start) told
-    (λ met e. stops_finish width s bodies start h w.state deferred out known.between.stage e.0.system met next.1 (running_there width s bodies start h w.state deferred out known.between.stage e.0 e.1) e.2) (c.in_err-system-in-Collect.ensures.stopped bodies known.between.placed))
+    (λ met e. stops_plain width s sets bodies start met (stops_finish width (recording s sets) bodies start h w.state deferred out known.between.stage e.0.system met next.1
+    (running_there width (recording s sets) bodies start h w.state deferred out known.between.stage e.0 e.1) (interleaved_cause-recording s sets bodies (Finish e.0.system) (woven w.state deferred out) ∙ e.2))) (c.in_err-system-in-Collect.ensures.stopped bodies known.between.placed))
 
 pub returns-in_err-start-in-Start-clause-kept : goal.returns-in_err-start-in-Start-clause-kept
 returns-in_err-start-in-Start-clause-kept g c =
@@ -223,7 +236,7 @@ returns-in_err-start-in-Start-clause-kept g c =
     let w = c.args.run.now.state in
     let told = c.in_err-start-in-Start.field-0.0 in
     handed_on (KeepsNext meaning fits there (g.M.Mode.stands c.args.mode.now) width s slots deferred out w c.args.turn c.start.new.jobs.bodies c.start.new.jobs.pool) c.from_residual-in_err-start-in-Start.result told c.from_residual-in_err-start-in-Start.ensures.1
-    (λ lost bodies start h known.
+    (λ lost sets bodies start h known.
     (let same = c.in_err-start-in-Start.ensures.kept lost in
     subst (λ xs. AreKept meaning fits there s bodies xs c.start.new.jobs.pool) (sym same.0) (subst (λ xs. AreKept meaning fits there s bodies slots xs) (sym same.1) (placed_kept meaning fits there s bodies slots out w known.between.placed))))
 
@@ -240,7 +253,7 @@ returns-in_err-answer-in-Ask-clause-kept g c =
     let w = c.args.run.now.state in
     let told = c.in_err-answer-in-Ask.field-0.0 in
     handed_on (KeepsNext meaning fits there (g.M.Mode.stands c.args.mode.now) width s slots deferred out w c.args.turn slots out) c.from_residual-in_err-answer-in-Ask.result told c.from_residual-in_err-answer-in-Ask.ensures.1
-    (λ lost bodies start h known. placed_kept meaning fits there s bodies slots out w known.between.placed)
+    (λ lost sets bodies start h known. placed_kept meaning fits there s bodies slots out w known.between.placed)
 
 pub returns-in_err-sync-in-Sync-clause-kept : goal.returns-in_err-sync-in-Sync-clause-kept
 returns-in_err-sync-in-Sync-clause-kept g c =
@@ -255,7 +268,7 @@ returns-in_err-sync-in-Sync-clause-kept g c =
     let w = c.args.run.now.state in
     let told = c.in_err-sync-in-Sync.field-0.0 in
     handed_on (KeepsNext meaning fits there (g.M.Mode.stands c.args.mode.now) width s slots deferred out w c.args.turn slots out) c.from_residual-in_err-sync-in-Sync.result told c.from_residual-in_err-sync-in-Sync.ensures.1
-    (λ lost bodies start h known. placed_kept meaning fits there s bodies slots out w known.between.placed)
+    (λ lost sets bodies start h known. placed_kept meaning fits there s bodies slots out w known.between.placed)
 
 pub returns-in_err-system-in-Collect-clause-kept : goal.returns-in_err-system-in-Collect-clause-kept
 returns-in_err-system-in-Collect-clause-kept g c =
@@ -270,28 +283,30 @@ returns-in_err-system-in-Collect-clause-kept g c =
     let w = c.args.run.now.state in
     let told = c.in_err-system-in-Collect.field-0.0 in
     handed_on (KeepsNext meaning fits there (g.M.Mode.stands c.args.mode.now) width s slots deferred out w c.args.turn c.finish.new.jobs.bodies c.finish.new.jobs.pool) c.from_residual.result told c.from_residual.ensures.1
-    (λ lost bodies start h known. c.in_err-system-in-Collect.ensures.kept bodies known.between.placed)
+    (λ lost sets bodies start h known. c.in_err-system-in-Collect.ensures.kept bodies known.between.placed)
 
 pub returns-in_ok-start-in-Start-clause-taken : goal.returns-in_ok-start-in-Start-clause-taken
-returns-in_ok-start-in-Start-clause-taken g c = λ bodies start h known.
+returns-in_ok-start-in-Start-clause-taken g c = λ sets bodies start h known.
     let width = g.M.Mode.width c.args.mode.now in
     let s = c.args.built.now in
     let deferred = c.args.run.now.deferred in
     let out = c.args.jobs.now.pool in
     let w = c.args.run.now.state in
-    let next = subst (λ (r : Ready). IsTake s h (length out) width r) c.in-Start.is (subst (λ (t : Turn). IsTurn s h (length out) width (Some t)) c.in-Take.is known.following) in
+    let next = subst (λ (r : Ready). IsTake (recording s sets) h (length out) width r) c.in-Start.is (subst (λ (t : Turn). IsTurn (recording s sets) h (length out) width (Some t)) c.in-Take.is known.following) in
     let started = c.in_ok-start-in-Start.ensures in
     record {
       may = next.allowed false;
       between = record {
-        stage = stage_start width s bodies start h w.state deferred out known.between.stage c.in-Start.system c.start.new.run.state.state c.start.new.run.deferred c.start.new.jobs.pool next (started.started bodies) started.longer;
+        listed = known.between.listed;
+        stage = stage_start width (recording s sets) bodies start h w.state deferred out known.between.stage c.in-Start.system c.start.new.run.state.state c.start.new.run.deferred c.start.new.jobs.pool next
+            (interleaved_step-recording s sets bodies (Begin c.in-Start.system) (woven w.state deferred out) ∙ started.started bodies) started.longer;
         placed = started.placed bodies known.between.placed;
         hand = started.hand;
       };
     }
 
 pub returns-in_ok-answer-in-Ask-clause-taken : goal.returns-in_ok-answer-in-Ask-clause-taken
-returns-in_ok-answer-in-Ask-clause-taken g c = λ bodies start h known.
+returns-in_ok-answer-in-Ask-clause-taken g c = λ sets bodies start h known.
     let meaning = g.B.Body.meaning in
     let fits = g.B.Body.fits in
     let there = g.M.Hosts.has_scope c.args.mode.now in
@@ -301,15 +316,17 @@ returns-in_ok-answer-in-Ask-clause-taken g c = λ bodies start h known.
     let deferred = c.args.run.now.deferred in
     let out = c.args.jobs.now.pool in
     let w = c.args.run.now.state in
-    let next = subst (λ (r : Ready). IsTake s h (length out) width r) c.in-Ask.is (subst (λ (t : Turn). IsTurn s h (length out) width (Some t)) c.in-Take.is known.following) in
+    let next = subst (λ (r : Ready). IsTake (recording s sets) h (length out) width r) c.in-Ask.is (subst (λ (t : Turn). IsTurn (recording s sets) h (length out) width (Some t)) c.in-Take.is known.following) in
     let answer = c.in_ok-answer-in-Ask.answer in
     let told = c.in_ok-answer-in-Ask.ensures in
     let later = c.ask.new.self.state in
     record {
       may = next.allowed answer;
       between = record {
-        stage = subst (λ (x : DeferredValue). Stage width s bodies start (Cond c.in-Ask.condition answer ∷ h) later.state x out) (sym c.ask.ensures.deferred)
-            (stage_ask width s bodies start h w.state deferred out known.between.stage c.in-Ask.condition answer later.state next told.answer told.ticked (ap (λ (x : StateValue). x.state) told.asked));
+        listed = known.between.listed;
+        stage = subst (λ (x : DeferredValue). Stage width (recording s sets) bodies start (Cond c.in-Ask.condition answer ∷ h) later.state x out) (sym c.ask.ensures.deferred)
+            (stage_ask width (recording s sets) bodies start h w.state deferred out known.between.stage c.in-Ask.condition answer later.state next
+            (told.answer ∙ sym (answer-recording s sets c.in-Ask.condition (run_with w.state deferred))) told.ticked (ap (λ (x : StateValue). x.state) told.asked));
         placed = placed_asked meaning fits there s bodies slots out w known.between.placed c.in-Ask.condition later told.asked;
         hand = subst (λ (x : DeferredValue). InHand s x out later) (sym c.ask.ensures.deferred)
             (in_hand_asked meaning fits there s bodies slots out w known.between.placed deferred c.in-Ask.condition later told.asked known.between.hand);
@@ -317,24 +334,25 @@ returns-in_ok-answer-in-Ask-clause-taken g c = λ bodies start h known.
     }
 
 pub returns-in-Skip-clause-taken : goal.returns-in-Skip-clause-taken
-returns-in-Skip-clause-taken g c = λ bodies start h known.
+returns-in-Skip-clause-taken g c = λ sets bodies start h known.
     let width = g.M.Mode.width c.args.mode.now in
     let s = c.args.built.now in
     let deferred = c.args.run.now.deferred in
     let out = c.args.jobs.now.pool in
     let w = c.args.run.now.state in
-    let next = subst (λ (r : Ready). IsTake s h (length out) width r) c.in-Skip.is (subst (λ (t : Turn). IsTurn s h (length out) width (Some t)) c.in-Take.is known.following) in
+    let next = subst (λ (r : Ready). IsTake (recording s sets) h (length out) width r) c.in-Skip.is (subst (λ (t : Turn). IsTurn (recording s sets) h (length out) width (Some t)) c.in-Take.is known.following) in
     record {
       may = next.allowed false;
       between = record {
-        stage = stage_skip width s bodies start h w.state deferred out known.between.stage c.in-Skip.system next;
+        listed = known.between.listed;
+        stage = stage_skip width (recording s sets) bodies start h w.state deferred out known.between.stage c.in-Skip.system next;
         placed = known.between.placed;
         hand = known.between.hand;
       };
     }
 
 pub returns-in_ok-sync-in-Sync-clause-taken : goal.returns-in_ok-sync-in-Sync-clause-taken
-returns-in_ok-sync-in-Sync-clause-taken g c = λ bodies start h known.
+returns-in_ok-sync-in-Sync-clause-taken g c = λ sets bodies start h known.
     let meaning = g.B.Body.meaning in
     let fits = g.B.Body.fits in
     let there = g.M.Hosts.has_scope c.args.mode.now in
@@ -344,15 +362,16 @@ returns-in_ok-sync-in-Sync-clause-taken g c = λ bodies start h known.
     let deferred = c.args.run.now.deferred in
     let out = c.args.jobs.now.pool in
     let w = c.args.run.now.state in
-    let next = subst (λ (r : Ready). IsTake s h (length out) width r) c.in-Sync.is (subst (λ (t : Turn). IsTurn s h (length out) width (Some t)) c.in-Take.is known.following) in
-    let none = none_out width s bodies start h w.state deferred out known.between.stage c.in-Sync.point (next.allowed false) in
+    let next = subst (λ (r : Ready). IsTake (recording s sets) h (length out) width r) c.in-Sync.is (subst (λ (t : Turn). IsTurn (recording s sets) h (length out) width (Some t)) c.in-Take.is known.following) in
+    let none = none_out width (recording s sets) bodies start h w.state deferred out known.between.stage c.in-Sync.point (next.allowed false) in
     let done = c.in_ok-sync-in-Sync.ensures in
     let later = c.sync.new.self.state in
     let left = c.sync.new.self.deferred in
     record {
       may = next.allowed false;
       between = record {
-        stage = stage_sync width s bodies start h w.state deferred out known.between.stage c.in-Sync.point later.state left next done.can done.synced;
+        listed = listed_synced sets (kind_sets_of later.state.world.slots) h c.in-Sync.point known.between.listed;
+        stage = stage_synced width s sets bodies start h w.state deferred out known.between.listed known.between.stage c.in-Sync.point later.state left next done.can done.synced;
         placed = placed_synced meaning fits there s bodies slots out w known.between.placed later none
             (memories_synced s w.state known.between.placed.memories c.in-Sync.point deferred left later.state done.synced) done.home;
         hand = in_hand_none s left out later none done.suits done.in_hand;
@@ -360,19 +379,21 @@ returns-in_ok-sync-in-Sync-clause-taken g c = λ bodies start h known.
     }
 
 pub returns-in_ok-system-in-Collect-clause-taken : goal.returns-in_ok-system-in-Collect-clause-taken
-returns-in_ok-system-in-Collect-clause-taken g c = λ bodies start h known.
+returns-in_ok-system-in-Collect-clause-taken g c = λ sets bodies start h known.
     let width = g.M.Mode.width c.args.mode.now in
     let s = c.args.built.now in
     let deferred = c.args.run.now.deferred in
     let out = c.args.jobs.now.pool in
     let w = c.args.run.now.state in
-    let next = subst (λ (t : Turn). IsTurn s h (length out) width (Some t)) c.in-Collect.is known.following in
+    let next = subst (λ (t : Turn). IsTurn (recording s sets) h (length out) width (Some t)) c.in-Collect.is known.following in
     let ended = c.in_ok-system-in-Collect.ensures in
-    let running = subst (λ n. runs h n ≡ true) ended.running.2 (running_there width s bodies start h w.state deferred out known.between.stage ended.running.0 ended.running.1) in
+    let running = subst (λ n. runs h n ≡ true) ended.running.2 (running_there width (recording s sets) bodies start h w.state deferred out known.between.stage ended.running.0 ended.running.1) in
     record {
       may = record { running = running };
       between = record {
-        stage = stage_finish width s bodies start h w.state deferred out known.between.stage c.in_ok-system-in-Collect.system c.finish.new.run.state.state c.finish.new.run.deferred c.finish.new.jobs.pool next.1 running (ended.finished bodies known.between.placed) ended.shorter;
+        listed = known.between.listed;
+        stage = stage_finish width (recording s sets) bodies start h w.state deferred out known.between.stage c.in_ok-system-in-Collect.system c.finish.new.run.state.state c.finish.new.run.deferred c.finish.new.jobs.pool next.1 running
+            (interleaved_step-recording s sets bodies (Finish c.in_ok-system-in-Collect.system) (woven w.state deferred out) ∙ ended.finished bodies known.between.placed) ended.shorter;
         placed = ended.placed bodies known.between.placed;
         hand = ended.hand bodies known.between.placed known.keeps known.between.hand;
       };

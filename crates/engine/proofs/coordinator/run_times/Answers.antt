@@ -1,14 +1,13 @@
-use Rattle.std.proofs.Common.{◌<◌, ◌∷◌, [], List, Err, IsTrue, length, map, length-append, refl, sym, ap, ◌∙◌, subst, arith}
-use Rattle.std.proofs.lemmas.List.{length-map, map-append}
-use Rattle.model.specs.declared.steps.Step.{Step}
+use Rattle.std.proofs.Common.{◌<◌, ◌≡◌, ◌∷◌, [], List, Err, IsTrue, true, is_some, length, length-append, refl, sym, ap, ◌∙◌, subst, arith}
+use Rattle.std.specs.List.{AllByRecursion}
+use Rattle.model.specs.steps.Schedule.{Recorded, recording}
 use Rattle.model.specs.shown.Outcome.{BodyMeaning}
 use Rattle.model.specs.runs.WideRuns.{IsWideRun, AreWideRuns, IsWideStopped, WideStops}
 use Rattle.worker_pool.specs.JobOut.{JobOut}
-use Rattle.engine.specs.History.{history_of}
 use Rattle.engine.specs.Jobs.{AreKept}
 use Rattle.engine.specs.Meanings.{meanings}
 use Rattle.engine.proofs.Placing.{kept_last, kept_fits, meanings_count}
-use Rattle.engine.proofs.Staging.{runs_more, stopped}
+use Rattle.engine.proofs.Staging.{records_more, runs_more, stopped}
 use Rattle.engine.specs.Stops.{StopsBy}
 use Rattle.engine.proofs.Stops.{either_way, handed_on, lost_or_kept, one_stop, stops_up}
 use Rattle.engine.proofs.coordinator.run_times.Goals as goal
@@ -37,13 +36,12 @@ loop-run-preserved g c =
     let meant = kept_last meaning fits there s now later.jobs.bodies kept (meanings_count meaning fits there s c.loop-run.jobs.bodies inv.rest.suits.body_count) ∙ inv.meant in
     let trace = c.in-Ok.trace in
     let items = c.in_ok-push-in-Ok.ensures.items in
-    let one : IsWideRun width s bodies middle (history_of trace) later.run.state.state
-    = subst (λ (bs : List BodyMeaning). IsWideRun width s bs middle (history_of trace) later.run.state.state) inv.meant ok.ran in
+    let one : IsWideRun width (recording s trace.sets) bodies middle trace.steps later.run.state.state
+    = subst (λ (bs : List BodyMeaning). IsWideRun width (recording s trace.sets) bs middle trace.steps later.run.state.state) inv.meant ok.ran in
     record {
       count = let e = ap length items in let f = length-append traces (trace ∷ []) in let h = inv.count in omega arith;
-      ran = subst (λ (hs : List (List Step)). AreWideRuns width s bodies start hs later.run.state.state)
-          (sym (ap (map history_of) items ∙ map-append history_of traces (trace ∷ [])))
-          (runs_more width s bodies start (map history_of traces) middle (history_of trace) later.run.state.state inv.ran one);
+      records = subst (AllByRecursion (λ (r : Recorded). is_some r.sets ≡ true)) (sym items) (records_more traces trace inv.records ok.records);
+      ran = subst (λ (rs : List Recorded). AreWideRuns width s bodies start rs later.run.state.state) (sym items) (runs_more width s bodies start traces middle trace later.run.state.state inv.ran one);
       rest = ok.rest;
       empty = ok.empty;
       meant = meant;
@@ -108,10 +106,9 @@ returns-in-Err-clause-stopped g c =
     let now = meanings meaning s c.loop-run.jobs.bodies in
     let middle = c.loop-run.run.state.state in
     let traces = c.loop-run.traces.items in
-    let hs = map history_of traces in
-    let fewer : length hs < c.args.times = let h = inv.count in let l = length-map traces history_of in omega arith in
+    let fewer : length traces < c.args.times = let h = inv.count in omega arith in
     stops_up there (WideStops width s now middle) (IsWideStopped width s bodies c.args.times start) c.in-Err.stop
-    (λ met h. stopped width s bodies c.args.times start hs middle met inv.ran fewer (subst (λ (bs : List BodyMeaning). WideStops width s bs middle met) inv.meant h)) c.in-Err.ensures.stopped
+    (λ met h. stopped width s bodies c.args.times start traces middle met inv.ran fewer (subst (λ (bs : List BodyMeaning). WideStops width s bs middle met) inv.meant h)) c.in-Err.ensures.stopped
 
 pub returns-in-Err-clause-meanings : goal.returns-in-Err-clause-meanings
 returns-in-Err-clause-meanings g c = λ lost.

@@ -1,7 +1,7 @@
 -- What is known between two runs.
-use Rattle.std.proofs.Common.{◌≡◌, [], length, map}
+use Rattle.std.proofs.Common.{◌≡◌, [], true, is_some, length}
+use Rattle.std.specs.List.{AllByRecursion}
 use Rattle.model.specs.runs.WideRuns.{AreWideRuns}
-use Rattle.engine.specs.History.{history_of}
 use Rattle.engine.specs.Meanings.{meanings}
 use Rattle.engine.specs.Next.{IsAtRest}
 use Rattle.engine.proofs.coordinator.run_times.Given as goal
@@ -9,7 +9,8 @@ use Rattle.engine.proofs.coordinator.run_times.Given as goal
 abbrev pub invariant-loop-run : goal.invariant-loop-run
 invariant-loop-run g l = record {
   count : length l.traces.items ≡ l._run;
-  ran : AreWideRuns (g.M.Mode.width l.mode) l.built (meanings g.B.Body.meaning l.built l.fn.jobs.bodies) l.fn.run.state.state (map history_of l.traces.items) l.run.state.state;
+  records : AllByRecursion (λ r. is_some r.sets ≡ true) l.traces.items;
+  ran : AreWideRuns (g.M.Mode.width l.mode) l.built (meanings g.B.Body.meaning l.built l.fn.jobs.bodies) l.fn.run.state.state l.traces.items l.run.state.state;
   rest : IsAtRest g.B.Body.meaning g.B.Body.fits l.built l.jobs.bodies l.run.deferred l.run.state;
   empty : l.jobs.pool ≡ [];
   meant : meanings g.B.Body.meaning l.built l.jobs.bodies ≡ meanings g.B.Body.meaning l.built l.fn.jobs.bodies;

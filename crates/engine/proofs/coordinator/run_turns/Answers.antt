@@ -1,13 +1,14 @@
-use Rattle.std.proofs.Common.{◌≡◌, List, [], length, reverse, refl, sym, ap, ◌∙◌, subst, arith}
+use Rattle.std.proofs.Common.{ℕ, ◌≡◌, List, [], ◌∷◌, Option, Some, is_some, length, refl, sym, ap, ◌∙◌, subst, subst₂, arith}
 use Rattle.model.specs.declared.steps.Step.{Step}
-use Rattle.model.specs.steps.Schedule.{Schedule}
+use Rattle.model.specs.steps.Schedule.{Schedule, recording}
 use Rattle.model.specs.steps.Lawful.{IsComplete, May}
+use Rattle.model.specs.runs.Meaning.{AreSetsOf}
 use Rattle.model.specs.runs.WideRuns.{WideStops}
+use Rattle.model.proofs.serial.Recording.{begin_run-recording}
 use Rattle.executor_core.specs.Stands.{Stands}
-use Rattle.engine.specs.Jobs.{AreKept}
+use Rattle.engine.specs.Jobs.{woven, AreKept}
 use Rattle.engine.specs.Meanings.{meanings}
 use Rattle.engine.specs.Next.{IsBetween, IsNext}
-use Rattle.engine.specs.Stage.{Stage}
 use Rattle.engine.specs.Stops.{CannotOpen, StopsBy}
 use Rattle.engine.proofs.Placing.{meanings_count, placed_first, placed_kept}
 use Rattle.engine.proofs.Staging.{stage_open, stage_end, stops_open, none_there, falls}
@@ -36,6 +37,26 @@ returns-in_err-open-clause-kept g c = λ lost.
     let first = placed_kept meaning fits there s bodies c.args.jobs.now.bodies [] c.args.run.now.state (placed_first meaning fits there s c.args.jobs.now.bodies c.args.run.now.state c.requires.rest.suits c.requires.rest.home) in
     subst (λ xs. AreKept meaning fits there s bodies c.args.jobs.now.bodies xs) (sym c.requires.empty) first
 
+pub returns-in_err-opening-clause-kept : goal.returns-in_err-opening-clause-kept
+returns-in_err-opening-clause-kept g c = λ lost.
+    let meaning = g.B.Body.meaning in
+    let fits = g.B.Body.fits in
+    let there = g.M.Hosts.has_scope c.args.mode.now in
+    let s = c.args.built.now in
+    let bodies = meanings meaning s c.args.jobs.now.bodies in
+    let first = placed_kept meaning fits there s bodies c.args.jobs.now.bodies [] c.args.run.now.state (placed_first meaning fits there s c.args.jobs.now.bodies c.args.run.now.state c.requires.rest.suits c.requires.rest.home) in
+    subst (λ xs. AreKept meaning fits there s bodies c.args.jobs.now.bodies xs) (sym c.requires.empty) first
+
+pub returns-in_err-trace-clause-kept : goal.returns-in_err-trace-clause-kept
+returns-in_err-trace-clause-kept g c = λ lost.
+    let meaning = g.B.Body.meaning in
+    let fits = g.B.Body.fits in
+    let there = g.M.Hosts.has_scope c.args.mode.now in
+    let s = c.args.built.now in
+    let bodies = meanings meaning s c.args.jobs.now.bodies in
+    let first = placed_kept meaning fits there s bodies c.args.jobs.now.bodies [] c.args.run.now.state (placed_first meaning fits there s c.args.jobs.now.bodies c.args.run.now.state c.requires.rest.suits c.requires.rest.home) in
+    subst (λ xs. AreKept meaning fits there s bodies c.args.jobs.now.bodies xs) (sym c.requires.empty) first
+
 pub returns-in_err-open-clause-stopped : goal.returns-in_err-open-clause-stopped
 returns-in_err-open-clause-stopped g c =
     let meaning = g.B.Body.meaning in
@@ -45,7 +66,7 @@ returns-in_err-open-clause-stopped g c =
     let bodies = meanings meaning s c.args.jobs.now.bodies in
     let start = c.args.run.now.state.state in
     let told = c.in_err-open.field-0.0 in
-    handed_on (StopsBy there (WideStops width s bodies start)) c.from_residual-in_err-open.result told c.from_residual-in_err-open.ensures.1
+    handed_on (StopsBy there (WideStops width s bodies start)) c.from_residual.result told c.from_residual.ensures.1
     (stops_among there (CannotOpen s start) (WideStops width s bodies start) told (stops_open width s bodies start) c.in_err-open.ensures.stopped)
 
 pub loop-turn-init : goal.loop-turn-init
@@ -57,18 +78,23 @@ loop-turn-init g c =
     let s = c.args.built.now in
     let bodies = meanings meaning s c.args.jobs.now.bodies in
     let start = c.args.run.now.state.state in
-    let none = ap (λ (xs : List Step). reverse xs) c.new-steps.ensures.items in
     let later = c.open.new.self in
     let opened = c.in_ok-open.ensures in
+    let trace = c.in_ok-trace.trace in
+    let made = c.in_ok-trace.ensures in
+    let opening = c.in_ok-opening.opening in
+    let told : AreSetsOf (Some opening) (Some (woven {B = g.row.B.Denot} later.state.state later.deferred [])) = c.in_ok-opening.ensures in
     record {
       schedule = c.in_ok-core.ensures.schedule;
-      stands = subst (λ (x : List Step). Stands c.in_ok-core.core x) (sym none) c.in_ok-core.ensures.stands;
-      between = record {
-        stage = subst (λ (x : List Step). Stage width s bodies start x later.state.state later.deferred c.args.jobs.now.pool) (sym none)
-            (stage_open width s bodies start later.state.state later.deferred c.args.jobs.now.pool opened.opened c.requires.empty);
+      records = ap (λ (o : Option (List (List ℕ))). is_some o) made.sets;
+      stands = subst₂ (Stands c.in_ok-core.core) (sym made.sets) (sym made.steps) c.in_ok-core.ensures.stands;
+      between = subst₂ (λ (ys : Option (List (List ℕ))) (x : List Step). IsBetween meaning fits there width s ys bodies start x c.args.jobs.now.bodies later.deferred c.args.jobs.now.pool later.state) (sym made.sets) (sym made.steps) (record {
+        listed = refl;
+        stage = stage_open width (recording s (Some (opening ∷ []))) bodies start later.state.state later.deferred c.args.jobs.now.pool
+            (begin_run-recording s (Some (opening ∷ [])) start ∙ opened.opened) told c.requires.empty;
         placed = placed_open meaning fits there s c.args.jobs.now.bodies c.args.jobs.now.pool c.args.run.now.state later.state later.deferred c.requires.empty opened.opened opened.layout c.requires.rest.suits c.requires.rest.home;
         hand = in_hand_none s later.deferred c.args.jobs.now.pool later.state (ap length c.requires.empty) opened.suits opened.in_hand;
-      };
+      });
     }
 
 pub open-requires-clause-suits : goal.open-requires-clause-suits
@@ -85,18 +111,20 @@ do_turn-requires g c = λ lifetimes.
     let start = c.args.run.now.state.state in
     let inv = c.loop-turn.invariant in
     let core = c.loop-turn.core in
-    let h = reverse c.loop-turn.steps.items in
+    let trace = c.loop-turn.trace in
+    let sets = trace.sets in
+    let h = trace.steps in
     let slots = c.loop-turn.jobs.bodies in
     let out = c.loop-turn.jobs.pool in
     let w = c.loop-turn.run.state in
     let deferred = c.loop-turn.run.deferred in
-    let next = turn_next core s h c.count.result c.width-width.result c.in-Some.turn inv.schedule inv.stands c.in-Some.ensures (length out) width c.count.ensures c.width-width.ensures.width in
-    let known : IsNext meaning fits there width s bodies start h slots deferred out w c.in-Some.turn = record {
+    let next = turn_next core s sets h c.count.result c.width-width.result c.in-Some.turn inv.schedule inv.stands c.in-Some.ensures (length out) width c.count.ensures c.width-width.ensures.width in
+    let known : IsNext meaning fits there width s sets bodies start h slots deferred out w c.in-Some.turn = record {
       between = inv.between;
       keeps = c.requires.rest.keeps;
       following = next;
     } in
-    (c.type_bounds.send-B, (c.type_bounds.send-M-Line, (c.type_bounds.send-M-Gate, (c.type_bounds.sync-M-Gate, ((refl, tt), (bodies, start, h, known))))))
+    (c.type_bounds.send-B, (c.type_bounds.send-M-Line, (c.type_bounds.send-M-Gate, (c.type_bounds.sync-M-Gate, ((refl, tt), (sets, bodies, start, h, known))))))
 
 pub returns-in_err-step-clause-stopped : goal.returns-in_err-step-clause-stopped
 returns-in_err-step-clause-stopped g c =
@@ -109,19 +137,21 @@ returns-in_err-step-clause-stopped g c =
     let start = c.args.run.now.state.state in
     let inv = c.loop-turn.invariant in
     let core = c.loop-turn.core in
-    let h = reverse c.loop-turn.steps.items in
+    let trace = c.loop-turn.trace in
+    let sets = trace.sets in
+    let h = trace.steps in
     let slots = c.loop-turn.jobs.bodies in
     let out = c.loop-turn.jobs.pool in
     let w = c.loop-turn.run.state in
     let deferred = c.loop-turn.run.deferred in
-    let next = turn_next core s h c.count.result c.width-width.result c.in-Some.turn inv.schedule inv.stands c.in-Some.ensures (length out) width c.count.ensures c.width-width.ensures.width in
-    let known : IsNext meaning fits there width s bodies start h slots deferred out w c.in-Some.turn = record {
+    let next = turn_next core s sets h c.count.result c.width-width.result c.in-Some.turn inv.schedule inv.stands c.in-Some.ensures (length out) width c.count.ensures c.width-width.ensures.width in
+    let known : IsNext meaning fits there width s sets bodies start h slots deferred out w c.in-Some.turn = record {
       between = inv.between;
       keeps = c.requires.rest.keeps;
       following = next;
     } in
     let told = c.in_err-step.field-0.0 in
-    handed_on (StopsBy there (WideStops width s bodies start)) c.from_residual-in_err-step.result told c.from_residual-in_err-step.ensures.1 (c.in_err-step.ensures.stopped bodies start h known)
+    handed_on (StopsBy there (WideStops width s bodies start)) c.from_residual-in_err-step.result told c.from_residual-in_err-step.ensures.1 (c.in_err-step.ensures.stopped sets bodies start h known)
 
 pub returns-in_err-step-clause-kept : goal.returns-in_err-step-clause-kept
 returns-in_err-step-clause-kept g c =
@@ -134,19 +164,21 @@ returns-in_err-step-clause-kept g c =
     let start = c.args.run.now.state.state in
     let inv = c.loop-turn.invariant in
     let core = c.loop-turn.core in
-    let h = reverse c.loop-turn.steps.items in
+    let trace = c.loop-turn.trace in
+    let sets = trace.sets in
+    let h = trace.steps in
     let slots = c.loop-turn.jobs.bodies in
     let out = c.loop-turn.jobs.pool in
     let w = c.loop-turn.run.state in
     let deferred = c.loop-turn.run.deferred in
-    let next = turn_next core s h c.count.result c.width-width.result c.in-Some.turn inv.schedule inv.stands c.in-Some.ensures (length out) width c.count.ensures c.width-width.ensures.width in
-    let known : IsNext meaning fits there width s bodies start h slots deferred out w c.in-Some.turn = record {
+    let next = turn_next core s sets h c.count.result c.width-width.result c.in-Some.turn inv.schedule inv.stands c.in-Some.ensures (length out) width c.count.ensures c.width-width.ensures.width in
+    let known : IsNext meaning fits there width s sets bodies start h slots deferred out w c.in-Some.turn = record {
       between = inv.between;
       keeps = c.requires.rest.keeps;
       following = next;
     } in
     let told = c.in_err-step.field-0.0 in
-    lost_or_kept c.from_residual-in_err-step.result told c.from_residual-in_err-step.ensures.1 (λ lost. c.in_err-step.ensures.kept lost bodies start h known)
+    lost_or_kept c.from_residual-in_err-step.result told c.from_residual-in_err-step.ensures.1 (λ lost. c.in_err-step.ensures.kept lost sets bodies start h known)
 
 pub take-requires-clause-may : goal.take-requires-clause-may
 take-requires-clause-may g c =
@@ -159,18 +191,20 @@ take-requires-clause-may g c =
     let start = c.args.run.now.state.state in
     let inv = c.loop-turn.invariant in
     let core = c.loop-turn.core in
-    let h = reverse c.loop-turn.steps.items in
+    let trace = c.loop-turn.trace in
+    let sets = trace.sets in
+    let h = trace.steps in
     let slots = c.loop-turn.jobs.bodies in
     let out = c.loop-turn.jobs.pool in
     let w = c.loop-turn.run.state in
     let deferred = c.loop-turn.run.deferred in
-    let next = turn_next core s h c.count.result c.width-width.result c.in-Some.turn inv.schedule inv.stands c.in-Some.ensures (length out) width c.count.ensures c.width-width.ensures.width in
-    let known : IsNext meaning fits there width s bodies start h slots deferred out w c.in-Some.turn = record {
+    let next = turn_next core s sets h c.count.result c.width-width.result c.in-Some.turn inv.schedule inv.stands c.in-Some.ensures (length out) width c.count.ensures c.width-width.ensures.width in
+    let known : IsNext meaning fits there width s sets bodies start h slots deferred out w c.in-Some.turn = record {
       between = inv.between;
       keeps = c.requires.rest.keeps;
       following = next;
     } in
-    subst (λ (x : Schedule). May x h c.in_ok-step.step) (sym inv.schedule) (c.in_ok-step.ensures.taken bodies start h known).may
+    subst (λ (x : Schedule). May (recording x sets) h c.in_ok-step.step) (sym inv.schedule) (c.in_ok-step.ensures.taken sets bodies start h known).may
 
 pub returns-in_err-take-clause-kept : goal.returns-in_err-take-clause-kept
 returns-in_err-take-clause-kept g c = λ lost.
@@ -183,24 +217,26 @@ returns-in_err-take-clause-kept g c = λ lost.
     let start = c.args.run.now.state.state in
     let inv = c.loop-turn.invariant in
     let core = c.loop-turn.core in
-    let h = reverse c.loop-turn.steps.items in
+    let trace = c.loop-turn.trace in
+    let sets = trace.sets in
+    let h = trace.steps in
     let slots = c.loop-turn.jobs.bodies in
     let out = c.loop-turn.jobs.pool in
     let w = c.loop-turn.run.state in
     let deferred = c.loop-turn.run.deferred in
-    let next = turn_next core s h c.count.result c.width-width.result c.in-Some.turn inv.schedule inv.stands c.in-Some.ensures (length out) width c.count.ensures c.width-width.ensures.width in
-    let known : IsNext meaning fits there width s bodies start h slots deferred out w c.in-Some.turn = record {
+    let next = turn_next core s sets h c.count.result c.width-width.result c.in-Some.turn inv.schedule inv.stands c.in-Some.ensures (length out) width c.count.ensures c.width-width.ensures.width in
+    let known : IsNext meaning fits there width s sets bodies start h slots deferred out w c.in-Some.turn = record {
       between = inv.between;
       keeps = c.requires.rest.keeps;
       following = next;
     } in
-    let after = (c.in_ok-step.ensures.taken bodies start h known).between in
+    let after = (c.in_ok-step.ensures.taken sets bodies start h known).between in
     placed_kept meaning fits there s bodies c.do_turn.new.jobs.bodies c.do_turn.new.jobs.pool c.do_turn.new.run.state after.placed
 
 pub loop-turn-smaller : goal.loop-turn-smaller
 loop-turn-smaller g c =
     let ok = c.in_ok-take.ensures in
-    falls c.take.new.core c.args.built.now c.loop-turn.steps.items c.take.new.steps.items c.in_ok-step.step (ok.schedule ∙ c.loop-turn.invariant.schedule) ok.stands ok.taken
+    falls c.take.new.core c.args.built.now c.take.new.trace.sets c.loop-turn.trace.steps c.take.new.trace.steps c.in_ok-step.step (ok.schedule ∙ c.loop-turn.invariant.schedule) ok.stands ok.steps
 
 pub loop-turn-preserved : goal.loop-turn-preserved
 loop-turn-preserved g c =
@@ -213,24 +249,27 @@ loop-turn-preserved g c =
     let start = c.args.run.now.state.state in
     let inv = c.loop-turn.invariant in
     let core = c.loop-turn.core in
-    let h = reverse c.loop-turn.steps.items in
+    let trace = c.loop-turn.trace in
+    let sets = trace.sets in
+    let h = trace.steps in
     let slots = c.loop-turn.jobs.bodies in
     let out = c.loop-turn.jobs.pool in
     let w = c.loop-turn.run.state in
     let deferred = c.loop-turn.run.deferred in
-    let next = turn_next core s h c.count.result c.width-width.result c.in-Some.turn inv.schedule inv.stands c.in-Some.ensures (length out) width c.count.ensures c.width-width.ensures.width in
-    let known : IsNext meaning fits there width s bodies start h slots deferred out w c.in-Some.turn = record {
+    let next = turn_next core s sets h c.count.result c.width-width.result c.in-Some.turn inv.schedule inv.stands c.in-Some.ensures (length out) width c.count.ensures c.width-width.ensures.width in
+    let known : IsNext meaning fits there width s sets bodies start h slots deferred out w c.in-Some.turn = record {
       between = inv.between;
       keeps = c.requires.rest.keeps;
       following = next;
     } in
     let ok = c.in_ok-take.ensures in
-    let after = (c.in_ok-step.ensures.taken bodies start h known).between in
+    let after = (c.in_ok-step.ensures.taken sets bodies start h known).between in
     let later = c.do_turn.new in
     record {
       schedule = ok.schedule ∙ inv.schedule;
-      stands = subst (λ (x : List Step). Stands c.take.new.core x) (sym ok.taken) ok.stands;
-      between = subst (λ (x : List Step). IsBetween meaning fits there width s bodies start x later.jobs.bodies later.run.deferred later.jobs.pool later.run.state) (sym ok.taken) after;
+      records = ok.records;
+      stands = ok.stands;
+      between = subst₂ (λ (ys : Option (List (List ℕ))) (x : List Step). IsBetween meaning fits there width s ys bodies start x later.jobs.bodies later.run.deferred later.jobs.pool later.run.state) (sym ok.sets) (sym ok.steps) after;
     }
 
 pub returns-clause-ran : goal.returns-clause-ran
@@ -244,15 +283,17 @@ returns-clause-ran g c =
     let start = c.args.run.now.state.state in
     let inv = c.loop-turn.invariant in
     let core = c.loop-turn.core in
-    let h = reverse c.loop-turn.steps.items in
+    let trace = c.loop-turn.trace in
+    let sets = trace.sets in
+    let h = trace.steps in
     let slots = c.loop-turn.jobs.bodies in
     let out = c.loop-turn.jobs.pool in
     let w = c.loop-turn.run.state in
     let deferred = c.loop-turn.run.deferred in
-    let told = c.in_default.ensures h inv.stands in
+    let told = c.in_default.ensures sets h inv.stands in
     let none : length out ≡ 0 = let a = c.count.ensures in let b = told.0 in omega arith in
-    stage_end width s bodies start h w.state deferred out inv.between.stage none
-    (subst (λ (x : Schedule). IsComplete x h) inv.schedule (told.1 (none_there width s bodies start h w.state deferred out inv.between.stage none)))
+    stage_end width (recording s sets) bodies start h w.state deferred out inv.between.stage none
+    (subst (λ (x : Schedule). IsComplete (recording x sets) h) inv.schedule (told.1 (none_there width (recording s sets) bodies start h w.state deferred out inv.between.stage none)))
 
 pub returns-clause-rest : goal.returns-clause-rest
 returns-clause-rest g c =
@@ -265,12 +306,14 @@ returns-clause-rest g c =
     let start = c.args.run.now.state.state in
     let inv = c.loop-turn.invariant in
     let core = c.loop-turn.core in
-    let h = reverse c.loop-turn.steps.items in
+    let trace = c.loop-turn.trace in
+    let sets = trace.sets in
+    let h = trace.steps in
     let slots = c.loop-turn.jobs.bodies in
     let out = c.loop-turn.jobs.pool in
     let w = c.loop-turn.run.state in
     let deferred = c.loop-turn.run.deferred in
-    let told = c.in_default.ensures h inv.stands in
+    let told = c.in_default.ensures sets h inv.stands in
     let none : length out ≡ 0 = let a = c.count.ensures in let b = told.0 in omega arith in
     rest_end meaning fits there s bodies slots out w inv.between.placed deferred none (meanings_count meaning fits there s c.args.jobs.now.bodies c.requires.rest.suits.body_count) c.prove_law.ensures.laid c.requires.rest.keeps inv.between.hand
 
@@ -285,12 +328,14 @@ returns-clause-empty g c =
     let start = c.args.run.now.state.state in
     let inv = c.loop-turn.invariant in
     let core = c.loop-turn.core in
-    let h = reverse c.loop-turn.steps.items in
+    let trace = c.loop-turn.trace in
+    let sets = trace.sets in
+    let h = trace.steps in
     let slots = c.loop-turn.jobs.bodies in
     let out = c.loop-turn.jobs.pool in
     let w = c.loop-turn.run.state in
     let deferred = c.loop-turn.run.deferred in
-    let told = c.in_default.ensures h inv.stands in
+    let told = c.in_default.ensures sets h inv.stands in
     let none : length out ≡ 0 = let a = c.count.ensures in let b = told.0 in omega arith in
     no_elements out none
 

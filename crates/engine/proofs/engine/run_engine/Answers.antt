@@ -1,5 +1,4 @@
-use Rattle.std.proofs.Common.{◌≡◌, ℕ, List, map, Option, refl, sym, ap, ◌∙◌, subst}
-use Rattle.std.proofs.lemmas.List.{length-map}
+use Rattle.std.proofs.Common.{◌≡◌, ℕ, List, Option, refl, sym, ap, ◌∙◌, subst}
 use denote.Param.Send.{sendable}
 use Rattle.model.specs.state.Agreement.{AgreesWithAll}
 use Rattle.model.specs.state.State.{State}
@@ -7,7 +6,6 @@ use Rattle.model.specs.runs.Causes.{Cause}
 use Rattle.model.specs.runs.WideRuns.{AreWideRuns, IsWideStopped}
 use Rattle.kinds.specs.Components.{widths}
 use Rattle.engine.specs.Deferred.{IsDeferredFor}
-use Rattle.engine.specs.History.{history_of}
 use Rattle.engine.specs.EngineValue.{EngineValue}
 use Rattle.engine.specs.Meanings.{meanings, AllKeepWithin, AreFit, Suits}
 use Rattle.engine.specs.Stops.{AreStopped, StopsAs, fault_of}
@@ -87,7 +85,7 @@ returns-clause-ran g c =
     let same = c.into_open-state.ensures.state ∙ c.replace.ensures.value in
     let bodies_are = c.replace-bodies.ensures.value in
     let times = c.args.times in
-    let hs = map history_of c.in_ok-traces.traces.items in
+    let hs = c.in_ok-traces.traces.items in
     let end = c.run_times-traces.new.run.state.state in
     let held = c.engine.invariant c.if-engine.false in
     let before : EngineValue g.row.B.Denot = record { schedule = inside.built; bodies = inside.bodies; state = inside.state; spoiled = inside.spoiled } in
@@ -98,13 +96,14 @@ returns-clause-ran g c =
     let ran = subst (λ (v : EngineValue g.row.B.Denot). AreWideRuns width v.schedule (meanings meaning v.schedule v.bodies) v.state hs c.into_state.result) c.engine.view_is inner in
     record {
       count = c.in_ok-traces.ensures.count;
+      records = c.in_ok-traces.ensures.records;
       ran = ran;
       sound = c.runs_are_sound.ensures.wide width value.schedule bodies value.state hs c.into_state.result ran;
       single = λ one. c.wide_of_one_is_single.ensures.runs value.schedule bodies value.state hs c.into_state.result
           (subst (λ (n : ℕ). AreWideRuns n value.schedule bodies value.state hs c.into_state.result) one ran);
       agreement = subst (λ (v : EngineValue g.row.B.Denot). AgreesWithAll widths v.schedule (meanings meaning v.schedule v.bodies) v.state times c.into_state.result) c.engine.view_is
           (engine_agrees meaning width times before hs c.into_state.result c.prove_law.ensures held.0.memories c.prove_shape.ensures held.1
-          (length-map c.in_ok-traces.traces.items history_of ∙ c.in_ok-traces.ensures.count) inner);
+          c.in_ok-traces.ensures.count inner);
     }
 
 pub returns-in_err-traces-clause-fit : goal.returns-in_err-traces-clause-fit

@@ -28,7 +28,8 @@ show-requires-clause-home g c =
     let n = c.args.system in
     let w = c.args.run.now.state in
     let out = c.args.jobs.now.pool in
-    home-apart (store_of w) (held_by out) (params_of s n) c.prove_law.ensures.laid c.requires.placed.1.held c.requires.allowed.apart
+    let allowed = c.requires.allowed in
+    home-apart allowed.there (store_of w) (held_by out) (params_of s n) c.prove_law.ensures.laid allowed.among c.requires.placed.1.held allowed.apart
 
 pub take-body-requires : goal.take-body-requires
 take-body-requires g c =

@@ -1,6 +1,5 @@
-use Rattle.std.proofs.Common.{ℕ, ◌<◌, ◌/◌, true, ◌≡◌, inl, inr, arith}
+use Rattle.std.proofs.Common.{◌/◌, inl, inr, arith}
 use Rattle.std.proofs.lemmas.Bool.{false≢true, cases_lt}
-use Rattle.number_set.specs.Members.{contains}
 use Rattle.number_set.proofs.Bits.{word_within, within_word}
 use Rattle.number_set.proofs.number_set.are_within.Goals as goal
 

@@ -1,6 +1,5 @@
-use Rattle.std.proofs.Common.{ℕ, ◌<◌, ◌/◌, true, ◌≡◌, inl, inr, arith}
+use Rattle.std.proofs.Common.{◌/◌, inl, inr, arith}
 use Rattle.std.proofs.lemmas.Bool.{false≢true, cases_lt}
-use Rattle.number_set.specs.Members.{contains}
 use Rattle.number_set.proofs.Bits.{share_within, within_share}
 use Rattle.number_set.proofs.number_set.share_only.Goals as goal
 

@@ -1,5 +1,4 @@
 use Rattle.std.proofs.Common.{◌≡◌, ◌+◌, sym, ◌∙◌, subst, arith}
-use Rattle.trace_checker.specs.Grammar.{steps_of}
 use Rattle.program.specs.Replayed.{IsRefusedAmong, IsRefusedRun}
 use Rattle.program.specs.Setup.{meanings_of_scripts}
 use Rattle.program.proofs.Replays.{refused-next, replayed-more}
@@ -26,8 +25,8 @@ returns-in_err-state-clause-refused c =
     let inv = c.loop-trace.invariant in
     let bodies = meanings_of_scripts s c.args.bodies.now in
     let others = meanings_of_scripts s c.loop-trace.bodies in
-    let steps = c.trace-item.result.steps.items in
+    let run = c.trace-item.result in
     let told = c.in_err-state.field-0.0 in
-    of-given (λ fault. fault ≡ told) (IsRefusedAmong s bodies c.args.state (steps_of c.args.traces.now)) c.from_residual.result c.from_residual.ensures.1
+    of-given (λ fault. fault ≡ told) (IsRefusedAmong s bodies c.args.state c.args.traces.now) c.from_residual.result c.from_residual.ensures.1
     (λ fault is. refused-next s bodies others c.args.state c.loop-trace.state c.args.traces.now c.loop-trace.trace-index (c.loop-trace.number + 1) c.trace-item.result fault
-    c.loop-trace-test.true c.trace-item.is inv.meant (omega arith) inv.replayed (subst (IsRefusedRun s others c.loop-trace.state steps (c.loop-trace.number + 1)) (sym is) c.in_err-state.ensures.refused))
+    c.loop-trace-test.true c.trace-item.is inv.meant (omega arith) inv.replayed (subst (IsRefusedRun s others c.loop-trace.state run (c.loop-trace.number + 1)) (sym is) c.in_err-state.ensures.refused))

@@ -1,6 +1,5 @@
 use Rattle.std.proofs.Common.{◌≡◌, map, take, Some}
 use Rattle.engine.specs.Meanings.{Suits}
-use Rattle.trace_checker.specs.Grammar.{steps_of}
 use Rattle.program.specs.Replayed.{AreReplayed}
 use Rattle.program.specs.Setup.{meanings_of_scripts, script_suits}
 use Rattle.program.proofs.replaying.replay_runs.Given as goal
@@ -8,7 +7,7 @@ use Rattle.program.proofs.replaying.replay_runs.Given as goal
 -- the runs so far are replayed, by bodies that mean what they meant
 abbrev pub invariant-loop-trace : goal.invariant-loop-trace
 invariant-loop-trace l = record {
-  replayed : AreReplayed l.built (meanings_of_scripts l.built l.fn.bodies) l.fn.state (steps_of (take l.trace-index l.traces)) l.state;
+  replayed : AreReplayed l.built (meanings_of_scripts l.built l.fn.bodies) l.fn.state (take l.trace-index l.traces) l.state;
   suits : Suits script_suits l.built (map Some l.bodies) l.state;
   meant : meanings_of_scripts l.built l.bodies ≡ meanings_of_scripts l.built l.fn.bodies;
   count : l.number ≡ l.trace-index;

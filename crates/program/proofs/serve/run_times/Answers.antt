@@ -1,8 +1,6 @@
-use Rattle.std.proofs.Common.{◌≡◌, ◌≤◌, ◌+◌, ◌-◌, ◌++◌, true, length, map, IsSome, sym, ap, ◌∙◌, subst, refl, arith}
+use Rattle.std.proofs.Common.{◌≡◌, ◌≤◌, ◌+◌, ◌-◌, ◌++◌, true, length, IsSome, sym, ap, ◌∙◌, subst, refl, arith}
 use Rattle.std.proofs.Math.Nat.{min-le_left}
-use Rattle.std.proofs.lemmas.List.{length-map}
 use Rattle.model.specs.steps.Schedule.{Schedule}
-use Rattle.engine.specs.History.{history_of}
 use Rattle.engine.specs.Meanings.{meanings}
 use Rattle.engine.proofs.AtHome.{unlike}
 use Rattle.program.specs.Recorded.{IsKeptOf}
@@ -32,7 +30,6 @@ loop-done-preserved g c =
     let s = c.args.engine.now.schedule in
     let now = c.loop-done.engine in
     let traces = c.in_ok-traces.traces.items in
-    let gs = map history_of traces in
     let meant = subst (λ (t : Schedule). meanings script_means t c.run_some.new.engine.bodies ≡ meanings script_means t now.bodies) inv.schedule ok.meant in
     record {
       within = (let l : c.min-count.result ≤ c.args.times - c.loop-done.done = subst (λ n. n ≤ c.args.times - c.loop-done.done) (sym c.min-count.ensures) (min-le_left (c.args.times - c.loop-done.done) 256) in let b = inv.within in omega arith);
@@ -41,9 +38,9 @@ loop-done-preserved g c =
       sound = ok.sound;
       noted = next-noted (g.M.Mode.width c.args.mode.now) s now.schedule (meanings script_means s c.args.engine.now.bodies) (meanings script_means now.schedule now.bodies)
           c.args.engine.now.state now.state c.run_some.new.engine.state c.loop-done.done (length traces) _ c.args.recorded c.loop-done.text c.if-recorded.text
-          gs inv.schedule (ap (λ (t : Schedule). meanings script_means t now.bodies) inv.schedule ∙ inv.meant) (length-map traces history_of) (ap (λ n. c.loop-done.done + n) (sym ok.count)) inv.noted ok.ran
+          traces inv.schedule (ap (λ (t : Schedule). meanings script_means t now.bodies) inv.schedule ∙ inv.meant) refl (ap (λ n. c.loop-done.done + n) (sym ok.count)) inv.noted ok.ran
           (elim c.if-recorded.branch [
-            | then-recorded+in_ok-text w ↦ λ hs many kept asked. subst (IsKeptOf (hs ++ gs)) (sym w.text-is) (subst (λ ts. IsKeptOf (hs ++ map history_of ts) w.in_ok-text.text) w.as_slice.ensures.value (w.in_ok-text.ensures hs many (kept asked)))
+            | then-recorded+in_ok-text w ↦ λ hs many kept asked. subst (IsKeptOf (hs ++ traces)) (sym w.text-is) (subst (λ ts. IsKeptOf (hs ++ ts) w.in_ok-text.text) w.as_slice.ensures.value (w.in_ok-text.ensures hs many (kept asked)))
             | else-recorded w ↦ λ hs many kept asked. absurd (unlike c.args.recorded asked w.if-recorded.false)
           ])
           (elim c.if-recorded.branch [
@@ -61,9 +58,9 @@ returns-in_err-traces-clause-stopped g c =
     let there = g.M.Hosts.has_scope c.args.mode.now in
     let width = g.M.Mode.width c.args.mode.now in
     let bodies = meanings script_means s c.args.engine.now.bodies in
-    let within : length inv.noted.histories + c.min-count.result ≤ c.args.times =
+    let within : length inv.noted.traces + c.min-count.result ≤ c.args.times =
     let l : c.min-count.result ≤ c.args.times - c.loop-done.done = subst (λ n. n ≤ c.args.times - c.loop-done.done) (sym c.min-count.ensures) (min-le_left (c.args.times - c.loop-done.done) 256) in omega (arith, l, inv.within, inv.noted.many) in
     of-given (λ fault. fault ≡ c.in_err-traces.field-0.0) (IsUnrun there width s bodies c.args.times c.args.engine.now.state c.args.recorded) c.from_residual.result c.from_residual.ensures.1
     (λ fault is. subst (IsUnrun there width s bodies c.args.times c.args.engine.now.state c.args.recorded) (sym is)
-    (next-told there width s now.schedule bodies (meanings script_means now.schedule now.bodies) c.args.engine.now.state now.state inv.noted.histories c.min-count.result c.args.times c.args.recorded c.in_err-traces.field-0.0
+    (next-told there width s now.schedule bodies (meanings script_means now.schedule now.bodies) c.args.engine.now.state now.state inv.noted.traces c.min-count.result c.args.times c.args.recorded c.in_err-traces.field-0.0
     inv.schedule (ap (λ (t : Schedule). meanings script_means t now.bodies) inv.schedule ∙ inv.meant) inv.noted.runs within c.in_err-traces.ensures.stopped))

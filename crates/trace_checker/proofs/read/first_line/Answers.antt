@@ -1,13 +1,14 @@
 -- A line ends at the first end of a line.
 use Rattle.std.proofs.Common.{sym}
-use Rattle.trace_checker.proofs.Ends.{none_without_end, none_before, only_before, rest_behind}
+use Rattle.trace_checker.specs.Grammar.{IsLine}
+use Rattle.trace_checker.proofs.Ends.{none_without_end, none_before, only_before, rest_behind, outside_refuses}
 use Rattle.trace_checker.proofs.read.first_line.Goals as goal
 
-pub returns-in_err-end-clause-none : goal.returns-in_err-end-clause-none
-returns-in_err-end-clause-none c = rw c.from_residual.ensures (none_without_end _ (sym c.in_err-end.ensures))
+pub returns-in_default-clause-outside : goal.returns-in_default-clause-outside
+returns-in_default-clause-outside c told = none_without_end _ (sym c.in_default.ensures)
 
-pub returns-in_err-line-clause-none : goal.returns-in_err-line-clause-none
-returns-in_err-line-clause-none c = rw c.from_residual-in_err-line.ensures (none_before _ _ (sym c.in_ok-end.ensures) c.in_err-line.ensures)
+pub returns-in-Ok-clause-found : goal.returns-in-Ok-clause-found
+returns-in-Ok-clause-found c = only_before c.args.text.now c.in-Some.end (sym c.in-Some.ensures) _ _ (rest_behind c.args.text.now c.in-Some.end) c.in-Ok.ensures
 
-pub returns-clause-found : goal.returns-clause-found
-returns-clause-found c = only_before c.args.text.now c.in_ok-end.end (sym c.in_ok-end.ensures) _ _ (rest_behind c.args.text.now c.in_ok-end.end) c.in_ok-line.ensures
+pub returns-in-Err-clause-outside : goal.returns-in-Err-clause-outside
+returns-in-Err-clause-outside c told = none_before _ _ (sym c.in-Some.ensures) (outside_refuses IsLine _ c.in-Err.error told c.in-Err.ensures)

@@ -1,27 +1,38 @@
--- The text is that of the runs so far and what is deferred.
+-- The text is that of the runs so far and of what is left.
+use Rattle.std.proofs.Common.{List, Err, sym, ap, subst, ◌∙◌}
+use Rattle.model.specs.steps.Schedule.{Recorded}
+use Rattle.trace_checker.specs.TextFaults.{AreBegun, IsOutOfOrder, begun_runs, is_listed}
 use Rattle.run_condition.proofs.Conditions.{empty_is as empty, filled_is as not_empty}
-use Rattle.trace_checker.proofs.Reading.{no_line, no_order, these_runs, still_fits, still_whole, still_counted, still_bound}
+use Rattle.trace_checker.proofs.Reading.{no_line, no_order, no_place, no_end, these_runs, still_front, still_counted, still_bound, due_by}
 use Rattle.trace_checker.proofs.read.read_traces.Goals as goal
 
-pub returns-in_default-clause-only : goal.returns-in_default-clause-only
-returns-in_default-clause-only c runs fits e =
-    absurd (no_line _ c.loop-rest.rest.now _ c.loop-rest.invariant.fitting c.loop-rest.invariant.text (not_empty c.loop-rest.rest.now _ c.is_empty.ensures c.loop-rest-test.true) c.in_default.ensures.none runs fits e)
+pub returns-in-Err-Outside-clause-only : goal.returns-in-Err-Outside-clause-only
+returns-in-Err-Outside-clause-only c runs fits e =
+    absurd (no_line _ c.loop-rest.rest.now _ _ c.loop-rest.invariant.front (not_empty c.loop-rest.rest.now _ c.is_empty.ensures c.loop-rest-test.true) (c.in-Err-Outside.ensures.outside (ap Err c.in-Err-Outside.field-0-is)) runs fits e)
 
-pub returns-then-not-branch-clause-only : goal.returns-then-not-branch-clause-only
-returns-then-not-branch-clause-only c runs fits e =
-    absurd (no_order _ c.loop-rest.rest.now _ c.loop-rest.invariant.fitting c.loop-rest.invariant.text _ _ (c.in-Some.ensures.found.0) (c.in_ok-add_line.ensures.refused c.if-not-branch.true) runs fits e)
+pub returns-then-is_out_of_order-clause-only : goal.returns-then-is_out_of_order-clause-only
+returns-then-is_out_of_order-clause-only c runs fits e =
+    absurd (no_order _ c.loop-rest.rest.now _ _ c.loop-rest.invariant.front _ _ (c.in-Ok.ensures.found.0) (subst (λ (ts : List Recorded). IsOutOfOrder (begun_runs ts c.loop-rest.due) c.in-Ok.found.0) c.deref.ensures.value (c.is_out_of_order.ensures.0 c.if-is_out_of_order.true)) runs fits e)
+
+pub returns-then-stands_wrong-clause-only : goal.returns-then-stands_wrong-clause-only
+returns-then-stands_wrong-clause-only c runs fits e =
+    absurd (no_place _ c.loop-rest.rest.now _ _ c.loop-rest.invariant.front _ _ (c.in-Ok.ensures.found.0) (sym c.stands_wrong.ensures ∙ c.if-stands_wrong.true) runs fits e)
 
 pub loop-rest-preserved : goal.loop-rest-preserved
 loop-rest-preserved c =
-    let added = c.in_ok-add_line.ensures.added c.if-not-branch.false in
-    let front = c.in-Some.ensures.found.0 in
+    let front = c.loop-rest.invariant.front in
+    let here = c.in-Ok.ensures.found.0 in
+    let begun : AreBegun (is_listed c.args.text.now) c.add_line.new.traces.items c.in_ok-due.due = subst (λ b. AreBegun b c.add_line.new.traces.items c.in_ok-due.due) c.lists_in-lists.ensures c.in_ok-due.ensures.begun in
     record {
-      fitting = still_fits _ c.loop-rest.rest.now _ c.loop-rest.invariant.fitting c.loop-rest.invariant.text _ _ front _ added;
-      text = still_whole _ c.loop-rest.rest.now _ c.loop-rest.invariant.fitting c.loop-rest.invariant.text _ _ front _ added;
-      count = still_counted _ c.loop-rest.rest.now _ c.loop-rest.invariant.fitting c.loop-rest.invariant.text _ _ front _ added _ c.loop-rest.invariant.count;
-      bound = still_bound _ c.loop-rest.rest.now _ c.loop-rest.invariant.fitting c.loop-rest.invariant.text _ _ front _ added _ c.loop-rest.invariant.bound;
+      front = still_front _ c.loop-rest.rest.now _ _ front _ _ here _ _ begun c.in_ok-due.ensures.added;
+      count = still_counted _ c.loop-rest.rest.now _ _ front _ _ here _ _ begun c.in_ok-due.ensures.added _ c.loop-rest.invariant.count;
+      bound = still_bound _ c.loop-rest.rest.now _ _ front _ _ here _ c.loop-rest.invariant.bound;
     }
 
-pub returns-clause-same : goal.returns-clause-same
-returns-clause-same c runs fits e =
-    these_runs _ c.loop-rest.rest.now _ c.loop-rest.invariant.fitting c.loop-rest.invariant.text (empty c.loop-rest.rest.now _ c.is_empty.ensures c.loop-rest-test.false) runs fits e
+pub returns-in-Nothing-clause-same : goal.returns-in-Nothing-clause-same
+returns-in-Nothing-clause-same c runs fits e =
+    these_runs _ c.loop-rest.rest.now _ _ c.loop-rest.invariant.front (empty c.loop-rest.rest.now _ c.is_empty.ensures c.loop-rest-test.false) c.in-Nothing.is runs fits e
+
+pub returns-in-Opening-clause-only : goal.returns-in-Opening-clause-only
+returns-in-Opening-clause-only c runs fits e =
+    absurd (no_end _ c.loop-rest.rest.now _ _ c.loop-rest.invariant.front (empty c.loop-rest.rest.now _ c.is_empty.ensures c.loop-rest-test.false) (due_by c.in-Opening.is) runs fits e)

@@ -1,6 +1,6 @@
-use Rattle.std.proofs.Common.{List, Ok, Err, Some, map, reverse, subst, subst₂, sym}
-use Rattle.model.specs.declared.steps.Step.{Step}
+use Rattle.std.proofs.Common.{Err, Ok, Some, map, subst, sym}
 use Rattle.model.specs.state.State.{State}
+use Rattle.model.specs.steps.Schedule.{recording}
 use Rattle.body.specs.Steps.{store_of}
 use Rattle.body.proofs.Outs.{all-home, none-out}
 use Rattle.engine.specs.Meanings.{meanings}
@@ -13,13 +13,16 @@ use Rattle.trace_checker.proofs.replay.replay.Goals as goal
 
 pub returns-in-Unfinished-clause-only : goal.returns-in-Unfinished-clause-only
 returns-in-Unfinished-clause-only g c = λ other h.
-    one_replay c.args.built.now (meanings g.B.Body.meaning c.args.built.now (map Some c.args.bodies.now)) c.args.state c.args.trace.now.steps.items (Err replay.Unfinished) other
-    (subst (IsVerdict c.args.built.now c.args.trace.now.steps.items) c.in-Unfinished.is c.in_ok-check.ensures.verdict) h
+    let s = c.args.built.now in
+    let r = c.args.trace.now in
+    one_replay (recording s r.sets) (meanings g.B.Body.meaning s (map Some c.args.bodies.now)) c.args.state r.steps (Err replay.Unfinished) other (subst (IsVerdict s r) c.in-Unfinished.is c.in_ok-check.ensures.verdict) h
 
 pub returns-in-Bad-clause-only : goal.returns-in-Bad-clause-only
 returns-in-Bad-clause-only g c = λ other h.
-    one_replay c.args.built.now (meanings g.B.Body.meaning c.args.built.now (map Some c.args.bodies.now)) c.args.state c.args.trace.now.steps.items (Err (replay.Bad c.in-Bad.step c.in-Bad.fault)) other
-    (subst (IsVerdict c.args.built.now c.args.trace.now.steps.items) c.in-Bad.is c.in_ok-check.ensures.verdict) h
+    let s = c.args.built.now in
+    let r = c.args.trace.now in
+    one_replay (recording s r.sets) (meanings g.B.Body.meaning s (map Some c.args.bodies.now)) c.args.state r.steps (Err (replay.Bad c.in-Bad.step c.in-Bad.fault)) other
+    (subst (IsVerdict s r) c.in-Bad.is c.in_ok-check.ensures.verdict) h
 
 pub take_steps-requires-clause-out : goal.take_steps-requires-clause-out
 take_steps-requires-clause-out g c κs within = none-out (store_of c.into_open.result) c.into_open.ensures.home
@@ -27,10 +30,11 @@ take_steps-requires-clause-out g c κs within = none-out (store_of c.into_open.r
 pub returns-in_err-take_steps-clause-only : goal.returns-in_err-take_steps-clause-only
 returns-in_err-take_steps-clause-only g c =
     let s = c.args.built.now in
+    let r = c.args.trace.now in
     let ms = meanings g.B.Body.meaning s (map Some c.args.bodies.now) in
     let fault = c.in_err-take_steps.field-0.0 in
-    one_fault s ms c.args.state c.args.trace.now.steps.items c.from_residual-in_err-take_steps.result fault c.from_residual-in_err-take_steps.ensures.1
-    (subst₂ (λ (start : State) (steps : List Step). IsReplayFault s ms start steps fault) c.into_open.ensures.state c.deref.ensures.value c.in_err-take_steps.ensures.stopped)
+    one_fault (recording s r.sets) ms c.args.state r.steps c.from_residual-in_err-take_steps.result fault c.from_residual-in_err-take_steps.ensures.1
+    (subst (λ (start : State). IsReplayFault s ms start r fault) c.into_open.ensures.state c.in_err-take_steps.ensures.stopped)
 
 pub into_state-requires : goal.into_state-requires
 into_state-requires g c = all-home (store_of c.take_steps.new.run.state) c.prove_law-2.ensures.laid c.in_ok-take_steps.ensures.out
@@ -38,15 +42,17 @@ into_state-requires g c = all-home (store_of c.take_steps.new.run.state) c.prove
 pub returns-clause-only : goal.returns-clause-only
 returns-clause-only g c = λ other h.
     let s = c.args.built.now in
+    let r = c.args.trace.now in
     let ms = meanings g.B.Body.meaning s (map Some c.args.bodies.now) in
-    one_replay s ms c.args.state c.args.trace.now.steps.items (Ok c.into_state.result) other
-    (subst₂ (λ (start : State) (steps : List Step). IsReplay s ms start steps (Ok c.into_state.result)) c.into_open.ensures.state c.deref.ensures.value
-    (subst (λ (w : State). IsReplay s ms c.into_open.result.state c.deref.result.now (Ok w)) (sym c.into_state.ensures) c.in_ok-take_steps.ensures.replayed)) h
+    one_replay (recording s r.sets) ms c.args.state r.steps (Ok c.into_state.result) other
+    (subst (λ (start : State). IsReplay s ms start r (Ok c.into_state.result)) c.into_open.ensures.state
+    (subst (λ (w : State). IsReplay s ms c.into_open.result.state r (Ok w)) (sym c.into_state.ensures) c.in_ok-take_steps.ensures.replayed)) h
 
 pub returns-clause-agreement : goal.returns-clause-agreement
 returns-clause-agreement g c =
     let s = c.args.built.now in
+    let r = c.args.trace.now in
     let ms = meanings g.B.Body.meaning s (map Some c.args.bodies.now) in
-    replay_agrees g.B.Body.meaning s c.args.bodies.now c.args.state (reverse c.args.trace.now.steps.items) c.into_state.result c.prove_law.ensures c.requires.memories c.prove_shape.ensures c.prove_fitting_keep.ensures
-    (subst₂ (λ (start : State) (steps : List Step). IsReplay s ms start steps (Ok c.into_state.result)) c.into_open.ensures.state c.deref.ensures.value
-    (subst (λ (w : State). IsReplay s ms c.into_open.result.state c.deref.result.now (Ok w)) (sym c.into_state.ensures) c.in_ok-take_steps.ensures.replayed))
+    replay_agrees g.B.Body.meaning s c.args.bodies.now c.args.state r c.into_state.result c.prove_law.ensures c.requires.memories c.prove_shape.ensures c.prove_fitting_keep.ensures
+    (subst (λ (start : State). IsReplay s ms start r (Ok c.into_state.result)) c.into_open.ensures.state
+    (subst (λ (w : State). IsReplay s ms c.into_open.result.state r (Ok w)) (sym c.into_state.ensures) c.in_ok-take_steps.ensures.replayed))

@@ -1,4 +1,4 @@
-use Rattle.std.proofs.Common.{◌≡◌, ◌<◌, [], false, Some, length, map, sym, ap, ap₂, ◌∙◌, subst, append-nil, arith}
+use Rattle.std.proofs.Common.{◌≡◌, ◌<◌, [], false, None, Some, length, map, sym, ap, ap₂, ◌∙◌, subst, append-nil, arith}
 use Rattle.model.specs.declared.steps.Step.TheVariants.{Start as Begin}
 use Rattle.model.specs.runs.RunState.{next_tick}
 use Rattle.body.specs.Lent.{AreLent}
@@ -19,7 +19,7 @@ use Rattle.trace_checker.proofs.replay.start.Goals as goal
 
 pub show-requires-clause-home : goal.show-requires-clause-home
 show-requires-clause-home g c =
-    home-apart (store_of c.args.run.now.state) [] (params_of c.args.built.now c.args.system) c.prove_law.ensures.laid c.requires.out tt
+    home-apart None (store_of c.args.run.now.state) [] (params_of c.args.built.now c.args.system) c.prove_law.ensures.laid (λ index l. tt) c.requires.out tt
 
 pub run_body-answer-requires-clause-fits : goal.run_body-answer-requires-clause-fits
 run_body-answer-requires-clause-fits g c κs within = λ body there.

@@ -1,4 +1,4 @@
-use Rattle.std.proofs.Common.{◌≡◌, [], map, Some, sym, ap, ◌∙◌, subst}
+use Rattle.std.proofs.Common.{◌≡◌, [], map, None, Some, sym, ap, ◌∙◌, subst}
 use Rattle.model.specs.declared.steps.Step.{Step}
 use Rattle.model.specs.declared.steps.Step.TheVariants.{Cond, Start, Sync}
 use Rattle.model.specs.runs.Causes.{serial_cause_of}
@@ -75,4 +75,4 @@ pub returns-in_ok-sync-in-Sync-clause-out : goal.returns-in_ok-sync-in-Sync-clau
 returns-in_ok-sync-in-Sync-clause-out g c = none-out (store_of c.sync.new.self.state) c.in_ok-sync-in-Sync.ensures.home
 
 pub ask-requires-clause-home : goal.ask-requires-clause-home
-ask-requires-clause-home g c = home-apart (store_of c.args.run.now.state) [] (access_of c.args.built.now c.in-Cond.condition) c.prove_law.ensures.laid c.requires.out tt
+ask-requires-clause-home g c = home-apart None (store_of c.args.run.now.state) [] (access_of c.args.built.now c.in-Cond.condition) c.prove_law.ensures.laid (λ index l. tt) c.requires.out tt

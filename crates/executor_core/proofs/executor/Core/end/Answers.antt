@@ -29,4 +29,6 @@ invariant_of-self c =
           (subst (λ (k : ℕ). get_or c.lower.new.self k 0 + 1 ≡ get_or inside.left k 0) c.level.ensures c.lower.ensures.lowered)
           (subst (λ (j : ℕ). (k : ℕ) → k ≢ j → get_or c.lower.new.self k 0 ≡ get_or inside.left k 0) c.level.ensures c.lower.ensures.rest),
       c.self.invariant.2,
+      c.self.invariant.3,
+      c.self.invariant.4,
     )

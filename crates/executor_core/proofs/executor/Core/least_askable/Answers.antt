@@ -1,5 +1,4 @@
-use Rattle.std.proofs.Common.{ℕ, true, ◌≡◌, List, refl, subst}
-use Rattle.model.specs.Lists.{has}
+use Rattle.std.proofs.Common.{ℕ, refl}
 use Rattle.cycle_search.proofs.Walks.{at_has}
 use Rattle.executor_core.proofs.Lists.{below_is_before}
 use Rattle.executor_core.proofs.executor.Core.least_askable.Goals as goal

@@ -4,26 +4,26 @@ use Rattle.executor_core.proofs.Telling.{busy_offers-nothing, offers_ask, open_o
 use Rattle.executor_core.proofs.executor.Core.offer.Goals as goal
 
 pub returns-then-not-is_waiting : goal.returns-then-not-is_waiting
-returns-then-not-is_waiting c = λ h stands. busy_offers-nothing c.args.self.now h c.args.system stands (told_no c.if-not-is_waiting.ensures)
+returns-then-not-is_waiting c = λ sets h stands. busy_offers-nothing c.args.self.now sets h c.args.system stands (told_no c.if-not-is_waiting.ensures)
 
 pub returns-in-Some : goal.returns-in-Some
-returns-in-Some c = λ h stands.
+returns-in-Some c = λ sets h stands.
     let known : c.args.system < length c.args.self.now.schedule.systems = omega arith in
-    offers_ask c.args.self.now h c.args.system c.in-Some.condition stands known (c.if-not-is_waiting.ensures.0 refl) c.in-Some.ensures.found
+    offers_ask c.args.self.now sets h c.args.system c.in-Some.condition stands known (c.if-not-is_waiting.ensures.0 refl) c.in-Some.ensures.found
 
 pub returns-then-has_unasked : goal.returns-then-has_unasked
-returns-then-has_unasked c = λ h stands. open_offers-nothing c.args.self.now h c.args.system stands c.in_default.ensures.none (c.if-has_unasked.ensures.0 refl)
+returns-then-has_unasked c = λ sets h stands. open_offers-nothing c.args.self.now sets h c.args.system stands c.in_default.ensures.none (c.if-has_unasked.ensures.0 refl)
 
 pub returns-then-has_refusing : goal.returns-then-has_refusing
-returns-then-has_refusing c = λ h stands.
+returns-then-has_refusing c = λ sets h stands.
     let known : c.args.system < length c.args.self.now.schedule.systems = omega arith in
-    offers_skip c.args.self.now h c.args.system stands known (c.if-not-is_waiting.ensures.0 refl) (told_no c.if-has_unasked.ensures) (c.if-has_refusing.ensures.0 refl)
+    offers_skip c.args.self.now sets h c.args.system stands known (c.if-not-is_waiting.ensures.0 refl) (told_no c.if-has_unasked.ensures) (c.if-has_refusing.ensures.0 refl)
 
 pub returns-then-is_clear : goal.returns-then-is_clear
-returns-then-is_clear c = λ h stands.
+returns-then-is_clear c = λ sets h stands.
     let known : c.args.system < length c.args.self.now.schedule.systems = omega arith in
-    offers_start c.args.self.now h c.args.system stands known (c.if-not-is_waiting.ensures.0 refl) (told_no c.if-has_unasked.ensures) (told_no c.if-has_refusing.ensures) (c.if-is_clear.ensures.0 refl)
+    offers_start c.args.self.now sets h c.args.system stands known (c.if-not-is_waiting.ensures.0 refl) (told_no c.if-has_unasked.ensures) (told_no c.if-has_refusing.ensures) (c.if-is_clear.ensures.0 refl)
 
 pub returns : goal.returns
-returns c = λ h stands.
-    meeting_offers-nothing c.args.self.now h c.args.system stands (told_no c.if-has_unasked.ensures) (told_no c.if-has_refusing.ensures) (told_no c.if-is_clear.ensures)
+returns c = λ sets h stands.
+    meeting_offers-nothing c.args.self.now sets h c.args.system stands (told_no c.if-has_unasked.ensures) (told_no c.if-has_refusing.ensures) (told_no c.if-is_clear.ensures)

@@ -1,6 +1,6 @@
 -- The line of a condition is read by its tail.
 use Rattle.trace_checker.proofs.Answers.{none_asked_at, only_asked_at}
-use Rattle.trace_checker.proofs.line.Line.read.Goals as goal
+use Rattle.trace_checker.proofs.line.plain_line.Goals as goal
 
 pub returns-in_err-condition-in-67 : goal.returns-in_err-condition-in-67
 returns-in_err-condition-in-67 c =

@@ -1,0 +1,23 @@
+-- The numbers of sets of kinds, added one by one.
+use Rattle.std.specs.Prelude.{ℕ, ◌^◌, bit_or, Bool, cond, not, ◌&&◌, List, [], ◌∷◌}
+use Rattle.model.specs.Lists.{is_there}
+use Rattle.model.specs.state.State.{Slot, is_living}
+use Rattle.model.specs.state.KindSets.{with_number}
+
+-- the number of these kinds
+abbrev pub set_number : List ℕ → ℕ
+set_number [] = 0
+set_number (kind ∷ kinds) = bit_or (2 ^ kind) (set_number kinds)
+
+-- rising numbers with those of more sets
+abbrev pub numbers_with : List (List ℕ) → List ℕ → List ℕ
+numbers_with [] numbers = numbers
+numbers_with (kinds ∷ sets) numbers = numbers_with sets (with_number (set_number kinds) numbers)
+
+-- the number of the set without kinds, where it is asked for
+abbrev pub first_numbers : Bool → List ℕ
+first_numbers without = cond without (0 ∷ []) []
+
+-- whether an entity lives without components
+abbrev pub is_bare : Slot → Bool
+is_bare slot = is_living slot.status && not (is_there slot.row)

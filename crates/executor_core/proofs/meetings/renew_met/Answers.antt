@@ -1,0 +1,15 @@
+use Rattle.std.proofs.Common.{◌<◌, ℕ, Some, length, subst, arith}
+use Rattle.model.specs.access.Access.{Params}
+use Rattle.model.specs.access.Meeting.{Meet}
+use Rattle.model.specs.steps.Schedule.{params_of}
+use Rattle.schedule_builder.specs.Rows.{IsRow}
+use Rattle.executor_core.specs.Meetings.{IsMeeting}
+use Rattle.executor_core.proofs.Rows.{renewed_more}
+use Rattle.executor_core.proofs.meetings.renew_met.Goals as goal
+
+pub loop-number-preserved : goal.loop-number-preserved
+loop-number-preserved c =
+    let s = c.args.built.now in
+    let count : ℕ = length c.args.built.now.systems in
+    renewed_more count count c.loop-number.number (IsMeeting s c.args.sets.now) c.loop-number.rows c.renew_row.new.row (omega (arith, c.count-number-end.ensures, c.loop-number-test.true)) c.loop-number.invariant
+    (subst (λ (a : Params). IsRow count (λ m. (m < count) × Meet (Some c.args.sets.now) (params_of s m) a) c.renew_row.new.row) c.params.ensures c.renew_row.ensures)
