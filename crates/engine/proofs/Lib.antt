@@ -15,6 +15,7 @@ pub mod Placing
 mod Returning
 mod Staging
 mod Recorded
+mod Ended
 mod Turns
 pub mod Beginning
 pub mod Keeping

@@ -1,16 +1,17 @@
 // The turns of a run: what is ready is done while there is room for one more running system, else a job is waited for.
 
-ghost use Rattle.std.specs.Prelude.{◌≡◌, ◌∷◌, [], ℕ, List, get_or, length, is_some, option_map, true, Err, OnOk, IfErr, IfOk, IsTrue, Option, Some};
+ghost use Rattle.std.specs.Prelude.{◌≡◌, ◌∷◌, ◌++◌, [], ℕ, List, length, is_some, option_map, true, Err, OnOk, IfErr, IfOk, IfSome, IsTrue, Option, Some};
 ghost use Rattle.std.specs.List.{AllByRecursion};
 ghost use Rattle.model.specs.declared.steps.Step.{Step as Action};
 ghost use Rattle.model.specs.state.State.{State};
 ghost use Rattle.model.specs.shown.Outcome.{BodyMeaning};
 ghost use Rattle.model.specs.steps.Schedule.{recording};
 ghost use Rattle.model.specs.declared.steps.Step.TheVariants.{Sync as Pass};
-ghost use Rattle.model.specs.steps.Lawful.{May, syncs_in};
+ghost use Rattle.model.specs.steps.Lawful.{May};
 ghost use Rattle.model.specs.runs.WideRuns.{IsWideRun, AreWideRuns, WideStops, IsWideStopped};
-ghost use Rattle.executor_core.specs.Stands.{Stands};
-ghost use Rattle.executor_core.specs.Traces.{with_list};
+ghost use Rattle.executor_core.specs.Stands.{AreMeetings, Stands};
+ghost use Rattle.executor_core.specs.Traces.{latest_list, with_list};
+ghost use Rattle.engine.specs.Latest.{IsFollowing, latest_in};
 ghost use Rattle.engine.specs.Jobs.{AreKept};
 ghost use Rattle.engine.specs.Meanings.{meanings, AreFit};
 ghost use Rattle.engine.specs.Next.{IsAtRest, IsNext, IsTaken, KeepsNext, StopsNext};
@@ -48,8 +49,9 @@ pub(crate) fn run_times<'s, M: Mode<'s>, B: Body + 's>(
     ensures fit { (result ≡ Err stop.NoWorker → IsTrue (M.stands mode.now)) → AreFit B.fits built.now jobs.new.bodies }
 {
     let mut traces = Vec::new(run.alloc);
+    let mut core = Core::new(run.alloc, built)?;
     for _run in 0..times {
-        match run_turns(built, run, jobs, mode) {
+        match run_turns(built, run, jobs, &mut core, &traces, mode) {
             Ok(trace) => traces.push(trace)?,
             Err(stop) => {
                 bring_home(jobs, mode)?;
@@ -60,16 +62,30 @@ pub(crate) fn run_times<'s, M: Mode<'s>, B: Body + 's>(
     Ok(traces)
 }
 
-// The turns of a run. After a stop jobs may still be out.
+// The kind sets recorded last by the last of these traces.
+fn latest_of(traces: &[Trace]) -> Option<&KindSets>
+    ensures { option_map (λ sets. sets.now) result ≡ latest_in traces.now }
+{
+    match traces.last() {
+        Some(trace) => trace.latest(),
+        None => None,
+    }
+}
+
+// The turns of a run, with the core of the runs before it. After a stop jobs may still be out.
 fn run_turns<'s, M: Mode<'s>, B: Body + 's>(
     built: &Built,
     run: &mut RunState,
     jobs: &mut Jobs<B>,
+    core: &mut Core<'_>,
+    before: &[Trace],
     mode: &M,
 ) -> Result<Trace, Stop>
     requires rest { IsAtRest B.meaning B.fits built.now jobs.old.bodies run.old.deferred run.old.state }
     requires empty { jobs.old.pool ≡ [] }
+    requires following { IsFollowing core.old built.now before.now }
     ensures records { IfOk result (λ trace. is_some trace.sets ≡ true) }
+    ensures following { IfOk result (λ trace. IsFollowing core.new built.now (before.now ++ trace ∷ [])) }
     ensures ran { IfOk result (λ trace. IsWideRun (M.width mode.now) (recording built.now trace.sets) (meanings B.meaning built.now jobs.old.bodies) run.old.state.state trace.steps run.new.state.state) }
     ensures rest { OnOk result (IsAtRest B.meaning B.fits built.now jobs.new.bodies run.new.deferred run.new.state) }
     ensures empty { OnOk result (jobs.new.pool ≡ []) }
@@ -81,14 +97,34 @@ fn run_turns<'s, M: Mode<'s>, B: Body + 's>(
     run.deferred.clear();
     run.open(built)?;
     let opening = run.state.kind_sets(run.alloc)?;
-    let mut core = Core::new_in(run.alloc, built, &opening)?;
+    begin(run.alloc, core, latest_of(before), &opening)?;
     let mut trace = Trace::new_in(run.alloc, opening)?;
-    while let Some(turn) = next_turn(&core, jobs.pool.count(), width) {
+    while let Some(turn) = next_turn(core, jobs.pool.count(), width) {
         let step = do_turn(built, run, jobs, mode, turn)?;
-        take(run.alloc, &mut core, &mut trace, &run.state, step)?;
+        take(run.alloc, core, &mut trace, &run.state, step)?;
     }
     run.state.prove_law();
     Ok(trace)
+}
+
+// Begins the core again for a run that has these kind sets at its opening. Where they are those of the end of the run before, it keeps who
+// meets whom.
+fn begin(
+    alloc: Global,
+    core: &mut Core<'_>,
+    latest: Option<&KindSets>,
+    opening: &KindSets,
+) -> Result<(), AllocError>
+    requires { IfSome latest (λ sets. AreMeetings core.old sets.now) }
+    ensures stands { OnOk result (Stands core.new (Some (opening.now ∷ [])) []) }
+    ensures schedule { core.new.schedule ≡ core.old.schedule }
+{
+    if let Some(sets) = latest {
+        if sets.is_same(opening) {
+            return core.begin_same(alloc);
+        }
+    }
+    core.begin_in(alloc, opening)
 }
 
 // Does what is next, and gives the step that it is.
@@ -181,7 +217,7 @@ fn pass(core: &mut Core<'_>, trace: &Trace, point: u32, sets: &KindSets)
 
 // Whether these kind sets are those recorded last.
 fn is_latest(trace: &Trace, sets: &KindSets) -> bool
-    ensures { IsTrue result → option_map (λ lists. get_or lists (syncs_in trace.now.steps) []) trace.now.sets ≡ Some sets.now }
+    ensures { IsTrue result → latest_list trace.now ≡ Some sets.now }
 {
     match trace.latest() {
         Some(latest) => latest.is_same(sets),

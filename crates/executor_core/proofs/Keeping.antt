@@ -116,22 +116,6 @@ stands_same core new lists h k stands may rest =
     (λ n m. subst (λ (s : Stand). MeetsAmong s (Some (get_or lists (syncs_in h) [])) n m) (sym rest) (stands.meets n m))
     (λ c m. subst (λ (s : Stand). ClashesAmong s (Some (get_or lists (syncs_in h) [])) c m) (sym rest) (stands.clashes c m))
 
--- the core stands for a run that has recorded these at its opening, with its rows made anew
-pub stands_opened : (core new : Stand) (numbers : List ℕ) → Stands core None [] → ◌≡◌ {A = Stand} new (record core { met = new.met; clashed = new.clashed }) →
-    ((n m : ℕ) → MeetsAmong new (Some numbers) n m) → ((c m : ℕ) → ClashesAmong new (Some numbers) c m) → Stands new (Some (numbers ∷ [])) []
-stands_opened core new numbers stands rest meets clashes = record {
-  lawful = tt;
-  begins = λ n. stands.begins n ∙ ap (λ (s : Stand). contains s.begun n) (sym rest);
-  ends = λ n. stands.ends n ∙ ap (λ (s : Stand). contains s.over n) (sym rest);
-  asks = λ c. stands.asks c ∙ ap (λ (s : Stand). contains s.asked c) (sym rest);
-  yeses = λ c. stands.yeses c ∙ ap (λ (s : Stand). contains s.yes c) (sym rest);
-  syncs = λ k. stands.syncs k ∙ ap (λ (s : Stand). nat_lt k s.done) (sym rest);
-  passed = subst IsPassed (sym rest) stands.passed;
-  meets = meets;
-  clashes = clashes;
-  listed = refl;
-}
-
 -- ---- systems
 
 -- three tests of which some passes, in another order

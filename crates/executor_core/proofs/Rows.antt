@@ -12,7 +12,7 @@ use Rattle.model.proofs.lists.Bits.{no_bit}
 use Rattle.model.proofs.serial.Conflicts.{conflict_from_meet, meet_from_conflict}
 use Rattle.schedule_builder.specs.Rows.{IsRow, IsRival, AreRows}
 use Rattle.schedule_builder.specs.Conditions.{IsClash}
-use Rattle.executor_core.specs.Stands.{Stand, MeetsAmong, ClashesAmong, IsPassed, Stands}
+use Rattle.executor_core.specs.Stands.{Stand, MeetsAmong, ClashesAmong, IsPassed, Stands, AreMeetings, IsCleared}
 use Rattle.executor_core.specs.Judges.{AreRoomy}
 use Rattle.executor_core.specs.Meetings.{IsMeeting, IsClashing}
 
@@ -241,4 +241,37 @@ stands_opened core new sets stands rest meets clashes = record {
   meets = meets;
   clashes = clashes;
   listed = refl;
+}
+
+-- a core that has accepted nothing, with rows by these kind sets, stands for the opening of a run that records them
+pub stands_begun : (core : Stand) (sets : List ℕ) → IsCleared core → AreMeetings core sets → Stands core (Some (sets ∷ [])) []
+stands_begun core sets is are = record {
+  lawful = tt;
+  begins = λ n. sym (is.begun n);
+  ends = λ n. sym (is.over n);
+  asks = λ c. sym (is.asked c);
+  yeses = λ c. sym (is.yes c);
+  syncs = λ k. sym (false_from_ne_true (nat_lt k core.done) (λ e. let low : k < core.done = ltb-true k core.done e in omega (arith, is.done)));
+  passed = λ k low. absurd (omega (arith, is.from));
+  meets = are.meets;
+  clashes = are.clashes;
+  listed = refl;
+}
+
+-- rows that stay are by the kind sets by which they were
+pub meetings_same : (core new : Stand) (sets : List ℕ) → ◌≡◌ {A = Stand} new (record new { schedule = core.schedule; met = core.met; clashed = core.clashed }) → AreMeetings core sets → AreMeetings new sets
+meetings_same core new sets rest are = record {
+  meets = λ n m. subst (λ (s : Stand). MeetsAmong s (Some sets) n m) (sym rest) (are.meets n m);
+  clashes = λ c m. subst (λ (s : Stand). ClashesAmong s (Some sets) c m) (sym rest) (are.clashes c m);
+}
+
+-- so it is with other rows
+pub cleared_renewed : (core new : Stand) → ◌≡◌ {A = Stand} new (record core { met = new.met; clashed = new.clashed }) → IsCleared core → IsCleared new
+cleared_renewed core new rest is = record {
+  begun = λ n. ap (λ (s : Stand). contains s.begun n) rest ∙ is.begun n;
+  over = λ n. ap (λ (s : Stand). contains s.over n) rest ∙ is.over n;
+  asked = λ c. ap (λ (s : Stand). contains s.asked c) rest ∙ is.asked c;
+  yes = λ c. ap (λ (s : Stand). contains s.yes c) rest ∙ is.yes c;
+  done = ap (λ (s : Stand). s.done) rest ∙ is.done;
+  from = ap (λ (s : Stand). s.from) rest ∙ is.from;
 }

@@ -1,5 +1,5 @@
 -- What contracts see of a core, and the histories for which it stands. A history has the latest step first.
-use Rattle.std.specs.Prelude.{ℕ, suc, ◌+◌, ◌*◌, ◌<◌, ◌≡◌, ◌↔◌, true, nat_lt, List, [], length, get_or, Option, None, MatchOption, refl}
+use Rattle.std.specs.Prelude.{ℕ, suc, ◌+◌, ◌*◌, ◌<◌, ◌≡◌, ◌↔◌, true, false, nat_lt, List, [], length, get_or, Option, Some, None, MatchOption, refl}
 use Rattle.std.specs.Coded.{Coded, code_by, coded×, coded_list, coded_ℕ}
 use Rattle.number_set.specs.Members.{contains}
 use Rattle.model.specs.declared.steps.Step.{Step}
@@ -87,6 +87,20 @@ pub record Stands (core : Stand) (sets : Option (List (List ℕ))) (h : List Ste
   pub meets : (n m : ℕ) → MeetsBy core sets h n m
   pub clashes : (c m : ℕ) → ClashesBy core sets h c m
   pub listed : AreListed sets h
+
+-- the rows of a core are those by these kind sets: the systems that meet each system, and each condition
+pub record AreMeetings (core : Stand) (sets : List ℕ) : Type 0 where
+  pub meets : (n m : ℕ) → MeetsAmong core (Some sets) n m
+  pub clashes : (c m : ℕ) → ClashesAmong core (Some sets) c m
+
+-- a core has accepted nothing
+pub record IsCleared (core : Stand) : Type 0 where
+  pub begun : (n : ℕ) → contains core.begun n ≡ false
+  pub over : (n : ℕ) → contains core.over n ≡ false
+  pub asked : (c : ℕ) → contains core.asked c ≡ false
+  pub yes : (c : ℕ) → contains core.yes c ≡ false
+  pub done : core.done ≡ 0
+  pub from : core.from ≡ 0
 
 -- how many steps a lawful history has at most
 abbrev pub room : Schedule → ℕ

@@ -10,7 +10,7 @@ ghost use Rattle.model.specs.steps.Built.{IsBuilt};
 ghost use Rattle.model.specs.steps.Lawful.{IsLawful, IsComplete, NoneRuns, May, syncs_in};
 ghost use Rattle.model.specs.steps.Faults.{IsFirstFault};
 ghost use Rattle.model.specs.steps.Ready.{IsReady, OnlyFinish, step_of};
-ghost use Rattle.executor_core.specs.Stands.{Stands, IsPassed, IsPlainStep, MeetsAmong, ClashesAmong, room};
+ghost use Rattle.executor_core.specs.Stands.{Stands, AreMeetings, IsCleared, IsPassed, IsPlainStep, MeetsAmong, ClashesAmong, room};
 ghost use Rattle.executor_core.specs.Judges.{AllOver, NoneMeets, NoneClashes, IsReleased, IsOpen, IsKnown};
 ghost use Rattle.schedule_builder.specs.Conditions.{IsCovering, IsRisingListing};
 
@@ -55,7 +55,7 @@ impl<'a> Model for Core<'a> {
 }
 
 impl<'a> Core<'a> {
-    /// A core that has accepted nothing, of a run that records no kind sets. But for `new_in` no other call of a core takes memory.
+    /// A core that has accepted nothing, of a run that records no kind sets. Beside this one only calls by which a run begins take memory.
     pub fn new(alloc: Global, built: &'a Built) -> Result<Self, AllocError>
         ensures schedule { IfOk result (λ core. core.schedule ≡ built.now) }
         ensures stands { IfOk result (λ core. Stands core None []) }
@@ -91,6 +91,27 @@ impl<'a> Core<'a> {
         let mut core = Core::new(alloc, built)?;
         core.renew(sets);
         Ok(core)
+    }
+
+    /// Begins again for a run that records kind sets: these at its opening. Where an allocation fails the core stays as it was.
+    pub fn begin_in(&mut self, alloc: Global, sets: &KindSets) -> Result<(), AllocError>
+        ensures stands { OnOk result (Stands self.new (Some (sets.now ∷ [])) []) }
+        ensures schedule { self.new.schedule ≡ self.old.schedule }
+        ensures unchanged { OnErr result (self.new ≡ self.old) }
+    {
+        self.forget(alloc)?;
+        self.renew(sets);
+        Ok(())
+    }
+
+    /// The same where the kind sets at the opening are those by which it was found last who meets whom.
+    pub fn begin_same(&mut self, alloc: Global) -> Result<(), AllocError>
+        ensures stands { OnOk result ((sets : List ℕ) → AreMeetings self.old sets → Stands self.new (Some (sets ∷ [])) []) }
+        ensures schedule { self.new.schedule ≡ self.old.schedule }
+        ensures unchanged { OnErr result (self.new ≡ self.old) }
+    {
+        self.forget(alloc)?;
+        Ok(())
     }
 
     /// What `step` would answer.
@@ -372,6 +393,26 @@ impl<'a> Core<'a> {
         if sync < self.built.syncs() {
             self.done = sync + 1;
         }
+    }
+
+    // Forgets what it has accepted. The rows stay.
+    fn forget(&mut self, alloc: Global) -> Result<(), AllocError>
+        ensures cleared { OnOk result (IsCleared self.new) }
+        ensures rest { OnOk result (self.new ≡ record self.new { schedule = self.old.schedule; met = self.old.met; clashed = self.old.clashed }) }
+        ensures schedule { self.new.schedule ≡ self.old.schedule }
+        ensures unchanged { OnErr result (self.new ≡ self.old) }
+    {
+        let waits = Counts::new(alloc, self.built.waits())?;
+        let left = Counts::new(alloc, self.built.sizes())?;
+        self.begun.clear();
+        self.over.clear();
+        self.asked.clear();
+        self.yes.clear();
+        self.done = 0;
+        self.from = 0;
+        self.waits = waits;
+        self.left = left;
+        Ok(())
     }
 
     // Makes the rows anew: those that meet each system and each condition where these are the kind sets that are there.

@@ -1,10 +1,9 @@
 // What is recorded of a run.
 
-ghost use Rattle.std.specs.Prelude.{◌≡◌, ◌∷◌, [], get_or, reverse, IfOk, OnErr, OnOk, None, Some, option_map};
-ghost use Rattle.model.specs.steps.Lawful.{syncs_in};
+ghost use Rattle.std.specs.Prelude.{◌≡◌, ◌∷◌, [], reverse, IfOk, OnErr, OnOk, None, Some, option_map};
 ghost use Rattle.model.specs.declared.steps.Step.TheVariants.{Sync as Synced};
 ghost use Rattle.executor_core.specs.Stands.{AreListed, IsPlainStep};
-ghost use Rattle.executor_core.specs.Traces.{with_list};
+ghost use Rattle.executor_core.specs.Traces.{latest_list, with_list};
 
 use model::{KindSets, Step};
 use std::alloc::{AllocError, Global};
@@ -103,7 +102,7 @@ impl Trace {
 
     /// The kind sets recorded last, if they are recorded.
     pub fn latest(&self) -> Option<&KindSets>
-        ensures { option_map (λ sets. sets.now) result ≡ option_map (λ lists. get_or lists (syncs_in self.now.steps) []) self.now.sets }
+        ensures { option_map (λ sets. sets.now) result ≡ latest_list self.now }
     {
         match &self.sets {
             Some(lists) => lists.last(),

@@ -70,7 +70,7 @@ pub fn runs_are_sound()
     ensures wide { WideRunsAreSound }
 {}
 
-/// The runs of one thread are sound: in each no two systems that run together conflict, every edge and sync point is kept, the order
+/// The runs of one thread are sound: in each no two systems that run together meet, every edge and sync point is kept, the order
 /// of starts is topological, and the interleaved and the serial meaning are the state where the next one begins.
 pub fn single_runs_are_sound()
     ensures { SingleRunsAreSound }

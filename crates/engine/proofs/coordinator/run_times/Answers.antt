@@ -1,4 +1,4 @@
-use Rattle.std.proofs.Common.{◌<◌, ◌≡◌, ◌∷◌, [], List, Err, IsTrue, true, is_some, length, length-append, refl, sym, ap, ◌∙◌, subst, arith}
+use Rattle.std.proofs.Common.{◌<◌, ◌≡◌, ◌∷◌, ◌++◌, [], List, Err, IsTrue, true, is_some, length, length-append, refl, sym, ap, ◌∙◌, subst, arith}
 use Rattle.std.specs.List.{AllByRecursion}
 use Rattle.model.specs.steps.Schedule.{Recorded, recording}
 use Rattle.model.specs.shown.Outcome.{BodyMeaning}
@@ -10,12 +10,14 @@ use Rattle.engine.proofs.Placing.{kept_last, kept_fits, meanings_count}
 use Rattle.engine.proofs.Staging.{records_more, runs_more, stopped}
 use Rattle.engine.specs.Stops.{StopsBy}
 use Rattle.engine.proofs.Stops.{either_way, handed_on, lost_or_kept, one_stop, stops_up}
+use Rattle.engine.specs.Latest.{IsFollowing}
 use Rattle.engine.proofs.coordinator.run_times.Goals as goal
 
 pub run_turns-requires : goal.run_turns-requires
 run_turns-requires g c = λ lifetimes.
     let inv = c.loop-run.invariant in
-    (c.type_bounds.send-B, (c.type_bounds.send-M-Line, (c.type_bounds.send-M-Gate, (c.type_bounds.sync-M-Gate, ((refl, tt), (inv.rest, inv.empty))))))
+    let following = subst (IsFollowing c.loop-run.core c.args.built.now) (sym c.deref.ensures.value) inv.following in
+    (c.type_bounds.send-B, (c.type_bounds.send-M-Line, (c.type_bounds.send-M-Gate, (c.type_bounds.sync-M-Gate, ((refl, tt), (inv.rest, (inv.empty, following)))))))
 
 pub loop-run-preserved : goal.loop-run-preserved
 loop-run-preserved g c =
@@ -45,6 +47,7 @@ loop-run-preserved g c =
       rest = ok.rest;
       empty = ok.empty;
       meant = meant;
+      following = subst (IsFollowing later.core s) (ap (λ (rs : List Recorded). rs ++ trace ∷ []) c.deref.ensures.value ∙ sym items) ok.following;
     }
 
 pub returns-in_err-push-in-Ok-clause-meanings : goal.returns-in_err-push-in-Ok-clause-meanings

@@ -2,6 +2,7 @@
 use Rattle.std.proofs.Common.{◌≡◌, [], true, is_some, length}
 use Rattle.std.specs.List.{AllByRecursion}
 use Rattle.model.specs.runs.WideRuns.{AreWideRuns}
+use Rattle.engine.specs.Latest.{IsFollowing}
 use Rattle.engine.specs.Meanings.{meanings}
 use Rattle.engine.specs.Next.{IsAtRest}
 use Rattle.engine.proofs.coordinator.run_times.Given as goal
@@ -13,5 +14,6 @@ invariant-loop-run g l = record {
   ran : AreWideRuns (g.M.Mode.width l.mode) l.built (meanings g.B.Body.meaning l.built l.fn.jobs.bodies) l.fn.run.state.state l.traces.items l.run.state.state;
   rest : IsAtRest g.B.Body.meaning g.B.Body.fits l.built l.jobs.bodies l.run.deferred l.run.state;
   empty : l.jobs.pool ≡ [];
+  following : IsFollowing l.core l.built l.traces.items;
   meant : meanings g.B.Body.meaning l.built l.jobs.bodies ≡ meanings g.B.Body.meaning l.built l.fn.jobs.bodies;
 }

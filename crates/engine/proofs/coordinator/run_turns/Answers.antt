@@ -15,10 +15,14 @@ use Rattle.engine.proofs.Staging.{stage_open, stage_end, stops_open, none_there,
 use Rattle.engine.proofs.Stops.{handed_on, lost_or_kept, stops_among}
 use Rattle.engine.proofs.LevelGrants.{no_elements}
 use Rattle.engine.proofs.Turns.{turn_next, placed_open, in_hand_none, rest_end}
+use Rattle.std.proofs.Common.{Bor, IfSome}
+use Rattle.model.specs.declared.kind_sets.KindSets.{KindSets}
+use Rattle.executor_core.specs.Stands.{AreMeetings}
+use Rattle.engine.proofs.Ended.{following_more, of-mapped}
 use Rattle.engine.proofs.coordinator.run_turns.Goals as goal
 
-pub returns-in_err-core-clause-kept : goal.returns-in_err-core-clause-kept
-returns-in_err-core-clause-kept g c = λ lost.
+pub returns-in_err-begin-clause-kept : goal.returns-in_err-begin-clause-kept
+returns-in_err-begin-clause-kept g c = λ lost.
     let meaning = g.B.Body.meaning in
     let fits = g.B.Body.fits in
     let there = g.M.Hosts.has_scope c.args.mode.now in
@@ -85,9 +89,9 @@ loop-turn-init g c =
     let opening = c.in_ok-opening.opening in
     let told : AreSetsOf (Some opening) (Some (woven {B = g.row.B.Denot} later.state.state later.deferred [])) = c.in_ok-opening.ensures in
     record {
-      schedule = c.in_ok-core.ensures.schedule;
+      schedule = c.begin.ensures.schedule ∙ c.requires.following.schedule;
       records = ap (λ (o : Option (List (List ℕ))). is_some o) made.sets;
-      stands = subst₂ (Stands c.in_ok-core.core) (sym made.sets) (sym made.steps) c.in_ok-core.ensures.stands;
+      stands = subst₂ (Stands c.begin.new.core) (sym made.sets) (sym made.steps) c.in_ok-begin.ensures.stands;
       between = subst₂ (λ (ys : Option (List (List ℕ))) (x : List Step). IsBetween meaning fits there width s ys bodies start x c.args.jobs.now.bodies later.deferred c.args.jobs.now.pool later.state) (sym made.sets) (sym made.steps) (record {
         listed = refl;
         stage = stage_open width (recording s (Some (opening ∷ []))) bodies start later.state.state later.deferred c.args.jobs.now.pool
@@ -351,3 +355,13 @@ returns-clause-kept g c = λ lost.
     let out = c.loop-turn.jobs.pool in
     let w = c.loop-turn.run.state in
     placed_kept meaning fits there s bodies slots out w inv.between.placed
+
+pub returns-clause-following : goal.returns-clause-following
+returns-clause-following g c =
+    let inv = c.loop-turn.invariant in
+    following_more c.loop-turn.core c.args.built.now c.args.before.now c.loop-turn.trace inv.schedule inv.stands
+
+pub begin-requires : goal.begin-requires
+begin-requires g c =
+    of-mapped (λ (sets : Bor KindSets). sets.now) c.latest_of.result (AreMeetings c.args.core.now)
+    (subst (λ (o : Option (List ℕ)). IfSome o (AreMeetings c.args.core.now)) (sym c.latest_of.ensures) c.requires.following.meetings)

@@ -1,4 +1,4 @@
-use Rattle.executor_core.proofs.Keeping.{stands_opened}
+use Rattle.executor_core.proofs.Rows.{stands_opened}
 use Rattle.executor_core.proofs.executor.Core.new_in.Goals as goal
 
 pub returns-clause-stands : goal.returns-clause-stands
