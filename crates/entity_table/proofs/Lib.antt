@@ -4,6 +4,7 @@ pub mod Grants
 pub mod Frees
 pub mod Levels
 pub mod Releases
+pub mod Counting
 pub mod Keeping
 pub mod Living
 pub mod WithRows

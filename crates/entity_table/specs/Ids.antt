@@ -1,5 +1,5 @@
 -- What is known of the indices of the id book, and what settling makes of them.
-use Rattle.std.specs.Prelude.{ℕ, ◌≡◌, ◌≢◌, ◌≤◌, Bool, List, length, get_or, fold, AllPairs}
+use Rattle.std.specs.Prelude.{ℕ, suc, ◌≡◌, ◌≢◌, ◌≤◌, Bool, cond, List, [], ◌∷◌, length, get_or, fold, AllPairs}
 use Rattle.std.specs.List.{AllByRecursion}
 use Rattle.model.specs.Lists.{update_at}
 use Rattle.model.specs.declared.entities.Entity.{Entity}
@@ -17,6 +17,11 @@ slot_at slots index = get_or slots index fresh_slot
 -- whether the entity of an index lives
 abbrev pub lives_at : List Slot → ℕ → Bool
 lives_at slots index = is_living (slot_at slots index).status
+
+-- how many entities live
+abbrev pub living_count : List Slot → ℕ
+living_count [] = 0
+living_count (slot ∷ slots) = cond (is_living slot.status) (suc (living_count slots)) (living_count slots)
 
 -- the id was granted and not yet spawned or settled
 pub record IsGranted (slots : List Slot) (e : Entity) : Type 0 where
@@ -45,3 +50,8 @@ pub record IsKept (book : List Slot) (numbers : Numbers) : Type 0 where
   pub whole : IsBook book
   pub vacant : numbers.rising ≡ vacant_indices book
   pub room : length book ≤ numbers.room
+
+-- the same, with how many live
+pub record IsCounted (book : List Slot) (numbers : Numbers) (living : ℕ) : Type 0 where
+  pub kept : IsKept book numbers
+  pub count : living ≡ living_count book

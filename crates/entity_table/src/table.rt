@@ -7,7 +7,7 @@ ghost use Rattle.model.specs.state.Ids as ids;
 ghost use Rattle.model.specs.state.Commands.{is_alive, spawned, freed};
 ghost use Rattle.model.specs.state.Commands as commands;
 ghost use Rattle.entity_table.specs.Status.{status_of};
-ghost use Rattle.entity_table.specs.Ids.{slot_at, lives_at, IsGranted, AreApart, IsBook, settled};
+ghost use Rattle.entity_table.specs.Ids.{slot_at, lives_at, living_count, IsGranted, AreApart, IsBook, IsKept, settled};
 
 use crate::entity_meta::EntityMeta;
 use crate::fault::GrantFault;
@@ -30,18 +30,20 @@ pub const MOST_INDICES: usize = 1_048_576;
 pub struct EntityTable {
     places: Vec<EntityMeta>,
     vacant: MinHeap,
+    // How many entities live.
+    living: u32,
 }
 
 impl Model for EntityTable {
     ghost use Rattle.std.specs.Prelude.{List};
     ghost use Rattle.model.specs.state.State.{Slot};
-    ghost use Rattle.entity_table.specs.Ids.{IsKept};
+    ghost use Rattle.entity_table.specs.Ids.{IsCounted};
 
     ghost Value = { List Slot };
 
     ghost view = { λ t. t.places.items };
 
-    ghost invariant = { λ t. IsKept t.places.items t.vacant };
+    ghost invariant = { λ t. IsCounted t.places.items t.vacant t.living };
 }
 
 impl EntityTable {
@@ -52,6 +54,7 @@ impl EntityTable {
         EntityTable {
             places: Vec::new(alloc),
             vacant: MinHeap::new(alloc),
+            living: 0,
         }
     }
 
@@ -61,7 +64,11 @@ impl EntityTable {
     {
         let places = copied_places(alloc, &self.places)?;
         let vacant = self.vacant.copy(alloc, self.places.len())?;
-        Ok(EntityTable { places, vacant })
+        Ok(EntityTable {
+            places,
+            vacant,
+            living: self.living,
+        })
     }
 
     /// How many indices there are: past them every index is vacant at generation 1.
@@ -70,6 +77,13 @@ impl EntityTable {
         ensures book { IsBook self.now }
     {
         self.places.len() as u32
+    }
+
+    /// How many entities live. The book keeps the count, so this looks at no index.
+    pub fn living(&self) -> u32
+        ensures { result ≡ living_count self.now }
+    {
+        self.living
     }
 
     /// Whether there are no indices.
@@ -174,6 +188,7 @@ impl EntityTable {
     {
         let place = &mut self.places[e.index as usize];
         place.spawn();
+        self.living += 1;
     }
 
     /// Settles granted ids, none of them named twice: the used ones live, the unused ones are freed. It allocates nothing.
@@ -196,7 +211,7 @@ impl EntityTable {
     {
         for id in ids {
             if self.is_granted(id.index) {
-                self.free(id.index);
+                self.release_one(id.index);
             }
         }
     }
@@ -206,7 +221,8 @@ impl EntityTable {
         requires { is_alive self.old e ≡ true }
         ensures { self.new ≡ update_at e.index freed self.old }
     {
-        self.free(e.index);
+        free_in(&mut self.places, &mut self.vacant, e.index);
+        self.living -= 1;
     }
 
     // Whether the index was granted and is not settled.
@@ -219,17 +235,27 @@ impl EntityTable {
         }
     }
 
-    // Frees an index that isn't vacant. There is room for it among the vacant ones, since there is for all indices.
-    fn free(&mut self, index: u32)
-        requires within { index < length self.old }
-        requires held { is_vacant (slot_at self.old index).status ≡ false }
+    // Frees a granted index: as many live as before.
+    fn release_one(&mut self, index: u32)
+        requires { is_granted (slot_at self.old index).status ≡ true }
         ensures { self.new ≡ update_at index freed self.old }
     {
-        let place = &mut self.places[index as usize];
-        place.free();
-        if place.is_vacant() {
-            self.vacant.push(index);
-        }
+        free_in(&mut self.places, &mut self.vacant, index);
+    }
+}
+
+// Frees an index that isn't vacant. There is room for it among the vacant ones, since there is for all indices.
+fn free_in(places: &mut Vec<EntityMeta>, vacant: &mut MinHeap, index: u32)
+    requires kept { IsKept places.old.items vacant.old }
+    requires within { index < length places.old.items }
+    requires held { is_vacant (slot_at places.old.items index).status ≡ false }
+    ensures freed { places.new.items ≡ update_at index freed places.old.items }
+    ensures kept { IsKept places.new.items vacant.new }
+{
+    let place = &mut places[index as usize];
+    place.free();
+    if place.is_vacant() {
+        vacant.push(index);
     }
 }
 

@@ -2,7 +2,9 @@ use Rattle.std.proofs.Common.{◌≡◌, ◌+◌, ◌-◌, ◌<◌, ◌≤◌, �
 use Rattle.model.specs.state.State.{most_indices}
 use Rattle.model.specs.state.Ids.{vacant_indices, has_ids, granted_ids, grant}
 use Rattle.entity_table.proofs.Grants.{has_ids-false, has_ids-true, granted-each, granted-apart, length-grant}
+use Rattle.entity_table.specs.Ids.{living_count}
 use Rattle.entity_table.proofs.Keeping.{book-grant}
+use Rattle.entity_table.proofs.Counting.{count-grant}
 use Rattle.entity_table.proofs.table.EntityTable.grant.Goals as goal
 use Rattle.entity_table.proofs.table.EntityTable.grant.Goals.{After-saturating_sub-missing, After-grant_each}
 
@@ -10,7 +12,7 @@ use Rattle.entity_table.proofs.table.EntityTable.grant.Goals.{After-saturating_s
 wanted : (c : After-saturating_sub-missing) → c.len-had.result + c.saturating_sub-missing.result ≡ length c.args.self.now + (c.args.count - length (vacant_indices c.args.self.now))
 wanted c =
     let v = c.self.inside.places.ok.0 in
-    omega (arith, ap length c.self.view_is, c.len-had.ensures, c.saturating_sub-missing.ensures, c.len.ensures, ap length c.self.invariant.vacant, ap (λ xs. length (vacant_indices xs)) c.self.view_is)
+    omega (arith, ap length c.self.view_is, c.len-had.ensures, c.saturating_sub-missing.ensures, c.len.ensures, ap length c.self.invariant.kept.vacant, ap (λ xs. length (vacant_indices xs)) c.self.view_is)
 
 none : (c : After-saturating_sub-missing) → most_indices < c.len-had.result + c.saturating_sub-missing.result → has_ids c.args.count c.args.self.now ≡ false
 none c l = has_ids-false c.args.count c.args.self.now (omega (arith, wanted c))
@@ -60,9 +62,12 @@ invariant_of-self-2 c =
     let counted : length (grant c.args.count xs) ≡ c.len-had.result + c.saturating_sub-missing.result =
     length-grant c.args.count xs ∙ ap (λ ys. length ys + (c.args.count - length (vacant_indices ys))) c.self.view_is ∙ sym (wanted b) in
     record {
-      whole = rw (grants a) (book-grant c.args.count xs there c.self.invariant.whole);
-      vacant = c.grant_each.ensures.kept;
-      room = omega (arith, ap length (grants a), counted, c.in_ok-make_room.ensures.ok, c.grant_each.ensures.room);
+      kept = record {
+        whole = rw (grants a) (book-grant c.args.count xs there c.self.invariant.kept.whole);
+        vacant = c.grant_each.ensures.kept;
+        room = omega (arith, ap length (grants a), counted, c.in_ok-make_room.ensures.ok, c.grant_each.ensures.room);
+      };
+      count = c.self.invariant.count ∙ sym (count-grant c.args.count xs) ∙ ap living_count (sym (grants a));
     }
 
 pub returns-clause-each : goal.returns-clause-each

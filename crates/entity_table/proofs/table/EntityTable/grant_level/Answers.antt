@@ -1,16 +1,18 @@
-use Rattle.std.proofs.Common.{◌≡◌, ◌+◌, ◌-◌, ◌<◌, ◌≤◌, true, false, length, sum, ap, ◌∙◌, arith, rules}
+use Rattle.std.proofs.Common.{◌≡◌, ◌+◌, ◌-◌, ◌<◌, ◌≤◌, true, false, length, sum, ap, sym, ◌∙◌, arith, rules}
 use Rattle.model.specs.state.State.{most_indices}
 use Rattle.model.specs.state.Ids.{vacant_indices, has_ids, grant, has_ids_for_each, grant_each}
 use Rattle.entity_table.proofs.Frees.{length-vacant_from}
 use Rattle.entity_table.proofs.Grants.{has_ids-false, has_ids-true, length-grant}
 use Rattle.entity_table.proofs.Levels.{grant_each-is, has_ids_for_each-is}
+use Rattle.entity_table.specs.Ids.{living_count}
 use Rattle.entity_table.proofs.Keeping.{book-grant}
+use Rattle.entity_table.proofs.Counting.{count-grant}
 use Rattle.entity_table.proofs.table.EntityTable.grant_level.Goals as goal
 use Rattle.entity_table.proofs.table.EntityTable.grant_level.Goals.{Then-saturating_add-gt-MOST_INDICES, Else-saturating_add-gt-MOST_INDICES, After-grant_lists}
 
 -- no more indices are vacant than there may be
 vacant_few : (c : Else-saturating_add-gt-MOST_INDICES) → length c.self.inside.vacant.rising ≤ most_indices
-vacant_few c = let few = c.self.invariant.whole.few in omega (arith, ap length c.self.invariant.vacant, length-vacant_from 0 c.self.inside.places.items)
+vacant_few c = let few = c.self.invariant.kept.whole.few in omega (arith, ap length c.self.invariant.kept.vacant, length-vacant_from 0 c.self.inside.places.items)
 
 -- how many slots are missing
 missing : (c : Else-saturating_add-gt-MOST_INDICES) → c.saturating_sub-missing.result ≡ sum c.args.counts.now - length c.self.inside.vacant.rising
@@ -24,19 +26,19 @@ enough c =
 
 -- there are ids
 there : (c : Else-saturating_add-gt-MOST_INDICES) → has_ids (sum c.args.counts.now) c.self.inside.places.items ≡ true
-there c = has_ids-true (sum c.args.counts.now) c.self.inside.places.items (omega (arith, enough c, ap length c.self.invariant.vacant))
+there c = has_ids-true (sum c.args.counts.now) c.self.inside.places.items (omega (arith, enough c, ap length c.self.invariant.kept.vacant))
 
 some : (c : Else-saturating_add-gt-MOST_INDICES) → has_ids_for_each c.args.counts.now c.args.self.now ≡ true
-some c = rw (← c.self.view_is) (has_ids_for_each-is c.args.counts.now c.self.inside.places.items c.self.invariant.whole.few ∙ there c)
+some c = rw (← c.self.view_is) (has_ids_for_each-is c.args.counts.now c.self.inside.places.items c.self.invariant.kept.whole.few ∙ there c)
 
 pub returns-then-saturating_add-gt-MOST_INDICES-clause-spent : goal.returns-then-saturating_add-gt-MOST_INDICES-clause-spent
 returns-then-saturating_add-gt-MOST_INDICES-clause-spent c =
     let items = c.self.inside.places.items in
     let held = c.self.inside.places.ok.0 in
     let wanted : most_indices < length items + (sum c.args.counts.now - length (vacant_indices items)) =
-    omega (arith, ap length c.self.invariant.vacant, c.len-had.ensures, c.sum_of.ensures, c.len.ensures, c.saturating_sub-missing.ensures, c.saturating_add.ensures) in
+    omega (arith, ap length c.self.invariant.kept.vacant, c.len-had.ensures, c.sum_of.ensures, c.len.ensures, c.saturating_sub-missing.ensures, c.saturating_add.ensures) in
     let none : has_ids_for_each c.args.counts.now c.args.self.now ≡ false =
-    rw (← c.self.view_is) (has_ids_for_each-is c.args.counts.now items c.self.invariant.whole.few ∙ has_ids-false (sum c.args.counts.now) items wanted) in
+    rw (← c.self.view_is) (has_ids_for_each-is c.args.counts.now items c.self.invariant.kept.whole.few ∙ has_ids-false (sum c.args.counts.now) items wanted) in
     search rules
 
 pub returns-in_err-granted-clause-spent : goal.returns-in_err-granted-clause-spent
@@ -77,9 +79,12 @@ invariant_of-self-2 c =
     let held = c.self.inside.places.ok.0 in
     let all = grants (goal.at.invariant_of-self-2 c).After-grant_lists in
     let many : length c.grant_lists.new.places.items ≡ c.len-had.result + c.saturating_sub-missing.result =
-    omega (arith, ap length all, length-grant (sum c.args.counts.now) c.self.inside.places.items, missing e, c.len-had.ensures, ap length c.self.invariant.vacant) in
+    omega (arith, ap length all, length-grant (sum c.args.counts.now) c.self.inside.places.items, missing e, c.len-had.ensures, ap length c.self.invariant.kept.vacant) in
     record {
-      whole = rw all (book-grant (sum c.args.counts.now) c.self.inside.places.items (there e) c.self.invariant.whole);
-      vacant = c.grant_lists.ensures.kept;
-      room = omega (arith, many, c.in_ok-make_room.ensures.ok, c.grant_lists.ensures.room);
+      kept = record {
+        whole = rw all (book-grant (sum c.args.counts.now) c.self.inside.places.items (there e) c.self.invariant.kept.whole);
+        vacant = c.grant_lists.ensures.kept;
+        room = omega (arith, many, c.in_ok-make_room.ensures.ok, c.grant_lists.ensures.room);
+      };
+      count = c.self.invariant.count ∙ sym (count-grant (sum c.args.counts.now) c.self.inside.places.items) ∙ ap living_count (sym all);
     }

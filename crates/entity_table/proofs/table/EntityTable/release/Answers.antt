@@ -24,6 +24,6 @@ step c =
 pub loop-id-preserved : goal.loop-id-preserved
 unfolding looked_at
 loop-id-preserved c = elim c.if-is_granted.branch [
-  | then-is_granted w ↦ w.self-is ∙ w.free.ensures ∙ sym (freed_if-granted (looked_at c).index c.loop-id.self (sym c.is_granted.ensures ∙ w.if-is_granted.true)) ∙ step c
+  | then-is_granted w ↦ w.self-is ∙ w.release_one.ensures ∙ sym (freed_if-granted (looked_at c).index c.loop-id.self (sym c.is_granted.ensures ∙ w.if-is_granted.true)) ∙ step c
   | else-is_granted w ↦ w.self-is ∙ sym (freed_if-other (looked_at c).index c.loop-id.self (sym c.is_granted.ensures ∙ w.if-is_granted.false)) ∙ step c
 ]
