@@ -15,6 +15,8 @@ pub mod SlotRows
 pub mod BareSlots
 pub mod Layouts
 pub mod LivingSets
+pub mod SortedSets
+pub mod BareCount
 pub mod Edits
 mod Worlds
 pub mod Standings

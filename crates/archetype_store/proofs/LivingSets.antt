@@ -1,9 +1,9 @@
 -- The numbers of the kinds of the archetypes, and where an entity lives without components that of the empty set, are those of the living.
-use Rattle.std.proofs.Common.{ℕ, zero, suc, ◌+◌, ◌^◌, ◌<◌, ◌≤◌, nat_lt, Bool, true, false, cond, not, ◌==◌, ◌≡◌, ◌≢◌, ◌⊎◌, List, [], ◌∷◌, ◌++◌, length, get_or, take, map, refl, sym, ap, ◌∙◌, subst, inl, inr, arith, lt-ltb, ltb-true}
-use Rattle.std.specs.Prelude.{bit_or, insert}
+use Rattle.std.proofs.Common.{ℕ, zero, suc, ◌+◌, ◌^◌, ◌<◌, Bool, true, false, not, ◌==◌, ◌≡◌, ◌⊎◌, List, [], ◌∷◌, ◌++◌, length, get_or, take, map, refl, sym, ap, ◌∙◌, subst, inl, inr, arith}
+use Rattle.std.specs.Prelude.{bit_or}
 use Rattle.std.specs.List.{AllByRecursion, list_any}
-use Rattle.std.proofs.lemmas.Bool.{eq-eqb, ne_eqb, and_parts, and_from, or_cases, or_from, false≢true}
-use Rattle.std.proofs.lemmas.List.{get_or_default, take_more, map-append}
+use Rattle.std.proofs.lemmas.Bool.{and_parts, and_from, or_cases, or_from, false≢true}
+use Rattle.std.proofs.lemmas.List.{take_more, map-append}
 use Rattle.model.specs.Lists.{IsIn, is_there}
 use Rattle.model.specs.declarations.Hierarchy.{IsRising}
 use Rattle.model.specs.declared.entities.Entity.{Entity}
@@ -82,13 +82,13 @@ numbers_with-cases n (kinds ∷ sets) ns i = go (numbers_with-cases n sets (with
 
 -- ---- those who live without components
 
--- the first index of one that passes
-record IsPlaceFor (test : Slot → Bool) (slots : List Slot) : Type 0 where
+-- the index of one that passes
+pub record IsPlaceFor (test : Slot → Bool) (slots : List Slot) : Type 0 where
   pub index : ℕ
   pub passes : test (get_or slots index fresh_slot) ≡ true
 
 -- where some slot passes there is an index of one
-place-for : (test : Slot → Bool) (slots : List Slot) → list_any test slots ≡ true → IsPlaceFor test slots
+pub place-for : (test : Slot → Bool) (slots : List Slot) → list_any test slots ≡ true → IsPlaceFor test slots
 place-for test [] h = absurd (false≢true h)
 place-for test (slot ∷ slots) h = go (or_cases (test slot) (list_any test slots) h) (λ f. place-for test slots f)
   where
@@ -114,7 +114,7 @@ none-at test [] h = refl
 none-at test (slot ∷ slots) h = or_from (test slot) (list_any test slots) (h zero (omega arith)) (none-at test slots (λ index l. h (suc index) (omega arith)))
 
 -- an index past the end has no one who lives
-within-end : (slots : List Slot) (index : ℕ) → is_living (get_or slots index fresh_slot).status ≡ true → index < length slots
+pub within-end : (slots : List Slot) (index : ℕ) → is_living (get_or slots index fresh_slot).status ≡ true → index < length slots
 within-end [] index h = absurd (false≢true h)
 within-end (slot ∷ slots) zero h = omega arith
 within-end (slot ∷ slots) (suc index) h = let l : index < length slots = within-end slots index h in omega arith

@@ -1,8 +1,10 @@
 -- The numbers of sets of kinds, added one by one.
-use Rattle.std.specs.Prelude.{ℕ, ◌^◌, bit_or, Bool, cond, not, ◌&&◌, List, [], ◌∷◌}
+use Rattle.std.specs.Prelude.{ℕ, ◌^◌, bit_or, Bool, cond, not, ◌&&◌, List, [], ◌∷◌, length}
 use Rattle.model.specs.Lists.{is_there}
 use Rattle.model.specs.state.State.{Slot, is_living}
 use Rattle.model.specs.state.KindSets.{with_number}
+use Rattle.archetype_store.specs.View.{kinds_seen, entities_seen}
+use Rattle.archetype_store.specs.declared.tables.ArchetypeView.{ArchetypeView}
 
 -- the number of these kinds
 abbrev pub set_number : List ℕ → ℕ
@@ -21,3 +23,11 @@ first_numbers without = cond without (0 ∷ []) []
 -- whether an entity lives without components
 abbrev pub is_bare : Slot → Bool
 is_bare slot = is_living slot.status && not (is_there slot.row)
+
+-- the number of the kinds of a view of an archetype
+abbrev pub number_seen : ArchetypeView → ℕ
+number_seen view = set_number (kinds_seen view)
+
+-- how many entities it has
+abbrev pub entity_count : ArchetypeView → ℕ
+entity_count view = length (entities_seen view)

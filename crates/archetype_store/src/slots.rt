@@ -8,17 +8,16 @@ ghost use Rattle.model.specs.state.Ids as ids;
 ghost use Rattle.model.specs.state.Commands as commands;
 ghost use Rattle.model.specs.state.Commands.{is_alive, spawned, freed, with_row};
 ghost use Rattle.column_store.specs.Cells.{stamped_number};
-ghost use Rattle.entity_table.specs.Ids.{slot_at, lives_at, IsGranted, AreApart, settled};
+ghost use Rattle.entity_table.specs.Ids.{slot_at, lives_at, living_count, IsGranted, AreApart, settled};
 ghost use Rattle.archetype_store.specs.Row.{component_of};
 ghost use Rattle.std.specs.Arc.{arc_value};
 ghost use Rattle.kinds.specs.Kind.{kind_number};
 ghost use Rattle.archetype_store.specs.Slot.{cell_of, column_cells, bare_of};
-ghost use Rattle.archetype_store.specs.LivingSets.{is_bare};
 ghost use Rattle.archetype_store.specs.Changes.{changed, components_left, AreOfOtherIndices, IsHeldBy};
 ghost use Rattle.archetype_store.specs.Store.{slots_with};
 ghost use Rattle.archetype_store.specs.Archetypes.{row_of};
 ghost use Rattle.archetype_store.specs.Layout.{archetype_at, column_home, with_home, IsLayoutOf, AreAllHome};
-ghost use Rattle.std.specs.List.{AllByRecursion, list_any};
+ghost use Rattle.std.specs.List.{AllByRecursion};
 ghost use Rattle.column_store.specs.Order.{AreRising};
 ghost use Rattle.archetype_store.specs.View.{kinds_seen, entities_seen};
 
@@ -134,16 +133,11 @@ impl Slots {
         Some(e)
     }
 
-    /// Whether some entity lives without components.
-    pub fn has_bare(&self) -> bool
-        ensures { result ≡ list_any is_bare self.now.slots }
+    /// How many entities live. It looks at no slot.
+    pub fn living(&self) -> u32
+        ensures { result ≡ living_count self.now.slots }
     {
-        for index in 0..self.len() {
-            if self.bare_at(index).is_some() {
-                return true;
-            }
-        }
-        false
+        self.book.living()
     }
 
     /// The component of the kind with this number, where the entity lives and has one.

@@ -29,7 +29,7 @@ ghost use Rattle.archetype_store.specs.Store.{empty_world, with_slots, with_slot
 use crate::change::EntityChange;
 pub use crate::columns::{ColumnAt, SharedColumn, TakenColumn};
 use crate::fault::{GrantFault, StoreFault};
-use crate::kind_sets::sets_of;
+use crate::kind_sets::{entities_in, sets_of};
 use crate::resources::Resources;
 use crate::slot::Slot;
 use crate::slots::Slots;
@@ -127,15 +127,17 @@ impl World {
         self.slots.archetypes(alloc)
     }
 
-    /// The sets of kinds of the living entities. It looks at each archetype, and for an entity that lives without components at the slots, up
-    /// to the first one.
+    /// The sets of kinds of the living entities. It looks at each table, however many entities there are: somebody lives without components
+    /// just where more live than the archetypes have.
     pub fn kind_sets(&self, alloc: Global) -> Result<KindSets, AllocError>
         ensures { IfOk result (λ sets. sets ≡ kind_sets_of self.now.state.slots) }
     {
         // Tells how the layout is that of the state.
         self.prove_laid();
         let views = self.slots.archetypes(alloc)?;
-        let sets = sets_of(alloc, &views, self.slots.has_bare())?;
+        let living = self.slots.living();
+        let without = entities_in(&views) < living as usize;
+        let sets = sets_of(alloc, &views, without)?;
         Ok(sets)
     }
 

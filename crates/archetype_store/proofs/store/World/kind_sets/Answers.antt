@@ -1,15 +1,46 @@
-use Rattle.std.proofs.Common.{ap, ap₂, map, ◌∙◌}
-use Rattle.std.specs.List.{list_any}
-use Rattle.archetype_store.specs.LivingSets.{numbers_with, first_numbers, is_bare}
+use Rattle.std.proofs.Common.{◌≡◌, ◌≤◌, nat_lt, map, length, ap, ap₂, sym, ◌∙◌, arith}
+use Rattle.std.specs.Prelude.{sum_by}
+use Rattle.std.specs.List.{AllByRecursion, list_any}
+use Rattle.model.specs.state.State.{most_indices}
+use Rattle.entity_table.specs.Ids.{living_count}
+use Rattle.entity_table.proofs.Counting.{count-length}
+use Rattle.archetype_store.specs.LivingSets.{numbers_with, first_numbers, is_bare, entity_count}
 use Rattle.archetype_store.specs.Store.{StoreValue}
-use Rattle.archetype_store.specs.View.{kinds_seen}
+use Rattle.archetype_store.specs.View.{kinds_seen, entities_seen}
+use Rattle.archetype_store.proofs.BareCount.{AreOthers, entities_of, entities_seen_are, laid_living, more_live, others_seen}
 use Rattle.archetype_store.proofs.LivingSets.{living_sets}
 use Rattle.archetype_store.proofs.store.World.kind_sets.Goals as goal
+use Rattle.archetype_store.proofs.store.World.kind_sets.Goals.{After-deref}
+
+-- the views are of the archetypes
+seen : (c : After-deref) → map entities_seen c.in_ok-views.views.items ≡ map (λ a. a.entities) c.args.self.now.layout
+seen c = c.in_ok-views.ensures.entities ∙ ap (λ (w : StoreValue). map (λ a. a.entities) w.layout) c.self.view_is
+
+-- no two entities of one are one
+others : (c : After-deref) → AllByRecursion (λ a. AreOthers a.entities) c.args.self.now.layout
+others c = others_seen c.in_ok-views.views.items c.args.self.now.layout (seen c) c.in_ok-views.ensures.rising
+
+-- how many entities they have
+counted : (c : After-deref) → sum_by entity_count c.deref.result.now ≡ entities_of c.args.self.now.layout
+counted c = ap (sum_by entity_count) c.deref.ensures.value ∙ entities_seen_are c.in_ok-views.views.items c.args.self.now.layout (seen c)
+
+pub entities_in-requires : goal.entities_in-requires
+entities_in-requires c =
+    let a = (goal.at.entities_in-requires c).After-deref in
+    let slots = c.args.self.now.state.slots in
+    let few : length slots ≤ most_indices = rw (ap (λ (w : StoreValue). length w.state.slots) (sym c.self.view_is)) c.self.invariant.few in
+    omega (arith, few, count-length slots, laid_living slots c.args.self.now.layout c.prove_laid.ensures (others a), counted a)
 
 pub returns : goal.returns
 returns c =
+    let a = (goal.at.returns c).After-deref in
+    let slots = c.args.self.now.state.slots in
+    let layout = c.args.self.now.layout in
+    let without : nat_lt c.entities_in.result c.living-living.result ≡ list_any is_bare slots =
+    ap₂ nat_lt (c.entities_in.ensures ∙ counted a) (c.living-living.ensures ∙ ap (λ (w : StoreValue). living_count w.state.slots) c.self.view_is)
+    ∙ more_live slots layout c.prove_laid.ensures (others a) in
     c.in_ok-sets.ensures
     ∙ ap₂ numbers_with
-    (ap (map kinds_seen) c.deref.ensures.value ∙ c.in_ok-views.ensures.kinds ∙ ap (λ (w : StoreValue). map (λ a. a.kinds) w.layout) c.self.view_is)
-    (ap first_numbers (c.has_bare.ensures ∙ ap (λ (w : StoreValue). list_any is_bare w.state.slots) c.self.view_is))
-    ∙ living_sets c.args.self.now.state.slots c.args.self.now.layout c.prove_laid.ensures
+    (ap (map kinds_seen) c.deref-2.ensures.value ∙ c.in_ok-views.ensures.kinds ∙ ap (λ (w : StoreValue). map (λ a. a.kinds) w.layout) c.self.view_is)
+    (ap first_numbers without)
+    ∙ living_sets slots layout c.prove_laid.ensures
