@@ -46,7 +46,6 @@ pub(crate) fn views_of(
 ) -> Result<Vec<ArchetypeView<'_>>, AllocError>
     ensures kinds { IfOk result (λ views. map kinds_seen views.items ≡ map (λ a. a.kinds) (layout_of tables.now)) }
     ensures entities { IfOk result (λ views. map entities_seen views.items ≡ map (λ a. a.entities) (layout_of tables.now)) }
-    ensures rising { IfOk result (λ views. AllByRecursion (λ view. AreRising (entities_seen view)) views.items) }
     ensures apart { IfOk result (λ views. AllByRecursion (λ view. AreApart (entities_seen view)) views.items) }
     ensures order { IfOk result (λ views. AllByRecursion (λ view. OrdersRows (entities_seen view) view.order) views.items) }
 {
