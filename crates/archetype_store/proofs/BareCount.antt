@@ -1,6 +1,6 @@
 -- Somebody lives without components just where more live than the archetypes have entities.
 use Rattle.std.proofs.Common.{ℕ, zero, suc, ◌+◌, ◌<◌, ◌≤◌, nat_lt, Bool, true, false, ◌==◌, not, ◌≡◌, ◌≢◌, ◌⊎◌, List, [], ◌∷◌, ◌++◌, length, map, refl, sym, ap, ap₂, ◌∙◌, subst, inl, inr, arith, lt-ltb, length-append}
-use Rattle.std.specs.Prelude.{sum_by}
+use Rattle.std.specs.Prelude.{sum_by, slice_get, Some}
 use Rattle.std.specs.List.{AllByRecursion, list_any}
 use Rattle.std.proofs.lemmas.Bool.{eqb-true, eq-eqb, and_parts, and_from, le-ltb, false≢true}
 use Rattle.std.proofs.lemmas.List.Sums.{sum_by-cons}
@@ -11,9 +11,9 @@ use Rattle.model.specs.state.Rows.{row_at}
 use Rattle.model.specs.state.Commands.{is_alive, freed}
 use Rattle.model.proofs.progress.Width.{IsOnce}
 use Rattle.model.proofs.lists.Lists.{get_or-update_at_other, has-IsIn, IsIn_from_has, IsIn_from_any, IsIn-append, IsIn_left, IsIn_right, list_any-IsIn, ==-same}
-use Rattle.column_store.specs.Order.{is_before, is_same, AreRising}
+use Rattle.column_store.specs.Order.{is_same, AreApart}
 use Rattle.column_store.proofs.Arrived.{same_self}
-use Rattle.column_store.proofs.Rising.{before_apart}
+use Rattle.column_store.proofs.Made.{same_entity}
 use Rattle.entity_table.specs.Ids.{slot_at, lives_at, living_count}
 use Rattle.entity_table.proofs.Counting.{count-less, count-none, none-count}
 use Rattle.entity_table.proofs.Releases.{lives-freed}
@@ -119,15 +119,23 @@ abbrev pub AreOthers : List Entity → Type 0
 AreOthers [] = Unit {0}
 AreOthers (e ∷ es) = ((x : Entity) → IsIn x es → is_same e x ≡ false) × AreOthers es
 
--- ids that rise are such
-each-in : (P : Entity → Type 0) (es : List Entity) (e : Entity) → AllByRecursion P es → IsIn e es → P e
-each-in P [] e all i = absurd i
-each-in P (x ∷ es) e all (inl same) = subst P (sym same) all.0
-each-in P (x ∷ es) e all (inr i) = each-in P es e all.1 i
+-- where an entity among these is
+found : (es : List Entity) (e : Entity) → IsIn e es → (p : ℕ) × (slice_get es p ≡ Some e)
+found [] e i = absurd i
+found (x ∷ es) e (inl same) = (zero, ap (λ (y : Entity). Some y) (sym same))
+found (x ∷ es) e (inr i) = let (p, at) = found es e i in (suc p, at)
 
-rising-others : (es : List Entity) → AreRising es → AreOthers es
-rising-others [] rise = tt
-rising-others (e ∷ es) rise = ((λ x i. before_apart e x (each-in (λ y. is_before e y ≡ true) es x rise.0 i)), rising-others es rise.1)
+-- ids of which none is there twice are such
+apart-others : (es : List Entity) → AreApart es → AreOthers es
+apart-others [] apart = tt
+apart-others (e ∷ es) apart = (λ x i. other x i (is_same e x) refl, apart-others es (λ p q x f g. let same : suc p ≡ suc q = apart (suc p) (suc q) x f g in omega (arith, same)))
+  where
+    other : (x : Entity) → IsIn x es → (b : Bool) → is_same e x ≡ b → b ≡ false
+    other x i false h = refl
+    other x i true h =
+        let (p, at) = found es x i in
+        let no : 0 ≡ suc p = apart 0 (suc p) x (ap (λ (y : Entity). Some y) (same_entity e x h)) at in
+        absurd (omega (arith, no))
 
 -- ---- those who live in archetypes
 
@@ -319,9 +327,9 @@ entities_seen_are (view ∷ views) (a ∷ layout) e =
 
 -- no two entities of an archetype are one
 pub others_seen : (views : List ArchetypeView) (layout : List Archetype) → map entities_seen views ≡ map (λ a. a.entities) layout →
-    AllByRecursion (λ view. AreRising (entities_seen view)) views → AllByRecursion (λ a. AreOthers a.entities) layout
-others_seen [] [] e rising = tt
-others_seen [] (a ∷ layout) e rising = absurd (omega (arith, ap length e))
-others_seen (view ∷ views) [] e rising = absurd (omega (arith, ap length e))
-others_seen (view ∷ views) (a ∷ layout) e rising =
-    (subst AreOthers (ap (head_or []) e) (rising-others (entities_seen view) rising.0), others_seen views layout (ap tail_of e) rising.1)
+    AllByRecursion (λ view. AreApart (entities_seen view)) views → AllByRecursion (λ a. AreOthers a.entities) layout
+others_seen [] [] e apart = tt
+others_seen [] (a ∷ layout) e apart = absurd (omega (arith, ap length e))
+others_seen (view ∷ views) [] e apart = absurd (omega (arith, ap length e))
+others_seen (view ∷ views) (a ∷ layout) e apart =
+    (subst AreOthers (ap (head_or []) e) (apart-others (entities_seen view) apart.0), others_seen views layout (ap tail_of e) apart.1)

@@ -1,6 +1,7 @@
 pub mod Lists
 pub mod Cells
 pub mod Rising
+pub mod Ordered
 pub mod Rows
 pub mod Columns
 pub mod Tables

@@ -12,9 +12,11 @@ pub mod order;
 mod packed;
 mod packs;
 mod parts;
+pub mod row_order;
 pub mod stamped;
 pub mod table;
 
 pub use arrivals::Arrival;
+pub use row_order::RowOrder;
 pub use stamped::{StampedColumn, StampedValue};
 pub use table::Table;

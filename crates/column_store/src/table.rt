@@ -6,7 +6,8 @@ ghost use Rattle.kinds.specs.Kind.{kind_number};
 ghost use Rattle.kinds.specs.Value.{value_number, value_words};
 ghost use Rattle.column_store.specs.Cells.{stamped_number, stamped_cell, stamp_of};
 ghost use Rattle.column_store.specs.Kinds.{in_order, AreBelow};
-ghost use Rattle.column_store.specs.Order.{AreRising};
+ghost use Rattle.column_store.specs.Order.{AreRising, AreApart};
+ghost use Rattle.column_store.specs.RowOrder.{OrdersRows};
 ghost use Rattle.column_store.specs.Arriving.{entity_of, row_arriving, put_rows};
 ghost use Rattle.std.specs.Arc.{arc_value};
 ghost use Rattle.column_store.specs.Table.{Standing, empty_table, is_home, is_owned, is_not_away, is_own_if, row_of, put_row, new_row, without_row, without_rows, update_row, renewed_row, cell_in, standing_of, kind_cells, write_cell, lent, owned, homed, IsHome, IsAlike};
@@ -20,6 +21,7 @@ use crate::parts::{
     among, copied_kinds, find_in, home_in, lend_in, put_in, read_in, remove_all_in, remove_in,
     renew_in, seen_in, share_in, write_in,
 };
+use crate::row_order::RowOrder;
 use crate::stamped::{StampedColumn, StampedValue};
 use change_ticks::{Stamp, Tick};
 use entity_table::Entity;
@@ -103,8 +105,18 @@ impl Table {
     pub fn entities(&self) -> &[Entity]
         ensures entities { result.now ≡ map (λ row. row.entity) self.now.rows }
         ensures rising { AreRising result.now }
+        ensures apart { AreApart result.now }
     {
         self.entities.as_slice()
+    }
+
+    /// The order of the rows, in which ids rise.
+    pub fn order(&self) -> RowOrder<'_>
+        ensures { OrdersRows (map (λ row. row.entity) self.now.rows) result }
+    {
+        // Proves that ids rise.
+        let _entities = self.entities.as_slice();
+        RowOrder::Rising
     }
 
     /// The entities, row by row, to be read elsewhere too. They are copied only where rows changed since they were asked for last.

@@ -18,7 +18,7 @@ seen c = c.in_ok-views.ensures.entities ∙ ap (λ (w : StoreValue). map (λ a. 
 
 -- no two entities of one are one
 others : (c : After-deref) → AllByRecursion (λ a. AreOthers a.entities) c.args.self.now.layout
-others c = others_seen c.in_ok-views.views.items c.args.self.now.layout (seen c) c.in_ok-views.ensures.rising
+others c = others_seen c.in_ok-views.views.items c.args.self.now.layout (seen c) c.in_ok-views.ensures.apart
 
 -- how many entities they have
 counted : (c : After-deref) → sum_by entity_count c.deref.result.now ≡ entities_of c.args.self.now.layout
