@@ -6,16 +6,16 @@ use Rattle.model.specs.Lists.{update_at}
 use Rattle.model.specs.state.State.{Cell}
 use Rattle.model.specs.access.Query.{Term, writes}
 use Rattle.model.specs.shown.Input.{words_of}
-use Rattle.kinds.specs.Components.{widths}
+use Rattle.kinds.specs.Components.{widths, word_at}
 use Rattle.column_store.specs.Cells.{changed_cell}
 use Rattle.query_plan.specs.declared.row.Row.{Row}
 use Rattle.query_plan.specs.Places.{AreEvery}
 use Rattle.body.specs.declared.view_column.ViewColumn.{ViewColumn}
 use Rattle.body.specs.Columns.{Column, cell_in, with_cell}
 use Rattle.body.specs.HeldColumns.{held_seen}
-use Rattle.body.specs.Fields.{words_with, field_of, field_seen, field_cell, column_with_fields, sheet_with_fields}
+use Rattle.body.specs.Fields.{other_place, words_with, field_of, field_seen, field_cell, column_with_fields, sheet_with_fields}
 use Rattle.body.specs.Seen.{words_read, with_words, no_row}
-use Rattle.body.specs.Sheet.{slot_in, slot_cell, at_slot, Sheet, sheet_of, IsSheet, IsReadableAt, IsWritableAt}
+use Rattle.body.specs.Sheet.{slot_in, slot_cell, seen_at, at_slot, Sheet, sheet_of, IsSheet, IsReadableAt, IsWritableAt}
 use Rattle.body.proofs.Gets.{same-some, update-as, update-twice, update-id}
 use Rattle.body.proofs.Sheets.{cell_in-is}
 use Rattle.body.proofs.SheetCalls.{held-is, rows-within, row-readable, row-within, sheet-read, row-writable, sheet-after, sheet-set}
@@ -37,6 +37,42 @@ field-set width tick place at value v column new old words read e made is =
     (update-as (changed_cell words tick) (field_cell width tick place value) column.cells at
     (λ c there. ap (λ ws. let x : Cell = record { words = ws; added = c.added; changed = tick } in x)
     (made ∙ ap₂ (words_with width place) read (sym (same-some c.words old (sym (ap (option_map (λ (c : Cell). c.words)) there) ∙ is))))))
+
+-- the word that is read of a cell
+pub word-read : (o : Option Cell) (place : ℕ) (w v : ℤ) → v ≡ w → option_map (λ (c : Cell). word_at c.words place) o ≡ Some w → v ≡ field_of place (words_of o)
+word-read None place w v e h = absurd (cc)
+word-read (Some c) place w v e h = e ∙ sym (same-some (word_at c.words place) w h)
+
+-- the same where the other word is told
+pub field-put : (width tick place at : ℕ) (value v : ℤ) (column new : Column) (words : List ℤ) (other : ℤ) → at < length column.cells → v ≡ value → new ≡ with_cell at (changed_cell words tick) column →
+    ((old : List ℤ) → other ≡ word_at old (other_place place) → words ≡ words_with width place v old) →
+    other ≡ field_of (other_place place) (words_of (slice_get column.cells at)) → new ≡ with_cell at (field_cell width tick place value) column
+field-put width tick place at value v column new words other within read e made told =
+    let none : Cell = record { words = []; added = 0; changed = 0 } in
+    let cell = get_or column.cells at none in
+    let there : slice_get column.cells at ≡ Some cell = slice_get-get_or column.cells at none within in
+    field-set width tick place at value v column new cell.words words read e
+    (made cell.words (told ∙ ap (λ o. field_of (other_place place) (words_of o)) there)) (ap (option_map (λ (c : Cell). c.words)) there)
+
+-- ---- a field of a row of columns
+
+pub field-changed : (slots : List (List (Option ℕ))) (columns news : List Column) (row : Row) (k width tick place slot : ℕ) (value : ℤ) → slot_in slots row.archetype k ≡ Some slot →
+    news ≡ update_at slot (with_cell row.place (field_cell width tick place value)) columns →
+    news ≡ at_slot (slot_in slots row.archetype k) (with_cell row.place (changed_cell (words_with width place value (unwrap_or (words_of (seen_at slots columns row k)) [])) tick)) columns
+field-changed slots columns news row k width tick place slot value named e =
+    let old = unwrap_or (words_of (seen_at slots columns row k)) [] in
+    let seen : seen_at slots columns row k ≡ cell_in columns slot row.place = ap (λ s. slot_cell s columns row.place) named in
+    e
+    ∙ cells-alike columns slot row.place (field_cell width tick place value) (changed_cell (words_with width place value old) tick)
+    (λ c there. ap (λ ws. let x : Cell = record { words = words_with width place value ws; added = c.added; changed = tick } in x) (sym (ap (λ o. unwrap_or (words_of o) []) (seen ∙ there))))
+    ∙ ap (λ s. at_slot s (with_cell row.place (changed_cell (words_with width place value old) tick)) columns) (sym named)
+
+-- the value that is written, by another name
+pub field-told : (slots : List (List (Option ℕ))) (columns news : List Column) (row : Row) (k width tick place : ℕ) (value v : ℤ) → v ≡ value →
+    news ≡ at_slot (slot_in slots row.archetype k) (with_cell row.place (changed_cell (words_with width place v (unwrap_or (words_of (seen_at slots columns row k)) [])) tick)) columns →
+    news ≡ at_slot (slot_in slots row.archetype k) (with_cell row.place (changed_cell (words_with width place value (unwrap_or (words_of (seen_at slots columns row k)) [])) tick)) columns
+field-told slots columns news row k width tick place value v same e =
+    e ∙ ap (λ x. at_slot (slot_in slots row.archetype k) (with_cell row.place (changed_cell (words_with width place x (unwrap_or (words_of (seen_at slots columns row k)) [])) tick)) columns) same
 
 pub column-more : (width tick place from i : ℕ) (values : List ℤ) (d v : ℤ) (now new last : Column) → i < length values → v ≡ get_or values i d → new ≡ with_cell (from + i) (field_cell width tick place v) now →
     column_with_fields width tick place (from + i) (drop i values) now ≡ last → column_with_fields width tick place (from + (i + 1)) (drop (i + 1) values) new ≡ last

@@ -18,7 +18,7 @@ use Rattle.model.specs.shown.Input.{ShownRow, is_row, words_of, shown_row, rows_
 use Rattle.model.proofs.lists.Each.{each-weaker}
 use Rattle.model.proofs.order.Histories.{any_weaker}
 use Rattle.model.proofs.serial.Conflicts.{none_from_no, touches_from_writes, holds_from_writes}
-use Rattle.column_store.specs.Order.{AreRising}
+use Rattle.column_store.specs.Order.{AreApart}
 use Rattle.archetype_store.specs.Layout.{Archetype, archetype_at, IsLayoutOf}
 use Rattle.archetype_store.specs.Store.{StoreValue, IsPast}
 use Rattle.archetype_store.proofs.RowEdits.{kinds-among}
@@ -123,7 +123,7 @@ fetches-touch terms kind h = any_weaker (λ t. is_number kind (fetched t)) (λ t
 -- ---- a query over a world
 
 module _ (tick last : ℕ) (terms : List Term) (w : StoreValue) (tables : List (List (Option ℕ))) (rows : List Row) (columns : List Column) (laid : IsLayoutOf w.state.slots w.layout) (world : IsWorld widths w.state)
-    (rising : AllByRecursion (λ (a : Archetype). AreRising a.entities) w.layout) (later : w.state.clock < tick)
+    (apart : AllByRecursion (λ (a : Archetype). AreApart a.entities) w.layout) (later : w.state.clock < tick)
     (same : map (λ (row : Row). row.entity) rows ≡ map (λ (row : ShownRow). row.entity) (rows_of terms last w.state.slots)) (standing : AllByRecursion (IsStanding w.state.slots w.layout) rows)
     (picked : ArePickedOf terms w columns) (are : AreSlotsOf terms (suc (length w.layout)) columns tables) where
   -- the query matches the kinds of a row
@@ -164,7 +164,7 @@ module _ (tick last : ℕ) (terms : List Term) (w : StoreValue) (tables : List (
   planned : IsPlanned tick terms w.state.slots w.layout rows columns
   planned = record {
     laid = laid;
-    rising = rising;
+    apart = apart;
     columns_are = each-weaker (IsPickedOf terms w) (IsColumnOf terms w.layout)
         (λ column is. record {
           archetype_within = kinds-within w.layout column.archetype column.kind is.picked.held;
@@ -215,8 +215,8 @@ module _ (tick last : ℕ) (terms : List Term) (w : StoreValue) (tables : List (
       ∙ sym fact.0
 
 pub opens-over : OpensOver
-opens-over tick last terms w tables rows columns laid world rising later same standing picked are = (
-  plans-open tick terms w.state.slots w.layout tables rows columns (planned tick last terms w tables rows columns laid world rising later same standing picked are) are,
+opens-over tick last terms w tables rows columns laid world apart later same standing picked are = (
+  plans-open tick terms w.state.slots w.layout tables rows columns (planned tick last terms w tables rows columns laid world apart later same standing picked are) are,
   same-beside (row_of tables columns terms) (λ (row : Row). row.entity) (λ (row : ShownRow). row.entity) rows (rows_of terms last w.state.slots) same
-      (row-same tick last terms w tables rows columns laid world rising later same standing picked are),
+      (row-same tick last terms w tables rows columns laid world apart later same standing picked are),
 )

@@ -1,7 +1,7 @@
 -- A query may open over what was planned: each part of what it asks, from the layout of the store.
-use Rattle.std.proofs.Common.{◌≡◌, ◌≢◌, ℕ, zero, suc, ◌<◌, ◌⊎◌, inl, inr, Bool, true, false, ◌||◌, ◌&&◌, ◌==◌, nat_lt, List, [], ◌∷◌, length, get_or, map, slice_get, Option, Some, refl, sym, ap, ap₂, ◌∙◌, subst, arith}
+use Rattle.std.proofs.Common.{◌≡◌, ◌≢◌, ℕ, zero, suc, ◌<◌, ◌⊎◌, inl, inr, Bool, true, false, ◌||◌, ◌&&◌, ◌==◌, List, [], ◌∷◌, length, get_or, map, slice_get, Option, Some, refl, sym, ap, ap₂, ◌∙◌, subst, arith}
 use Rattle.std.specs.Prelude.{IsSome}
-use Rattle.std.proofs.lemmas.Bool.{eq-eqb, ltb-true, and_parts as and-parts, or_right as or-right, or_left as or-left}
+use Rattle.std.proofs.lemmas.Bool.{eq-eqb, or_right as or-right, or_left as or-left}
 use Rattle.std.proofs.lemmas.Option.{slice_get_within}
 use Rattle.std.specs.List.{AllByRecursion, list_any}
 use Rattle.model.specs.Lists.{is_there, is_number}
@@ -12,7 +12,7 @@ use Rattle.model.specs.state.Commands.{is_alive}
 use Rattle.model.specs.access.Query.{Term, written, writes}
 use Rattle.model.specs.access.Query.Term.{Entity as IdOnly, Read, Mut, Opt, With, Without, Added, Changed, AnyOf}
 use Rattle.model.specs.access.QueryFaults.{fetched}
-use Rattle.column_store.specs.Order.{is_before, is_same, AreRising}
+use Rattle.column_store.specs.Order.{is_same, AreApart as AreIdsApart}
 use Rattle.archetype_store.specs.Layout.{Archetype, archetype_at, IsArchetype, AreOfOtherKinds}
 use Rattle.query_plan.specs.declared.row.Row.{Row}
 use Rattle.query_plan.proofs.Gathered.{living_generation as alive-generation}
@@ -62,20 +62,6 @@ same-entity : (slots : List Slot) (e f : Entity) → is_alive slots e ≡ true �
 same-entity slots e f a b i =
     let g = sym (alive-generation slots e a) ∙ ap (λ n. (get_or slots n fresh_slot).generation) i ∙ alive-generation slots f b in
     λ k. record { index = i k; generation = g k }
-
-not-before : (e : Entity) → is_before e e ≡ true → ⊥
-not-before e h = elim (or-cases (nat_lt e.index e.index) ((e.index == e.index) && nat_lt e.generation e.generation) h) [
-  | inl l ↦ (let x = ltb-true e.index e.index l in (let z : ⊥ = omega arith in z))
-  | inr r ↦ (let x = ltb-true e.generation e.generation (and-parts (e.index == e.index) (nat_lt e.generation e.generation) r).1 in (let z : ⊥ = omega arith in z))
-]
-
--- an entity stands once among those that rise
-one-place : (es : List Entity) (p q : ℕ) (e : Entity) → AreRising es → slice_get es p ≡ Some e → slice_get es q ≡ Some e → p ≡ q
-one-place [] p q e h f g = absurd (cc)
-one-place (x ∷ xs) zero zero e h f g = refl
-one-place (x ∷ xs) zero (suc q) e h f g = absurd (not-before e (subst (λ y. is_before y e ≡ true) (same-some x e f) (all-get (λ y. is_before x y ≡ true) xs q e h.0 g)))
-one-place (x ∷ xs) (suc p) zero e h f g = absurd (not-before e (subst (λ y. is_before y e ≡ true) (same-some x e g) (all-get (λ y. is_before x y ≡ true) xs p e h.0 f)))
-one-place (x ∷ xs) (suc p) (suc q) e h f g = ap suc (one-place xs p q e h.1 f g)
 
 -- ---- terms
 
@@ -191,8 +177,7 @@ module _ (tick : ℕ) (terms : List Term) (slots : List Slot) (layout : List Arc
       let numbers = same-archetype layout column.archetype row.archetype is.laid.unlike of.archetype_within (archetype-within layout row.archetype row.place row.entity h)
       (sym their.2 ∙ ap (λ n. map (λ c. c.kind) (row_at slots n)) i ∙ mine.1) in (
         numbers,
-        one-place (archetype_at layout row.archetype).entities place row.place row.entity
-            (archetype-fact (λ (a : Archetype). AreRising a.entities) layout row.archetype is.rising (archetype-within layout row.archetype row.place row.entity h))
+        archetype-fact (λ (a : Archetype). AreIdsApart a.entities) layout row.archetype is.apart (archetype-within layout row.archetype row.place row.entity h) place row.place row.entity
             (ap (λ n. slice_get (archetype_at layout n).entities place) (sym numbers) ∙ their.0 ∙ ap Some same) h,
       )
   alone-in row (inr h) j column there place e g i =

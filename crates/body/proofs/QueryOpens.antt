@@ -14,7 +14,7 @@ use Rattle.model.specs.access.SelfConflict.{TwoConflictAt}
 use Rattle.model.specs.shown.Input.{ShownRow, rows_of}
 use Rattle.model.specs.shown.Outcome.{untouched_rows, untouched_cells}
 use Rattle.model.proofs.lists.Each.{each-append, each-weaker}
-use Rattle.column_store.specs.Order.{AreRising}
+use Rattle.column_store.specs.Order.{AreApart}
 use Rattle.archetype_store.specs.declared.columns.TakenColumn.{TakenColumn}
 use Rattle.archetype_store.specs.Layout.{Archetype, archetype_at, column_home, with_home, IsLayoutOf}
 use Rattle.archetype_store.specs.Slot.{column_cells}
@@ -60,12 +60,12 @@ picked-within terms w m columns l h = each-weaker (IsPickedOf terms w) (λ (c : 
 
 -- what a query opens over, and what it shows then
 pub open-over : (tick last : ℕ) (query terms : List Term) (w : StoreValue) (many : ℕ) (tables : List (List (Option ℕ))) (rows : List Row) (columns : List Column) →
-    IsLayoutOf w.state.slots w.layout → IsWorld widths w.state → AllByRecursion (λ (a : Archetype). AreRising a.entities) w.layout → w.state.clock < tick →
+    IsLayoutOf w.state.slots w.layout → IsWorld widths w.state → AllByRecursion (λ (a : Archetype). AreApart a.entities) w.layout → w.state.clock < tick →
     map (λ (row : Row). row.entity) rows ≡ map (λ (row : ShownRow). row.entity) (rows_of query last w.state.slots) → AllByRecursion (IsStanding w.state.slots w.layout) rows →
     ArePickedOf query w columns → AreSlotsOf terms many columns tables → terms ≡ query → many ≡ suc (length w.layout) →
     IsPlan tick terms tables rows columns × (map (row_of tables columns terms) rows ≡ rows_of query last w.state.slots)
-open-over tick last query terms w many tables rows columns laid world rising coming entities standing picked slots same count =
-    let both = opens-over tick last query w tables rows columns laid world rising coming entities standing picked
+open-over tick last query terms w many tables rows columns laid world apart coming entities standing picked slots same count =
+    let both = opens-over tick last query w tables rows columns laid world apart coming entities standing picked
     (subst (λ n. AreSlotsOf query n columns tables) count (subst (λ ts. AreSlotsOf ts many columns tables) same slots)) in
     (subst (λ ts. IsPlan tick ts tables rows columns) (sym same) both.0, ap (λ ts. map (row_of tables columns ts) rows) same ∙ both.1)
 

@@ -1,5 +1,5 @@
 -- Fields of components: the words of one with a field replaced, and those of the rows of a query, many rows at once.
-use Rattle.std.specs.Prelude.{ℕ, zero, suc, ℤ, pos, List, [], ◌∷◌, get_or, Option, unwrap_or}
+use Rattle.std.specs.Prelude.{ℕ, zero, suc, ℤ, pos, ◌==◌, cond, List, [], ◌∷◌, get_or, Option, unwrap_or}
 use Rattle.model.specs.Lists.{head_or, tail_of, update_at}
 use Rattle.model.specs.state.State.{Cell}
 use Rattle.model.specs.access.Query.{Term}
@@ -19,6 +19,10 @@ abbrev pub words_with : ℕ → ℕ → ℤ → List ℤ → List ℤ
 words_with zero place value words = []
 words_with (suc n) zero value words = value ∷ words_of_width n (tail_of words)
 words_with (suc n) (suc place) value words = head_or (pos 0) words ∷ words_with n place value (tail_of words)
+
+-- the other of two places
+abbrev pub other_place : ℕ → ℕ
+other_place place = cond (place == 0) 1 0
 
 -- the field of a component that is there, else 0
 abbrev pub field_of : ℕ → Option (List ℤ) → ℤ

@@ -7,7 +7,7 @@ use Rattle.model.specs.Lists.{has}
 use Rattle.model.specs.state.Shape.{IsWorld}
 use Rattle.model.specs.access.Query.{Term, matches, touches, writes}
 use Rattle.model.specs.shown.Input.{ShownRow, rows_of}
-use Rattle.column_store.specs.Order.{AreRising}
+use Rattle.column_store.specs.Order.{AreApart}
 use Rattle.archetype_store.specs.Layout.{Archetype, archetype_at, IsLayoutOf}
 use Rattle.archetype_store.specs.Slot.{column_cells}
 use Rattle.archetype_store.specs.Store.{StoreValue}
@@ -34,7 +34,7 @@ pub record ArePickedOf (terms : List Term) (w : StoreValue) (columns : List Colu
 -- over these columns, their table, and the rows by place, a query may open at a tick to come, and shows the rows of the definitions
 abbrev pub OpensOver : Type 0
 OpensOver = (tick last : ℕ) (terms : List Term) (w : StoreValue) (tables : List (List (Option ℕ))) (rows : List Row) (columns : List Column) →
-    IsLayoutOf w.state.slots w.layout → IsWorld widths w.state → AllByRecursion (λ (a : Archetype). AreRising a.entities) w.layout → w.state.clock < tick →
+    IsLayoutOf w.state.slots w.layout → IsWorld widths w.state → AllByRecursion (λ (a : Archetype). AreApart a.entities) w.layout → w.state.clock < tick →
     map (λ (row : Row). row.entity) rows ≡ map (λ (row : ShownRow). row.entity) (rows_of terms last w.state.slots) → AllByRecursion (IsStanding w.state.slots w.layout) rows →
     ArePickedOf terms w columns → AreSlotsOf terms (suc (length w.layout)) columns tables →
     IsPlan tick terms tables rows columns × (map (row_of tables columns terms) rows ≡ rows_of terms last w.state.slots)

@@ -3,7 +3,7 @@ use Rattle.std.specs.Prelude.{ℕ, suc, ◌<◌, ◌≡◌, true, List, [], ◌�
 use Rattle.std.specs.List.{AllByRecursion}
 use Rattle.model.specs.state.State.{Slot}
 use Rattle.model.specs.access.Query.{Term, writes}
-use Rattle.column_store.specs.Order.{AreRising}
+use Rattle.column_store.specs.Order.{AreApart}
 use Rattle.archetype_store.specs.Layout.{Archetype, archetype_at, IsLayoutOf}
 use Rattle.query_plan.specs.declared.row.Row.{Row}
 use Rattle.query_plan.specs.Standing.{IsStanding}
@@ -34,7 +34,7 @@ pub record IsAmong (columns : List Column) (number written_kind : ℕ) : Type 0 
 -- the rows and the columns of a query, as a plan and the store give them
 pub record IsPlanned (tick : ℕ) (terms : List Term) (slots : List Slot) (layout : List Archetype) (rows : List Row) (columns : List Column) : Type 0 where
   pub laid : IsLayoutOf slots layout
-  pub rising : AllByRecursion (λ (a : Archetype). AreRising a.entities) layout
+  pub apart : AllByRecursion (λ (a : Archetype). AreApart a.entities) layout
   pub columns_are : AllByRecursion (IsColumnOf terms layout) columns
   pub unlike : (i j : ℕ) (one other : Column) → slice_get columns i ≡ Some one → slice_get columns j ≡ Some other → one.archetype ≡ other.archetype → one.kind ≡ other.kind → i ≡ j
   pub standing : AllByRecursion (IsStanding slots layout) rows

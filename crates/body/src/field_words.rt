@@ -1,9 +1,9 @@
 // Fields of components as words.
 
-ghost use Rattle.std.specs.Prelude.{◌≡◌, ◌<◌, take};
+ghost use Rattle.std.specs.Prelude.{◌≡◌, ◌<◌, ℤ, List, take};
 ghost use Rattle.kinds.specs.Kind.{kind_number};
 ghost use Rattle.kinds.specs.Components.{widths, word_at};
-ghost use Rattle.body.specs.Fields.{words_with};
+ghost use Rattle.body.specs.Fields.{other_place, words_with};
 
 use kinds::{Fields, Kind};
 
@@ -17,23 +17,22 @@ pub fn word(words: &Fields, at: usize) -> i64
     }
 }
 
-// The same, quicker at the first place.
-pub(crate) fn field_of(words: &Fields, place: usize) -> i64
-    ensures { result ≡ word_at words.now place }
+// The other of two places.
+pub(crate) fn other_of(place: usize) -> usize
+    ensures { result ≡ other_place place }
 {
-    if place == 0 {
-        word(words, 0)
-    } else {
-        word(words, place)
-    }
+    if place == 0 { 1 } else { 0 }
 }
 
-// Two words, of which the first ones are these fields of a kind, that at a place replaced. 0 stands for what is wanting.
-pub(crate) fn with_field(kind: Kind, words: &Fields, place: usize, value: i64) -> [i64; 2]
+// Two words, of which the first ones are the fields of a component of a kind, that at a place replaced, where the field at the other place is
+// told.
+pub(crate) fn with_field(kind: Kind, other: i64, place: usize, value: i64) -> [i64; 2]
     requires { place < widths (kind_number kind) }
-    ensures { take (widths (kind_number kind)) result ≡ words_with (widths (kind_number kind)) place value words.now }
+    ensures { (words : List ℤ) → other ≡ word_at words (other_place place) → take (widths (kind_number kind)) result ≡ words_with (widths (kind_number kind)) place value words }
 {
-    let first = if place == 0 { value } else { word(words, 0) };
-    let second = if place == 0 { word(words, 1) } else { value };
-    [first, second]
+    if place == 0 {
+        [value, other]
+    } else {
+        [other, value]
+    }
 }

@@ -10,7 +10,7 @@ ghost use Rattle.body.specs.Columns.{with_cell};
 ghost use Rattle.body.specs.Fields.{field_of, field_cell, column_with_fields};
 ghost use Rattle.body.specs.HeldColumns.{column_in, held_seen};
 
-use crate::field_words::{field_of, with_field};
+use crate::field_words::{other_of, with_field};
 use archetype_store::World;
 use change_ticks::Tick;
 use column_store::StampedColumn;
@@ -64,6 +64,14 @@ impl ViewColumn {
         self.column().fields(place)
     }
 
+    // The word of a field of the component at a place, 0 where the kind has no such field.
+    pub(crate) fn word(&self, at: usize, place: usize) -> i64
+        requires { at < length (held_seen self.now).cells }
+        ensures { result ≡ field_of place (words_of (slice_get (held_seen self.now).cells at)) }
+    {
+        self.column().word(at, place)
+    }
+
     // Replaces the component at a place, which counts as changed at this tick, also where the value stays.
     pub(crate) fn set(&mut self, place: usize, value: Value, tick: Tick)
         requires written { (held_seen self.old).is_written ≡ true }
@@ -105,20 +113,20 @@ impl ViewColumn {
         // Proves that places fit.
         let _count = self.len();
         for i in 0..values.len() {
-            values[i] = field_of(&self.words(from + i), place);
+            values[i] = self.word(from + i, place);
         }
     }
 
     // Replaces a field of the component at a place, which counts as changed at this tick.
-    fn set_field(&mut self, at: usize, kind: Kind, place: usize, value: i64, tick: Tick)
+    pub(crate) fn set_field(&mut self, at: usize, kind: Kind, place: usize, value: i64, tick: Tick)
         requires written { (held_seen self.old).is_written ≡ true }
         requires kind { (held_seen self.old).kind ≡ kind_number kind }
         requires within { at < length (held_seen self.old).cells }
         requires place { place < widths (kind_number kind) }
         ensures { held_seen self.new ≡ with_cell at (field_cell (widths (kind_number kind)) tick place value) (held_seen self.old) }
     {
-        let words = self.words(at);
-        self.set_words(at, with_field(kind, &words, place, value), tick);
+        let other = self.word(at, other_of(place));
+        self.set_words(at, with_field(kind, other, place, value), tick);
     }
 
     // Replaces a field of the components from a place on by these values, a value a component. They count as changed at this tick.

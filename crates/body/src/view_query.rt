@@ -11,11 +11,10 @@ ghost use Rattle.model.specs.shown.Input.{words_of};
 ghost use Rattle.model.specs.shown.Outcome.{untouched_rows, words_in_query};
 ghost use Rattle.body.specs.Columns.{with_cell, column_after};
 ghost use Rattle.body.specs.HeldColumns.{held_seen, slots_seen};
-ghost use Rattle.body.specs.Fields.{field_of, field_seen, sheet_with_fields, column_with_fields};
+ghost use Rattle.body.specs.Fields.{words_with, field_of, field_seen, sheet_with_fields, column_with_fields};
 ghost use Rattle.body.specs.Seen.{words_read, with_words, no_row};
 ghost use Rattle.body.specs.Sheet.{slot_in, slot_cell, seen_at, at_slot, row_of, IsPlan, IsReadableAt, IsReadable, IsWritableAt, IsWritable, WritesReach};
 
-use crate::field_words::{field_of, with_field};
 use crate::view_column::ViewColumn;
 use change_ticks::Tick;
 use entity_table::Entity;
@@ -127,6 +126,35 @@ impl ViewQuery {
         words_at(&self.source.slots, &self.columns, at, kind)
     }
 
+    // A field of the component of a kind of a row: what was written there, else what is shown. 0 where the row has not the kind, and where the
+    // query doesn't fetch it.
+    fn word(&self, row: usize, kind: Kind, place: usize) -> i64
+        requires { row < length self.now.rows }
+        ensures { result ≡ field_seen self.now row (kind_number kind) place }
+    {
+        let at = self.source.rows.at(row);
+        word_in(&self.source.slots, &self.columns, at, kind, place)
+    }
+
+    // Writes a field of the component of a kind of a row of a query that has a `mut` term of the kind.
+    fn write_word(&mut self, row: usize, kind: Kind, place: usize, value: i64)
+        requires row { row < length self.old.rows }
+        requires mut_term { IsTrue (writes self.old.terms (kind_number kind)) }
+        requires place { place < widths (kind_number kind) }
+        ensures { self.new ≡ sheet_with_fields self.old (kind_number kind) place row (value ∷ []) }
+    {
+        let at = self.source.rows.at(row);
+        write_word_in(
+            &self.source.slots,
+            &mut self.columns,
+            at,
+            kind,
+            place,
+            value,
+            self.source.tick,
+        );
+    }
+
     /// Writes a component of a row of a query that has a `mut` term of its kind.
     pub fn set<C: Component>(&mut self, row: usize, component: C)
         requires row { row < length self.old.rows }
@@ -233,6 +261,43 @@ fn words_at(slots: &[ColumnIndex], columns: &[ViewColumn], at: Row, kind: Kind) 
     Some(columns[slot as usize].words(at.place as usize))
 }
 
+// A field of the component of a kind in a row, 0 where it has none.
+fn word_in(slots: &[ColumnIndex], columns: &[ViewColumn], at: Row, kind: Kind, place: usize) -> i64
+    requires archetype { at.archetype < length slots.now }
+    requires readable { IsReadable (map slots_seen slots.now) (map held_seen columns.now) at (kind_number kind) }
+    ensures { result ≡ field_of place (words_of (seen_at (map slots_seen slots.now) (map held_seen columns.now) at (kind_number kind))) }
+{
+    match slot_of(slots, at.archetype as usize, kind) {
+        Some(slot) => columns[slot as usize].word(at.place as usize, place),
+        None => 0,
+    }
+}
+
+// Replaces a field of the component of a kind in a row, which counts as changed at this tick.
+fn write_word_in(
+    slots: &[ColumnIndex],
+    columns: &mut Vec<ViewColumn>,
+    at: Row,
+    kind: Kind,
+    place: usize,
+    value: i64,
+    tick: Tick,
+)
+    requires archetype { at.archetype < length slots.now }
+    requires writable { IsWritable (map slots_seen slots.now) (map held_seen columns.old.items) at (kind_number kind) }
+    requires place { place < widths (kind_number kind) }
+    ensures { map held_seen columns.new.items ≡ at_slot (slot_in (map slots_seen slots.now) at.archetype (kind_number kind))
+        (with_cell at.place (changed_cell (words_with (widths (kind_number kind)) place value (unwrap_or (words_of (seen_at (map slots_seen slots.now) (map held_seen columns.old.items) at (kind_number kind))) [])) tick)) (map held_seen columns.old.items) }
+{
+    match slot_of(slots, at.archetype as usize, kind) {
+        Some(slot) => {
+            let held = &mut columns[slot as usize];
+            held.set_field(at.place as usize, kind, place, value, tick);
+        }
+        None => unreachable!(),
+    }
+}
+
 // Replaces the component in a row, which counts as changed at this tick.
 fn set_at(slots: &[ColumnIndex], columns: &mut [ViewColumn], at: Row, value: Value, tick: Tick)
     requires archetype { at.archetype < length slots.now }
@@ -321,17 +386,6 @@ fn write_column(
     }
 }
 
-// The value of a field of a kind of a row of a query.
-fn field_at(query: &ViewQuery, row: usize, kind: Kind, place: usize) -> i64
-    requires { row < length query.now.rows }
-    ensures { result ≡ field_seen query.now row (kind_number kind) place }
-{
-    match query.words(row, kind) {
-        Some(words) => field_of(&words, place),
-        None => 0,
-    }
-}
-
 // The values of a field of a kind of the rows from one on, each found by itself.
 fn read_each(query: &ViewQuery, kind: Kind, from: usize, place: usize, values: &mut [i64])
     requires { from + length values.old ≤ length query.now.rows }
@@ -341,31 +395,8 @@ fn read_each(query: &ViewQuery, kind: Kind, from: usize, place: usize, values: &
     // Proves that numbers of rows fit.
     let _count = query.rows();
     for i in 0..values.len() {
-        values[i] = field_at(query, from + i, kind, place);
+        values[i] = query.word(from + i, kind, place);
     }
-}
-
-// The fields of the component of a kind of a row of a query, none where it isn't there.
-fn fields_at(query: &ViewQuery, row: usize, kind: Kind) -> Fields
-    requires { row < length query.now.rows }
-    ensures { result ≡ unwrap_or (words_read query.now.terms (get_or query.now.rows row no_row).values (get_or query.now.cells row []) (kind_number kind)) [] }
-{
-    match query.words(row, kind) {
-        Some(words) => words,
-        None => Fields::none(),
-    }
-}
-
-// Writes a field of a kind of a row of a query.
-fn set_field(query: &mut ViewQuery, row: usize, kind: Kind, place: usize, value: i64)
-    requires row { row < length query.old.rows }
-    requires mut_term { IsTrue (writes query.old.terms (kind_number kind)) }
-    requires place { place < widths (kind_number kind) }
-    ensures { query.new ≡ sheet_with_fields query.old (kind_number kind) place row (value ∷ []) }
-{
-    let words = fields_at(query, row, kind);
-    let pair = with_field(kind, &words, place, value);
-    query.write(row, Value::of(kind, &pair[..kind.width()]));
 }
 
 // Writes values into a field of a kind of the rows from one on, each found by itself.
@@ -378,6 +409,6 @@ fn write_each(query: &mut ViewQuery, kind: Kind, from: usize, place: usize, valu
     // Proves that numbers of rows fit.
     let _count = query.rows();
     for i in 0..values.len() {
-        set_field(query, from + i, kind, place, values[i]);
+        query.write_word(from + i, kind, place, values[i]);
     }
 }

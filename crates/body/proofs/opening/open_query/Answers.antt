@@ -56,7 +56,7 @@ open-requires c =
     let stand = subst (AllByRecursion (IsStanding w.state.slots w.layout)) (sym c.in_ok-rows.ensures.rows) c.in_ok-plan.ensures.places in
     let slots = rw (c.terms.ensures, c.as_slice-2.ensures.value) at c.fill_slots.ensures in
     (open-over c.args.tick c.args.last_run query query w (length c.in_ok-slots.slots.items) (map slots_seen c.fill_slots.new.slots.items) c.in_ok-rows.rows columns
-    c.prove_laid.ensures c.now-now.ensures.world c.in_ok-plan.ensures.rising c.requires.coming shown stand are slots refl count).0
+    c.prove_laid.ensures c.now-now.ensures.world c.in_ok-plan.ensures.apart c.requires.coming shown stand are slots refl count).0
 
 pub returns-clause-rows : goal.returns-clause-rows
 returns-clause-rows c =
@@ -73,7 +73,7 @@ returns-clause-rows c =
     let slots = rw (c.terms.ensures, c.as_slice-2.ensures.value) at c.fill_slots.ensures in
     c.open.ensures.rows
     ∙ (open-over c.args.tick c.args.last_run query query w (length c.in_ok-slots.slots.items) (map slots_seen c.fill_slots.new.slots.items) c.in_ok-rows.rows columns
-    c.prove_laid.ensures c.now-now.ensures.world c.in_ok-plan.ensures.rising c.requires.coming shown stand are slots refl count).1
+    c.prove_laid.ensures c.now-now.ensures.world c.in_ok-plan.ensures.apart c.requires.coming shown stand are slots refl count).1
 
 pub returns-clause-taken : goal.returns-clause-taken
 returns-clause-taken c =
