@@ -32,7 +32,7 @@ use Rattle.program.specs.declared.fault.Fault.{Fault}
 use Rattle.program.specs.declared.fault.Fault.TheVariants.{TooLong, Content, Script, TraceTooLong, TraceLine, TraceOrder, TraceLists, BadStep, UnfinishedRun, WrongAnswer, WrongSets, ClockSpent, IdsSpent, BodyRefused, File, Write, Memory, NoWorker}
 use Rattle.program.specs.Fault.{fault_of_build, fault_of_file}
 use Rattle.program.specs.Accepted.{Accepted, meant_by, start_of}
-use Rattle.program.specs.Refused.{HasNoTables, IsRefusedBy, IsReplayRefused, IsRunRefused, IsTraceUnread, IsUngiven, IsUnread, IsUnreplayed, IsUnrun, IsUnscripted, LoadsWorld, ReadsTrace}
+use Rattle.program.specs.Refused.{HasNoTables, IsRefusedBy, IsReplayRefused, IsRunRefused, IsTextRefused, IsTraceUnread, IsUngiven, IsUnread, IsUnreplayed, IsUnrun, IsUnscripted, LoadsWorld, ReadsTrace}
 use Rattle.program.specs.Replayed.{IsRefusedReplay}
 use Rattle.program.specs.Served.{IsAnswerTo, IsRecordKept, IsServed, HasGained, HasGainedFront, Tells, WritesRecord}
 use Rattle.program_file.specs.declared.program_file.ProgramFile.{ProgramFile}
@@ -44,7 +44,9 @@ use Rattle.program_file.specs.Tables.{keys_of_document, AreResourcesIn, AreEntit
 use Rattle.toml.specs.Data.{Members}
 use Rattle.program.specs.Said.{IsFileOf, declared_by, script_said, scripts_by}
 use Rattle.program_file.specs.declared.fault.FileFault.TheVariants as file
-use Rattle.program_file.specs.PlaceFault.{IsOfBytes, NoneIsAt}
+use Rattle.program_file.specs.Faults.{IsFaultOf}
+use Rattle.program_file.specs.PlaceFault.{IsOfBytes}
+use Rattle.program_file.proofs.FaultyFiles.{fault-none}
 use Rattle.std.specs.Result.{IsErrAnd}
 use Rattle.std.specs.Str.{IsUtf8}
 use Rattle.schedule_builder.specs.Answers.{IsAnswered}
@@ -200,6 +202,11 @@ no-tables (Some text) v read none = (
       })),
 )
 
+-- and a fault is told of it
+text-refused : (bytes : Option (List ℕ)) (v : Members) (fault : FileFault) → IfSome bytes (λ text. parse_document text ≡ Some v) → IsFaultOf v fault → IfSome bytes HasNoTables → IfSome bytes (IsTextRefused fault)
+text-refused None v fault read told none = tt
+text-refused (Some text) v fault read told none = (none, v, read, told)
+
 -- and it has the tables that are read
 pub is-file : (bytes : Option (List ℕ)) (v : Members) (tables : ProgramFile) → IfSome bytes (λ text. parse_document text ≡ Some v) → HasOnly keys_of_document v → AreResourcesIn v tables.resources →
     AreEntitiesIn v tables.entities.items → AreSetsIn v tables.sets.items → AreSystemsIn v tables.systems.items → AreChainsIn v tables.chains.items → IfSome bytes (IsFileOf tables)
@@ -238,10 +245,10 @@ module _ (there : Bool) (width : ℕ) (bytes trace : Option (List ℕ)) where
   unread-refused w fault h = absurd h
 
   -- what the tables of a document, and its texts, are refused for
-  pub place-refused : (w : Work) (v : Members) (fault : FileFault) → IfSome bytes (λ text. parse_document text ≡ Some v) → NoneIsAt (IsFileIn v) fault → IsRefusedBy there width bytes trace w (fault_of_file fault)
+  pub place-refused : (w : Work) (v : Members) (fault : FileFault) → IfSome bytes (λ text. parse_document text ≡ Some v) → IsFaultOf v fault → IsRefusedBy there width bytes trace w (fault_of_file fault)
   place-refused w v file.Document read h = absurd h
-  place-refused w v (file.Value place) read h = no-tables bytes v read h
-  place-refused w v (file.Text place) read h = no-tables bytes v read h
+  place-refused w v (file.Value place) read h = text-refused bytes v (file.Value place) read h (no-tables bytes v read (fault-none v (file.Value place) h))
+  place-refused w v (file.Text place) read h = text-refused bytes v (file.Text place) read h (no-tables bytes v read (fault-none v (file.Text place) h))
   place-refused w v file.Memory read h = tt
 
   -- the builder

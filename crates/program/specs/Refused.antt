@@ -1,6 +1,7 @@
 -- Why some work is refused: which of its readers gives the fault.
 use Rattle.std.specs.Prelude.{ℕ, ◌<◌, ◌≡◌, ◌⊎◌, Bool, true, false, List, [], length, get_or, Option, None, Some, IfSome, IsSome, string_bytes}
 use Rattle.std.specs.Str.{IsUtf8}
+use Rattle.toml.specs.Data.{Members}
 use Rattle.toml.specs.Parse.{parse_document}
 use Rattle.model.specs.shown.Outcome.{BodyMeaning}
 use Rattle.model.specs.state.Ids.{has_ids}
@@ -8,6 +9,7 @@ use Rattle.model.specs.state.State.{State}
 use Rattle.model.specs.steps.Schedule.{Schedule, params_of}
 use Rattle.command_line.specs.declared.args.Work.{Work}
 use Rattle.command_line.specs.declared.args.Work.TheVariants as work
+use Rattle.program_file.specs.Faults.{IsFaultOf}
 use Rattle.program_file.specs.declared.program_file.ProgramFile.{ProgramFile}
 use Rattle.program_file.specs.declared.fault.FileFault.{FileFault}
 use Rattle.program_file.specs.declared.fault.FileFault.TheVariants as file
@@ -29,11 +31,15 @@ use Rattle.program.specs.Setup.{IsScheduleOf, declared_names, fits_at}
 abbrev pub HasNoTables : List ℕ → Type 0
 HasNoTables text = IsSome (parse_document text) × ((tables : ProgramFile) → IsFileOf tables text → ⊥)
 
--- the file is no document, or it is one without tables, for a value or a text at a place
+-- the same, and the fault is the one that is told of the document: that of its first place that is wrong
+abbrev pub IsTextRefused : FileFault → List ℕ → Type 0
+IsTextRefused fault text = HasNoTables text × (document : Members) × (parse_document text ≡ Some document) × IsFaultOf document fault
+
+-- the file is no document, or it is one without tables, for a value or a text at its first place that is wrong
 abbrev pub IsFileRefused : Option (List ℕ) → FileFault → Type 0
 IsFileRefused bytes file.Document = IfSome bytes (λ text. IsUtf8 text → parse_document text ≡ None)
-IsFileRefused bytes (file.Value place) = IfSome bytes HasNoTables
-IsFileRefused bytes (file.Text place) = IfSome bytes HasNoTables
+IsFileRefused bytes (file.Value place) = IfSome bytes (IsTextRefused (file.Value place))
+IsFileRefused bytes (file.Text place) = IfSome bytes (IsTextRefused (file.Text place))
 IsFileRefused bytes file.Memory = ⊥
 
 -- the reader of the file, or memory, stops

@@ -1,10 +1,11 @@
 -- Lists side by side, one more at a time, and blocks that are read in two steps.
-use Rattle.std.proofs.Common.{◌≡◌, ℕ, ◌+◌, ◌<◌, List, [], ◌∷◌, ◌++◌, length, map, take, get_or, subst, sym}
-use Rattle.std.specs.List.{AllZip}
+use Rattle.std.proofs.Common.{◌≡◌, ℕ, Bor, ◌+◌, ◌<◌, List, [], ◌∷◌, ◌++◌, length, map, take, get_or, subst, sym}
+use Rattle.std.specs.List.{AllZip, AllByRecursion}
 use Rattle.std.proofs.lemmas.List.{take_more}
 use Rattle.toml.specs.Data.{Members}
 use Rattle.script.specs.declared.script_body.Block.{Block}
 use Rattle.script.specs.declared.script_body.Rounds.{Rounds}
+use Rattle.program_file.specs.Faults.{HasBlockKeys, HasBlocks}
 use Rattle.program_file.specs.Rounds.{SaysRounds, block_keys}
 use Rattle.program_file.specs.Tables.{IsBlockIn, AreBlocksIn, IsBlockTextsIn, AreBlockTextsIn, IsRead}
 use Rattle.program_file.specs.declared.program_file.BlockTexts.{BlockTexts}
@@ -49,3 +50,15 @@ each-read (m ∷ ms) (t ∷ ts) (b ∷ bs) there read = (block-read m t b there.
 -- blocks whose keys were looked at, and whose texts then were read
 pub blocks-read : (table : Members) (texts : List BlockTexts) (blocks : List Block) → AreBlockTextsIn table texts → AllZip IsRead texts blocks → AreBlocksIn table blocks
 blocks-read table texts blocks there read = record { tables = there.tables; there = there.there; each = each-read there.tables texts blocks there.each read }
+
+-- the keys of blocks that were looked at
+block-keys : (table : Members) (texts : BlockTexts) → IsBlockTextsIn table texts → HasBlockKeys table
+block-keys table texts h = record { only = h.only; given = h.given; rounds = (texts.rounds, h.rounds); code = (map (λ (text : Bor (List ℕ)). text.now) texts.code.items, h.code) }
+
+each-keys : (tables : List Members) (texts : List BlockTexts) → AllZip IsBlockTextsIn tables texts → AllByRecursion HasBlockKeys tables
+each-keys [] texts h = tt
+each-keys (m ∷ ms) [] h = absurd h
+each-keys (m ∷ ms) (t ∷ ts) h = (block-keys m t h.0, each-keys ms ts h.1)
+
+pub blocks-keys : (table : Members) (texts : List BlockTexts) → AreBlockTextsIn table texts → HasBlocks table
+blocks-keys table texts h = (h.tables, h.there, each-keys h.tables texts h.each)

@@ -6,3 +6,5 @@ pub mod Mapped
 pub mod Refusals
 pub mod Spelled
 pub mod Unread
+pub mod Wrong
+pub mod FaultyFiles

@@ -68,7 +68,7 @@ entity-refused entries done e rest fault is =
 
 -- ---- items
 
-all-seen : {A B : Type 0} (P : B → Type 0) (f : A → B) (xs : List A) → AllByRecursion (λ x. P (f x)) xs → AllByRecursion P (map f xs)
+pub all-seen : {A B : Type 0} (P : B → Type 0) (f : A → B) (xs : List A) → AllByRecursion (λ x. P (f x)) xs → AllByRecursion P (map f xs)
 all-seen P f [] h = tt
 all-seen P f (x ∷ xs) h = (h.0, all-seen P f xs h.1)
 

@@ -5,3 +5,4 @@ pub mod Readings
 pub mod FaultText
 pub mod Rounds
 pub mod Tables
+pub mod Faults

@@ -37,6 +37,12 @@ IsNoText Value = Unit {0}
 IsNoText Text = ⊥
 IsNoText Memory = Unit {0}
 
+-- what is no fault of a key's value
+abbrev pub IsNoValue : PlaceFault → Type 0
+IsNoValue Value = ⊥
+IsNoValue Text = Unit {0}
+IsNoValue Memory = Unit {0}
+
 -- nothing at all is what was looked for, or an allocation failed
 abbrev pub NoneIs : {X : Type 0} → (X → Type 0) → PlaceFault → Type 0
 NoneIs {X} Is Value = (x : X) → Is x → ⊥

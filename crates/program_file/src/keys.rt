@@ -142,6 +142,7 @@ fn text_of(value: &Value) -> Result<&str, PlaceFault>
 pub fn names_at<'a>(alloc: Global, table: &'a Table, key: &str) -> Result<Vec<&'a str>, PlaceFault>
     ensures names { IfOk result (λ names. All (λ name. IsName name.now) names.items) }
     ensures said { IfOk result (λ names. HasNames key.now names.items (table_view table.now)) }
+    ensures err { IfErr result IsNoText }
     ensures refused { IfErr result (NoneIs (λ (texts : List (List ℕ)). HasTexts key.now texts (table_view table.now) × AllByRecursion IsName texts)) }
 {
     let names = texts_at(alloc, table, key)?;
@@ -189,6 +190,7 @@ pub fn events_at(alloc: Global, table: &Table, key: &str) -> Result<Vec<Event>, 
 pub fn name_at<'a>(table: &'a Table, key: &str) -> Result<&'a str, PlaceFault>
     ensures name { IfOk result (λ name. IsName name.now) }
     ensures said { IfOk result (λ name. HasText key.now name.now (table_view table.now)) }
+    ensures err { IfErr result (λ fault. fault ≡ PlaceFault.Value) }
     ensures refused { IfErr result (NoneIs (λ (text : List ℕ). HasText key.now text (table_view table.now) × IsName text)) }
 {
     let name = match value_at(table, key) {

@@ -1,10 +1,11 @@
 // What a program file says.
 
 ghost use Rattle.std.specs.Prelude.{IfOk, IfErr, All, map, codes};
-ghost use Rattle.program_file.specs.PlaceFault.{IsOfPlace, NoneIs, NoneIsAt};
+ghost use Rattle.program_file.specs.PlaceFault.{IsNoText, IsNoValue, IsOfPlace, NoneIs};
+ghost use Rattle.program_file.specs.Faults.{HasBlockKeys, HasBlocks, HasChain, HasEntity, HasItem, HasItemKeys, HasSet, HasSetKeys, HasSystem, HasSystemKeys, HasTop, IsFaultOf, IsListFault, IsUnkeyed, IsWrong};
 ghost use Rattle.program_file.specs.Name.{IsName};
 ghost use Rattle.program_file.specs.Keys.{HasOnly, HasTable, HasTables, lent_members};
-ghost use Rattle.program_file.specs.Tables.{keys_of_document, AreValuesIn, AreResourcesIn, IsComponentIn, IsEntityIn, IsEntityOf, AreEntitiesIn, IsSystemIn, IsFileIn, AreSetsIn, AreSystemsIn, AreChainsIn, IsItemIn, IsSetIn, IsChainIn, IsBlockIn, AreBlocksIn, IsBlockTextsIn, AreBlockTextsIn, IsCodeOf, IsRead, IsItemTextsIn, IsItemRead};
+ghost use Rattle.program_file.specs.Tables.{keys_of_document, AreValuesIn, AreResourcesIn, IsComponentIn, IsEntityIn, AreEntitiesIn, IsSystemIn, AreSetsIn, AreSystemsIn, AreChainsIn, IsItemIn, IsSetIn, IsChainIn, IsBlockTextsIn, AreBlockTextsIn, IsCodeOf, IsRead, IsItemTextsIn, IsItemRead};
 ghost use Rattle.program_file.specs.Readings.{AreSpelled};
 ghost use Rattle.run_condition.specs.Grammar.{IsCondition};
 ghost use Rattle.std.specs.List.{AllZip};
@@ -163,7 +164,7 @@ impl<'a> ProgramFile<'a> {
         ensures systems { IfOk result (λ file. AreSystemsIn (table_view document.now) file.systems.items) }
         ensures chains { IfOk result (λ file. AreChainsIn (table_view document.now) file.chains.items) }
         ensures err { IfErr result IsOfPlace }
-        ensures refused { IfErr result (NoneIsAt (IsFileIn (table_view document.now))) }
+        ensures fault { IfErr result (IsFaultOf (table_view document.now)) }
     {
         let top = Top::read(alloc, document).map_err(|fault| fault.at(Place::Top))?;
         let resources = resources_of(top.resources).map_err(|fault| fault.at(Place::Resources))?;
@@ -185,7 +186,7 @@ impl<'a> ProgramFile<'a> {
 fn entities_of(alloc: Global, tables: &[&Table]) -> Result<Vec<Vec<Value>>, FileFault>
     ensures ok { IfOk result (λ entities. AllZip (λ table components. IsEntityIn (table_view table.now) components.items) tables.now entities.items) }
     ensures err { IfErr result IsOfPlace }
-    ensures refused { IfErr result (NoneIsAt (λ entities. AllZip (λ table components. IsEntityOf (table_view table.now) components) tables.now entities)) }
+    ensures fault { IfErr result (IsListFault (λ number. Place.Entity number) HasEntity IsEntityIn (map (λ inner. table_view inner.now) tables.now)) }
 {
     let mut entities = Vec::new(alloc);
     for (number, table) in tables.iter().enumerate() {
@@ -199,7 +200,7 @@ fn entities_of(alloc: Global, tables: &[&Table]) -> Result<Vec<Vec<Value>>, File
 fn sets_of<'a>(alloc: Global, tables: &[&'a Table]) -> Result<Vec<ItemTable<'a>>, FileFault>
     ensures ok { IfOk result (λ sets. AllZip (λ table set. IsSetIn (table_view table.now) set) tables.now sets.items) }
     ensures err { IfErr result IsOfPlace }
-    ensures refused { IfErr result (NoneIsAt (λ sets. AllZip (λ table set. IsSetIn (table_view table.now) set) tables.now sets)) }
+    ensures fault { IfErr result (IsListFault (λ number. Place.Set number) HasSetKeys IsSetIn (map (λ inner. table_view inner.now) tables.now)) }
 {
     let mut sets = Vec::new(alloc);
     for (number, table) in tables.iter().enumerate() {
@@ -213,7 +214,7 @@ fn sets_of<'a>(alloc: Global, tables: &[&'a Table]) -> Result<Vec<ItemTable<'a>>
 fn systems_of<'a>(alloc: Global, tables: &[&'a Table]) -> Result<Vec<SystemTable<'a>>, FileFault>
     ensures ok { IfOk result (λ systems. AllZip (λ table system. IsSystemIn (table_view table.now) system) tables.now systems.items) }
     ensures err { IfErr result IsOfPlace }
-    ensures refused { IfErr result (NoneIsAt (λ systems. AllZip (λ table system. IsSystemIn (table_view table.now) system) tables.now systems)) }
+    ensures fault { IfErr result (IsListFault (λ number. Place.System number) HasSystemKeys IsSystemIn (map (λ inner. table_view inner.now) tables.now)) }
 {
     let mut systems = Vec::new(alloc);
     for (number, table) in tables.iter().enumerate() {
@@ -229,7 +230,7 @@ fn systems_of<'a>(alloc: Global, tables: &[&'a Table]) -> Result<Vec<SystemTable
 fn chains_of<'a>(alloc: Global, tables: &[&'a Table]) -> Result<Vec<ChainTable<'a>>, FileFault>
     ensures ok { IfOk result (λ chains. AllZip (λ table chain. IsChainIn (table_view table.now) chain) tables.now chains.items) }
     ensures err { IfErr result IsOfPlace }
-    ensures refused { IfErr result (NoneIsAt (λ chains. AllZip (λ table chain. IsChainIn (table_view table.now) chain) tables.now chains)) }
+    ensures fault { IfErr result (IsListFault (λ number. Place.Chain number) HasChain IsChainIn (map (λ inner. table_view inner.now) tables.now)) }
 {
     let mut chains = Vec::new(alloc);
     for (number, table) in tables.iter().enumerate() {
@@ -242,7 +243,7 @@ fn chains_of<'a>(alloc: Global, tables: &[&'a Table]) -> Result<Vec<ChainTable<'
 // Reads the table of a set.
 fn set_of<'a>(alloc: Global, table: &'a Table) -> Result<ItemTable<'a>, PlaceFault>
     ensures ok { IfOk result (IsSetIn (table_view table.now)) }
-    ensures refused { IfErr result (NoneIs (IsSetIn (table_view table.now))) }
+    ensures wrong { IfErr result (IsWrong (HasSetKeys (table_view table.now)) (HasSet (table_view table.now))) }
 {
     refuse_unknown(table, SET_KEYS.as_slice())?;
     ItemTable::read(alloc, table)
@@ -256,7 +257,7 @@ impl<'a> ItemTable<'a> {
         ensures before { IfOk result (λ item. All (λ name. IsName name.now) item.before.items) }
         ensures after { IfOk result (λ item. All (λ name. IsName name.now) item.after.items) }
         ensures said { IfOk result (IsItemIn (table_view table.now)) }
-        ensures refused { IfErr result (NoneIs (IsItemIn (table_view table.now))) }
+        ensures wrong { IfErr result (IsWrong (HasItemKeys (table_view table.now)) (HasItem (table_view table.now))) }
     {
         read_item(alloc, ItemTexts::read(alloc, table)?)
     }
@@ -270,7 +271,7 @@ impl<'a> ItemTexts<'a> {
         ensures before { IfOk result (λ item. All (λ name. IsName name.now) item.before.items) }
         ensures after { IfOk result (λ item. All (λ name. IsName name.now) item.after.items) }
         ensures said { IfOk result (IsItemTextsIn (table_view table.now)) }
-        ensures refused { IfErr result (NoneIs (IsItemIn (table_view table.now))) }
+        ensures unkeyed { IfErr result (IsUnkeyed (HasItemKeys (table_view table.now))) }
     {
         Ok(ItemTexts {
             name: name_at(table, "name")?,
@@ -288,6 +289,7 @@ impl<'a> ItemTexts<'a> {
 // The same item, its conditions read.
 fn read_item<'a>(alloc: Global, texts: ItemTexts<'a>) -> Result<ItemTable<'a>, PlaceFault>
     ensures ok { IfOk result (IsItemRead texts.entry) }
+    ensures only { IfErr result IsNoValue }
     ensures refused { IfErr result (NoneIs (λ conditions. AreSpelled IsCondition conditions (map (λ text. text.now) texts.entry.conditions.items))) }
 {
     let conditions = conditions_of(alloc, texts.conditions.as_slice())?;
@@ -308,6 +310,7 @@ impl<'a> ChainTable<'a> {
     pub fn read(alloc: Global, table: &'a Table) -> Result<ChainTable<'a>, PlaceFault>
         ensures names { IfOk result (λ chain. All (λ name. IsName name.now) chain.items.items) }
         ensures said { IfOk result (IsChainIn (table_view table.now)) }
+        ensures only { IfErr result IsNoText }
         ensures refused { IfErr result (NoneIs (IsChainIn (table_view table.now))) }
     {
         refuse_unknown(table, CHAIN_KEYS.as_slice())?;
@@ -327,7 +330,7 @@ impl<'a> SystemTable<'a> {
         ensures before { IfOk result (λ system. All (λ name. IsName name.now) system.item.before.items) }
         ensures after { IfOk result (λ system. All (λ name. IsName name.now) system.item.after.items) }
         ensures said { IfOk result (IsSystemIn (table_view table.now)) }
-        ensures refused { IfErr result (NoneIs (IsSystemIn (table_view table.now))) }
+        ensures wrong { IfErr result (IsWrong (HasSystemKeys (table_view table.now)) (HasSystem (table_view table.now))) }
     {
         refuse_unknown(table, SYSTEM_KEYS.as_slice())?;
         let item = ItemTexts::read(alloc, table)?;
@@ -369,7 +372,7 @@ impl<'a> Top<'a> {
         ensures sets { IfOk result (λ top. HasTables (codes "set") (map (λ inner. table_view inner.now) top.sets.items) (table_view document.now)) }
         ensures systems { IfOk result (λ top. HasTables (codes "system") (map (λ inner. table_view inner.now) top.systems.items) (table_view document.now)) }
         ensures chains { IfOk result (λ top. HasTables (codes "chain") (map (λ inner. table_view inner.now) top.chains.items) (table_view document.now)) }
-        ensures refused { IfErr result (NoneIs (IsFileIn (table_view document.now))) }
+        ensures unkeyed { IfErr result (IsUnkeyed (HasTop (table_view document.now))) }
     {
         refuse_unknown(document, TOP_KEYS.as_slice())?;
         Ok(Top {
@@ -385,6 +388,7 @@ impl<'a> Top<'a> {
 // The values of the resources, by number.
 fn resources_of(table: Option<&Table>) -> Result<[i64; Res::COUNT], PlaceFault>
     ensures ok { IfOk result (AreValuesIn (lent_members table.entry)) }
+    ensures only { IfErr result IsNoText }
     ensures refused { IfErr result (NoneIs (AreValuesIn (lent_members table.entry))) }
 {
     match table {
@@ -396,6 +400,7 @@ fn resources_of(table: Option<&Table>) -> Result<[i64; Res::COUNT], PlaceFault>
 // The values of the resources by their table.
 fn values_of(table: &Table) -> Result<[i64; Res::COUNT], PlaceFault>
     ensures ok { IfOk result (AreValuesIn (table_view table.now)) }
+    ensures only { IfErr result IsNoText }
     ensures refused { IfErr result (NoneIs (AreValuesIn (table_view table.now))) }
 {
     refuse_unknown(table, RESOURCE_KEYS.as_slice())?;
@@ -409,6 +414,7 @@ fn values_of(table: &Table) -> Result<[i64; Res::COUNT], PlaceFault>
 // The components of an entity.
 fn components_of(alloc: Global, table: &Table) -> Result<Vec<Value>, PlaceFault>
     ensures ok { IfOk result (λ components. IsEntityIn (table_view table.now) components.items) }
+    ensures only { IfErr result IsNoText }
     ensures refused { IfErr result (NoneIs (IsEntityIn (table_view table.now))) }
 {
     let mut components = Vec::new(alloc);
@@ -421,6 +427,7 @@ fn components_of(alloc: Global, table: &Table) -> Result<Vec<Value>, PlaceFault>
 // The component whose kind has this name, and this array of its fields.
 fn component_of(alloc: Global, name: &str, value: &toml::Value) -> Result<Value, PlaceFault>
     ensures ok { IfOk result (IsComponentIn name.now (view value.now)) }
+    ensures only { IfErr result IsNoText }
     ensures refused { IfErr result (NoneIs (IsComponentIn name.now (view value.now))) }
 {
     let kind = Kind::named(name).ok_or(PlaceFault::Value)?;
@@ -435,7 +442,7 @@ impl<'a> BlockTexts<'a> {
     // Reads the keys of a block.
     fn read(alloc: Global, table: &'a Table) -> Result<BlockTexts<'a>, PlaceFault>
         ensures ok { IfOk result (IsBlockTextsIn (table_view table.now)) }
-        ensures refused { IfErr result (NoneIs (IsBlockIn (table_view table.now))) }
+        ensures unkeyed { IfErr result (IsUnkeyed (HasBlockKeys (table_view table.now))) }
     {
         refuse_unknown(table, BLOCK_KEYS.as_slice())?;
         refuse_missing(table, "code")?;
@@ -449,7 +456,7 @@ impl<'a> BlockTexts<'a> {
 // The blocks of a system, with their texts.
 fn blocks_of<'a>(alloc: Global, table: &'a Table) -> Result<Vec<BlockTexts<'a>>, PlaceFault>
     ensures ok { IfOk result (λ blocks. AreBlockTextsIn (table_view table.now) blocks.items) }
-    ensures refused { IfErr result (NoneIs (AreBlocksIn (table_view table.now))) }
+    ensures unkeyed { IfErr result (IsUnkeyed (HasBlocks (table_view table.now))) }
 {
     let tables = tables_at(alloc, table, "do")?;
     let mut blocks = Vec::new(alloc);
@@ -462,6 +469,7 @@ fn blocks_of<'a>(alloc: Global, table: &'a Table) -> Result<Vec<BlockTexts<'a>>,
 // The blocks, their texts read.
 fn read_blocks(alloc: Global, blocks: &[BlockTexts<'_>]) -> Result<Vec<Block>, PlaceFault>
     ensures ok { IfOk result (λ read. AllZip IsRead blocks.now read.items) }
+    ensures only { IfErr result IsNoValue }
     ensures refused { IfErr result (NoneIs (AllZip IsCodeOf blocks.now)) }
 {
     let mut read = Vec::new(alloc);
@@ -474,6 +482,7 @@ fn read_blocks(alloc: Global, blocks: &[BlockTexts<'_>]) -> Result<Vec<Block>, P
 // A block, its texts read.
 fn read_block(alloc: Global, block: &BlockTexts<'_>) -> Result<Block, PlaceFault>
     ensures ok { IfOk result (IsRead block.now) }
+    ensures only { IfErr result IsNoValue }
     ensures refused { IfErr result (NoneIs (IsCodeOf block.now)) }
 {
     Ok(Block {

@@ -6,7 +6,7 @@ ghost use Rattle.query.specs.Grammar.{IsQuery};
 ghost use Rattle.run_condition.specs.Grammar.{IsCondition};
 ghost use Rattle.script.specs.Instruction.{IsInstruction};
 ghost use Rattle.program_file.specs.Readings.{AreSpelled};
-ghost use Rattle.program_file.specs.PlaceFault.{NoneIs};
+ghost use Rattle.program_file.specs.PlaceFault.{IsNoValue, NoneIs};
 ghost use Rattle.query.specs.declared.query.Query.{Query as QueryValue};
 ghost use Rattle.run_condition.specs.declared.cond.Cond.{Cond as CondValue};
 ghost use Rattle.script.specs.declared.instruction.Instruction.{Instruction as InstructionValue};
@@ -22,6 +22,7 @@ pub fn queries_of(alloc: Global, texts: &[&str]) -> Result<Vec<Query>, PlaceFaul
     ensures ok { IfOk result (λ queries. AreSpelled IsQuery queries.items (map (λ text. text.now) texts.now)) }
     ensures count { IfOk result (λ queries. vec_len queries ≡ length texts.now) }
     ensures outside { IsErrOf result PlaceFault.Text → Any (λ text. SpellsNone IsQuery text.now) texts.now }
+    ensures only { IfErr result IsNoValue }
     ensures refused { IfErr result (NoneIs (λ (queries : List QueryValue). AreSpelled IsQuery queries (map (λ text. text.now) texts.now))) }
 {
     let mut queries = Vec::new(alloc);
@@ -35,6 +36,7 @@ pub fn queries_of(alloc: Global, texts: &[&str]) -> Result<Vec<Query>, PlaceFaul
 pub fn conditions_of(alloc: Global, texts: &[&str]) -> Result<Vec<Cond>, PlaceFault>
     ensures ok { IfOk result (λ conditions. AreSpelled IsCondition conditions.items (map (λ text. text.now) texts.now)) }
     ensures outside { IsErrOf result PlaceFault.Text → Any (λ text. SpellsNone IsCondition text.now) texts.now }
+    ensures only { IfErr result IsNoValue }
     ensures refused { IfErr result (NoneIs (λ (conditions : List CondValue). AreSpelled IsCondition conditions (map (λ text. text.now) texts.now))) }
 {
     let mut conditions = Vec::new(alloc);
@@ -48,6 +50,7 @@ pub fn conditions_of(alloc: Global, texts: &[&str]) -> Result<Vec<Cond>, PlaceFa
 pub fn instructions_of(alloc: Global, texts: &[&str]) -> Result<Vec<Instruction>, PlaceFault>
     ensures ok { IfOk result (λ code. AreSpelled IsInstruction code.items (map (λ text. text.now) texts.now)) }
     ensures outside { IsErrOf result PlaceFault.Text → Any (λ text. SpellsNone IsInstruction text.now) texts.now }
+    ensures only { IfErr result IsNoValue }
     ensures refused { IfErr result (NoneIs (λ (code : List InstructionValue). AreSpelled IsInstruction code (map (λ text. text.now) texts.now))) }
 {
     let mut code = Vec::new(alloc);

@@ -162,7 +162,7 @@ returns-in_err-resources-clause-refused g c =
     let trace = g.T.Read.remaining c.args.trace.now in
     let error = c.in_err-resources.field-0.0 in
     of-given (λ fault. fault ≡ fault_of_file error) (IsRefusedBy there width file trace c.args.work) c.from_residual-in_err-resources.result c.from_residual-in_err-resources.ensures.1
-    (λ fault is. subst (IsRefusedBy there width file trace c.args.work) (sym is) (place-refused there width file trace c.args.work _ error c.in_ok-document.ensures.read c.in_err-resources.ensures.refused))
+    (λ fault is. subst (IsRefusedBy there width file trace c.args.work) (sym is) (place-refused there width file trace c.args.work _ error c.in_ok-document.ensures.read c.in_err-resources.ensures.fault))
 
 pub returns-in_err-built-clause-refused : goal.returns-in_err-built-clause-refused
 returns-in_err-built-clause-refused g c =

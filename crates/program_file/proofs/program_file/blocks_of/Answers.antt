@@ -1,11 +1,14 @@
-use Rattle.std.proofs.Common.{◌≡◌, codes, map, take, subst, rules}
-use Rattle.std.specs.List.{AllZip}
+use Rattle.std.proofs.Common.{◌≡◌, List, codes, map, take, sym, subst, rules}
+use Rattle.std.specs.List.{AllZip, AllByRecursion}
 use Rattle.std.proofs.lemmas.List.{take_all}
 use Rattle.toml.specs.View.{table_view}
-use Rattle.program_file.specs.Tables.{AreBlocksIn, IsBlockIn, IsBlockTextsIn}
+use Rattle.toml.specs.Data.{Members}
+use Rattle.program_file.specs.Faults.{HasBlockKeys, HasBlocks, IsUnkeyed}
+use Rattle.program_file.specs.Keys.{HasTables}
+use Rattle.program_file.specs.Tables.{IsBlockTextsIn}
 use Rattle.program_file.proofs.Blocks.{zip-take, zip-map}
-use Rattle.program_file.proofs.Refusals.{NoneIs-exit, NoneIs-part, zip-refused}
-use Rattle.program_file.proofs.Unread.{tables-said}
+use Rattle.program_file.proofs.Refusals.{one-tables}
+use Rattle.program_file.proofs.Wrong.{exit, seen-each, unkeyed, unkeyed-part}
 use Rattle.program_file.proofs.program_file.blocks_of.Goals as goal
 
 -- the keys of the next block are read
@@ -28,14 +31,25 @@ returns-clause-ok c =
           (subst (λ inners. AllZip (λ inner block. IsBlockTextsIn (table_view inner.now) block) inners blocks) all c.loop-block.invariant);
     }
 
--- a table is no block
-pub returns-in_err-read-clause-refused : goal.returns-in_err-read-clause-refused
-returns-in_err-read-clause-refused c =
+-- there are no such tables
+pub returns-in_err-tables-clause-unkeyed : goal.returns-in_err-tables-clause-unkeyed
+returns-in_err-tables-clause-unkeyed c =
     let table = table_view c.args.table.now in
-    let tables = c.in_ok-tables.tables.items in
-    let all : c.deref-block-items.result.now ≡ tables = search rules in
-    NoneIs-exit (AreBlocksIn table) c.from_residual-in_err-read.result c.in_err-read.field-0.0 c.from_residual-in_err-read.ensures.1
-    (NoneIs-part (AllZip (λ inner block. IsBlockIn (table_view inner.now) block) c.deref-block-items.result.now) (AreBlocksIn table) c.in_err-read.field-0.0
-    (λ blocks h. (blocks, rw all (tables-said IsBlockIn (codes "do") table tables h.tables blocks c.in_ok-tables.ensures.ok h.there h.each)))
-    (zip-refused (λ inner block. IsBlockIn (table_view inner.now) block) c.deref-block-items.result.now c.loop-block.block-index c.block-item.result c.block-item.result c.in_err-read.field-0.0
-    c.loop-block-test.true c.block-item.is c.in_err-read.ensures.refused))
+    let fault = c.in_err-tables.field-0.0 in
+    exit (IsUnkeyed (HasBlocks table)) c.from_residual.result fault c.from_residual.ensures.1
+    (unkeyed (λ (blocks : List Members). HasTables (codes "do") blocks table) (HasBlocks table) fault (λ blocks. (blocks.0, blocks.1)) c.in_err-tables.ensures.refused c.in_err-tables.ensures.err)
+
+-- or one of them has not the keys of a block
+pub returns-in_err-read-clause-unkeyed : goal.returns-in_err-read-clause-unkeyed
+returns-in_err-read-clause-unkeyed c =
+    let table = table_view c.args.table.now in
+    let fault = c.in_err-read.field-0.0 in
+    let inners = c.deref-block-items.result.now in
+    let all : inners ≡ c.in_ok-tables.tables.items = search rules in
+    let there : HasTables (codes "do") (map (λ inner. table_view inner.now) inners) table = rw all c.in_ok-tables.ensures.ok in
+    exit (IsUnkeyed (HasBlocks table)) c.from_residual-in_err-read.result fault c.from_residual-in_err-read.ensures.1
+    (unkeyed-part (HasBlockKeys (table_view c.block-item.result.now)) (HasBlocks table) fault
+    (λ blocks. subst (λ inner. HasBlockKeys (table_view inner.now)) (sym c.block-item.is)
+    (seen-each HasBlockKeys (λ inner. table_view inner.now) inners c.loop-block.block-index c.block-item.result c.loop-block-test.true
+    (subst (AllByRecursion HasBlockKeys) (one-tables (codes "do") table blocks.0 (map (λ inner. table_view inner.now) inners) blocks.1 there) blocks.2)))
+    c.in_err-read.ensures.unkeyed)

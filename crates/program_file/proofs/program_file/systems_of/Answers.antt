@@ -1,10 +1,11 @@
-use Rattle.std.proofs.Common.{subst, rules}
+use Rattle.std.proofs.Common.{map, subst, rules}
 use Rattle.std.specs.List.{AllZip}
 use Rattle.toml.specs.View.{table_view}
 use Rattle.program_file.specs.Tables.{IsSystemIn}
+use Rattle.program_file.specs.Faults.{HasSystemKeys, HasSystem, IsListFault, IsWrong}
 use Rattle.program_file.proofs.Blocks.{zip-take}
 use Rattle.program_file.proofs.Mapped.{of-mapped}
-use Rattle.program_file.proofs.Refusals.{NoneIsAt-exit, NoneIs-mapped, zip-refused-at}
+use Rattle.program_file.proofs.Wrong.{exit, told-at, next-wrong}
 use Rattle.program_file.specs.declared.place.Place.TheVariants.{System}
 use Rattle.program_file.proofs.program_file.systems_of.Goals as goal
 
@@ -16,11 +17,13 @@ loop-number-preserved c =
     (subst (λ inner. IsSystemIn (table_view inner.now) c.in_ok-system.system) c.index-tables-number.is
     (of-mapped (IsSystemIn (table_view c.index-tables-number.result.now)) _ c.read.result c.map_err.result c.in_ok-system.system c.map_err.ensures.cases c.map_err.ensures.variant c.in_ok-system.was c.read.ensures.said))
 
--- a table is no system
-pub returns-in_err-system-clause-refused : goal.returns-in_err-system-clause-refused
-returns-in_err-system-clause-refused c =
+-- a table is the first that is wrong
+pub returns-in_err-system-clause-fault : goal.returns-in_err-system-clause-fault
+returns-in_err-system-clause-fault c =
     let table = table_view c.index-tables-number.result.now in
-    NoneIsAt-exit (AllZip (λ inner each. IsSystemIn (table_view inner.now) each) c.args.tables.now) c.from_residual.result c.in_err-system.field-0.0 c.from_residual.ensures.1
-    (zip-refused-at (λ inner each. IsSystemIn (table_view inner.now) each) c.args.tables.now c.loop-number.number-counter c.index-tables-number.result c.index-tables-number.result c.in_err-system.field-0.0 c.loop-number-test.true c.index-tables-number.is
-    (NoneIs-mapped (IsSystemIn table) c.read.result c.map_err.result c.in_err-system.field-0.0 _ c.map_err.ensures.cases c.in_err-system.was c.read.ensures.refused
-    (λ e f q. (System c.loop-number.number-counter, search rules))))
+    let Told = IsListFault (λ number. System number) HasSystemKeys IsSystemIn (map (λ inner. table_view inner.now) c.args.tables.now) in
+    exit Told c.from_residual.result c.in_err-system.field-0.0 c.from_residual.ensures.1
+    (told-at (IsWrong (HasSystemKeys table) (HasSystem table)) Told (System c.loop-number.number-counter) c.read.result c.map_err.result c.in_err-system.field-0.0 _ c.map_err.ensures.cases c.in_err-system.was
+    c.read.ensures.wrong (λ e f q. search rules)
+    (λ e wrong. next-wrong HasSystemKeys IsSystemIn (λ inner. table_view inner.now) (λ x. x) (λ number. System number) c.loop-number.number-counter c.args.tables.now c.loop-number.systems.items
+    c.index-tables-number.result c.index-tables-number.result c.loop-number.invariant c.loop-number-test.true c.index-tables-number.is e wrong))

@@ -1,11 +1,20 @@
-use Rattle.std.proofs.Common.{◌≡◌, codes, map, rules, subst}
+use Rattle.std.proofs.Common.{◌≡◌, ◌∙◌, ℕ, ℤ, true, false, List, Bor, BTreeMap, String, Global, Result, Ok, Err, IfOk, MatchResult, is_ok, ap, sym, codes, map, rules, subst}
+use Rattle.std.specs.List.{AllZip}
+use Rattle.toml.specs.Data.{Members}
 use Rattle.toml.specs.View.{table_view}
-use Rattle.program_file.specs.Keys.{HasTable, HasTables, lent_members}
-use Rattle.program_file.specs.Tables.{AreValuesIn, IsEntityIn, IsEntityOf, IsSetIn, IsSystemIn, IsChainIn, IsFileIn}
-use Rattle.program_file.specs.declared.place.Place.TheVariants.{Top, Resources}
+use Rattle.toml.specs.declared.value.Value.{Value}
+use Rattle.program_file.specs.Faults.{TopTables, AreFine, HasChain, HasEntity, HasSetKeys, HasSystemKeys, HasTop, HasValues, IsFaultOf, IsListFault, IsTop, IsUnkeyed}
+use Rattle.program_file.specs.Keys.{HasOnly, HasTable, HasTables, lent_members}
+use Rattle.program_file.specs.PlaceFault.{IsNoText, NoneIs}
+use Rattle.program_file.specs.Tables.{keys_of_document, AreValuesIn, IsEntityIn, IsSetIn, IsSystemIn, IsChainIn}
+use Rattle.program_file.specs.declared.fault.FileFault.{FileFault}
+use Rattle.program_file.specs.declared.place.Place.{Place}
+use Rattle.program_file.specs.declared.place.Place.TheVariants.{Top as AtTop, Resources, Entity, Set, System, Chain}
+use Rattle.program_file.specs.declared.place_fault.PlaceFault.{PlaceFault}
+use Rattle.program_file.specs.declared.program_file.Top.{Top}
 use Rattle.program_file.proofs.Blocks.{zip-map}
-use Rattle.program_file.proofs.Refusals.{NoneIsAt-exit, NoneIsAt-part, NoneIs-mapped, one-table}
-use Rattle.program_file.proofs.Unread.{tables-refused}
+use Rattle.program_file.proofs.Mapped.{of-mapped}
+use Rattle.program_file.proofs.Wrong.{exit, err-both, told-at, top-told, resources-told, entities-told, sets-told, systems-told, chains-told, fine-all}
 use Rattle.program_file.proofs.program_file.ProgramFile.read.Goals as goal
 
 -- the resources have their table, if there is one
@@ -48,64 +57,107 @@ returns-clause-chains c = record {
   each = zip-map IsChainIn (λ inner. table_view inner.now) c.in_ok-top.top.chains.items _ (search rules);
 }
 
--- no file has such a top
-pub returns-in_err-top-clause-refused : goal.returns-in_err-top-clause-refused
-returns-in_err-top-clause-refused c =
-    let document = table_view c.args.document.now in
-    NoneIsAt-exit (IsFileIn document) c.from_residual.result c.in_err-top.field-0.0 c.from_residual.ensures.1
-    (NoneIs-mapped (IsFileIn document) c.read.result c.map_err.result c.in_err-top.field-0.0 _ c.map_err.ensures.cases c.in_err-top.was c.read.ensures.refused (λ e f q. (Top, search rules)))
+-- the tables at the top, as they were read
+abbrev tables_of : Top → TopTables
+tables_of top = record {
+  resources = lent_members top.resources;
+  entities = map (λ inner. table_view inner.now) top.entities.items;
+  sets = map (λ inner. table_view inner.now) top.sets.items;
+  systems = map (λ inner. table_view inner.now) top.systems.items;
+  chains = map (λ inner. table_view inner.now) top.chains.items;
+}
 
--- nor such resources
-pub returns-in_err-resources-clause-refused : goal.returns-in_err-resources-clause-refused
-returns-in_err-resources-clause-refused c =
-    let document = table_view c.args.document.now in
-    let table = lent_members c.in_ok-top.top.resources in
-    let there : HasTable (codes "resources") table document = search rules in
-    NoneIsAt-exit (IsFileIn document) c.from_residual-in_err-resources.result c.in_err-resources.field-0.0 c.from_residual-in_err-resources.ensures.1
-    (NoneIsAt-part (AreValuesIn table) (IsFileIn document) c.in_err-resources.field-0.0
-    (λ file h. (file.resources, subst (λ t. AreValuesIn t file.resources) (one-table (codes "resources") document h.resources.table table h.resources.there there) h.resources.given))
-    (NoneIs-mapped (AreValuesIn table) c.resources_of.result c.map_err-2.result c.in_err-resources.field-0.0 _ c.map_err-2.ensures.cases c.in_err-resources.was c.resources_of.ensures.refused (λ e f q. (Resources, search rules))))
+top-read : (document : Members) (r : Result Top PlaceFault) (told : Result Top FileFault) (top : Top) (Q : PlaceFault → Type 0) → MatchResult r (λ y. told ≡ Ok y) Q → is_ok told ≡ is_ok r → told ≡ Ok top
+    → IfOk r (λ t. HasOnly keys_of_document document) → IfOk r (λ t. HasTable (codes "resources") (lent_members t.resources) document)
+    → IfOk r (λ t. HasTables (codes "entity") (map (λ inner. table_view inner.now) t.entities.items) document) → IfOk r (λ t. HasTables (codes "set") (map (λ inner. table_view inner.now) t.sets.items) document)
+    → IfOk r (λ t. HasTables (codes "system") (map (λ inner. table_view inner.now) t.systems.items) document) → IfOk r (λ t. HasTables (codes "chain") (map (λ inner. table_view inner.now) t.chains.items) document)
+    → IsTop document (tables_of top)
+top-read document (Ok y) told top Q cases variant is only resources entities sets systems chains =
+    let both : Ok y ≡ Ok top = sym cases ∙ is in
+    let same : y ≡ top = cc in
+    subst (λ (t : Top). IsTop document (tables_of t)) same (record { only = only; resources = resources; entities = entities; sets = sets; systems = systems; chains = chains })
+top-read document (Err e) told top Q cases variant is only resources entities sets systems chains = absurd (let same : true ≡ false = sym (ap is_ok is) ∙ variant in cc)
 
--- nor such entities
-pub returns-in_err-entities-clause-refused : goal.returns-in_err-entities-clause-refused
-returns-in_err-entities-clause-refused c =
-    let document = table_view c.args.document.now in
-    let tables = c.in_ok-top.top.entities.items in
-    let there : HasTables (codes "entity") (map (λ inner. table_view inner.now) tables) document = search rules in
-    let same : c.as_slice.result.now ≡ tables = c.as_slice.ensures.value in
-    NoneIsAt-exit (IsFileIn document) c.from_residual-in_err-entities.result c.in_err-entities.field-0.0 c.from_residual-in_err-entities.ensures.1
-    (tables-refused IsEntityOf (codes "entity") document c.as_slice.result.now tables (IsFileIn document) c.in_err-entities.field-0.0 same there
-    (λ file h. (h.entities.tables, file.entities.items, h.entities.there, h.entities.each)) c.in_err-entities.ensures.refused)
+values-read : (table : Members) (r : Result (List ℤ) PlaceFault) (told : Result (List ℤ) FileFault) (values : List ℤ) (Q : PlaceFault → Type 0) → MatchResult r (λ y. told ≡ Ok y) Q → is_ok told ≡ is_ok r → told ≡ Ok values → IfOk r (AreValuesIn table)
+    → HasValues table
+values-read table r told values Q cases variant is read = (values, of-mapped (AreValuesIn table) Q r told values cases variant is read)
 
--- nor such sets
-pub returns-in_err-sets-clause-refused : goal.returns-in_err-sets-clause-refused
-returns-in_err-sets-clause-refused c =
-    let document = table_view c.args.document.now in
-    let tables = c.in_ok-top.top.sets.items in
-    let there : HasTables (codes "set") (map (λ inner. table_view inner.now) tables) document = search rules in
-    let same : c.as_slice-2.result.now ≡ tables = c.as_slice-2.ensures.value in
-    NoneIsAt-exit (IsFileIn document) c.from_residual-in_err-sets.result c.in_err-sets.field-0.0 c.from_residual-in_err-sets.ensures.1
-    (tables-refused IsSetIn (codes "set") document c.as_slice-2.result.now tables (IsFileIn document) c.in_err-sets.field-0.0 same there
-    (λ file h. (h.sets.tables, file.sets.items, h.sets.there, h.sets.each)) c.in_err-sets.ensures.refused)
+-- tables that are lent, which a slice shows
+abbrev Lent : Type 0
+Lent = List (Bor (BTreeMap (String Global) Value))
 
--- nor such systems
-pub returns-in_err-systems-clause-refused : goal.returns-in_err-systems-clause-refused
-returns-in_err-systems-clause-refused c =
-    let document = table_view c.args.document.now in
-    let tables = c.in_ok-top.top.systems.items in
-    let there : HasTables (codes "system") (map (λ inner. table_view inner.now) tables) document = search rules in
-    let same : c.as_slice-3.result.now ≡ tables = c.as_slice-3.ensures.value in
-    NoneIsAt-exit (IsFileIn document) c.from_residual-in_err-systems.result c.in_err-systems.field-0.0 c.from_residual-in_err-systems.ensures.1
-    (tables-refused IsSystemIn (codes "system") document c.as_slice-3.result.now tables (IsFileIn document) c.in_err-systems.field-0.0 same there
-    (λ file h. (h.systems.tables, file.systems.items, h.systems.there, h.systems.each)) c.in_err-systems.ensures.refused)
+shown : {X : Type 0} (place_of : ℕ → Place) (HasKeys : Members → Type 0) (Is : Members → X → Type 0) (slice tables : Lent) (fault : FileFault) → slice ≡ tables
+    → IsListFault place_of HasKeys Is (map (λ inner. table_view inner.now) slice) fault → IsListFault place_of HasKeys Is (map (λ inner. table_view inner.now) tables) fault
+shown place_of HasKeys Is slice tables fault same told = subst (λ (ts : Lent). IsListFault place_of HasKeys Is (map (λ inner. table_view inner.now) ts) fault) same told
 
--- nor such chains
-pub returns-in_err-chains-clause-refused : goal.returns-in_err-chains-clause-refused
-returns-in_err-chains-clause-refused c =
+fine : {X Y : Type 0} (Is : Members → X → Type 0) (g : Y → X) (slice tables : Lent) (ys : List Y) → slice ≡ tables → AllZip (λ inner y. Is (table_view inner.now) (g y)) slice ys → AreFine Is (map (λ inner. table_view inner.now) tables)
+fine Is g slice tables ys same read =
+    subst (λ (ts : Lent). AreFine Is (map (λ inner. table_view inner.now) ts)) same (fine-all Is (λ (inner : Bor (BTreeMap (String Global) Value)). table_view inner.now) g slice ys read)
+
+-- the top is wrong
+pub returns-in_err-top-clause-fault : goal.returns-in_err-top-clause-fault
+returns-in_err-top-clause-fault c =
     let document = table_view c.args.document.now in
-    let tables = c.in_ok-top.top.chains.items in
-    let there : HasTables (codes "chain") (map (λ inner. table_view inner.now) tables) document = search rules in
-    let same : c.as_slice-4.result.now ≡ tables = c.as_slice-4.ensures.value in
-    NoneIsAt-exit (IsFileIn document) c.from_residual-in_err-chains.result c.in_err-chains.field-0.0 c.from_residual-in_err-chains.ensures.1
-    (tables-refused IsChainIn (codes "chain") document c.as_slice-4.result.now tables (IsFileIn document) c.in_err-chains.field-0.0 same there
-    (λ file h. (h.chains.tables, file.chains.items, h.chains.there, h.chains.each)) c.in_err-chains.ensures.refused)
+    exit (IsFaultOf document) c.from_residual.result c.in_err-top.field-0.0 c.from_residual.ensures.1
+    (told-at (IsUnkeyed (HasTop document)) (IsFaultOf document) AtTop c.read.result c.map_err.result c.in_err-top.field-0.0 _ c.map_err.ensures.cases c.in_err-top.was c.read.ensures.unkeyed (λ e f q. search rules) (top-told document))
+
+-- or the resources
+pub returns-in_err-resources-clause-fault : goal.returns-in_err-resources-clause-fault
+returns-in_err-resources-clause-fault c =
+    let document = table_view c.args.document.now in
+    let top = c.in_ok-top.top in
+    let there = top-read document c.read.result c.map_err.result top _ c.map_err.ensures.cases c.map_err.ensures.variant c.in_ok-top.was c.read.ensures.keys c.read.ensures.resources c.read.ensures.entities c.read.ensures.sets c.read.ensures.systems c.read.ensures.chains in
+    let table = lent_members top.resources in
+    exit (IsFaultOf document) c.from_residual-in_err-resources.result c.in_err-resources.field-0.0 c.from_residual-in_err-resources.ensures.1
+    (told-at (λ e. NoneIs (AreValuesIn table) e × IsNoText e) (IsFaultOf document) Resources c.resources_of.result c.map_err-2.result c.in_err-resources.field-0.0 _ c.map_err-2.ensures.cases c.in_err-resources.was
+    (err-both (NoneIs (AreValuesIn table)) IsNoText c.resources_of.result c.resources_of.ensures.refused c.resources_of.ensures.only) (λ e f q. search rules) (resources-told document (tables_of top) there))
+
+-- or an entity, and what is before it is fine
+pub returns-in_err-entities-clause-fault : goal.returns-in_err-entities-clause-fault
+returns-in_err-entities-clause-fault c =
+    let document = table_view c.args.document.now in
+    let top = c.in_ok-top.top in
+    let there = top-read document c.read.result c.map_err.result top _ c.map_err.ensures.cases c.map_err.ensures.variant c.in_ok-top.was c.read.ensures.keys c.read.ensures.resources c.read.ensures.entities c.read.ensures.sets c.read.ensures.systems c.read.ensures.chains in
+    let values = values-read (lent_members top.resources) c.resources_of.result c.map_err-2.result c.in_ok-resources.resources _ c.map_err-2.ensures.cases c.map_err-2.ensures.variant c.in_ok-resources.was c.resources_of.ensures.ok in
+    let fault = c.in_err-entities.field-0.0 in
+    exit (IsFaultOf document) c.from_residual-in_err-entities.result fault c.from_residual-in_err-entities.ensures.1
+    (entities-told document (tables_of top) there fault values (shown (λ number. Entity number) HasEntity IsEntityIn c.as_slice.result.now top.entities.items fault c.as_slice.ensures.value c.in_err-entities.ensures.fault))
+
+-- or a set, and what is before it is fine
+pub returns-in_err-sets-clause-fault : goal.returns-in_err-sets-clause-fault
+returns-in_err-sets-clause-fault c =
+    let document = table_view c.args.document.now in
+    let top = c.in_ok-top.top in
+    let there = top-read document c.read.result c.map_err.result top _ c.map_err.ensures.cases c.map_err.ensures.variant c.in_ok-top.was c.read.ensures.keys c.read.ensures.resources c.read.ensures.entities c.read.ensures.sets c.read.ensures.systems c.read.ensures.chains in
+    let values = values-read (lent_members top.resources) c.resources_of.result c.map_err-2.result c.in_ok-resources.resources _ c.map_err-2.ensures.cases c.map_err-2.ensures.variant c.in_ok-resources.was c.resources_of.ensures.ok in
+    let entities = fine IsEntityIn (λ components. components.items) c.as_slice.result.now top.entities.items c.in_ok-entities.entities.items c.as_slice.ensures.value c.in_ok-entities.ensures.ok in
+    let fault = c.in_err-sets.field-0.0 in
+    exit (IsFaultOf document) c.from_residual-in_err-sets.result fault c.from_residual-in_err-sets.ensures.1
+    (sets-told document (tables_of top) there fault values entities (shown (λ number. Set number) HasSetKeys IsSetIn c.as_slice-2.result.now top.sets.items fault c.as_slice-2.ensures.value c.in_err-sets.ensures.fault))
+
+-- or a system, and what is before it is fine
+pub returns-in_err-systems-clause-fault : goal.returns-in_err-systems-clause-fault
+returns-in_err-systems-clause-fault c =
+    let document = table_view c.args.document.now in
+    let top = c.in_ok-top.top in
+    let there = top-read document c.read.result c.map_err.result top _ c.map_err.ensures.cases c.map_err.ensures.variant c.in_ok-top.was c.read.ensures.keys c.read.ensures.resources c.read.ensures.entities c.read.ensures.sets c.read.ensures.systems c.read.ensures.chains in
+    let values = values-read (lent_members top.resources) c.resources_of.result c.map_err-2.result c.in_ok-resources.resources _ c.map_err-2.ensures.cases c.map_err-2.ensures.variant c.in_ok-resources.was c.resources_of.ensures.ok in
+    let entities = fine IsEntityIn (λ components. components.items) c.as_slice.result.now top.entities.items c.in_ok-entities.entities.items c.as_slice.ensures.value c.in_ok-entities.ensures.ok in
+    let sets = fine IsSetIn (λ set. set) c.as_slice-2.result.now top.sets.items c.in_ok-sets.sets.items c.as_slice-2.ensures.value c.in_ok-sets.ensures.ok in
+    let fault = c.in_err-systems.field-0.0 in
+    exit (IsFaultOf document) c.from_residual-in_err-systems.result fault c.from_residual-in_err-systems.ensures.1
+    (systems-told document (tables_of top) there fault values entities sets (shown (λ number. System number) HasSystemKeys IsSystemIn c.as_slice-3.result.now top.systems.items fault c.as_slice-3.ensures.value c.in_err-systems.ensures.fault))
+
+-- or a chain, and what is before it is fine
+pub returns-in_err-chains-clause-fault : goal.returns-in_err-chains-clause-fault
+returns-in_err-chains-clause-fault c =
+    let document = table_view c.args.document.now in
+    let top = c.in_ok-top.top in
+    let there = top-read document c.read.result c.map_err.result top _ c.map_err.ensures.cases c.map_err.ensures.variant c.in_ok-top.was c.read.ensures.keys c.read.ensures.resources c.read.ensures.entities c.read.ensures.sets c.read.ensures.systems c.read.ensures.chains in
+    let values = values-read (lent_members top.resources) c.resources_of.result c.map_err-2.result c.in_ok-resources.resources _ c.map_err-2.ensures.cases c.map_err-2.ensures.variant c.in_ok-resources.was c.resources_of.ensures.ok in
+    let entities = fine IsEntityIn (λ components. components.items) c.as_slice.result.now top.entities.items c.in_ok-entities.entities.items c.as_slice.ensures.value c.in_ok-entities.ensures.ok in
+    let sets = fine IsSetIn (λ set. set) c.as_slice-2.result.now top.sets.items c.in_ok-sets.sets.items c.as_slice-2.ensures.value c.in_ok-sets.ensures.ok in
+    let systems = fine IsSystemIn (λ system. system) c.as_slice-3.result.now top.systems.items c.in_ok-systems.systems.items c.as_slice-3.ensures.value c.in_ok-systems.ensures.ok in
+    let fault = c.in_err-chains.field-0.0 in
+    exit (IsFaultOf document) c.from_residual-in_err-chains.result fault c.from_residual-in_err-chains.ensures.1
+    (chains-told document (tables_of top) there fault values entities sets systems (shown (λ number. Chain number) HasChain IsChainIn c.as_slice-4.result.now top.chains.items fault c.as_slice-4.ensures.value c.in_err-chains.ensures.fault))
