@@ -6,6 +6,8 @@ pub mod LevelGrants
 pub mod Syncing
 mod Emptying
 mod Freeing
+mod SameKindSets
+mod Commanded
 mod Levelling
 pub mod Fresh
 mod Starting

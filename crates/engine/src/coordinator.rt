@@ -1,9 +1,10 @@
 // The turns of a run: what is ready is done while there is room for one more running system, else a job is waited for.
 
-ghost use Rattle.std.specs.Prelude.{◌≡◌, ◌∷◌, ◌++◌, [], ℕ, List, length, is_some, option_map, true, Err, OnOk, IfErr, IfOk, IfSome, IsTrue, Option, Some};
+ghost use Rattle.std.specs.Prelude.{◌≡◌, ◌∷◌, ◌++◌, [], ℕ, List, length, is_some, option_map, true, false, Err, OnOk, IfErr, IfOk, IfSome, IsTrue, Option, Some};
 ghost use Rattle.std.specs.List.{AllByRecursion};
 ghost use Rattle.model.specs.declared.steps.Step.{Step as Action};
 ghost use Rattle.model.specs.state.State.{State};
+ghost use Rattle.model.specs.state.KindSets.{kind_sets_of};
 ghost use Rattle.model.specs.shown.Outcome.{BodyMeaning};
 ghost use Rattle.model.specs.steps.Schedule.{recording};
 ghost use Rattle.model.specs.declared.steps.Step.TheVariants.{Sync as Pass};
@@ -22,7 +23,7 @@ ghost use Rattle.engine.specs.declared.stop.Stop.TheVariants as stop;
 use crate::jobs::{Jobs, bring_home, finish, start};
 use crate::run_state::RunState;
 use crate::stop::Stop;
-use crate::turn::{Turn, next_turn};
+use crate::turn::{Done, Turn, next_turn};
 use body::{Body, OpenState};
 use executor_core::{Core, Ready, Step, Trace};
 use model::KindSets;
@@ -83,9 +84,9 @@ fn run_turns<'s, M: Mode<'s>, B: Body + 's>(
 ) -> Result<Trace, Stop>
     requires rest { IsAtRest B.meaning B.fits built.now jobs.old.bodies run.old.deferred run.old.state }
     requires empty { jobs.old.pool ≡ [] }
-    requires following { IsFollowing core.old built.now before.now }
+    requires following { IsFollowing core.old built.now before.now run.old.state.state.world.slots }
     ensures records { IfOk result (λ trace. is_some trace.sets ≡ true) }
-    ensures following { IfOk result (λ trace. IsFollowing core.new built.now (before.now ++ trace ∷ [])) }
+    ensures following { IfOk result (λ trace. IsFollowing core.new built.now (before.now ++ trace ∷ []) run.new.state.state.world.slots) }
     ensures ran { IfOk result (λ trace. IsWideRun (M.width mode.now) (recording built.now trace.sets) (meanings B.meaning built.now jobs.old.bodies) run.old.state.state trace.steps run.new.state.state) }
     ensures rest { OnOk result (IsAtRest B.meaning B.fits built.now jobs.new.bodies run.new.deferred run.new.state) }
     ensures empty { OnOk result (jobs.new.pool ≡ []) }
@@ -96,35 +97,38 @@ fn run_turns<'s, M: Mode<'s>, B: Body + 's>(
     jobs.started = 0;
     run.deferred.clear();
     run.open(built)?;
-    let opening = run.state.kind_sets(run.alloc)?;
-    begin(run.alloc, core, latest_of(before), &opening)?;
-    let mut trace = Trace::new_in(run.alloc, opening)?;
+    let mut trace = begin(run.alloc, core, latest_of(before), &run.state)?;
     while let Some(turn) = next_turn(core, jobs.pool.count(), width) {
-        let step = do_turn(built, run, jobs, mode, turn)?;
-        take(run.alloc, core, &mut trace, &run.state, step)?;
+        let done = do_turn(built, run, jobs, mode, turn)?;
+        take(run.alloc, core, &mut trace, &run.state, done)?;
     }
     run.state.prove_law();
     Ok(trace)
 }
 
-// Begins the core again for a run that has these kind sets at its opening. Where they are those of the end of the run before, it keeps who
-// meets whom.
+// Begins the core again for a run that opens on this state, and what is recorded of it. The kind sets that the run before recorded last are
+// those at the opening, so the core keeps who meets whom; the world is asked only where no run was before.
 fn begin(
     alloc: Global,
     core: &mut Core<'_>,
     latest: Option<&KindSets>,
-    opening: &KindSets,
-) -> Result<(), AllocError>
-    requires { IfSome latest (λ sets. AreMeetings core.old sets.now) }
-    ensures stands { OnOk result (Stands core.new (Some (opening.now ∷ [])) []) }
+    state: &OpenState,
+) -> Result<Trace, AllocError>
+    requires meetings { IfSome latest (λ sets. AreMeetings core.old sets.now) }
+    requires there { IfSome latest (λ sets. sets.now ≡ kind_sets_of state.now.state.world.slots) }
+    ensures steps { IfOk result (λ trace. trace.steps ≡ []) }
+    ensures sets { IfOk result (λ trace. trace.sets ≡ Some (kind_sets_of state.now.state.world.slots ∷ [])) }
+    ensures stands { OnOk result (Stands core.new (Some (kind_sets_of state.now.state.world.slots ∷ [])) []) }
     ensures schedule { core.new.schedule ≡ core.old.schedule }
 {
-    if let Some(sets) = latest {
-        if sets.is_same(opening) {
-            return core.begin_same(alloc);
-        }
-    }
-    core.begin_in(alloc, opening)
+    let Some(sets) = latest else {
+        let opening = state.kind_sets(alloc)?;
+        core.begin_in(alloc, &opening)?;
+        return Trace::new_in(alloc, opening);
+    };
+    let opening = sets.copy(alloc)?;
+    core.begin_same(alloc)?;
+    Trace::new_in(alloc, opening)
 }
 
 // Does what is next, and gives the step that it is.
@@ -134,16 +138,17 @@ fn do_turn<'s, M: Mode<'s>, B: Body + 's>(
     jobs: &mut Jobs<B>,
     mode: &M,
     turn: Turn,
-) -> Result<Step, Stop>
+) -> Result<Done, Stop>
     requires next { (sets : Option (List (List ℕ))) × (bodies : List BodyMeaning) × (start : State) × (h : List Action) × IsNext B.meaning B.fits (M.has_scope mode.now) (M.width mode.now) built.now sets bodies start h jobs.old.bodies run.old.deferred jobs.old.pool run.old.state turn }
-    ensures taken { IfOk result (λ step. (sets : Option (List (List ℕ))) → (bodies : List BodyMeaning) → (start : State) → (h : List Action) → IsNext B.meaning B.fits (M.has_scope mode.now) (M.width mode.now) built.now sets bodies start h jobs.old.bodies run.old.deferred jobs.old.pool run.old.state turn → IsTaken B.meaning B.fits (M.has_scope mode.now) (M.width mode.now) built.now sets bodies start h jobs.new.bodies run.new.deferred jobs.new.pool run.new.state step) }
+    ensures taken { IfOk result (λ done. (sets : Option (List (List ℕ))) → (bodies : List BodyMeaning) → (start : State) → (h : List Action) → IsNext B.meaning B.fits (M.has_scope mode.now) (M.width mode.now) built.now sets bodies start h jobs.old.bodies run.old.deferred jobs.old.pool run.old.state turn → IsTaken B.meaning B.fits (M.has_scope mode.now) (M.width mode.now) built.now sets bodies start h jobs.new.bodies run.new.deferred jobs.new.pool run.new.state done.step) }
+    ensures quiet { IfOk result (λ done. (k : ℕ) → done.step ≡ Pass k → done.commanded ≡ false → kind_sets_of run.new.state.state.world.slots ≡ kind_sets_of run.old.state.state.world.slots) }
     ensures stopped { IfErr result (StopsNext B.meaning B.fits (M.has_scope mode.now) (M.width mode.now) built.now jobs.old.bodies run.old.deferred jobs.old.pool run.old.state turn) }
     ensures kept { IfErr result (KeepsNext B.meaning B.fits (M.has_scope mode.now) (M.stands mode.now) (M.width mode.now) built.now jobs.old.bodies run.old.deferred jobs.old.pool run.old.state turn jobs.new.bodies jobs.new.pool) }
 {
     match turn {
         Turn::Collect => {
             let system = finish(built, run, jobs, mode)?;
-            Ok(Step::Finish(system))
+            Ok(Done::plain(Step::Finish(system)))
         }
         Turn::Take(ready) => {
             built.prove_law();
@@ -151,49 +156,73 @@ fn do_turn<'s, M: Mode<'s>, B: Body + 's>(
             match ready {
                 Ready::Start(system) => {
                     start(built, run, jobs, mode, system)?;
-                    Ok(Step::Start(system))
+                    Ok(Done::plain(Step::Start(system)))
                 }
                 Ready::Ask(condition) => {
                     let answer = run.ask(built, condition)?;
-                    Ok(Step::Cond(condition, answer))
+                    Ok(Done::plain(Step::Cond(condition, answer)))
                 }
-                Ready::Skip(system) => Ok(Step::Skip(system)),
+                Ready::Skip(system) => Ok(Done::plain(Step::Skip(system))),
                 Ready::Sync(point) => {
-                    run.sync(built, point)?;
-                    Ok(Step::Sync(point))
+                    let commanded = run.sync(built, point)?;
+                    Ok(Done {
+                        step: Step::Sync(point),
+                        commanded,
+                    })
                 }
             }
         }
     }
 }
 
-// Takes a step that may come, and records it: with a sync point the kind sets that are there now.
+// Takes a step that may come, and records it: with a sync point the kind sets that are there now. Where no commands were done these are those
+// recorded last.
 fn take(
     alloc: Global,
     core: &mut Core<'_>,
     trace: &mut Trace,
     state: &OpenState,
-    step: Step,
+    done: Done,
 ) -> Result<(), AllocError>
     requires records { is_some trace.old.sets ≡ true }
     requires stands { Stands core.old trace.old.sets trace.old.steps }
-    requires may { May (recording core.old.schedule trace.old.sets) trace.old.steps step }
-    ensures steps { OnOk result (trace.new.steps ≡ step ∷ trace.old.steps) }
-    ensures sets { OnOk result (trace.new.sets ≡ sets_after step state.now.state trace.old.sets) }
+    requires may { May (recording core.old.schedule trace.old.sets) trace.old.steps done.step }
+    requires latest { (k : ℕ) → done.step ≡ Pass k → done.commanded ≡ false → latest_list trace.old ≡ Some (kind_sets_of state.now.state.world.slots) }
+    ensures steps { OnOk result (trace.new.steps ≡ done.step ∷ trace.old.steps) }
+    ensures sets { OnOk result (trace.new.sets ≡ sets_after done.step state.now.state trace.old.sets) }
     ensures records { OnOk result (is_some trace.new.sets ≡ true) }
     ensures stands { OnOk result (Stands core.new trace.new.sets trace.new.steps) }
     ensures schedule { core.new.schedule ≡ core.old.schedule }
 {
-    let Step::Sync(point) = step else {
-        trace.push(step)?;
-        let Ok(()) = core.step(step) else {
+    let Step::Sync(point) = done.step else {
+        trace.push(done.step)?;
+        let Ok(()) = core.step(done.step) else {
             unreachable!()
         };
         return Ok(());
     };
-    let sets = state.kind_sets(alloc)?;
+    let sets = sets_now(alloc, trace, state, done.commanded)?;
     pass(core, trace, point, &sets);
     trace.push_sync(point, sets)
+}
+
+// The kind sets that are there now. Where no commands were done they are those recorded last, and the world isn't asked.
+fn sets_now(
+    alloc: Global,
+    trace: &Trace,
+    state: &OpenState,
+    commanded: bool,
+) -> Result<KindSets, AllocError>
+    requires { commanded ≡ false → latest_list trace.now ≡ Some (kind_sets_of state.now.state.world.slots) }
+    ensures { IfOk result (λ sets. sets ≡ kind_sets_of state.now.state.world.slots) }
+{
+    if commanded {
+        return state.kind_sets(alloc);
+    }
+    match trace.latest() {
+        Some(latest) => latest.copy(alloc),
+        None => state.kind_sets(alloc),
+    }
 }
 
 // Takes a sync point that may come, after which these kind sets are there. Where they are those recorded last, the core keeps who meets whom.

@@ -2,12 +2,14 @@
 // granted.
 
 ghost use Rattle.std.specs.Prelude.{◌≡◌, ◌<◌, ◌↔◌, ℕ, [], suc, true, false, length, get_or, All, IfErr, IfOk, IsErrOf, OnOk};
-ghost use Rattle.model.specs.Lists.{IsIn};
+ghost use Rattle.model.specs.Lists.{IsIn, is_there};
 ghost use Rattle.model.specs.state.Commands.{release};
 ghost use Rattle.model.specs.steps.Schedule.{Schedule, level_of};
 ghost use Rattle.model.specs.state.Ids.{grant_each, ids_of_each};
 ghost use Rattle.model.specs.runs.RunState.{after_commands, after_grant, after_sync, can_sync, counts_of_level, has_ids_for_level, has_tick, spawners_of_level, systems_of_level};
+ghost use Rattle.model.specs.state.KindSets.{kind_sets_of};
 ghost use Rattle.archetype_store.specs.Layout.{AreAllHome};
+ghost use Rattle.command_queue.specs.Commands.{commands_of};
 ghost use Rattle.body.specs.Steps.{with_slots_in};
 ghost use Rattle.engine.specs.Deferred.{AreInHand, IsDeferredFor, IsNothingDeferred, commands_at, emptied, grants_at, grants_of, nothing_deferred, run_with, with_commands, with_each_grant};
 ghost use Rattle.engine.specs.Stops.{CannotSync, LacksTick, StopsBy};
@@ -172,14 +174,15 @@ impl Deferred {
     }
 
     /// A sync point: the commands of the systems of the level are done, the ids granted to them that were not spawned are freed, and then the
-    /// systems of the level above it are granted theirs. After a stop the state is of no more use.
+    /// systems of the level above it are granted theirs. Whether there were commands: else the kind sets stay as they are. After a stop the
+    /// state is of no more use.
     pub(crate) fn sync(
         &mut self,
         alloc: Global,
         built: &Built,
         state: &mut OpenState,
         point: u32,
-    ) -> Result<(), Stop>
+    ) -> Result<bool, Stop>
         requires suits { IsDeferredFor built.now self.old }
         requires known { point < built.now.syncs }
         requires home { AreAllHome state.old.layout }
@@ -190,23 +193,25 @@ impl Deferred {
         ensures home { OnOk result (AreAllHome state.new.layout) }
         ensures suits { OnOk result (IsDeferredFor built.now self.new) }
         ensures in_hand { OnOk result (AreInHand state.new.state.world.slots self.new) }
+        ensures quiet { IfOk result (λ commanded. commanded ≡ false → kind_sets_of state.new.state.world.slots ≡ kind_sets_of state.old.state.world.slots) }
         ensures stopped { IfErr result (StopsBy false (CannotSync built.now point (run_with state.old.state self.old))) }
     {
         built.prove_law();
-        self.finish_level(alloc, built, state, point)?;
+        let commanded = self.finish_level(alloc, built, state, point)?;
         self.grant(alloc, built, state, point + 1)?;
-        Ok(())
+        Ok(commanded)
     }
 
     // The first part of a sync point: the clock moves to the next tick, the commands of the systems of the level are done in schedule order at
-    // that tick, and the ids granted to them that were not spawned are freed. After a stop the state is of no more use.
+    // that tick, and the ids granted to them that were not spawned are freed. Whether there were commands: else the kind sets stay as they are.
+    // After a stop the state is of no more use.
     fn finish_level(
         &mut self,
         alloc: Global,
         built: &Built,
         state: &mut OpenState,
         point: u32,
-    ) -> Result<(), Stop>
+    ) -> Result<bool, Stop>
         requires suits { IsDeferredFor built.now self.old }
         requires known { point < built.now.syncs }
         requires home { AreAllHome state.old.layout }
@@ -216,15 +221,17 @@ impl Deferred {
         ensures home { OnOk result (AreAllHome state.new.layout) }
         ensures suits { OnOk result (IsDeferredFor built.now self.new) }
         ensures in_hand { OnOk result (AreInHand state.new.state.world.slots self.new) }
+        ensures quiet { IfOk result (λ commanded. commanded ≡ false → kind_sets_of state.new.state.world.slots ≡ kind_sets_of state.old.state.world.slots) }
         ensures stopped { IfErr result (StopsBy false (LacksTick state.old.state)) }
     {
         built.prove_law();
         let tick = state.next()?;
         let systems = systems_of(&self.levels, point);
+        let commanded = have_commands(&self.commands, systems);
         state.apply(alloc, &self.commands, systems, tick)?;
         free_ids(state, &self.grants, systems);
         clear_places(&mut self.commands, &mut self.grants, systems);
-        Ok(())
+        Ok(commanded)
     }
 }
 
@@ -253,6 +260,19 @@ fn systems_of(levels: &[Level], level: u32) -> &[u32]
 {
     let level = &levels[level as usize];
     level.systems.as_slice()
+}
+
+// Whether these systems have commands.
+fn have_commands(commands: &[CommandBuffer], level: &[u32]) -> bool
+    requires { All (λ n. n < length commands.now) level.now }
+    ensures { result ≡ is_there (commands_of commands.now level.now) }
+{
+    for system in level {
+        if !commands[*system as usize].is_empty() {
+            return true;
+        }
+    }
+    false
 }
 
 // Drops what these systems deferred; the room of buffers stays.

@@ -8,6 +8,7 @@ ghost use Rattle.model.specs.shown.Outcome.{events_sent, untouched};
 ghost use Rattle.model.specs.shown.Overlay.{has_event_numbers};
 ghost use Rattle.model.specs.steps.Schedule.{access_of, level_of, params_of};
 ghost use Rattle.model.specs.runs.RunState.{after_sync, answer_of, begin_run, can_sync, has_tick, memory_of_system, next_tick};
+ghost use Rattle.model.specs.state.KindSets.{kind_sets_of};
 ghost use Rattle.model.specs.state.Shape.{AreIdsFor};
 ghost use Rattle.archetype_store.specs.Layout.{AreAllHome};
 ghost use Rattle.query_plan.specs.Standing.{ArePickedHome};
@@ -47,6 +48,7 @@ impl RunState {
         ensures layout { OnOk result (self.new.state.layout ≡ self.old.state.layout) }
         ensures suits { OnOk result (IsDeferredFor built.now self.new.deferred) }
         ensures in_hand { OnOk result (AreInHand self.new.state.state.world.slots self.new.deferred) }
+        ensures sets { OnOk result (kind_sets_of self.new.state.state.world.slots ≡ kind_sets_of self.old.state.state.world.slots) }
         ensures stopped { IfErr result (StopsBy false (CannotOpen built.now self.old.state.state)) }
     {
         self.state.begin()?;
@@ -138,8 +140,9 @@ impl RunState {
     }
 
     /// A sync point: the clock moves to the next tick, the commands of the systems of the level are done in schedule order at that tick, the ids
-    /// granted to them that were not spawned are freed, and the systems of the level above it are granted theirs.
-    pub fn sync(&mut self, built: &Built, point: u32) -> Result<(), Stop>
+    /// granted to them that were not spawned are freed, and the systems of the level above it are granted theirs. Whether there were commands:
+    /// else the kind sets stay as they are.
+    pub fn sync(&mut self, built: &Built, point: u32) -> Result<bool, Stop>
         requires suits { IsDeferredFor built.now self.old.deferred }
         requires known { point < built.now.syncs }
         requires home { AreAllHome self.old.state.layout }
@@ -150,6 +153,7 @@ impl RunState {
         ensures home { OnOk result (AreAllHome self.new.state.layout) }
         ensures suits { OnOk result (IsDeferredFor built.now self.new.deferred) }
         ensures in_hand { OnOk result (AreInHand self.new.state.state.world.slots self.new.deferred) }
+        ensures quiet { IfOk result (λ commanded. commanded ≡ false → kind_sets_of self.new.state.state.world.slots ≡ kind_sets_of self.old.state.state.world.slots) }
         ensures stopped { IfErr result (StopsBy false (CannotSync built.now point (run_with self.old.state.state self.old.deferred))) }
     {
         self.deferred

@@ -1,12 +1,12 @@
 // The next turn of a run.
 
-ghost use Rattle.std.specs.Prelude.{ℕ, ◌<◌, ◌≤◌, List, Option};
+ghost use Rattle.std.specs.Prelude.{ℕ, ◌≡◌, ◌<◌, ◌≤◌, false, List, Option};
 ghost use Rattle.model.specs.steps.Schedule.{recording};
 ghost use Rattle.model.specs.declared.steps.Step.{Step as Action};
 ghost use Rattle.executor_core.specs.Stands.{Stands};
 ghost use Rattle.engine.specs.Stage.{IsTurn};
 
-use executor_core::{Core, Ready};
+use executor_core::{Core, Ready, Step};
 
 /// What a coordinator does next.
 #[derive(Clone, Copy, PartialEq, Eq, Debug)]
@@ -15,6 +15,27 @@ pub enum Turn {
     Take(Ready),
     /// Takes a job that comes back.
     Collect,
+}
+
+/// A step that a coordinator has done, and whether commands were done with it: only then may other kind sets be there than before.
+#[derive(Clone, Copy)]
+pub(crate) struct Done {
+    /// The step.
+    pub(crate) step: Step,
+    /// Whether commands were done.
+    pub(crate) commanded: bool,
+}
+
+impl Done {
+    /// A step with which no commands were done.
+    pub(crate) fn plain(step: Step) -> Self
+        ensures { result ≡ record { step = step; commanded = false } }
+    {
+        Done {
+            step,
+            commanded: false,
+        }
+    }
 }
 
 /// What is next with so many systems running and room for so many: what is ready where there is room, else a job that comes back. None

@@ -186,8 +186,8 @@ returns-in_err-answer-in-Ask-clause-stopped g c =
     let next = subst (λ (r : Ready). IsTake (recording s sets) h (length out) width r) c.in-Ask.is (subst (λ (t : Turn). IsTurn (recording s sets) h (length out) width (Some t)) c.in-Take.is known.following) in
     stops_among there (LacksTick w.state) (WideStops width s bodies start) told (λ met e. stops_plain width s sets bodies start met (stops_ask width (recording s sets) bodies start h w.state deferred out known.between.stage c.in-Ask.condition met next e)) c.in_err-answer-in-Ask.ensures.stopped)
 
-pub returns-in_err-sync-in-Sync-clause-stopped : goal.returns-in_err-sync-in-Sync-clause-stopped
-returns-in_err-sync-in-Sync-clause-stopped g c =
+pub returns-in_err-commanded-in-Sync-clause-stopped : goal.returns-in_err-commanded-in-Sync-clause-stopped
+returns-in_err-commanded-in-Sync-clause-stopped g c =
     let meaning = g.B.Body.meaning in
     let fits = g.B.Body.fits in
     let there = g.M.Hosts.has_scope c.args.mode.now in
@@ -197,12 +197,12 @@ returns-in_err-sync-in-Sync-clause-stopped g c =
     let deferred = c.args.run.now.deferred in
     let out = c.args.jobs.now.pool in
     let w = c.args.run.now.state in
-    let told = c.in_err-sync-in-Sync.field-0.0 in
-    handed_on (StopsNext meaning fits there width s slots deferred out w c.args.turn) c.from_residual-in_err-sync-in-Sync.result told c.from_residual-in_err-sync-in-Sync.ensures.1
+    let told = c.in_err-commanded-in-Sync.field-0.0 in
+    handed_on (StopsNext meaning fits there width s slots deferred out w c.args.turn) c.from_residual-in_err-commanded-in-Sync.result told c.from_residual-in_err-commanded-in-Sync.ensures.1
     (λ sets bodies start h known.
     let next = subst (λ (r : Ready). IsTake (recording s sets) h (length out) width r) c.in-Sync.is (subst (λ (t : Turn). IsTurn (recording s sets) h (length out) width (Some t)) c.in-Take.is known.following) in
     stops_among there (CannotSync s c.in-Sync.point (run_with w.state deferred)) (WideStops width s bodies start) told (λ met e. stops_plain width s sets bodies start met (stops_sync width (recording s sets) bodies start h w.state deferred out known.between.stage c.in-Sync.point met next
-    (interleaved_cause-recording s sets bodies (Sync c.in-Sync.point) (woven w.state deferred out) ∙ e))) c.in_err-sync-in-Sync.ensures.stopped)
+    (interleaved_cause-recording s sets bodies (Sync c.in-Sync.point) (woven w.state deferred out) ∙ e))) c.in_err-commanded-in-Sync.ensures.stopped)
 
 pub returns-in_err-system-in-Collect-clause-stopped : goal.returns-in_err-system-in-Collect-clause-stopped
 returns-in_err-system-in-Collect-clause-stopped g c =
@@ -255,8 +255,8 @@ returns-in_err-answer-in-Ask-clause-kept g c =
     handed_on (KeepsNext meaning fits there (g.M.Mode.stands c.args.mode.now) width s slots deferred out w c.args.turn slots out) c.from_residual-in_err-answer-in-Ask.result told c.from_residual-in_err-answer-in-Ask.ensures.1
     (λ lost sets bodies start h known. placed_kept meaning fits there s bodies slots out w known.between.placed)
 
-pub returns-in_err-sync-in-Sync-clause-kept : goal.returns-in_err-sync-in-Sync-clause-kept
-returns-in_err-sync-in-Sync-clause-kept g c =
+pub returns-in_err-commanded-in-Sync-clause-kept : goal.returns-in_err-commanded-in-Sync-clause-kept
+returns-in_err-commanded-in-Sync-clause-kept g c =
     let meaning = g.B.Body.meaning in
     let fits = g.B.Body.fits in
     let there = g.M.Hosts.has_scope c.args.mode.now in
@@ -266,8 +266,8 @@ returns-in_err-sync-in-Sync-clause-kept g c =
     let deferred = c.args.run.now.deferred in
     let out = c.args.jobs.now.pool in
     let w = c.args.run.now.state in
-    let told = c.in_err-sync-in-Sync.field-0.0 in
-    handed_on (KeepsNext meaning fits there (g.M.Mode.stands c.args.mode.now) width s slots deferred out w c.args.turn slots out) c.from_residual-in_err-sync-in-Sync.result told c.from_residual-in_err-sync-in-Sync.ensures.1
+    let told = c.in_err-commanded-in-Sync.field-0.0 in
+    handed_on (KeepsNext meaning fits there (g.M.Mode.stands c.args.mode.now) width s slots deferred out w c.args.turn slots out) c.from_residual-in_err-commanded-in-Sync.result told c.from_residual-in_err-commanded-in-Sync.ensures.1
     (λ lost sets bodies start h known. placed_kept meaning fits there s bodies slots out w known.between.placed)
 
 pub returns-in_err-system-in-Collect-clause-kept : goal.returns-in_err-system-in-Collect-clause-kept
@@ -286,7 +286,7 @@ returns-in_err-system-in-Collect-clause-kept g c =
     (λ lost sets bodies start h known. c.in_err-system-in-Collect.ensures.kept bodies known.between.placed)
 
 pub returns-in_ok-start-in-Start-clause-taken : goal.returns-in_ok-start-in-Start-clause-taken
-returns-in_ok-start-in-Start-clause-taken g c = λ sets bodies start h known.
+returns-in_ok-start-in-Start-clause-taken g c = rw c.plain-in-Start.ensures (λ sets bodies start h known.
     let width = g.M.Mode.width c.args.mode.now in
     let s = c.args.built.now in
     let deferred = c.args.run.now.deferred in
@@ -303,10 +303,10 @@ returns-in_ok-start-in-Start-clause-taken g c = λ sets bodies start h known.
         placed = started.placed bodies known.between.placed;
         hand = started.hand;
       };
-    }
+    })
 
 pub returns-in_ok-answer-in-Ask-clause-taken : goal.returns-in_ok-answer-in-Ask-clause-taken
-returns-in_ok-answer-in-Ask-clause-taken g c = λ sets bodies start h known.
+returns-in_ok-answer-in-Ask-clause-taken g c = rw c.plain-in-Ask.ensures (λ sets bodies start h known.
     let meaning = g.B.Body.meaning in
     let fits = g.B.Body.fits in
     let there = g.M.Hosts.has_scope c.args.mode.now in
@@ -331,10 +331,10 @@ returns-in_ok-answer-in-Ask-clause-taken g c = λ sets bodies start h known.
         hand = subst (λ (x : DeferredValue). InHand s x out later) (sym c.ask.ensures.deferred)
             (in_hand_asked meaning fits there s bodies slots out w known.between.placed deferred c.in-Ask.condition later told.asked known.between.hand);
       };
-    }
+    })
 
 pub returns-in-Skip-clause-taken : goal.returns-in-Skip-clause-taken
-returns-in-Skip-clause-taken g c = λ sets bodies start h known.
+returns-in-Skip-clause-taken g c = rw c.plain-in-Skip.ensures (λ sets bodies start h known.
     let width = g.M.Mode.width c.args.mode.now in
     let s = c.args.built.now in
     let deferred = c.args.run.now.deferred in
@@ -349,10 +349,10 @@ returns-in-Skip-clause-taken g c = λ sets bodies start h known.
         placed = known.between.placed;
         hand = known.between.hand;
       };
-    }
+    })
 
-pub returns-in_ok-sync-in-Sync-clause-taken : goal.returns-in_ok-sync-in-Sync-clause-taken
-returns-in_ok-sync-in-Sync-clause-taken g c = λ sets bodies start h known.
+pub returns-in_ok-commanded-in-Sync-clause-taken : goal.returns-in_ok-commanded-in-Sync-clause-taken
+returns-in_ok-commanded-in-Sync-clause-taken g c = λ sets bodies start h known.
     let meaning = g.B.Body.meaning in
     let fits = g.B.Body.fits in
     let there = g.M.Hosts.has_scope c.args.mode.now in
@@ -364,7 +364,7 @@ returns-in_ok-sync-in-Sync-clause-taken g c = λ sets bodies start h known.
     let w = c.args.run.now.state in
     let next = subst (λ (r : Ready). IsTake (recording s sets) h (length out) width r) c.in-Sync.is (subst (λ (t : Turn). IsTurn (recording s sets) h (length out) width (Some t)) c.in-Take.is known.following) in
     let none = none_out width (recording s sets) bodies start h w.state deferred out known.between.stage c.in-Sync.point (next.allowed false) in
-    let done = c.in_ok-sync-in-Sync.ensures in
+    let done = c.in_ok-commanded-in-Sync.ensures in
     let later = c.sync.new.self.state in
     let left = c.sync.new.self.deferred in
     record {
@@ -379,7 +379,7 @@ returns-in_ok-sync-in-Sync-clause-taken g c = λ sets bodies start h known.
     }
 
 pub returns-in_ok-system-in-Collect-clause-taken : goal.returns-in_ok-system-in-Collect-clause-taken
-returns-in_ok-system-in-Collect-clause-taken g c = λ sets bodies start h known.
+returns-in_ok-system-in-Collect-clause-taken g c = rw c.plain.ensures (λ sets bodies start h known.
     let width = g.M.Mode.width c.args.mode.now in
     let s = c.args.built.now in
     let deferred = c.args.run.now.deferred in
@@ -397,4 +397,4 @@ returns-in_ok-system-in-Collect-clause-taken g c = λ sets bodies start h known.
         placed = ended.placed bodies known.between.placed;
         hand = ended.hand bodies known.between.placed known.keeps known.between.hand;
       };
-    }
+    })

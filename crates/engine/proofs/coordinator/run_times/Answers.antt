@@ -16,7 +16,7 @@ use Rattle.engine.proofs.coordinator.run_times.Goals as goal
 pub run_turns-requires : goal.run_turns-requires
 run_turns-requires g c = λ lifetimes.
     let inv = c.loop-run.invariant in
-    let following = subst (IsFollowing c.loop-run.core c.args.built.now) (sym c.deref.ensures.value) inv.following in
+    let following = subst (λ (rs : List Recorded). IsFollowing c.loop-run.core c.args.built.now rs c.loop-run.run.state.state.world.slots) (sym c.deref.ensures.value) inv.following in
     (c.type_bounds.send-B, (c.type_bounds.send-M-Line, (c.type_bounds.send-M-Gate, (c.type_bounds.sync-M-Gate, ((refl, tt), (inv.rest, (inv.empty, following)))))))
 
 pub loop-run-preserved : goal.loop-run-preserved
@@ -47,7 +47,7 @@ loop-run-preserved g c =
       rest = ok.rest;
       empty = ok.empty;
       meant = meant;
-      following = subst (IsFollowing later.core s) (ap (λ (rs : List Recorded). rs ++ trace ∷ []) c.deref.ensures.value ∙ sym items) ok.following;
+      following = subst (λ (rs : List Recorded). IsFollowing later.core s rs later.run.state.state.world.slots) (ap (λ (rs : List Recorded). rs ++ trace ∷ []) c.deref.ensures.value ∙ sym items) ok.following;
     }
 
 pub returns-in_err-push-in-Ok-clause-meanings : goal.returns-in_err-push-in-Ok-clause-meanings

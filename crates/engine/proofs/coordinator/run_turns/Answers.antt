@@ -18,31 +18,13 @@ use Rattle.engine.proofs.Turns.{turn_next, placed_open, in_hand_none, rest_end}
 use Rattle.std.proofs.Common.{Bor, IfSome}
 use Rattle.model.specs.declared.kind_sets.KindSets.{KindSets}
 use Rattle.executor_core.specs.Stands.{AreMeetings}
-use Rattle.engine.proofs.Ended.{following_more, of-mapped}
+use Rattle.model.specs.state.KindSets.{kind_sets_of}
+use Rattle.engine.specs.Latest.{latest_in}
+use Rattle.engine.proofs.Ended.{following_more, latest_there, of-mapped}
 use Rattle.engine.proofs.coordinator.run_turns.Goals as goal
-
-pub returns-in_err-begin-clause-kept : goal.returns-in_err-begin-clause-kept
-returns-in_err-begin-clause-kept g c = λ lost.
-    let meaning = g.B.Body.meaning in
-    let fits = g.B.Body.fits in
-    let there = g.M.Hosts.has_scope c.args.mode.now in
-    let s = c.args.built.now in
-    let bodies = meanings meaning s c.args.jobs.now.bodies in
-    let first = placed_kept meaning fits there s bodies c.args.jobs.now.bodies [] c.args.run.now.state (placed_first meaning fits there s c.args.jobs.now.bodies c.args.run.now.state c.requires.rest.suits c.requires.rest.home) in
-    subst (λ xs. AreKept meaning fits there s bodies c.args.jobs.now.bodies xs) (sym c.requires.empty) first
 
 pub returns-in_err-open-clause-kept : goal.returns-in_err-open-clause-kept
 returns-in_err-open-clause-kept g c = λ lost.
-    let meaning = g.B.Body.meaning in
-    let fits = g.B.Body.fits in
-    let there = g.M.Hosts.has_scope c.args.mode.now in
-    let s = c.args.built.now in
-    let bodies = meanings meaning s c.args.jobs.now.bodies in
-    let first = placed_kept meaning fits there s bodies c.args.jobs.now.bodies [] c.args.run.now.state (placed_first meaning fits there s c.args.jobs.now.bodies c.args.run.now.state c.requires.rest.suits c.requires.rest.home) in
-    subst (λ xs. AreKept meaning fits there s bodies c.args.jobs.now.bodies xs) (sym c.requires.empty) first
-
-pub returns-in_err-opening-clause-kept : goal.returns-in_err-opening-clause-kept
-returns-in_err-opening-clause-kept g c = λ lost.
     let meaning = g.B.Body.meaning in
     let fits = g.B.Body.fits in
     let there = g.M.Hosts.has_scope c.args.mode.now in
@@ -86,12 +68,12 @@ loop-turn-init g c =
     let opened = c.in_ok-open.ensures in
     let trace = c.in_ok-trace.trace in
     let made = c.in_ok-trace.ensures in
-    let opening = c.in_ok-opening.opening in
-    let told : AreSetsOf (Some opening) (Some (woven {B = g.row.B.Denot} later.state.state later.deferred [])) = c.in_ok-opening.ensures in
+    let opening = kind_sets_of later.state.state.world.slots in
+    let told : AreSetsOf (Some opening) (Some (woven {B = g.row.B.Denot} later.state.state later.deferred [])) = refl in
     record {
       schedule = c.begin.ensures.schedule ∙ c.requires.following.schedule;
       records = ap (λ (o : Option (List (List ℕ))). is_some o) made.sets;
-      stands = subst₂ (Stands c.begin.new.core) (sym made.sets) (sym made.steps) c.in_ok-begin.ensures.stands;
+      stands = subst₂ (Stands c.begin.new.core) (sym made.sets) (sym made.steps) made.stands;
       between = subst₂ (λ (ys : Option (List (List ℕ))) (x : List Step). IsBetween meaning fits there width s ys bodies start x c.args.jobs.now.bodies later.deferred c.args.jobs.now.pool later.state) (sym made.sets) (sym made.steps) (record {
         listed = refl;
         stage = stage_open width (recording s (Some (opening ∷ []))) bodies start later.state.state later.deferred c.args.jobs.now.pool
@@ -130,8 +112,8 @@ do_turn-requires g c = λ lifetimes.
     } in
     (c.type_bounds.send-B, (c.type_bounds.send-M-Line, (c.type_bounds.send-M-Gate, (c.type_bounds.sync-M-Gate, ((refl, tt), (sets, bodies, start, h, known))))))
 
-pub returns-in_err-step-clause-stopped : goal.returns-in_err-step-clause-stopped
-returns-in_err-step-clause-stopped g c =
+pub returns-in_err-done-clause-stopped : goal.returns-in_err-done-clause-stopped
+returns-in_err-done-clause-stopped g c =
     let meaning = g.B.Body.meaning in
     let fits = g.B.Body.fits in
     let there = g.M.Hosts.has_scope c.args.mode.now in
@@ -154,11 +136,11 @@ returns-in_err-step-clause-stopped g c =
       keeps = c.requires.rest.keeps;
       following = next;
     } in
-    let told = c.in_err-step.field-0.0 in
-    handed_on (StopsBy there (WideStops width s bodies start)) c.from_residual-in_err-step.result told c.from_residual-in_err-step.ensures.1 (c.in_err-step.ensures.stopped sets bodies start h known)
+    let told = c.in_err-done.field-0.0 in
+    handed_on (StopsBy there (WideStops width s bodies start)) c.from_residual-in_err-done.result told c.from_residual-in_err-done.ensures.1 (c.in_err-done.ensures.stopped sets bodies start h known)
 
-pub returns-in_err-step-clause-kept : goal.returns-in_err-step-clause-kept
-returns-in_err-step-clause-kept g c =
+pub returns-in_err-done-clause-kept : goal.returns-in_err-done-clause-kept
+returns-in_err-done-clause-kept g c =
     let meaning = g.B.Body.meaning in
     let fits = g.B.Body.fits in
     let there = g.M.Hosts.has_scope c.args.mode.now in
@@ -181,8 +163,8 @@ returns-in_err-step-clause-kept g c =
       keeps = c.requires.rest.keeps;
       following = next;
     } in
-    let told = c.in_err-step.field-0.0 in
-    lost_or_kept c.from_residual-in_err-step.result told c.from_residual-in_err-step.ensures.1 (λ lost. c.in_err-step.ensures.kept lost sets bodies start h known)
+    let told = c.in_err-done.field-0.0 in
+    lost_or_kept c.from_residual-in_err-done.result told c.from_residual-in_err-done.ensures.1 (λ lost. c.in_err-done.ensures.kept lost sets bodies start h known)
 
 pub take-requires-clause-may : goal.take-requires-clause-may
 take-requires-clause-may g c =
@@ -208,7 +190,7 @@ take-requires-clause-may g c =
       keeps = c.requires.rest.keeps;
       following = next;
     } in
-    subst (λ (x : Schedule). May (recording x sets) h c.in_ok-step.step) (sym inv.schedule) (c.in_ok-step.ensures.taken sets bodies start h known).may
+    subst (λ (x : Schedule). May (recording x sets) h c.in_ok-done.done.step) (sym inv.schedule) (c.in_ok-done.ensures.taken sets bodies start h known).may
 
 pub returns-in_err-take-clause-kept : goal.returns-in_err-take-clause-kept
 returns-in_err-take-clause-kept g c = λ lost.
@@ -234,13 +216,13 @@ returns-in_err-take-clause-kept g c = λ lost.
       keeps = c.requires.rest.keeps;
       following = next;
     } in
-    let after = (c.in_ok-step.ensures.taken sets bodies start h known).between in
+    let after = (c.in_ok-done.ensures.taken sets bodies start h known).between in
     placed_kept meaning fits there s bodies c.do_turn.new.jobs.bodies c.do_turn.new.jobs.pool c.do_turn.new.run.state after.placed
 
 pub loop-turn-smaller : goal.loop-turn-smaller
 loop-turn-smaller g c =
     let ok = c.in_ok-take.ensures in
-    falls c.take.new.core c.args.built.now c.take.new.trace.sets c.loop-turn.trace.steps c.take.new.trace.steps c.in_ok-step.step (ok.schedule ∙ c.loop-turn.invariant.schedule) ok.stands ok.steps
+    falls c.take.new.core c.args.built.now c.take.new.trace.sets c.loop-turn.trace.steps c.take.new.trace.steps c.in_ok-done.done.step (ok.schedule ∙ c.loop-turn.invariant.schedule) ok.stands ok.steps
 
 pub loop-turn-preserved : goal.loop-turn-preserved
 loop-turn-preserved g c =
@@ -267,7 +249,7 @@ loop-turn-preserved g c =
       following = next;
     } in
     let ok = c.in_ok-take.ensures in
-    let after = (c.in_ok-step.ensures.taken sets bodies start h known).between in
+    let after = (c.in_ok-done.ensures.taken sets bodies start h known).between in
     let later = c.do_turn.new in
     record {
       schedule = ok.schedule ∙ inv.schedule;
@@ -358,10 +340,34 @@ returns-clause-kept g c = λ lost.
 
 pub returns-clause-following : goal.returns-clause-following
 returns-clause-following g c =
+    let s = c.args.built.now in
+    let bodies = meanings g.B.Body.meaning s c.args.jobs.now.bodies in
+    let start = c.args.run.now.state.state in
     let inv = c.loop-turn.invariant in
-    following_more c.loop-turn.core c.args.built.now c.args.before.now c.loop-turn.trace inv.schedule inv.stands
+    let trace = c.loop-turn.trace in
+    let state = c.loop-turn.run.state.state in
+    following_more c.loop-turn.core s c.args.before.now trace state.world.slots inv.schedule inv.stands
+    (latest_there (g.M.Mode.width c.args.mode.now) s trace.sets bodies start trace.steps state c.loop-turn.run.deferred c.loop-turn.jobs.pool inv.records inv.between.stage)
 
-pub begin-requires : goal.begin-requires
-begin-requires g c =
+pub begin-requires-clause-meetings : goal.begin-requires-clause-meetings
+begin-requires-clause-meetings g c =
     of-mapped (λ (sets : Bor KindSets). sets.now) c.latest_of.result (AreMeetings c.args.core.now)
     (subst (λ (o : Option (List ℕ)). IfSome o (AreMeetings c.args.core.now)) (sym c.latest_of.ensures) c.requires.following.meetings)
+
+pub begin-requires-clause-there : goal.begin-requires-clause-there
+begin-requires-clause-there g c =
+    let later = c.open.new.self.state.state.world.slots in
+    of-mapped (λ (sets : Bor KindSets). sets.now) c.latest_of.result (λ numbers. numbers ≡ kind_sets_of later)
+    (subst (λ (o : Option (List ℕ)). IfSome o (λ numbers. numbers ≡ kind_sets_of later)) (sym c.latest_of.ensures)
+    (subst (λ (there : List ℕ). IfSome (latest_in c.args.before.now) (λ numbers. numbers ≡ there)) (sym c.in_ok-open.ensures.sets) c.requires.following.there))
+
+pub take-requires-clause-latest : goal.take-requires-clause-latest
+take-requires-clause-latest g c = λ k is quiet.
+    let s = c.args.built.now in
+    let bodies = meanings g.B.Body.meaning s c.args.jobs.now.bodies in
+    let start = c.args.run.now.state.state in
+    let inv = c.loop-turn.invariant in
+    let trace = c.loop-turn.trace in
+    let state = c.loop-turn.run.state.state in
+    latest_there (g.M.Mode.width c.args.mode.now) s trace.sets bodies start trace.steps state c.loop-turn.run.deferred c.loop-turn.jobs.pool inv.records inv.between.stage
+    ∙ ap Some (sym (c.in_ok-done.ensures.quiet k is quiet))

@@ -1,6 +1,8 @@
 use Rattle.std.proofs.Common.{◌≡◌, ◌↔◌, Bool, true, false, Err, refl, sym, ap, ◌∙◌}
-use Rattle.model.specs.runs.RunState.{after_grant, between, has_ids_for_level, has_tick, opening}
+use Rattle.model.specs.runs.RunState.{RunState, after_grant, between, has_ids_for_level, has_tick, opening}
+use Rattle.model.specs.state.KindSets.{kind_sets_of}
 use Rattle.body.specs.Steps.{StateValue}
+use Rattle.engine.proofs.SameKindSets.{kind_sets-after_grant}
 use Rattle.engine.specs.Deferred.{run_with}
 use Rattle.engine.specs.Stops.{CannotOpen}
 use Rattle.engine.proofs.InHand.{run_with_nothing}
@@ -30,3 +32,10 @@ returns-clause-opened c =
     let begun : run_with c.begin.new.self.state deferred ≡ between (opening w) = ap (λ (x : StateValue). run_with x.state deferred) c.in_ok-begin.ensures.ok ∙ run_with_nothing (opening w) deferred c.requires.nothing in
     let done = c.in_ok-grant.ensures in
     opened_is s w (run_with c.grant.new.state.state c.grant.new.self) (ticked (has_tick w) c.in_ok-begin.ensures.spent) (ap (has_ids_for_level s 0) (sym begun) ∙ done.has) (done.granted ∙ ap (after_grant s 0) begun)
+
+pub returns-clause-sets : goal.returns-clause-sets
+returns-clause-sets c =
+    let deferred = c.args.self.now.deferred in
+    ap (λ (run : RunState). kind_sets_of run.state.world.slots) c.in_ok-grant.ensures.granted
+    ∙ kind_sets-after_grant c.args.built.now 0 (run_with c.begin.new.self.state deferred)
+    ∙ ap (λ (x : StateValue). kind_sets_of x.state.world.slots) c.in_ok-begin.ensures.ok
