@@ -1,4 +1,5 @@
 pub mod Column
+pub mod Swapped
 pub mod Packed
 pub mod Words
 pub mod Held
@@ -6,10 +7,3 @@ pub mod Cells
 pub mod Order
 pub mod Kinds
 pub mod Table
-pub mod Places
-pub mod Inside
-pub mod Components
-pub mod Spots
-pub mod EntityList
-pub mod Keeping
-pub mod Arriving
