@@ -5,5 +5,6 @@ pub mod Words
 pub mod Held
 pub mod Cells
 pub mod Order
+pub mod RowOrder
 pub mod Kinds
 pub mod Table

@@ -1,5 +1,5 @@
 -- The order of entities: by index, then by generation.
-use Rattle.std.specs.Prelude.{◌≡◌, Bool, true, ◌||◌, ◌&&◌, ◌==◌, nat_lt, List, [], ◌∷◌}
+use Rattle.std.specs.Prelude.{◌≡◌, ℕ, Bool, true, ◌||◌, ◌&&◌, ◌==◌, nat_lt, List, [], ◌∷◌, slice_get, Some}
 use Rattle.std.specs.List.{AllByRecursion}
 use Rattle.model.specs.declared.entities.Entity.{Entity}
 
@@ -15,3 +15,7 @@ is_same x y = (x.index == y.index) && (x.generation == y.generation)
 abbrev pub AreRising : List Entity → Type 0
 AreRising [] = Unit {0}
 AreRising (x ∷ xs) = AllByRecursion (λ y. is_before x y ≡ true) xs × AreRising xs
+
+-- ids of which none is there twice
+abbrev pub AreApart : List Entity → Type 0
+AreApart entities = (p q : ℕ) (e : Entity) → slice_get entities p ≡ Some e → slice_get entities q ≡ Some e → p ≡ q

@@ -2,8 +2,18 @@
 #![tactic(auto)]
 
 mod column;
+mod column_slot;
+mod entity_list;
+pub mod laws;
+mod order;
 mod packed;
 mod packs;
+mod parts;
+pub mod row_order;
+mod row_numbers;
 pub mod stamped;
+pub mod table;
 
+pub use row_order::RowOrder;
 pub use stamped::{StampedColumn, StampedValue};
+pub use table::Table;
