@@ -3,3 +3,16 @@ pub mod Lists
 pub mod Cells
 pub mod Wide
 pub mod Ordered
+pub mod Rising
+pub mod Numbers
+pub mod Apart
+pub mod Rows
+pub mod Columns
+pub mod Tables
+pub mod Kept
+pub mod Found
+pub mod Edited
+pub mod Made
+pub mod Copied
+pub mod Roomy
+pub mod TheirComponents

@@ -6,5 +6,10 @@ pub mod Held
 pub mod Cells
 pub mod Order
 pub mod RowOrder
+pub mod Places
+pub mod EntityList
 pub mod Kinds
 pub mod Table
+pub mod Inside
+pub mod Components
+pub mod Spots

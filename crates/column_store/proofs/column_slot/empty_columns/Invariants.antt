@@ -1,0 +1,6 @@
+use Rattle.std.proofs.Common.{◌≡◌, map, take}
+use Rattle.column_store.specs.Inside.{empty_column}
+use Rattle.column_store.proofs.column_slot.empty_columns.Given as goal
+
+abbrev pub invariant-loop-kind : goal.invariant-loop-kind
+invariant-loop-kind l = l.columns.items ≡ map empty_column (take l.kind-index l.kinds)

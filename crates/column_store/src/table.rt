@@ -1,0 +1,360 @@
+// Tables.
+
+ghost use Rattle.std.specs.Prelude.{◌≡◌, ◌+◌, ◌-◌, ◌<◌, ◌++◌, ◌∷◌, [], length, map, option_map, Some, IsSome, IsNone, IfSome, IfOk, OnOk, OnErr, IsTrue, slice_get};
+ghost use Rattle.std.specs.List.{list_all};
+ghost use Rattle.kinds.specs.Kind.{kind_number};
+ghost use Rattle.kinds.specs.Value.{value_number, value_words};
+ghost use Rattle.model.specs.Lists.{update_at};
+ghost use Rattle.column_store.specs.Cells.{stamped_number, stamped_cell, stamp_of};
+ghost use Rattle.column_store.specs.Kinds.{in_order, AreBelow};
+ghost use Rattle.column_store.specs.Order.{AreApart};
+ghost use Rattle.column_store.specs.RowOrder.{OrdersRows};
+ghost use Rattle.column_store.specs.Swapped.{swap_removed};
+ghost use Rattle.std.specs.Arc.{arc_value};
+ghost use Rattle.column_store.specs.Table.{Standing, empty_table, is_home, is_owned, is_not_away, is_own_if, row_of, new_row, renewed_row, cell_in_row, standing_of, kind_cells, write_cell, lent, owned, homed, IsHome, IsAlike};
+
+use crate::column_slot::{
+    ColumnSlot, copied_slots, empty_columns, own_each, push_row, read_row, replace_row,
+    reserve_rows, swap_remove_row,
+};
+use crate::entity_list::EntityList;
+use crate::parts::{among, copied_kinds, find_in, home_in, lend_in, seen_in, share_in, write_in};
+use crate::row_order::RowOrder;
+use crate::stamped::{StampedColumn, StampedValue};
+use change_ticks::{Stamp, Tick};
+use entity_table::Entity;
+use kinds::{Component, Kind, Value};
+use std::alloc::{AllocError, Global};
+use std::marker::Model;
+use std::sync::Arc;
+
+/// The entities of one archetype with their components: a row for each entity, and a column for each kind, in rising kinds. A row comes in at
+/// the end, and where one is removed the last one takes its place; beside them their order in rising ids is kept. A column can leave and
+/// come home, and be read elsewhere too. To contracts one that is away has the cells with which it left.
+#[derive(Drop)]
+pub struct Table {
+    kinds: Vec<Kind>,
+    entities: EntityList,
+    columns: Vec<ColumnSlot>,
+    // So many further rows come in without allocating.
+    room: usize,
+}
+
+impl Model for Table {
+    ghost use Rattle.std.specs.Prelude.{map};
+    ghost use Rattle.kinds.specs.Kind.{kind_number};
+    ghost use Rattle.column_store.specs.Table.{TableValue};
+    ghost use Rattle.column_store.specs.Inside.{table_with_room, IsTableWithRoom};
+
+    ghost Value = { TableValue };
+
+    ghost view = { λ t. table_with_room (map kind_number t.kinds.items) t.entities t.columns.items t.room };
+
+    ghost invariant = { λ t. IsTableWithRoom (map kind_number t.kinds.items) t.entities t.columns.items t.room };
+}
+
+impl Table {
+    /// The table of these kinds without rows. It has each of them once, in rising numbers.
+    pub fn new(alloc: Global, kinds: &[Kind]) -> Result<Self, AllocError>
+        ensures { IfOk result (λ table. table ≡ empty_table (in_order (map kind_number kinds.now))) }
+    {
+        let kinds = among(alloc, Kind::every(), kinds)?;
+        let columns = empty_columns(alloc, &kinds)?;
+        Ok(Table {
+            kinds,
+            entities: EntityList::new(alloc),
+            columns,
+            room: 0,
+        })
+    }
+
+    /// A table of the same kinds and rows, where all columns are at home. The columns of the copy are its alone, whoever reads those of
+    /// this table: a later write to one of the two is none to the other. Where an allocation fails there is no copy.
+    pub fn copy(&self, alloc: Global) -> Result<Self, AllocError>
+        requires { IsTrue (list_all is_home self.now.standings) }
+        ensures { IfOk result (λ copy. copy ≡ owned self.now) }
+    {
+        let kinds = copied_kinds(alloc, &self.kinds)?;
+        let entities = self.entities.copy(alloc)?;
+        let columns = copied_slots(alloc, &self.columns)?;
+        Ok(Table {
+            kinds,
+            entities,
+            columns,
+            room: 0,
+        })
+    }
+
+    /// The kinds, in rising numbers.
+    pub fn kinds(&self) -> &[Kind]
+        ensures kinds { map kind_number result.now ≡ self.now.kinds }
+        ensures rising { AreBelow self.now.kinds }
+    {
+        self.kinds.as_slice()
+    }
+
+    /// The entities, row by row.
+    pub fn entities(&self) -> &[Entity]
+        ensures entities { result.now ≡ map (λ row. row.entity) self.now.rows }
+        ensures apart { AreApart result.now }
+    {
+        self.entities.as_slice()
+    }
+
+    /// The order of the rows, in which ids rise. It is kept: nothing is computed.
+    pub fn order(&self) -> RowOrder<'_>
+        ensures { OrdersRows (map (λ row. row.entity) self.now.rows) result }
+    {
+        self.entities.order()
+    }
+
+    /// The entities, row by row, to be read elsewhere too. They are copied only where rows changed since they were asked for last.
+    pub fn share_entities(&mut self, alloc: Global) -> Result<Arc<Vec<Entity>, Global>, AllocError>
+        ensures entities { IfOk result (λ list. (arc_value list).items ≡ map (λ row. row.entity) self.old.rows) }
+        ensures same { self.new ≡ self.old }
+    {
+        self.entities.share(alloc)
+    }
+
+    /// How many rows there are.
+    pub fn len(&self) -> usize
+        ensures { result ≡ length self.now.rows }
+    {
+        self.entities().len()
+    }
+
+    /// The entity of a row.
+    pub fn entity_at(&self, row: usize) -> Entity
+        requires { row < length self.now.rows }
+        ensures { option_map (λ r. r.entity) (slice_get self.now.rows row) ≡ Some result }
+    {
+        self.entities()[row]
+    }
+
+    /// The component of the kind with this number at a row, where the kind is the table's.
+    pub fn find(&self, row: usize, number: u32) -> Option<StampedValue>
+        requires within { row < length self.now.rows }
+        requires home { IsTrue (is_not_away (standing_of self.now number)) }
+        ensures cell { option_map stamped_cell result ≡ cell_in_row self.now row number }
+        ensures number { IfSome result (λ s. stamped_number s ≡ number) }
+    {
+        find_in(
+            &self.kinds,
+            self.entities.as_slice(),
+            &self.columns,
+            row,
+            number,
+        )
+    }
+
+    /// The component of a kind at a row.
+    pub fn value(&self, row: usize, kind: Kind) -> Option<Value>
+        requires within { row < length self.now.rows }
+        requires home { IsTrue (is_not_away (standing_of self.now (kind_number kind))) }
+        ensures words { option_map value_words result ≡ option_map (λ c. c.words) (cell_in_row self.now row (kind_number kind)) }
+        ensures number { IfSome result (λ value. value_number value ≡ kind_number kind) }
+    {
+        match self.find(row, kind.number()) {
+            None => None,
+            Some(component) => Some(component.value),
+        }
+    }
+
+    /// When the component of a kind at a row was added and last changed.
+    pub fn stamp(&self, row: usize, kind: Kind) -> Option<Stamp>
+        requires within { row < length self.now.rows }
+        requires home { IsTrue (is_not_away (standing_of self.now (kind_number kind))) }
+        ensures { result ≡ option_map stamp_of (cell_in_row self.now row (kind_number kind)) }
+    {
+        match self.find(row, kind.number()) {
+            None => None,
+            Some(component) => Some(component.stamp),
+        }
+    }
+
+    /// The component at a row.
+    pub fn get<C: Component>(&self, row: usize) -> C
+        requires within { row < length self.now.rows }
+        requires there { IsSome (cell_in_row self.now row C.NUMBER) }
+        requires home { IsTrue (is_not_away (standing_of self.now C.NUMBER)) }
+        ensures { option_map (λ c. c.words) (cell_in_row self.now row C.NUMBER) ≡ Some (C.words result) }
+    {
+        match self.find(row, C::NUMBER) {
+            None => unreachable!(),
+            Some(component) => match C::from_value(component.value) {
+                None => unreachable!(),
+                Some(component) => component,
+            },
+        }
+    }
+
+    /// Replaces a component at a row, which counts as changed at this tick, also where the value stays.
+    pub fn write(&mut self, row: usize, value: Value, tick: Tick)
+        requires within { row < length self.old.rows }
+        requires there { IsSome (cell_in_row self.old row (value_number value)) }
+        requires owned { IsTrue (is_own_if (standing_of self.old (value_number value))) }
+        ensures { self.new ≡ write_cell self.old row (value_number value) (value_words value) tick }
+    {
+        write_in(
+            &self.kinds,
+            self.entities.as_slice(),
+            &mut self.columns,
+            row,
+            value,
+            tick,
+        );
+    }
+
+    /// Makes room for so many rows more than before. Where an allocation fails the table stays as it was.
+    pub fn reserve(&mut self, further: usize) -> Result<(), AllocError>
+        requires { IsTrue (list_all is_owned self.old.standings) }
+        ensures ok { OnOk result (self.new ≡ record self.old { room = self.old.room + further }) }
+        ensures err { OnErr result (self.new ≡ self.old) }
+    {
+        let Some(room) = self.room.checked_add(further) else {
+            return Err(AllocError);
+        };
+        self.entities.reserve(room)?;
+        let count = self.entities.as_slice().len();
+        reserve_rows(&mut self.columns, count, room)?;
+        self.room = room;
+        Ok(())
+    }
+
+    /// Counts no row that room was made for any more.
+    pub fn release(&mut self)
+        ensures { self.new ≡ record self.old { room = 0 } }
+    {
+        self.room = 0;
+    }
+
+    /// Adds the row of an entity that isn't there at the end, with its components in the order of the kinds. Room was made for it, so it
+    /// allocates nothing.
+    pub fn push(&mut self, e: Entity, components: &[StampedValue])
+        requires absent { IsNone (row_of e self.old.rows) }
+        requires kinds { map stamped_number components.now ≡ self.old.kinds }
+        requires owned { IsTrue (list_all is_owned self.old.standings) }
+        requires room { 0 < self.old.room }
+        ensures { self.new ≡ record self.old { rows = self.old.rows ++ new_row e components.now ∷ []; room = self.old.room - 1 } }
+    {
+        self.entities.push(e);
+        push_row(&mut self.columns, components);
+        self.room -= 1;
+    }
+
+    /// Replaces all components at a row, which are in the order of the kinds, with their stamps.
+    pub fn renew(&mut self, row: usize, components: &[StampedValue])
+        requires within { row < length self.old.rows }
+        requires kinds { map stamped_number components.now ≡ self.old.kinds }
+        requires owned { IsTrue (list_all is_owned self.old.standings) }
+        ensures { self.new ≡ record self.old { rows = update_at row (renewed_row components.now) self.old.rows } }
+    {
+        replace_row(&mut self.columns, row, components);
+    }
+
+    /// Removes a row, and moves the last one into its place. It allocates nothing.
+    pub fn swap_remove(&mut self, row: usize)
+        requires within { row < length self.old.rows }
+        requires owned { IsTrue (list_all is_owned self.old.standings) }
+        ensures { self.new ≡ record self.old { rows = swap_removed self.old.rows row } }
+    {
+        self.entities.swap_remove(row);
+        swap_remove_row(&mut self.columns, row);
+    }
+
+    /// The components at a row, in the order of the kinds.
+    pub fn components(&self, alloc: Global, row: usize) -> Result<Vec<StampedValue>, AllocError>
+        requires within { row < length self.now.rows }
+        requires home { IsTrue (list_all is_home self.now.standings) }
+        ensures cells { IfOk result (λ components. option_map (λ r. r.cells) (slice_get self.now.rows row) ≡ Some (map (λ s. Some (stamped_cell s)) components.items)) }
+        ensures kinds { IfOk result (λ components. map stamped_number components.items ≡ self.now.kinds) }
+    {
+        read_row(alloc, &self.columns, row)
+    }
+
+    /// The column of a kind, which is at home.
+    pub fn column(&self, kind: Kind) -> &StampedColumn
+        requires { IsHome (standing_of self.now (kind_number kind)) }
+        ensures kind { result.now.kind ≡ kind_number kind }
+        ensures cells { map (λ cell. Some cell) result.now.cells ≡ kind_cells self.now (kind_number kind) }
+    {
+        seen_in(&self.kinds, self.entities.as_slice(), &self.columns, kind)
+    }
+
+    /// Takes a column that is at home out of the table until it comes home. One that is still read elsewhere is copied for it. After an
+    /// error the table is as it was.
+    pub fn lend(&mut self, alloc: Global, kind: Kind) -> Result<StampedColumn, AllocError>
+        requires { IsHome (standing_of self.old (kind_number kind)) }
+        ensures kind { IfOk result (λ column. column.kind ≡ kind_number kind) }
+        ensures cells { IfOk result (λ column. map (λ cell. Some cell) column.cells ≡ kind_cells self.old (kind_number kind)) }
+        ensures away { OnOk result (self.new ≡ lent self.old (kind_number kind)) }
+        ensures err { OnErr result (self.new ≡ self.old) }
+    {
+        let column = lend_in(
+            &self.kinds,
+            self.entities.as_slice(),
+            &mut self.columns,
+            alloc,
+            kind,
+        )?;
+        self.room = 0;
+        Ok(column)
+    }
+
+    /// A column that is at home, to be read elsewhere too. No row is copied.
+    pub fn share(
+        &mut self,
+        alloc: Global,
+        kind: Kind,
+    ) -> Result<Arc<StampedColumn, Global>, AllocError>
+        requires { IsHome (standing_of self.old (kind_number kind)) }
+        ensures kind { IfOk result (λ column. (arc_value column).kind ≡ kind_number kind) }
+        ensures cells { IfOk result (λ column. map (λ cell. Some cell) (arc_value column).cells ≡ kind_cells self.old (kind_number kind)) }
+        ensures alike { IsAlike self.old self.new }
+    {
+        self.room = 0;
+        share_in(
+            &self.kinds,
+            self.entities.as_slice(),
+            &mut self.columns,
+            alloc,
+            kind,
+        )
+    }
+
+    /// Takes every column for the table alone. One that is still read elsewhere is copied for it. Where an allocation fails some may be the
+    /// table's alone that were read elsewhere too.
+    pub fn own(&mut self, alloc: Global) -> Result<(), AllocError>
+        requires { IsTrue (list_all is_home self.old.standings) }
+        ensures ok { OnOk result (self.new ≡ owned self.old) }
+        ensures alike { IsAlike self.old self.new }
+    {
+        self.room = 0;
+        own_each(&mut self.columns, alloc)
+    }
+
+    /// Puts a column that was lent back.
+    pub fn home(&mut self, column: StampedColumn)
+        requires away { standing_of self.old column.kind ≡ Some Standing.Away }
+        requires same_length { length column.cells ≡ length self.old.rows }
+        ensures { self.new ≡ homed self.old column }
+    {
+        self.room = 0;
+        home_in(
+            &self.kinds,
+            self.entities.as_slice(),
+            &mut self.columns,
+            column,
+        );
+    }
+
+    /// Replaces the component at a row, which counts as changed at this tick, also where the value stays.
+    pub fn set<C: Component>(&mut self, row: usize, component: C, tick: Tick)
+        requires within { row < length self.old.rows }
+        requires there { IsSome (cell_in_row self.old row C.NUMBER) }
+        requires owned { IsTrue (is_own_if (standing_of self.old C.NUMBER)) }
+        ensures { self.new ≡ write_cell self.old row C.NUMBER (C.words component) tick }
+    {
+        self.write(row, component.into_value(), tick);
+    }
+}
