@@ -10,7 +10,8 @@ ghost use Rattle.std.specs.Arc.{arc_value};
 ghost use Rattle.kinds.specs.Kind.{kind_number};
 ghost use Rattle.archetype_store.specs.Layout.{archetype_at, column_home, with_home, AreAllHome};
 ghost use Rattle.std.specs.List.{AllByRecursion};
-ghost use Rattle.column_store.specs.Order.{AreRising};
+ghost use Rattle.column_store.specs.Order.{AreApart};
+ghost use Rattle.column_store.specs.RowOrder.{OrdersRows};
 ghost use Rattle.column_store.specs.Kinds.{AreBelow};
 ghost use Rattle.archetype_store.specs.Changes.{row_left, AreOfOtherIndices};
 ghost use Rattle.archetype_store.specs.View.{kinds_seen, entities_seen};
@@ -131,7 +132,8 @@ impl Archetypes {
     pub fn archetypes(&self, alloc: Global) -> Result<Vec<ArchetypeView<'_>>, AllocError>
         ensures kinds { IfOk result (λ views. map kinds_seen views.items ≡ map (λ a. a.kinds) self.now.layout) }
         ensures entities { IfOk result (λ views. map entities_seen views.items ≡ map (λ a. a.entities) self.now.layout) }
-        ensures rising { IfOk result (λ views. AllByRecursion (λ view. AreRising (entities_seen view)) views.items) }
+        ensures apart { IfOk result (λ views. AllByRecursion (λ view. AreApart (entities_seen view)) views.items) }
+        ensures order { IfOk result (λ views. AllByRecursion (λ view. OrdersRows (entities_seen view) view.order) views.items) }
     {
         views_of(alloc, &self.tables)
     }

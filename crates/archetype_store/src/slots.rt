@@ -19,7 +19,8 @@ ghost use Rattle.archetype_store.specs.Store.{slots_with};
 ghost use Rattle.archetype_store.specs.Archetypes.{row_of};
 ghost use Rattle.archetype_store.specs.Layout.{archetype_at, column_home, with_home, IsLayoutOf, AreAllHome};
 ghost use Rattle.std.specs.List.{AllByRecursion, list_any};
-ghost use Rattle.column_store.specs.Order.{AreRising};
+ghost use Rattle.column_store.specs.Order.{AreApart as AreRowsApart};
+ghost use Rattle.column_store.specs.RowOrder.{OrdersRows};
 ghost use Rattle.archetype_store.specs.View.{kinds_seen, entities_seen};
 
 use crate::archetypes::Archetypes;
@@ -242,7 +243,8 @@ impl Slots {
     pub fn archetypes(&self, alloc: Global) -> Result<Vec<ArchetypeView<'_>>, AllocError>
         ensures kinds { IfOk result (λ views. map kinds_seen views.items ≡ map (λ a. a.kinds) self.now.layout) }
         ensures entities { IfOk result (λ views. map entities_seen views.items ≡ map (λ a. a.entities) self.now.layout) }
-        ensures rising { IfOk result (λ views. AllByRecursion (λ view. AreRising (entities_seen view)) views.items) }
+        ensures apart { IfOk result (λ views. AllByRecursion (λ view. AreRowsApart (entities_seen view)) views.items) }
+        ensures order { IfOk result (λ views. AllByRecursion (λ view. OrdersRows (entities_seen view) view.order) views.items) }
     {
         self.archetypes.archetypes(alloc)
     }

@@ -2,7 +2,8 @@
 
 ghost use Rattle.std.specs.Prelude.{◌≡◌, ◌≢◌, ◌==◌, ◌<◌, [], length, map, option_map, position, None, Some, IsSome, IfSome, IfOk, OnOk, OnErr};
 ghost use Rattle.std.specs.List.{list_any, AllByRecursion};
-ghost use Rattle.column_store.specs.Order.{AreRising};
+ghost use Rattle.column_store.specs.Order.{AreRising, AreApart};
+ghost use Rattle.column_store.specs.RowOrder.{OrdersRows};
 ghost use Rattle.kinds.specs.Kind.{kind_number};
 ghost use Rattle.kinds.specs.Value.{value_number, value_words};
 ghost use Rattle.model.specs.Lists.{has};
@@ -22,7 +23,7 @@ ghost use Rattle.archetype_store.specs.Tables.{table_at, kinds_at, held_at, row_
 
 use crate::table_index::{TableIndex, word_of};
 use change_ticks::Tick;
-use column_store::{Arrival, StampedValue, Table};
+use column_store::{Arrival, RowOrder, StampedValue, Table};
 use entity_table::Entity;
 use kinds::{Kind, Value};
 use std::alloc::{AllocError, Global};
@@ -34,6 +35,8 @@ pub struct ArchetypeView<'a> {
     pub kinds: &'a [Kind],
     /// Its entities, in the order of their rows.
     pub entities: &'a [Entity],
+    /// The order of the rows: in it ids rise.
+    pub order: RowOrder<'a>,
 }
 
 // The archetypes of the tables that have rows.
@@ -43,7 +46,8 @@ pub(crate) fn views_of(
 ) -> Result<Vec<ArchetypeView<'_>>, AllocError>
     ensures kinds { IfOk result (λ views. map kinds_seen views.items ≡ map (λ a. a.kinds) (layout_of tables.now)) }
     ensures entities { IfOk result (λ views. map entities_seen views.items ≡ map (λ a. a.entities) (layout_of tables.now)) }
-    ensures rising { IfOk result (λ views. AllByRecursion (λ view. AreRising (entities_seen view)) views.items) }
+    ensures apart { IfOk result (λ views. AllByRecursion (λ view. AreApart (entities_seen view)) views.items) }
+    ensures order { IfOk result (λ views. AllByRecursion (λ view. OrdersRows (entities_seen view) view.order) views.items) }
 {
     let mut views = Vec::new(alloc);
     for table in tables {
@@ -54,6 +58,7 @@ pub(crate) fn views_of(
         views.push(ArchetypeView {
             kinds: table.kinds(),
             entities,
+            order: table.order(),
         })?;
     }
     Ok(views)

@@ -42,6 +42,15 @@ numbers-every first (suc count) row h k = elim (cases_eq first row) [
   | inr other ↦ or_right (first == row) (has row (numbers_from (suc first) count)) (numbers-every (suc first) count row (omega arith) (omega arith))
 ]
 
+pub length-numbers : (first count : ℕ) → length (numbers_from first count) ≡ count
+length-numbers first zero = refl
+length-numbers first (suc count) = ap suc (length-numbers (suc first) count)
+
+pub numbers-at : (first count i d : ℕ) → i < count → get_or (numbers_from first count) i d ≡ first + i
+numbers-at first zero i d l = absurd (omega arith)
+numbers-at first (suc count) zero d l = (let e : first ≡ first + 0 = omega arith in e)
+numbers-at first (suc count) (suc i) d l = numbers-at (suc first) count i d (omega arith) ∙ (let e : suc first + i ≡ first + suc i = omega arith in e)
+
 -- the rows behind the first are those of the rest
 numbers-behind : (x : Entity) (xs : List Entity) (first count : ℕ) → map (entity_at (x ∷ xs)) (numbers_from (suc first) count) ≡ map (entity_at xs) (numbers_from first count)
 numbers-behind x xs first zero = refl

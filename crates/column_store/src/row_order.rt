@@ -1,5 +1,7 @@
 // The order of the rows of a table.
 
+ghost use Rattle.std.specs.Prelude.{◌≡◌, ◌<◌, length, get_or};
+
 /// The numbers of the rows of a table in the order of their entities: as ids rise.
 #[derive(Clone, Copy)]
 pub enum RowOrder<'a> {
@@ -7,4 +9,52 @@ pub enum RowOrder<'a> {
     Rising,
     /// These row numbers.
     Listed(&'a [u32]),
+}
+
+// The row number at a place of a list.
+fn listed_row(rows: &[u32], at: usize) -> u32
+    requires { at < length rows.now }
+    ensures { result ≡ get_or rows.now at 0 }
+{
+    rows[at]
+}
+
+impl RowOrder<'_> {
+    ghost use Rattle.std.specs.Prelude.{ℕ, IsTrue};
+    ghost use Rattle.column_store.specs.RowOrder.{numbers_from, rows_in};
+
+    /// Whether it is each row number in turn.
+    pub fn is_rising(&self) -> bool
+        ensures { IsTrue result → (count : ℕ) → rows_in count self.now ≡ numbers_from 0 count }
+    {
+        match self {
+            RowOrder::Rising => true,
+            RowOrder::Listed(_rows) => false,
+        }
+    }
+
+    /// How many row numbers there are, where there are so many rows.
+    pub fn len(&self, count: u32) -> usize
+        ensures { result ≡ length (rows_in count self.now) }
+    {
+        match self {
+            RowOrder::Rising => count as usize,
+            RowOrder::Listed(rows) => rows.len(),
+        }
+    }
+
+    /// The row number at a place of the order, where there are so many rows.
+    pub fn row(&self, count: u32, at: usize) -> u32
+        requires { at < length (rows_in count self.now) }
+        ensures { result ≡ get_or (rows_in count self.now) at 0 }
+    {
+        match self {
+            RowOrder::Rising => {
+                // Proves that places are below it.
+                let _count = count;
+                at as u32
+            }
+            RowOrder::Listed(rows) => listed_row(rows, at),
+        }
+    }
 }

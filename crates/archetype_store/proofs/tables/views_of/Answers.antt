@@ -1,7 +1,8 @@
 use Rattle.std.proofs.Common.{sym, subst, ◌∙◌}
 use Rattle.std.specs.List.{AllByRecursion}
 use Rattle.model.proofs.lists.Each.{each-append}
-use Rattle.column_store.specs.Order.{AreRising}
+use Rattle.column_store.specs.Order.{AreApart}
+use Rattle.column_store.specs.RowOrder.{OrdersRows}
 use Rattle.archetype_store.specs.View.{kinds_seen, entities_seen}
 use Rattle.archetype_store.proofs.Layouts.{view_passed, view_added}
 use Rattle.archetype_store.proofs.tables.views_of.Goals as goal
@@ -16,7 +17,8 @@ loop-table-preserved-then-is_empty c =
           c.entities-entities.ensures.entities c.loop-table.invariant.kinds none;
       entities = view_passed (λ a. a.entities) entities_seen c.entities-entities.result.now c.args.tables.now i c.table-item.result c.loop-table.views.items c.loop-table-test.true c.table-item.is
           c.entities-entities.ensures.entities c.loop-table.invariant.entities none;
-      rising = c.loop-table.invariant.rising;
+      apart = c.loop-table.invariant.apart;
+      order = c.loop-table.invariant.order;
     }
 
 -- one with rows is seen
@@ -29,6 +31,9 @@ loop-table-preserved c =
           c.entities-entities.ensures.entities c.loop-table.invariant.kinds _ c.push.new.self.items some c.kinds.ensures.kinds c.in_ok-push.ensures.items;
       entities = view_added (λ a. a.entities) entities_seen c.entities-entities.result.now c.args.tables.now i c.table-item.result c.loop-table.views.items c.loop-table-test.true c.table-item.is
           c.entities-entities.ensures.entities c.loop-table.invariant.entities _ c.push.new.self.items some c.entities-entities.ensures.entities c.in_ok-push.ensures.items;
-      rising = subst (AllByRecursion (λ view. AreRising (entities_seen view))) (sym c.in_ok-push.ensures.items)
-          (each-append (λ view. AreRising (entities_seen view)) c.loop-table.views.items _ c.loop-table.invariant.rising (c.entities-entities.ensures.rising, tt));
+      apart = subst (AllByRecursion (λ view. AreApart (entities_seen view))) (sym c.in_ok-push.ensures.items)
+          (each-append (λ view. AreApart (entities_seen view)) c.loop-table.views.items _ c.loop-table.invariant.apart (c.entities-entities.ensures.apart, tt));
+      order = subst (AllByRecursion (λ view. OrdersRows (entities_seen view) view.order)) (sym c.in_ok-push.ensures.items)
+          (each-append (λ view. OrdersRows (entities_seen view) view.order) c.loop-table.views.items _ c.loop-table.invariant.order
+          (subst (λ es. OrdersRows es c.order.result) (sym c.entities-entities.ensures.entities) c.order.ensures, tt));
     }
