@@ -7,7 +7,6 @@ pub mod TableIndex
 pub mod Laid
 pub mod Moves
 pub mod RowMoves
-pub mod SameRows
 pub mod Settled
 pub mod Changed
 pub mod Steps
@@ -23,14 +22,4 @@ pub mod ColumnSlots
 pub mod ColumnOverlays
 pub mod TakenColumns
 pub mod KindsHome
-pub mod Returned
-pub mod GoneRows
-pub mod Gathered
-pub mod Noted
-pub mod Leaving
-pub mod Leavers
-pub mod Origins
-pub mod ByTable
-pub mod Coming
-pub mod Came
 pub mod Copied

@@ -23,6 +23,10 @@ kinds_at tables table = (table_at tables table).kinds
 abbrev pub room_at : List TableValue → ℕ → ℕ
 room_at tables table = (table_at tables table).room
 
+-- the table with room for so many further rows
+abbrev pub with_room : ℕ → TableValue → TableValue
+with_room room t = record { kinds = t.kinds; standings = t.standings; rows = t.rows; room = room }
+
 -- the entities of a table, row by row
 abbrev pub entities_at : List TableValue → ℕ → List Entity
 entities_at tables table = map (λ row. row.entity) (table_at tables table).rows

@@ -265,7 +265,7 @@ rows_of-swap es ps i h l =
         let many = length-rows_of es ps in
         get_or-rows_of (swap_removed es i) (map (swap_out_in i) ps) k d.entity d (omega arith)
         ∙ ap₂ row (ap (λ j. get_or (swap_removed es i) j d.entity) same ∙ get_or-swap_here es i d.entity (omega arith))
-            (ap (λ j. map (cell_at j) (map (swap_out_in i) ps)) same ∙ moved_cells (length es) i ps (omega arith) h)
+        (ap (λ j. map (cell_at j) (map (swap_out_in i) ps)) same ∙ moved_cells (length es) i ps (omega arith) h)
         ∙ sym (get_or-rows_of es ps (length es - 1) d.entity d (omega arith))
         ∙ ap (λ j. get_or (rows_of es ps) (j - 1) d) (sym many)
         ∙ sym (ap (λ j. get_or (swap_removed (rows_of es ps) i) j d) same ∙ get_or-swap_here (rows_of es ps) i d (omega arith))

@@ -15,4 +15,5 @@ pub mod Edited
 pub mod Made
 pub mod Copied
 pub mod Roomy
+pub mod Listed
 pub mod TheirComponents

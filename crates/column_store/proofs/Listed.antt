@@ -99,4 +99,3 @@ module _ (es es' : List Entity) (listed : Bool) (numbers : Vec ℕ Global) where
             let less : length (x ∷ xs) - 1 ≡ i = omega arith in
             ap (λ m. take m (set (x ∷ xs) i (get_or (x ∷ xs) m x))) less
             ∙ take-set-le i (x ∷ xs) i (get_or (x ∷ xs) i x) (omega arith)
-

@@ -47,7 +47,7 @@ parted_rows es e rows h i j d le lt at =
     before_there es e (get_or rows i d) there_i
     ∙ ap (λ x. is_before x e) (sym (get-map_or f rows i d))
     ∙ parted_before e (map f rows) h.rising i j (f d) le (omega arith)
-        (ap (λ x. is_before x e) (get-map_or f rows j d) ∙ sym (before_there es e (get_or rows j d) there_j) ∙ at)
+    (ap (λ x. is_before x e) (get-map_or f rows j d) ∙ sym (before_there es e (get_or rows j d) there_j) ∙ at)
 
 pub gap_from_rows : (es : List Entity) (e : Entity) (rows : List ℕ) (i : ℕ) → AllByRecursion (λ row. row < length es) rows → i ≤ length rows →
     IsPartitionPoint (λ row. row_before es e row ≡ true) (λ row. row_before es e row ≡ false) rows i → IsGap e (map (entity_at es) rows) i
@@ -204,9 +204,10 @@ module _ (es : List Entity) (rows : List ℕ) (row place moved : ℕ) (h : IsOrd
       let mine : get_or (set rows moved row) j 0 ≡ row = ap (λ k. get_or (set rows moved row) k 0) same ∙ get_or-set_same rows moved row 0 last.0 in
       let apart : row ≡ length es - 1 → ⊥ = λ e. other (same ∙ rows_apart es rows moved place 0 h last.0 at.0 (last.1 ∙ sym e ∙ sym at.1)) in
       let less : row + 1 < length es = below row (length es) within apart in
-      let d : Entity = record { index = 0; generation = 0 } in
-      (subst (λ r. r + 1 < length es) (sym mine) less,
-      ap (entity_at (swap_removed es row)) mine ∙ get_or-swap_here es row d less ∙ ap (entity_at es) (sym last.1 ∙ ap (λ k. get_or rows k 0) (sym same)))
+      let d : Entity = record { index = 0; generation = 0 } in (
+        subst (λ r. r + 1 < length es) (sym mine) less,
+        ap (entity_at (swap_removed es row)) mine ∙ get_or-swap_here es row d less ∙ ap (entity_at es) (sym last.1 ∙ ap (λ k. get_or rows k 0) (sym same)),
+      )
     where
       below : (r n : ℕ) → r < n → (r ≡ n - 1 → ⊥) → r + 1 < n
       below r n l other = grind arith
@@ -216,9 +217,10 @@ module _ (es : List Entity) (rows : List ℕ) (row place moved : ℕ) (h : IsOrd
       let there : r < length es = each-at (λ k. k < length es) rows j 0 l h.within in
       let apart : r ≡ length es - 1 → ⊥ = λ e. else (rows_apart es rows j moved 0 h l last.0 (e ∙ sym last.1)) in
       let not_row : r ≡ row → ⊥ = λ e. other (rows_apart es rows j place 0 h l at.0 (e ∙ sym at.1)) in
-      let less : r + 1 < length es = below r (length es) there apart in
-      (subst (λ k. k + 1 < length es) (sym mine) less,
-      ap (entity_at (swap_removed es row)) mine ∙ get_or-swap_other es row r (record { index = 0; generation = 0 }) less not_row)
+      let less : r + 1 < length es = below r (length es) there apart in (
+        subst (λ k. k + 1 < length es) (sym mine) less,
+        ap (entity_at (swap_removed es row)) mine ∙ get_or-swap_other es row r (record { index = 0; generation = 0 }) less not_row,
+      )
     where
       below : (r n : ℕ) → r < n → (r ≡ n - 1 → ⊥) → r + 1 < n
       below r n l other = grind arith
@@ -263,10 +265,6 @@ module _ (es : List Entity) (rows : List ℕ) (row place moved : ℕ) (h : IsOrd
           ∙ sym (get_or_default (map f rows) j d (f 0) (omega (arith, length-map rows f)))
 
 -- ---- row numbers in turn
-
-pub length-numbers : (first count : ℕ) → length (numbers_from first count) ≡ count
-length-numbers first zero = refl
-length-numbers first (suc count) = ap suc (length-numbers (suc first) count)
 
 numbers_after : (first count : ℕ) → numbers_from first (suc count) ≡ numbers_from first count ++ (first + count) ∷ []
 numbers_after first zero = ap (λ n. n ∷ []) (sym (add-zero first))

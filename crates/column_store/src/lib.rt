@@ -9,8 +9,8 @@ mod order;
 mod packed;
 mod packs;
 mod parts;
-pub mod row_order;
 mod row_numbers;
+pub mod row_order;
 pub mod stamped;
 pub mod table;
 
