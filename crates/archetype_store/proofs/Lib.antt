@@ -5,8 +5,10 @@ pub mod Held
 pub mod KindSets
 pub mod TableIndex
 pub mod Laid
+pub mod Known
 pub mod Moves
 pub mod RowMoves
+pub mod Rooms
 pub mod Settled
 pub mod Changed
 pub mod Steps

@@ -1,0 +1,28 @@
+-- Tables of which one has other room.
+use Rattle.std.proofs.Common.{◌≡◌, ℕ, ◌<◌, List, [], ◌∷◌, length, set, get_or, map, ◌⊎◌, inl, inr, refl, sym, ap, ◌∙◌, arith}
+use Rattle.std.proofs.lemmas.Bool.{cases_eq}
+use Rattle.std.proofs.lemmas.List.{get_or-set_same, get_or-set_other}
+use Rattle.column_store.specs.Table.{TableRow, TableValue, IsAlike, empty_table}
+use Rattle.archetype_store.specs.Tables.{table_at, entities_at, with_room, AreAllAlike}
+use Rattle.archetype_store.proofs.Standings.{alike_set, alike_same}
+
+pub roomed_alike : (T : List TableValue) (t room : ℕ) → AreAllAlike T (set T t (with_room room (table_at T t)))
+roomed_alike T t room = alike_set T t (with_room room (table_at T t)) (record { kinds = refl; homes = refl; rows = refl })
+
+pub alike_entities : (T U : List TableValue) → AreAllAlike T U → (t : ℕ) → entities_at U t ≡ entities_at T t
+alike_entities T U h t = ap (map (λ (row : TableRow). row.entity)) ((alike_same T U h).rows t)
+
+pub roomed_entities : (T : List TableValue) (t room u : ℕ) → entities_at (set T t (with_room room (table_at T t))) u ≡ entities_at T u
+roomed_entities T t room u = alike_entities T (set T t (with_room room (table_at T t))) (roomed_alike T t room) u
+
+-- one after the other
+pub alike_twice : (T U V : List TableValue) → AreAllAlike T U → AreAllAlike U V → AreAllAlike T V
+alike_twice [] [] [] h k = k
+alike_twice [] [] (v ∷ vs) h k = absurd k
+alike_twice [] (u ∷ us) V h k = absurd h
+alike_twice (t ∷ ts) [] V h k = absurd h
+alike_twice (t ∷ ts) (u ∷ us) [] h k = absurd k
+alike_twice (t ∷ ts) (u ∷ us) (v ∷ vs) h k = (
+  record { kinds = k.0.kinds ∙ h.0.kinds; homes = k.0.homes ∙ h.0.homes; rows = k.0.rows ∙ h.0.rows },
+  alike_twice ts us vs h.1 k.1,
+)
