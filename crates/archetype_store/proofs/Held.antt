@@ -67,6 +67,12 @@ row_found (q ∷ rows) x r h = go (is_same q.entity x) refl h (row_found rows x 
 kept_index : (rows : List TableRow) (i k : ℕ) (r : TableRow) → i < length rows → slice_get rows k ≡ Some r → (k ≡ i → ⊥) → (j : ℕ) × (slice_get (swap_removed rows i) j ≡ Some r)
 kept_index rows i k r l at other = go (cases_eq (k + 1) (length rows))
   where
+    before_last : (i k n : ℕ) → i < n → k + 1 ≡ n → (k ≡ i → ⊥) → i + 1 < n
+    before_last i k n l last other = grind arith
+
+    not_last : (k n : ℕ) → k < n → (k + 1 ≡ n → ⊥) → k + 1 < n
+    not_last k n l other = grind arith
+
     within : k < length rows
     within = get_within rows k r at
 
@@ -77,12 +83,6 @@ kept_index rows i k r l at other = go (cases_eq (k + 1) (length rows))
         let end : length rows - 1 ≡ k = omega arith in
         (i, get-swap_here rows i before ∙ ap (slice_get rows) end ∙ at)
     go (inr stays) = let m = within in let n : k + 1 < length rows = not_last k (length rows) m stays in (k, get-swap_other rows i k n other ∙ at)
-
-    before_last : (i k n : ℕ) → i < n → k + 1 ≡ n → (k ≡ i → ⊥) → i + 1 < n
-    before_last i k n l last other = grind arith
-
-    not_last : (k n : ℕ) → k < n → (k + 1 ≡ n → ⊥) → k + 1 < n
-    not_last k n l other = grind arith
 
 old_index : (rows : List TableRow) (i j : ℕ) (r : TableRow) → i < length rows → slice_get (swap_removed rows i) j ≡ Some r → (k : ℕ) × (slice_get rows k ≡ Some r) × (k ≡ i → ⊥)
 old_index rows i j r l at = go (cases_eq j i)

@@ -23,6 +23,18 @@ use Rattle.archetype_store.proofs.Held.{row_at}
 
 -- ---- places
 
+abbrev index_or : Option Entity → ℕ
+index_or None = 0
+index_or (Some y) = y.index
+
+abbrev gen_or : Option EntityLocation → ℕ
+gen_or None = 0
+gen_or (Some y) = y.generation
+
+abbrev table_or : Option EntityLocation → ℕ
+table_or None = 0
+table_or (Some y) = y.table
+
 some_of_none : (p : EntityLocation) → None ≡ Some p → ⊥
 some_of_none p h = cc
 
@@ -165,10 +177,6 @@ module _ (T : List TableValue) (P : List (Option EntityLocation)) (N : List ℕ)
             ap (λ t. entity_in_row T' t (number_of_row N j)) same ∙ ap (λ es. slice_get es (number_of_row N j)) one.here
             ∙ get-swap_other (entities_at T p.table) (number_of_row N e.index) (number_of_row N j) less apart_row ∙ mine
 
-        index_or : Option Entity → ℕ
-        index_or None = 0
-        index_or (Some y) = y.index
-
     pub known_cleared : AreRowsKnown T' (set P e.index None) (set N m.index (number_of_row N e.index))
     known_cleared = record {
       there = λ j q is. by_index j q is (cases_eq j e.index) (cases_eq j m.index);
@@ -208,14 +216,6 @@ module _ (T : List TableValue) (P : List (Option EntityLocation)) (N : List ℕ)
 
       known_place : (q : EntityLocation) → Some (record { generation = e.generation; table = table }) ≡ Some q → (q.generation ≡ e.generation) × (q.table ≡ table)
       known_place q is = (sym (ap gen_or is), sym (ap table_or is))
-
-      gen_or : Option EntityLocation → ℕ
-      gen_or None = 0
-      gen_or (Some y) = y.generation
-
-      table_or : Option EntityLocation → ℕ
-      table_or None = 0
-      table_or (Some y) = y.table
 
       by_index : (j : ℕ) (q : EntityLocation) → place_of (set P e.index (Some (record { generation = e.generation; table = table }))) j ≡ Some q → (j ≡ e.index) ⊎ (j ≡ e.index → ⊥) →
           entity_in_row T' q.table (number_of_row (set N e.index (length (entities_at T table))) j) ≡ Some (record { index = j; generation = q.generation })

@@ -5,8 +5,12 @@ pub mod Held
 pub mod KindSets
 pub mod TableIndex
 pub mod Laid
+pub mod Laying
+pub mod Changing
 pub mod Known
 pub mod Moves
+pub mod Moving
+pub mod MovedRows
 pub mod RowMoves
 pub mod Rooms
 pub mod Settled

@@ -44,18 +44,18 @@ shapes_room T t room = map-set_same shape_of T t (with_room room (table_at T t))
 pub room_more : (T : List TableValue) (t : ℕ) → t < length T → (u : ℕ) → room_at (set T t (with_room (room_at T t + 1) (table_at T t))) u ≡ one_if (u == t) + room_at T u
 room_more T t l u = go (cases_eq u t)
   where
+    turned : (n : ℕ) → n + 1 ≡ 1 + n
+    turned n = omega arith
+
+    none : (n : ℕ) → n ≡ 0 + n
+    none n = omega arith
+
     go : (u ≡ t) ⊎ (u ≡ t → ⊥) → room_at (set T t (with_room (room_at T t + 1) (table_at T t))) u ≡ one_if (u == t) + room_at T u
     go (inl same) = ap (room_at (set T t (with_room (room_at T t + 1) (table_at T t)))) same
         ∙ ap (λ (v : TableValue). v.room) (get_or-set_same T t (with_room (room_at T t + 1) (table_at T t)) (empty_table []) l)
         ∙ turned (room_at T t) ∙ ap₂ (λ b n. one_if b + n) (sym (eq-eqb u t same)) (ap (room_at T) (sym same))
     go (inr other) = ap (λ (v : TableValue). v.room) (get_or-set_other T t u (with_room (room_at T t + 1) (table_at T t)) (empty_table []) other)
         ∙ none (room_at T u) ∙ ap (λ b. one_if b + room_at T u) (sym (ne_eqb u t other))
-
-    turned : (n : ℕ) → n + 1 ≡ 1 + n
-    turned n = omega arith
-
-    none : (n : ℕ) → n ≡ 0 + n
-    none n = omega arith
 
 count_more : (P : List (Option EntityLocation)) (ms : List RowMove) (m : RowMove) (t : ℕ) → coming_count P (ms ++ m ∷ []) t ≡ coming_count P ms t + one_if (is_table (arrives_in P m) t)
 count_more P [] m t = omega arith

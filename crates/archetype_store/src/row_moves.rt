@@ -126,7 +126,7 @@ fn reserve_all(
 ) -> Result<(), AllocError>
     requires owned { AreOwned tables.old.items }
     requires planned { AllByRecursion (IsPlanned tables.old.items places.now) rows.now }
-    ensures owned { AreOwned tables.new.items }
+    ensures shapes { map shape_of tables.new.items ≡ map shape_of tables.old.items }
     ensures alike { AreAllAlike tables.old.items tables.new.items }
     ensures ok { OnOk result (HaveRoom tables.new.items places.now rows.now) }
 {
@@ -141,8 +141,7 @@ fn reserve_all(
 // Counts none of these rows any more in the tables that they would newly come into.
 fn release_all(tables: &mut Vec<Table>, places: &[Option<EntityLocation>], rows: &[RowMove<'_>])
     requires planned { AllByRecursion (IsPlanned tables.old.items places.now) rows.now }
-    requires owned { AreOwned tables.old.items }
-    ensures owned { AreOwned tables.new.items }
+    ensures shapes { map shape_of tables.new.items ≡ map shape_of tables.old.items }
     ensures alike { AreAllAlike tables.old.items tables.new.items }
 {
     for row in rows {

@@ -36,7 +36,7 @@ remove_at-moved-requires-clause-there c =
     let at = rw c.deref.ensures.value at (sym c.place_at.ensures ∙ c.in-Some.is) in
     let gen = subst (λ o. IsHolder e.generation (holder_in o)) at c.requires.holder in
     let there = row_there T P N c.requires.whole c.requires.known e p at gen in
-    let row : c.index-row.result ≡ number_of_row N e.index = get_or_read N e.index c.index-row.result (number_within T P N c.requires.whole c.requires.known e.index p at) c.index-row.ensures 0 in
+    let row : c.index-row.result.now ≡ number_of_row N e.index = get_or_read N e.index c.index-row.result.now (number_within T P N c.requires.whole c.requires.known e.index p at) c.index-row.ensures 0 in
     let here = ap (entity_in_row T p.table) row ∙ there in
     ap is_some here
 
@@ -55,20 +55,6 @@ index_mut-requires c =
     let same = c.args.numbers.now.ok.0 in
     omega arith
 
-pub index_mut-requires-2 : goal.index_mut-requires-2
-index_mut-requires-2 c =
-    let T = c.args.tables.now.items in
-    let P = c.args.places.now.items in
-    let N = c.args.numbers.now.items in
-    let e = c.args.e in
-    let p = c.in-Some.place in
-    let at = rw c.deref.ensures.value at (sym c.place_at.ensures ∙ c.in-Some.is) in
-    let gen = subst (λ o. IsHolder e.generation (holder_in o)) at c.requires.holder in
-    let there = row_there T P N c.requires.whole c.requires.known e p at gen in
-    let within = placed_within P e.index p at in
-    let same = c.args.places.now.ok.0 in
-    omega arith
-
 pub returns-in-Some-clause-owned : goal.returns-in-Some-clause-owned
 returns-in-Some-clause-owned c =
     let T = c.args.tables.now.items in
@@ -79,7 +65,7 @@ returns-in-Some-clause-owned c =
     let at = rw c.deref.ensures.value at (sym c.place_at.ensures ∙ c.in-Some.is) in
     let gen = subst (λ o. IsHolder e.generation (holder_in o)) at c.requires.holder in
     let there = row_there T P N c.requires.whole c.requires.known e p at gen in
-    let row : c.index-row.result ≡ number_of_row N e.index = get_or_read N e.index c.index-row.result (number_within T P N c.requires.whole c.requires.known e.index p at) c.index-row.ensures 0 in
+    let row : c.index-row.result.now ≡ number_of_row N e.index = get_or_read N e.index c.index-row.result.now (number_within T P N c.requires.whole c.requires.known e.index p at) c.index-row.ensures 0 in
     let here = ap (entity_in_row T p.table) row ∙ there in
     let m = c.remove_at-moved.result in
     let T' = c.remove_at-moved.new.tables.items in
@@ -96,7 +82,7 @@ returns-in-Some-clause-shapes c =
     let at = rw c.deref.ensures.value at (sym c.place_at.ensures ∙ c.in-Some.is) in
     let gen = subst (λ o. IsHolder e.generation (holder_in o)) at c.requires.holder in
     let there = row_there T P N c.requires.whole c.requires.known e p at gen in
-    let row : c.index-row.result ≡ number_of_row N e.index = get_or_read N e.index c.index-row.result (number_within T P N c.requires.whole c.requires.known e.index p at) c.index-row.ensures 0 in
+    let row : c.index-row.result.now ≡ number_of_row N e.index = get_or_read N e.index c.index-row.result.now (number_within T P N c.requires.whole c.requires.known e.index p at) c.index-row.ensures 0 in
     let here = ap (entity_in_row T p.table) row ∙ there in
     let m = c.remove_at-moved.result in
     let T' = c.remove_at-moved.new.tables.items in
@@ -113,7 +99,7 @@ returns-in-Some-clause-whole c =
     let at = rw c.deref.ensures.value at (sym c.place_at.ensures ∙ c.in-Some.is) in
     let gen = subst (λ o. IsHolder e.generation (holder_in o)) at c.requires.holder in
     let there = row_there T P N c.requires.whole c.requires.known e p at gen in
-    let row : c.index-row.result ≡ number_of_row N e.index = get_or_read N e.index c.index-row.result (number_within T P N c.requires.whole c.requires.known e.index p at) c.index-row.ensures 0 in
+    let row : c.index-row.result.now ≡ number_of_row N e.index = get_or_read N e.index c.index-row.result.now (number_within T P N c.requires.whole c.requires.known e.index p at) c.index-row.ensures 0 in
     let here = ap (entity_in_row T p.table) row ∙ there in
     let m = c.remove_at-moved.result in
     let T' = c.remove_at-moved.new.tables.items in
@@ -130,7 +116,7 @@ returns-in-Some-clause-cleared c =
     let at = rw c.deref.ensures.value at (sym c.place_at.ensures ∙ c.in-Some.is) in
     let gen = subst (λ o. IsHolder e.generation (holder_in o)) at c.requires.holder in
     let there = row_there T P N c.requires.whole c.requires.known e p at gen in
-    let row : c.index-row.result ≡ number_of_row N e.index = get_or_read N e.index c.index-row.result (number_within T P N c.requires.whole c.requires.known e.index p at) c.index-row.ensures 0 in
+    let row : c.index-row.result.now ≡ number_of_row N e.index = get_or_read N e.index c.index-row.result.now (number_within T P N c.requires.whole c.requires.known e.index p at) c.index-row.ensures 0 in
     let here = ap (entity_in_row T p.table) row ∙ there in
     let m = c.remove_at-moved.result in
     let T' = c.remove_at-moved.new.tables.items in
@@ -147,7 +133,7 @@ returns-in-Some-clause-known c =
     let at = rw c.deref.ensures.value at (sym c.place_at.ensures ∙ c.in-Some.is) in
     let gen = subst (λ o. IsHolder e.generation (holder_in o)) at c.requires.holder in
     let there = row_there T P N c.requires.whole c.requires.known e p at gen in
-    let row : c.index-row.result ≡ number_of_row N e.index = get_or_read N e.index c.index-row.result (number_within T P N c.requires.whole c.requires.known e.index p at) c.index-row.ensures 0 in
+    let row : c.index-row.result.now ≡ number_of_row N e.index = get_or_read N e.index c.index-row.result.now (number_within T P N c.requires.whole c.requires.known e.index p at) c.index-row.ensures 0 in
     let here = ap (entity_in_row T p.table) row ∙ there in
     let m = c.remove_at-moved.result in
     let T' = c.remove_at-moved.new.tables.items in
