@@ -322,12 +322,7 @@ impl Archetypes {
         ensures home { AreAllHome self.new.layout }
     {
         own_all(&mut self.tables, &mut self.shared)?;
-        clear_in(
-            &mut self.tables,
-            &mut self.places,
-            &mut self.row_numbers,
-            e,
-        );
+        clear_in(&mut self.tables, &mut self.places, &mut self.row_numbers, e);
         self.index.note_rows(&self.tables);
         Ok(())
     }

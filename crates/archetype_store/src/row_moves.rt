@@ -178,7 +178,12 @@ fn move_row(
         return;
     };
     if let None = arrives_in(places, row) {
-        renew_at(tables, to, numbers[e.index as usize], row.change.components());
+        renew_at(
+            tables,
+            to,
+            numbers[e.index as usize],
+            row.change.components(),
+        );
         return;
     }
     clear_in(tables, places, numbers, e);

@@ -170,13 +170,7 @@ pub(crate) fn components_at(
 }
 
 // Writes a component at a row of a table.
-pub(crate) fn write_at(
-    tables: &mut Vec<Table>,
-    table: usize,
-    row: usize,
-    value: Value,
-    tick: Tick,
-)
+pub(crate) fn write_at(tables: &mut Vec<Table>, table: usize, row: usize, value: Value, tick: Tick)
     requires shaped { AreShaped tables.old.items }
     requires row { IsSome (entity_in_row tables.old.items table row) }
     requires there { (e : Entity) → entity_in_row tables.old.items table row ≡ Some e → IsSome (cell_at (row_or_none (held_at tables.old.items table e)) (value_number value)) }

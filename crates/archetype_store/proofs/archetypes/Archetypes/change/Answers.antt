@@ -67,7 +67,7 @@ pub invariant_of-self-2 : goal.invariant_of-self-2
 invariant_of-self-2 c = record {
   stored = owned_stored c.change_in-changed.new.tables.items c.change_in-changed.new.places.items c.own_all.new.shared c.change_in-changed.ensures.whole c.change_in-changed.ensures.owned;
   indexed = subst (λ ts. IsIndexed ts c.note_rows.new.self) c.deref.ensures.value c.note_rows.ensures;
-      known = c.change_in-changed.ensures.known;
+  known = c.change_in-changed.ensures.known;
 }
 
 pub returns-clause-ok : goal.returns-clause-ok
