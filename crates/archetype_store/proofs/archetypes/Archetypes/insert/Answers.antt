@@ -34,8 +34,8 @@ invariant_of-self-in_err-own_all c =
     record {
       stored = alike_stored T T1 Q c.self.inside.shared c.own_all.new.shared c.own_all.ensures.alike (reached_whole T P Q c.reach.ensures.same c.self.invariant.stored.whole) c.self.invariant.stored.bare c.own_all.ensures.unshared;
       indexed = alike_indexed T T1 c.self.inside.index c.own_all.ensures.alike c.self.invariant.indexed;
-      known = known_kept T T1 Q c.reach.new.row_numbers.items (alike_entities T T1 c.own_all.ensures.alike)
-          (known_reached T P Q c.self.inside.row_numbers.items c.reach.new.row_numbers.items c.reach.ensures.same c.reach.ensures.numbers c.reach.ensures.as_many c.self.invariant.known);
+      known = known_kept T T1 Q c.reach.new.numbers.items (alike_entities T T1 c.own_all.ensures.alike)
+          (known_reached T P Q c.self.inside.row_numbers.items c.reach.new.numbers.items c.reach.ensures.same c.reach.ensures.numbers c.reach.ensures.as_many c.self.invariant.known);
     }
 
 pub returns-in_err-own_all-clause-err : goal.returns-in_err-own_all-clause-err
@@ -76,8 +76,8 @@ insert_in-inserted-requires-clause-known c =
     let P = c.self.inside.places.items in
     let Q = c.reach.new.places.items in
     let T1 = c.own_all.new.tables.items in
-    known_kept T T1 Q c.reach.new.row_numbers.items (alike_entities T T1 c.own_all.ensures.alike)
-    (known_reached T P Q c.self.inside.row_numbers.items c.reach.new.row_numbers.items c.reach.ensures.same c.reach.ensures.numbers c.reach.ensures.as_many c.self.invariant.known)
+    known_kept T T1 Q c.reach.new.numbers.items (alike_entities T T1 c.own_all.ensures.alike)
+    (known_reached T P Q c.self.inside.row_numbers.items c.reach.new.numbers.items c.reach.ensures.same c.reach.ensures.numbers c.reach.ensures.as_many c.self.invariant.known)
 
 pub invariant_of-self-2 : goal.invariant_of-self-2
 invariant_of-self-2 c =
