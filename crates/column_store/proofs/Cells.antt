@@ -1,6 +1,7 @@
 -- Cells of words and stamps, and edits of them.
 use Rattle.std.proofs.Common.{◌≡◌, ℕ, zero, suc, ◌-◌, ◌<◌, ◌≤◌, min, ℤ, List, [], ◌∷◌, ◌++◌, length, get_or, set, take, option_map, refl, sym, ap, ◌∙◌, arith}
 use Rattle.std.specs.List.{swap_remove}
+use Rattle.kinds.specs.Components.{word_at}
 use Rattle.std.specs.Prelude.{slice_get, Some}
 use Rattle.change_ticks.specs.declared.stamp.Stamp.{Stamp}
 use Rattle.model.specs.state.State.{Cell}
@@ -92,6 +93,14 @@ words-cells_of [] ss i w l h = absurd (cc)
 words-cells_of (x ∷ ws) [] i w l h = absurd (omega arith)
 words-cells_of (x ∷ ws) (y ∷ ss) zero w l h = cc
 words-cells_of (x ∷ ws) (y ∷ ss) (suc i) w l h = words-cells_of ws ss i w (omega arith) h
+
+-- a word of the component at a place
+pub word-cells_of : (ws : List (List ℤ)) (ss : List Stamp) (i field : ℕ) → length ws ≡ length ss →
+    option_map (λ (c : Cell). word_at c.words field) (slice_get (cells_of ws ss) i) ≡ option_map (λ (w : List ℤ). word_at w field) (slice_get ws i)
+word-cells_of [] ss i field h = refl
+word-cells_of (w ∷ ws) [] i field h = absurd (omega arith)
+word-cells_of (w ∷ ws) (s ∷ ss) zero field h = refl
+word-cells_of (w ∷ ws) (s ∷ ss) (suc i) field h = word-cells_of ws ss i field (omega arith)
 
 -- the stamp at a place
 pub stamp-cells_of : (ws : List (List ℤ)) (ss : List Stamp) (i : ℕ) (s : Stamp) → length ws ≡ length ss → slice_get ss i ≡ Some s → option_map stamp_of (slice_get (cells_of ws ss) i) ≡ Some s

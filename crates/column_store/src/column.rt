@@ -1,9 +1,9 @@
 // A column without stamps: the components of one kind, packed by their shape.
 
-ghost use Rattle.std.specs.Prelude.{◌≡◌, ◌+◌, ◌<◌, ◌≤◌, ◌++◌, ◌∷◌, [], Some, length, slice_get, slice_set, take, IfOk, OnOk};
+ghost use Rattle.std.specs.Prelude.{◌≡◌, ◌+◌, ◌<◌, ◌≤◌, ◌++◌, ◌∷◌, [], map, option_map, Some, length, slice_get, slice_set, take, IfOk, OnOk};
 ghost use Rattle.std.specs.List.{AllByRecursion};
 ghost use Rattle.kinds.specs.Kind.{kind_number};
-ghost use Rattle.kinds.specs.Components.{widths};
+ghost use Rattle.kinds.specs.Components.{widths, word_at};
 ghost use Rattle.kinds.specs.Value.{value_number, value_words};
 ghost use Rattle.column_store.specs.Swapped.{swap_removed};
 
@@ -31,7 +31,7 @@ pub(crate) struct Column {
 impl Model for Column {
     ghost use Rattle.std.specs.Prelude.{◌≡◌};
     ghost use Rattle.kinds.specs.Kind.{kind_number};
-    ghost use Rattle.kinds.specs.Components.{widths};
+    ghost use Rattle.kinds.specs.Components.{widths, word_at};
     ghost use Rattle.column_store.specs.Words.{ColumnWords};
 
     ghost Value = { ColumnWords };
@@ -101,6 +101,18 @@ impl Column {
             Packs::Marks(items) => items[place].fields(),
             Packs::Amounts(items) => items[place].fields(),
             Packs::Pairs(items) => items[place].fields(),
+        }
+    }
+
+    // The word of a field of the component at a place, 0 where the kind has no such field.
+    pub(crate) fn word(&self, place: usize, field: usize) -> i64
+        requires { place < length self.now.words }
+        ensures { option_map (λ ws. word_at ws field) (slice_get self.now.words place) ≡ Some result }
+    {
+        match &self.packs {
+            Packs::Marks(items) => items[place].word(field),
+            Packs::Amounts(items) => items[place].word(field),
+            Packs::Pairs(items) => items[place].word(field),
         }
     }
 

@@ -1,7 +1,7 @@
 // What a column holds for a row: the fields of a component, with no word more than its kind has.
 
 ghost use Rattle.std.specs.Prelude.{◌≡◌, ℕ, ℤ, List, length, take, refl};
-ghost use Rattle.kinds.specs.Components.{widths, one_word, two_words, no_words};
+ghost use Rattle.kinds.specs.Components.{widths, word_at, one_word, two_words, no_words};
 ghost use Rattle.kinds.specs.Value.{value_number, value_words};
 ghost use Rattle.column_store.specs.Packed.{mark_words, amount_words, pair_words};
 
@@ -25,6 +25,10 @@ pub(crate) trait Packed: Copy {
     // As words, in order.
     fn fields(self) -> Fields
         ensures { result ≡ words self };
+
+    // The word of a field, 0 where there is no such field.
+    fn word(self, field: usize) -> i64
+        ensures { result ≡ word_at (words self) field };
 
     ghost same_width: { (p : Self) → length (words p) ≡ WIDTH };
 }
@@ -66,6 +70,10 @@ impl Packed for Mark {
     fn fields(self) -> Fields {
         Fields::none()
     }
+
+    fn word(self, _field: usize) -> i64 {
+        0
+    }
 }
 
 impl Packed for Amount {
@@ -88,6 +96,13 @@ impl Packed for Amount {
 
     fn fields(self) -> Fields {
         Fields::one(self.v)
+    }
+
+    fn word(self, field: usize) -> i64 {
+        match field {
+            0 => self.v,
+            _ => 0,
+        }
     }
 }
 
@@ -117,5 +132,13 @@ impl Packed for Pair {
 
     fn fields(self) -> Fields {
         Fields::two(self.x, self.y)
+    }
+
+    fn word(self, field: usize) -> i64 {
+        match field {
+            0 => self.x,
+            1 => self.y,
+            _ => 0,
+        }
     }
 }

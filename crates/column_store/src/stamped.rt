@@ -4,7 +4,7 @@ ghost use Rattle.std.specs.Prelude.{◌≡◌, ◌+◌, ◌<◌, ◌≤◌, ◌+
 ghost use Rattle.std.specs.List.{AllByRecursion};
 ghost use Rattle.kinds.specs.Kind.{kind_number};
 ghost use Rattle.kinds.specs.Value.{value_number, value_words};
-ghost use Rattle.kinds.specs.Components.{widths};
+ghost use Rattle.kinds.specs.Components.{widths, word_at};
 ghost use Rattle.model.specs.Lists.{update_at};
 ghost use Rattle.column_store.specs.Cells.{stamped_number, stamped_cell, stamp_of, changed_cell};
 ghost use Rattle.column_store.specs.Swapped.{swap_removed};
@@ -111,6 +111,14 @@ impl StampedColumn {
         ensures width { length result ≡ widths self.now.kind }
     {
         self.column.fields(place)
+    }
+
+    /// The word of a field of the component at a place, 0 where the kind has no such field.
+    pub fn word(&self, place: usize, field: usize) -> i64
+        requires { place < length self.now.cells }
+        ensures { option_map (λ c. word_at c.words field) (slice_get self.now.cells place) ≡ Some result }
+    {
+        self.column.word(place, field)
     }
 
     /// The component at a place, of the column's type.

@@ -5,11 +5,12 @@ use Rattle.std.proofs.lemmas.Bool.{ne_eqb}
 use Rattle.model.specs.declared.entities.Entity.{Entity}
 use Rattle.model.specs.Lists.{is_there}
 use Rattle.model.specs.state.State.{Slot}
+use Rattle.column_store.specs.RowOrder.{numbers_from, entity_at}
 use Rattle.archetype_store.specs.Layout.{Archetype, archetype_at}
 use Rattle.query_plan.specs.declared.row.Row.{Row}
 use Rattle.model.specs.access.Query.{Term}
 use Rattle.query_plan.specs.Places.{every_row, AreEvery}
-use Rattle.query_plan.specs.Standing.{is_row_at, rows_in}
+use Rattle.query_plan.specs.Standing.{is_row_at, rows_among}
 
 -- as many as entities
 pub length-every : (n place : ℕ) (es : List Entity) → length (every_row n place es) ≡ length es
@@ -71,13 +72,20 @@ pub every_done : (n place : ℕ) (es : List Entity) (rows all : List Row) → le
 every_done n place es rows all l h = sym (append-nil rows) ∙ ap (λ rs. rows ++ rs) (sym (ap (every_row n place) (drop_all place es l))) ∙ h
 
 -- where each is a row they are all
-pub every_is : (query : List Term) (last : ℕ) (slots : List Slot) (n place : ℕ) (es : List Entity) (d : Entity) → ((i : ℕ) → i < length es → is_row_at query last slots (get_or es i d).index ≡ true) →
-    every_row n place es ≡ rows_in query last slots n place es
-every_is query last slots n place [] d h = refl
-every_is query last slots n place (e ∷ es) d h =
-    let r : Row = record { entity = e; archetype = n; place = place } in
-    ap (λ rs. r ∷ rs) (every_is query last slots n (suc place) es d (λ i l. h (suc i) (omega arith)))
-    ∙ sym (ap (λ b. cond b (r ∷ rows_in query last slots n (suc place) es) (rows_in query last slots n (suc place) es)) (h 0 (omega arith)))
+module _ (query : List Term) (last : ℕ) (slots : List Slot) (n : ℕ) (es : List Entity) (all : (i : ℕ) → i < length es → is_row_at query last slots (entity_at es i).index ≡ true) where
+  every_from : (place count : ℕ) → place + count ≡ length es → every_row n place (drop place es) ≡ rows_among query last slots n es (numbers_from place count)
+  every_from place zero h = ap (every_row n place) (drop_all place es (omega arith))
+  every_from place (suc count) h =
+      let d : Entity = record { index = 0; generation = 0 } in
+      let r : Row = record { entity = entity_at es place; archetype = n; place = place } in
+      let next : place + 1 ≡ suc place = omega arith in
+      ap (every_row n place) (drop_more es place d (omega arith))
+      ∙ ap (λ p. r ∷ every_row n (suc place) (drop p es)) next
+      ∙ ap (λ rs. r ∷ rs) (every_from (suc place) count (omega arith))
+      ∙ sym (ap (λ b. cond b (r ∷ rows_among query last slots n es (numbers_from (suc place) count)) (rows_among query last slots n es (numbers_from (suc place) count))) (all place (omega arith)))
+
+  pub every_is : every_row n 0 es ≡ rows_among query last slots n es (numbers_from 0 (length es))
+  every_is = every_from 0 (length es) (omega arith)
 
 -- of which none is there
 pub none_there : {A : Type 0} (xs : List A) → not (is_there xs) ≡ true → xs ≡ []

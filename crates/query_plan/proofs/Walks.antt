@@ -1,5 +1,5 @@
 -- The entities of an archetype gone through by their places, and archetypes by their numbers.
-use Rattle.std.proofs.Common.{◌≡◌, ℕ, suc, ◌+◌, ◌<◌, ◌≤◌, Bool, true, false, cond, ◌&&◌, ◌==◌, List, [], ◌∷◌, ◌++◌, length, get_or, map, drop, slice_get, refl, sym, ap, ap₂, ◌∙◌, append_assoc, append-nil, arith}
+use Rattle.std.proofs.Common.{◌≡◌, ℕ, suc, ◌+◌, ◌<◌, ◌≤◌, Bool, true, false, cond, ◌&&◌, ◌==◌, List, [], ◌∷◌, ◌++◌, length, get_or, map, drop, slice_get, refl, sym, ap, ap₂, subst, ◌∙◌, append_assoc, append-nil, arith}
 use Rattle.std.specs.List.{AllByRecursion, list_all}
 use Rattle.std.proofs.lemmas.Bool.{and_parts}
 use Rattle.std.proofs.lemmas.List.{drop_more, drop_all, length-map, get_or-map}
@@ -12,6 +12,7 @@ use Rattle.model.specs.state.Commands.{is_alive}
 use Rattle.model.specs.access.Query.{Term, matches}
 use Rattle.model.specs.shown.Input.{passes}
 use Rattle.model.proofs.lists.Each.{each-at}
+use Rattle.column_store.specs.RowOrder.{entity_at, IsOrderOf}
 use Rattle.archetype_store.specs.Layout.{Archetype, archetype_at, IsLayoutOf}
 use Rattle.archetype_store.proofs.RowEdits.{kinds-among}
 use Rattle.archetype_store.specs.declared.tables.ArchetypeView.{ArchetypeView}
@@ -19,7 +20,7 @@ use Rattle.query.specs.declared.term.Term.{Term as QueryTerm}
 use Rattle.query.specs.Term.{term_of}
 use Rattle.query_plan.specs.declared.row.Row.{Row}
 use Rattle.query_plan.specs.declared.filter.Filter.{Filter}
-use Rattle.query_plan.specs.Standing.{is_row_at, rows_in, is_newer}
+use Rattle.query_plan.specs.Standing.{is_row_at, rows_among, is_newer}
 use Rattle.query_plan.specs.Filters.{AreFiltersOf}
 use Rattle.query_plan.proofs.Gathered.{all_among}
 
@@ -57,48 +58,51 @@ module _ (query : List Term) (last : ℕ) (slots : List Slot) (layout : List Arc
       are.passed last place e (slice_get-get_or es place d l) alive ∙ sym (row_is e alive (same ∙ match))
 
   -- an archetype that isn't matched has no rows
-  unmatched : (es : List Entity) (place : ℕ) → AllByRecursion (λ e. matches query (kinds_of (row_at slots e.index)) ≡ false) es → rows_in query last slots n place es ≡ []
-  unmatched [] place h = refl
-  unmatched (e ∷ es) place h =
+  unmatched : (es : List Entity) (places : List ℕ) → AllByRecursion (λ p. p < length es) places → AllByRecursion (λ e. matches query (kinds_of (row_at slots e.index)) ≡ false) es → rows_among query last slots n es places ≡ []
+  unmatched es [] within h = refl
+  unmatched es (p ∷ ps) within h =
+      let e = entity_at es p in
+      let here = each-at (λ (x : Entity). matches query (kinds_of (row_at slots x.index)) ≡ false) es p (record { index = 0; generation = 0 }) within.0 h in
       let s = get_or slots e.index fresh_slot in
-      let out : is_row_at query last slots e.index ≡ false = ap (λ b. is_living s.status && b && list_all (passes last s.row) query) h.0 ∙ ap (λ b. b && list_all (passes last s.row) query) (and_no (is_living s.status)) in
-      ap (λ b. cond b ((let r : Row = record { entity = e; archetype = n; place = place } in r) ∷ rows_in query last slots n (suc place) es) (rows_in query last slots n (suc place) es)) out
-      ∙ unmatched es (suc place) h.1
+      let out : is_row_at query last slots e.index ≡ false = ap (λ b. is_living s.status && b && list_all (passes last s.row) query) here ∙ ap (λ b. b && list_all (passes last s.row) query) (and_no (is_living s.status)) in
+      ap (λ b. cond b ((let r : Row = record { entity = e; archetype = n; place = p } in r) ∷ rows_among query last slots n es ps) (rows_among query last slots n es ps)) out
+      ∙ unmatched es ps within.1 h
     where
       and_no : (b : Bool) → (b && false) ≡ false
       and_no true = refl
       and_no false = refl
 
-  pub archetype_passed : matches query (λ kind. has kind (archetype_at layout n).kinds) ≡ false → [] ≡ rows_in query last slots n 0 (archetype_at layout n).entities
-  archetype_passed unlike =
+  pub archetype_passed : (es : List Entity) (places : List ℕ) → es ≡ (archetype_at layout n).entities → IsOrderOf es places → matches query (λ kind. has kind (archetype_at layout n).kinds) ≡ false →
+      [] ≡ rows_among query last slots n es places
+  archetype_passed es places same order unlike =
       let none = all_among (λ e. matches query (kinds_of (row_at slots e.index)) ≡ false) (archetype_at layout n).entities
       (λ e m. matches_row query (row_at slots e.index) (archetype_at layout n).kinds (laid.theirs n e m).1 ∙ unlike) in
-      sym (unmatched (archetype_at layout n).entities 0 none)
+      sym (unmatched es places order.within (subst (AllByRecursion (λ e. matches query (kinds_of (row_at slots e.index)) ≡ false)) (sym same) none))
 
 -- ---- places, one by one
 
-module _ (query : List Term) (last : ℕ) (slots : List Slot) (n place : ℕ) (es : List Entity) (d : Entity) (rows all : List Row) (l : place < length es)
-    (so_far : rows ++ rows_in query last slots n place (drop place es) ≡ all) where
-  here : (b : Bool) → is_row_at query last slots (get_or es place d).index ≡ b → rows_in query last slots n place (drop place es)
-      ≡ cond b (record { entity = get_or es place d; archetype = n; place = place } ∷ rows_in query last slots n (place + 1) (drop (place + 1) es)) (rows_in query last slots n (place + 1) (drop (place + 1) es))
-  here b is =
-      ap (rows_in query last slots n place) (drop_more es place d l)
-      ∙ ap₂ (λ c p. cond c ((let r : Row = record { entity = get_or es place d; archetype = n; place = place } in r) ∷ rows_in query last slots n p (drop (place + 1) es)) (rows_in query last slots n p (drop (place + 1) es)))
-      is (let e : suc place ≡ place + 1 = omega arith in e)
+module _ (query : List Term) (last : ℕ) (slots : List Slot) (n at : ℕ) (es : List Entity) (places : List ℕ) (rows all : List Row) (l : at < length places)
+    (so_far : rows ++ rows_among query last slots n es (drop at places) ≡ all) where
+  here : (b : Bool) (place : ℕ) → place ≡ get_or places at 0 → is_row_at query last slots (entity_at es place).index ≡ b → rows_among query last slots n es (drop at places)
+      ≡ cond b (record { entity = entity_at es place; archetype = n; place = place } ∷ rows_among query last slots n es (drop (at + 1) places)) (rows_among query last slots n es (drop (at + 1) places))
+  here b place there is =
+      ap (rows_among query last slots n es) (drop_more places at 0 l ∙ ap (λ p. p ∷ drop (at + 1) places) (sym there))
+      ∙ ap (λ c. cond c ((let r : Row = record { entity = entity_at es place; archetype = n; place = place } in r) ∷ rows_among query last slots n es (drop (at + 1) places)) (rows_among query last slots n es (drop (at + 1) places))) is
 
-  pub place_taken : is_row_at query last slots (get_or es place d).index ≡ true →
-      (rows ++ record { entity = get_or es place d; archetype = n; place = place } ∷ []) ++ rows_in query last slots n (place + 1) (drop (place + 1) es) ≡ all
-  place_taken is =
-      append_assoc rows (record { entity = get_or es place d; archetype = n; place = place } ∷ []) (rows_in query last slots n (place + 1) (drop (place + 1) es))
-      ∙ ap (λ rs. rows ++ rs) (sym (here true is)) ∙ so_far
+  pub place_taken : (place : ℕ) (e : Entity) → place ≡ get_or places at 0 → e ≡ entity_at es place → is_row_at query last slots (entity_at es place).index ≡ true →
+      (rows ++ record { entity = e; archetype = n; place = place } ∷ []) ++ rows_among query last slots n es (drop (at + 1) places) ≡ all
+  place_taken place e there whose is =
+      append_assoc rows (record { entity = e; archetype = n; place = place } ∷ []) (rows_among query last slots n es (drop (at + 1) places))
+      ∙ ap (λ x. rows ++ (let r : Row = record { entity = x; archetype = n; place = place } in r) ∷ rows_among query last slots n es (drop (at + 1) places)) whose
+      ∙ ap (λ rs. rows ++ rs) (sym (here true place there is)) ∙ so_far
 
-  pub place_passed : is_row_at query last slots (get_or es place d).index ≡ false → rows ++ rows_in query last slots n (place + 1) (drop (place + 1) es) ≡ all
-  place_passed is = ap (λ rs. rows ++ rs) (sym (here false is)) ∙ so_far
+  pub place_passed : (place : ℕ) → place ≡ get_or places at 0 → is_row_at query last slots (entity_at es place).index ≡ false → rows ++ rows_among query last slots n es (drop (at + 1) places) ≡ all
+  place_passed place there is = ap (λ rs. rows ++ rs) (sym (here false place there is)) ∙ so_far
 
-pub places_done : (query : List Term) (last : ℕ) (slots : List Slot) (n place : ℕ) (es : List Entity) (rows all : List Row) → length es ≤ place →
-    rows ++ rows_in query last slots n place (drop place es) ≡ all → rows ≡ all
-places_done query last slots n place es rows all l h =
-    sym (append-nil rows) ∙ ap (λ rs. rows ++ rs) (sym (ap (rows_in query last slots n place) (drop_all place es l))) ∙ h
+pub places_done : (query : List Term) (last : ℕ) (slots : List Slot) (n at : ℕ) (es : List Entity) (places : List ℕ) (rows all : List Row) → length places ≤ at →
+    rows ++ rows_among query last slots n es (drop at places) ≡ all → rows ≡ all
+places_done query last slots n at es places rows all l h =
+    sym (append-nil rows) ∙ ap (λ rs. rows ++ rs) (sym (ap (rows_among query last slots n es) (drop_all at places l))) ∙ h
 
 -- the test of filters is that of a row, where it is known by another name
 pub place_tested : (query : List Term) (last : ℕ) (slots : List Slot) (layout : List Archetype) (n : ℕ) (fs : List Filter) (es : List Entity) (place : ℕ) (d : Entity) (b : Bool) → IsLayoutOf slots layout →

@@ -7,6 +7,7 @@ use Rattle.model.specs.state.State.{Cell, Slot, fresh_slot}
 use Rattle.model.specs.access.Query.{Term, matches}
 use Rattle.model.specs.access.Query.Term.{Added, Changed}
 use Rattle.model.specs.shown.Input.{is_row, added_since, changed_since}
+use Rattle.column_store.specs.RowOrder.{entity_at}
 use Rattle.archetype_store.specs.Layout.{Archetype, archetype_at, column_home, has_index, AreAllHome, IsLayoutOf}
 use Rattle.query_plan.specs.declared.row.Row.{Row}
 use Rattle.query_plan.specs.Picks.{picks_of}
@@ -15,12 +16,12 @@ use Rattle.query_plan.specs.Picks.{picks_of}
 abbrev pub is_row_at : List Term → ℕ → List Slot → ℕ → Bool
 is_row_at query last slots index = is_row query last (get_or slots index fresh_slot)
 
--- those of these entities that are rows, which stand from a place on in the archetype of a number
-abbrev pub rows_in : List Term → ℕ → List Slot → ℕ → ℕ → List Entity → List Row
-rows_in query last slots n place [] = []
-rows_in query last slots n place (e ∷ es) = cond (is_row_at query last slots e.index)
-    (record { entity = e; archetype = n; place = place } ∷ rows_in query last slots n (suc place) es)
-    (rows_in query last slots n (suc place) es)
+-- the rows among the entities at these places in the archetype of a number
+abbrev pub rows_among : List Term → ℕ → List Slot → ℕ → List Entity → List ℕ → List Row
+rows_among query last slots n entities [] = []
+rows_among query last slots n entities (place ∷ places) = cond (is_row_at query last slots (entity_at entities place).index)
+    (record { entity = entity_at entities place; archetype = n; place = place } ∷ rows_among query last slots n entities places)
+    (rows_among query last slots n entities places)
 
 -- two lists of rows as one, by index. An index that is in both is taken once
 abbrev pub merged : List Row → List Row → List Row
