@@ -116,11 +116,6 @@ pub record IsStored (tables : List TableValue) (places : List (Option EntityLoca
   pub bare : AreBareHome tables
   pub unshared : shared ≡ false → AreUnshared tables
 
--- the same, with an index of the tables
-pub record IsWhole (tables : List TableValue) (index : TableIndex) (places : List (Option EntityLocation)) (shared : Bool) : Type 0 where
-  pub stored : IsStored tables places shared
-  pub indexed : IsIndexed tables index
-
 -- ---- cells of columns
 
 -- the cells of a kind of these entities, by rows

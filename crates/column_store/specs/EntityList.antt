@@ -1,12 +1,37 @@
--- The copy of a table's entities that readers elsewhere have a part in.
+-- The entities of a table: their order, and the copy of them that readers elsewhere have a part in.
 use Rattle.std.specs.Prelude.{Vec}
 use Rattle.std.specs.declared.sync.Arc.{Arc}
 use Rattle.std.specs.declared.alloc.Global.{Global}
-use Rattle.std.specs.Prelude.{◌≡◌, List, Option, None, Some}
+use Rattle.std.specs.Prelude.{◌≡◌, ℕ, ◌<◌, ◌≤◌, ◌^◌, ◌-◌, Bool, true, false, cond, min, List, length, vec_len, vec_capacity, Option, None, Some}
 use Rattle.std.specs.Arc.{arc_value}
 use Rattle.model.specs.declared.entities.Entity.{Entity}
+use Rattle.column_store.specs.Order.{AreRising, AreApart}
+use Rattle.column_store.specs.RowOrder.{IsOrderOf}
+
+-- entities, row by row, and for how many there is room
+pub record EntityListValue : Type 0 where
+  pub list : List Entity
+  pub room : ℕ
+
+-- so many rows have numbers of 32 bits
+abbrev pub row_limit : ℕ
+row_limit = 2 ^ 32 - 1
 
 -- a copy is of just these entities
 abbrev pub IsCopy : List Entity → Option (Arc (Vec Entity Global) Global) → Type 0
 IsCopy entities None = Unit {0}
 IsCopy entities (Some copy) = (arc_value copy).items ≡ entities
+
+-- the order as it is kept: rows in turn, or by these numbers
+abbrev pub IsKept : List Entity → Bool → List ℕ → Type 0
+IsKept entities false numbers = AreRising entities
+IsKept entities true numbers = IsOrderOf entities numbers
+
+-- what holds of the inside of a list
+pub record IsEntityList (entities : List Entity) (listed : Bool) (numbers : Vec ℕ Global) (copy : Option (Arc (Vec Entity Global) Global)) : Type 0 where
+  pub apart : AreApart entities
+  pub kept : IsKept entities listed numbers.items
+  pub as_many : vec_len numbers ≡ cond listed (length entities) 0
+  pub room : length entities ≤ vec_capacity numbers
+  pub few : length entities ≤ row_limit
+  pub copied : IsCopy entities copy
