@@ -1,5 +1,5 @@
 -- What every table keeps.
-use Rattle.std.proofs.Common.{◌≡◌, ℕ, zero, suc, ◌+◌, ◌-◌, ◌<◌, ◌≤◌, ℤ, ◌==◌, true, false, ◌⊎◌, inl, inr, List, [], ◌∷◌, ◌++◌, length, get_or, map, Some, refl, sym, ap, ap₂, subst, ◌∙◌, arith}
+use Rattle.std.proofs.Common.{◌≡◌, ℕ, zero, suc, ◌+◌, ◌-◌, ◌<◌, ◌≤◌, ℤ, ◌==◌, ◌⊎◌, inl, inr, List, [], ◌∷◌, ◌++◌, length, map, Some, refl, sym, ap, ap₂, subst, ◌∙◌, arith}
 use Rattle.std.proofs.lemmas.Bool.{cases_eq}
 use Rattle.std.proofs.lemmas.Bool.Decides.{nat_tests}
 use Rattle.std.proofs.lemmas.List.{length_push}
@@ -18,7 +18,7 @@ use Rattle.column_store.specs.Order.{is_same, AreApart}
 use Rattle.column_store.specs.Places.{IsPlace, IsNowhere}
 use Rattle.column_store.specs.Swapped.{swap_removed}
 use Rattle.column_store.specs.Table.{Standing, ColumnSlotValue}
-use Rattle.column_store.specs.Inside.{kind_in, standing_at, owned_slot, seen_column, seen_slot, with_cells, write_in, swap_out_in, push_all, replace_all, HasRoom, IsOfLength, IsOwned, Takes, AllTake, AllRenew, AreRoomier, IsTable}
+use Rattle.column_store.specs.Inside.{kind_in, standing_at, owned_slot, seen_column, seen_slot, write_in, swap_out_in, push_all, replace_all, HasRoom, IsOfLength, IsOwned, AllTake, AllRenew, AreRoomier, IsTable}
 use Rattle.column_store.proofs.Lists.{map-update_at_same, each-updated}
 use Rattle.column_store.proofs.Swapped.{length-swap_removed, get-swap_here, get-swap_other}
 use Rattle.column_store.proofs.Apart.{get_within, get_push, elsewhere}

@@ -15,5 +15,6 @@ pub mod Edited
 pub mod Made
 pub mod Copied
 pub mod Roomy
+pub mod Gaps
 pub mod Listed
 pub mod TheirComponents

@@ -1,12 +1,12 @@
 -- What the inside of a list of entities is after one more or one less.
-use Rattle.std.proofs.Common.{◌≡◌, ℕ, ◌+◌, ◌-◌, ◌<◌, ◌≤◌, Bool, true, false, not, cond, ◌==◌, List, [], ◌∷◌, ◌++◌, length, take, set, get_or, None, Option, refl, sym, ap, subst, ◌∙◌, vec_len, arith}
-use Rattle.std.specs.Prelude.{Vec, vec_capacity}
+use Rattle.std.proofs.Common.{◌≡◌, ℕ, ◌+◌, ◌-◌, ◌<◌, ◌≤◌, Bool, true, false, not, cond, ◌==◌, List, [], ◌∷◌, ◌++◌, length, take, set, get_or, None, Option, sym, ap, subst, ◌∙◌, arith}
+use Rattle.std.specs.Prelude.{Vec}
 use Rattle.std.specs.declared.alloc.Global.{Global}
 use Rattle.std.specs.declared.sync.Arc.{Arc}
 use Rattle.std.proofs.lemmas.Bool.{eqb-true}
 use Rattle.std.proofs.lemmas.List.{length_push, take-set-le}
 use Rattle.model.specs.declared.entities.Entity.{Entity}
-use Rattle.column_store.specs.EntityList.{row_limit, IsCopy, IsKept, IsEntityList}
+use Rattle.column_store.specs.EntityList.{GapListValue, row_limit, IsCopy, IsKept, IsEntityList}
 use Rattle.column_store.specs.Order.{is_same, AreApart, AreRising}
 use Rattle.column_store.specs.Places.{IsNowhere}
 use Rattle.column_store.specs.RowOrder.{IsOrderOf}
@@ -28,9 +28,9 @@ none_rising : (es : List Entity) → length es ≡ 0 → AreRising es
 none_rising [] l = tt
 none_rising (x ∷ xs) l = absurd (omega arith)
 
-module _ (es es' : List Entity) (listed : Bool) (numbers : Vec ℕ Global) where
-  pub pushed_listed : (e : Entity) → AreApart es → IsNowhere (λ x. is_same x e) es → es' ≡ es ++ e ∷ [] → listed ≡ true → IsOrderOf (es ++ e ∷ []) numbers.items → vec_len numbers ≡ length es + 1 →
-      length es + 1 ≤ vec_capacity numbers → length es + 1 ≤ row_limit → IsEntityList es' listed numbers None
+module _ (es es' : List Entity) (listed : Bool) (numbers : GapListValue) where
+  pub pushed_listed : (e : Entity) → AreApart es → IsNowhere (λ x. is_same x e) es → es' ≡ es ++ e ∷ [] → listed ≡ true → IsOrderOf (es ++ e ∷ []) numbers.items → length numbers.items ≡ length es + 1 →
+      length es + 1 ≤ numbers.room → length es + 1 ≤ row_limit → IsEntityList es' listed numbers None
   pushed_listed e apart absent is on order many room few =
       let long : length es' ≡ length es + 1 = ap length is ∙ length_push es e in
       record {
@@ -43,7 +43,7 @@ module _ (es es' : List Entity) (listed : Bool) (numbers : Vec ℕ Global) where
       }
 
   pub pushed_rising : (e : Entity) (copy : Option (Arc (Vec Entity Global) Global)) → AreApart es → IsNowhere (λ x. is_same x e) es → es' ≡ es ++ e ∷ [] → listed ≡ false → AreRising (es ++ e ∷ []) →
-      vec_len numbers ≡ cond listed (length es) 0 → length es + 1 ≤ vec_capacity numbers → length es + 1 ≤ row_limit → copy ≡ None → IsEntityList es' listed numbers copy
+      length numbers.items ≡ cond listed (length es) 0 → length es + 1 ≤ numbers.room → length es + 1 ≤ row_limit → copy ≡ None → IsEntityList es' listed numbers copy
   pushed_rising e copy apart absent is off rising many room few none =
       let long : length es' ≡ length es + 1 = ap length is ∙ length_push es e in
       record {
@@ -59,8 +59,8 @@ module _ (es es' : List Entity) (listed : Bool) (numbers : Vec ℕ Global) where
     shorter : length es' + 1 ≡ length es
     shorter = ap (λ xs. length xs + 1) is ∙ length-swap_removed es row within
 
-    pub removed_listed : (empty : Bool) → empty ≡ (vec_len numbers == 0) → listed ≡ not empty → IsOrderOf (swap_removed es row) numbers.items → vec_len numbers + 1 ≡ length es →
-        length es ≤ vec_capacity numbers → length es ≤ row_limit → IsEntityList es' listed numbers None
+    pub removed_listed : (empty : Bool) → empty ≡ (length numbers.items == 0) → listed ≡ not empty → IsOrderOf (swap_removed es row) numbers.items → length numbers.items + 1 ≡ length es →
+        length es ≤ numbers.room → length es ≤ row_limit → IsEntityList es' listed numbers None
     removed_listed empty test on order many room few =
         let less = shorter in
         record {
@@ -72,16 +72,16 @@ module _ (es es' : List Entity) (listed : Bool) (numbers : Vec ℕ Global) where
           copied = tt;
         }
       where
-        kept : (b : Bool) → b ≡ (vec_len numbers == 0) → IsKept es' (not b) numbers.items
-        kept true t = none_rising es' (let less = shorter in let none = eqb-true (vec_len numbers) 0 (sym t) in omega arith)
+        kept : (b : Bool) → b ≡ (length numbers.items == 0) → IsKept es' (not b) numbers.items
+        kept true t = none_rising es' (let less = shorter in let none = eqb-true (length numbers.items) 0 (sym t) in omega arith)
         kept false t = subst (λ xs. IsOrderOf xs numbers.items) (sym is) order
 
-        as_many : (b : Bool) → b ≡ (vec_len numbers == 0) → vec_len numbers ≡ cond (not b) (length es') 0
-        as_many true t = eqb-true (vec_len numbers) 0 (sym t)
+        as_many : (b : Bool) → b ≡ (length numbers.items == 0) → length numbers.items ≡ cond (not b) (length es') 0
+        as_many true t = eqb-true (length numbers.items) 0 (sym t)
         as_many false t = (let less = shorter in omega arith)
 
-    pub removed_rising : (copy : Option (Arc (Vec Entity Global) Global)) → listed ≡ false → AreRising es → row + 1 ≡ length es → vec_len numbers ≡ cond listed (length es) 0 →
-        length es ≤ vec_capacity numbers → length es ≤ row_limit → copy ≡ None → IsEntityList es' listed numbers copy
+    pub removed_rising : (copy : Option (Arc (Vec Entity Global) Global)) → listed ≡ false → AreRising es → row + 1 ≡ length es → length numbers.items ≡ cond listed (length es) 0 →
+        length es ≤ numbers.room → length es ≤ row_limit → copy ≡ None → IsEntityList es' listed numbers copy
     removed_rising copy off rising last many room few none =
         let less = shorter in
         record {

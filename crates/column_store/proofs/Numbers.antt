@@ -2,11 +2,9 @@
 use Rattle.std.proofs.Common.{◌≡◌, ℕ, zero, suc, ◌+◌, ◌-◌, ◌<◌, ◌≤◌, Bool, true, false, ◌==◌, ◌||◌, ◌&&◌, nat_lt, ◌⊎◌, inl, inr, List, [], ◌∷◌, ◌++◌, length, get_or, set, map, option_map, Some, refl, sym, ap, ap₂, subst, ◌∙◌, add-zero, zero-add, add-one, arith}
 use Rattle.std.proofs.lemmas.Bool.{cases_eq, eq-eqb, eqb-true, or_left, or_right}
 use Rattle.std.proofs.lemmas.Bool.Decides.{nat_tests}
-use Rattle.std.proofs.lemmas.List.{length-map, length-set, length_push, same_lists, get_or_default, get_or_append_left, get_or_push, get_or-set_same, get_or-set_other, map-set}
-use Rattle.std.proofs.lemmas.List.Edits.{length-remove, length-insert}
+use Rattle.std.proofs.lemmas.List.{length-map, length-set, length_push, same_lists, get_or_default, get_or_append_left, get_or_push, get_or-set_same, get_or-set_other}
 use Rattle.std.specs.List.{insert, remove, AllByRecursion}
 use Rattle.std.specs.List.Sorted.{IsPartitionedBy, IsPartitionPoint}
-use Rattle.std.specs.Prelude.{slice_get}
 use Rattle.model.specs.Lists.{has}
 use Rattle.model.specs.declared.entities.Entity.{Entity}
 use Rattle.model.proofs.lists.Each.{each-at, each-weaker}
@@ -16,7 +14,7 @@ use Rattle.column_store.specs.RowOrder.{entity_at, numbers_from, IsOrderOf}
 use Rattle.column_store.specs.Swapped.{swap_removed}
 use Rattle.column_store.proofs.Lists.{get-map, get-there, map-insert, map-remove, each-insert}
 use Rattle.column_store.proofs.Ordered.{rising-apart}
-use Rattle.column_store.proofs.Rising.{before_trans, after_rest, before_apart, parted_before, rising-insert, rising-remove}
+use Rattle.column_store.proofs.Rising.{parted_before, rising-insert, rising-remove}
 use Rattle.column_store.proofs.Swapped.{length-swap_removed, get_or-swap_here, get_or-swap_other}
 
 -- ---- elements
@@ -58,6 +56,22 @@ gap_from_rows es e (r ∷ rows) (suc i) w le h = (
   sym (before_there es e r w.0) ∙ h.0 0 r (omega arith) (omega arith),
   gap_from_rows es e rows i w.1 (omega arith) (λ k d low high. h.0 (suc k) d (omega arith) (omega arith), λ k d low high. h.1 (suc k) d (omega arith) (omega arith)),
 )
+
+-- where a row comes before an entity those before it do, and where one doesn't those behind it don't
+pub rows_below : (es : List Entity) (e : Entity) (rows : List ℕ) (middle : ℕ) → IsOrderOf es rows → middle < length rows → row_before es e (get_or rows middle 0) ≡ true →
+    (k d : ℕ) → k < middle + 1 → row_before es e (get_or rows k d) ≡ true
+rows_below es e rows middle h l at k d low =
+    parted_rows es e rows h k middle d (omega arith) l (ap (row_before es e) (get_or_default rows middle d 0 l) ∙ at)
+
+pub rows_above : (es : List Entity) (e : Entity) (rows : List ℕ) (middle : ℕ) → IsOrderOf es rows → row_before es e (get_or rows middle 0) ≡ false →
+    (k d : ℕ) → middle ≤ k → k < length rows → row_before es e (get_or rows k d) ≡ false
+rows_above es e rows middle h at k d high l = go (row_before es e (get_or rows k d)) refl
+  where
+    go : (b : Bool) → row_before es e (get_or rows k d) ≡ b → b ≡ false
+    go false is = refl
+    go true is =
+        let before : row_before es e (get_or rows middle 0) ≡ true = parted_rows es e rows h middle k 0 high l (ap (row_before es e) (get_or_default rows k 0 d l) ∙ is) in
+        sym before ∙ at
 
 -- ---- the place of a row
 

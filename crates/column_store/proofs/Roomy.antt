@@ -1,5 +1,5 @@
 -- The room of a table, and what is left of it.
-use Rattle.std.proofs.Common.{◌≡◌, ℕ, ◌+◌, ◌-◌, ◌<◌, ◌≤◌, List, [], ◌∷◌, ◌++◌, length, map, Result, Ok, Err, OnOk, OnErr, sym, ap, subst, ◌∙◌, arith}
+use Rattle.std.proofs.Common.{◌≡◌, ℕ, ◌+◌, ◌-◌, ◌<◌, ◌≤◌, List, [], ◌∷◌, ◌++◌, length, map, sym, ap, subst, ◌∙◌, arith}
 use Rattle.std.proofs.lemmas.List.{length_push}
 use Rattle.std.specs.List.{AllByRecursion}
 use Rattle.model.specs.state.State.{Cell}
@@ -9,7 +9,7 @@ use Rattle.column_store.specs.Swapped.{swap_removed}
 use Rattle.column_store.specs.Table.{ColumnSlotValue}
 use Rattle.column_store.specs.Inside.{room_of, swap_out_in, push_all, replace_all, HasRoom, AreRoomier, IsTable, IsTableWithRoom}
 use Rattle.column_store.proofs.Swapped.{length-swap_removed}
-use Rattle.column_store.proofs.Kept.{fewer_rooms, kept-seen, rooms-push, rooms-swap, rooms-replace, rooms-roomier, roomier-seen}
+use Rattle.column_store.proofs.Kept.{fewer_rooms, rooms-push, rooms-swap, rooms-replace, rooms-roomier}
 
 pub no_room : (ns : List ℕ) (es : EntityListValue) (ps : List ColumnSlotValue) → IsTable ns es.list ps → IsTableWithRoom ns es ps 0
 no_room ns es ps h = record { table = h; within = λ some. absurd (omega arith); each = λ some. absurd (omega arith) }

@@ -1,8 +1,8 @@
 -- Lists from which an element is removed by moving the last one into its place.
-use Rattle.std.proofs.Common.{◌≡◌, ℕ, zero, suc, ◌-◌, ◌+◌, ◌<◌, ◌≤◌, List, [], ◌∷◌, ◌++◌, length, get_or, set, map, take, Some, refl, sym, ap, ap₂, ◌∙◌, arith}
+use Rattle.std.proofs.Common.{◌≡◌, ℕ, zero, suc, ◌-◌, ◌+◌, ◌<◌, List, [], ◌∷◌, length, get_or, set, map, take, Some, refl, sym, ap, ◌∙◌, arith}
 use Rattle.std.specs.Prelude.{slice_get}
 use Rattle.std.specs.List.{swap_remove}
-use Rattle.std.proofs.lemmas.List.{map-set, map-append, take-map, length-map, length-set, length-take, get_or-take, get_or-set_same, get_or-set_other, get_or_default}
+use Rattle.std.proofs.lemmas.List.{map-set, take-map, length-map, length-set, length-take, get_or-take, get_or-set_same, get_or-set_other, get_or_default}
 use Rattle.column_store.specs.Swapped.{swap_removed}
 
 -- the word of std, whatever its default

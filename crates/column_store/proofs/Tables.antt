@@ -1,5 +1,5 @@
 -- What a table's calls leave, from the row and the place of the column.
-use Rattle.std.proofs.Common.{◌≡◌, ℕ, zero, suc, ◌<◌, ◌≤◌, ℤ, ◌==◌, Bool, List, [], ◌∷◌, ◌++◌, length, get_or, map, option_map, option_and_then, Option, Some, None, refl, sym, ap, ap₂, ◌∙◌, arith}
+use Rattle.std.proofs.Common.{◌≡◌, ℕ, zero, suc, ◌<◌, ℤ, ◌==◌, Bool, List, [], ◌∷◌, ◌++◌, length, get_or, map, option_map, option_and_then, Option, Some, None, refl, sym, ap, ap₂, ◌∙◌, arith}
 use Rattle.std.specs.List.{AllByRecursion}
 use Rattle.std.specs.Prelude.{slice_get}
 use Rattle.std.proofs.lemmas.List.{length-map}

@@ -7,7 +7,7 @@ use Rattle.model.specs.state.State.{Cell}
 use Rattle.model.specs.declared.entities.Entity.{Entity}
 use Rattle.model.specs.Lists.{tail_of, update_at}
 use Rattle.column_store.specs.declared.stamped.StampedValue.{StampedValue}
-use Rattle.column_store.specs.Cells.{changed_cell, stamped_number, stamped_cell}
+use Rattle.column_store.specs.Cells.{changed_cell, stamped_number}
 use Rattle.column_store.specs.Column.{ColumnCells}
 use Rattle.column_store.specs.EntityList.{EntityListValue}
 use Rattle.column_store.specs.Order.{AreApart}

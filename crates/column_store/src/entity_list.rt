@@ -7,6 +7,7 @@ ghost use Rattle.column_store.specs.Places.{IsNowhere};
 ghost use Rattle.column_store.specs.RowOrder.{OrdersRows};
 ghost use Rattle.column_store.specs.Swapped.{swap_removed};
 
+use crate::gap_list::GapList;
 use crate::row_numbers::{comes_behind, ensure_listed, put_number, take_number};
 use crate::row_order::RowOrder;
 use entity_table::Entity;
@@ -23,7 +24,7 @@ pub(crate) struct EntityList {
     list: Vec<Entity>,
     // Whether the numbers are those of the rows, in rising ids: else ids rise row by row.
     listed: bool,
-    numbers: Vec<u32>,
+    numbers: GapList,
     copy: Option<Arc<Vec<Entity>, Global>>,
     spare: Vec<Entity>,
 }
@@ -34,7 +35,7 @@ impl Model for EntityList {
 
     ghost Value = { EntityListValue };
 
-    ghost view = { λ l. record { list = l.list.items; room = min (min (vec_capacity l.list) (vec_capacity l.numbers)) row_limit } };
+    ghost view = { λ l. record { list = l.list.items; room = min (min (vec_capacity l.list) l.numbers.room) row_limit } };
 
     ghost invariant = { λ l. IsEntityList l.list.items l.listed l.numbers l.copy };
 }
@@ -50,7 +51,7 @@ impl EntityList {
         EntityList {
             list: Vec::new(alloc),
             listed: false,
-            numbers: Vec::new(alloc),
+            numbers: GapList::new(alloc),
             copy: None,
             spare: Vec::new(alloc),
         }
@@ -61,8 +62,7 @@ impl EntityList {
         ensures { IfOk result (λ copy. copy.list ≡ self.now.list) }
     {
         let list = Vec::from_slice(alloc, self.list.as_slice())?;
-        let mut numbers = Vec::with_capacity(alloc, self.numbers.capacity())?;
-        numbers.extend_from_slice(self.numbers.as_slice())?;
+        let numbers = self.numbers.copy(alloc)?;
         Ok(EntityList {
             list,
             listed: self.listed,
@@ -85,7 +85,7 @@ impl EntityList {
         ensures { OrdersRows self.now.list result }
     {
         if self.listed {
-            RowOrder::Listed(self.numbers.as_slice())
+            self.numbers.order()
         } else {
             RowOrder::Rising
         }
@@ -102,8 +102,7 @@ impl EntityList {
             return Err(AllocError);
         }
         self.list.reserve(further)?;
-        let missing = count + further - self.numbers.len();
-        self.numbers.reserve(missing)
+        self.numbers.reserve(count + further)
     }
 
     // Adds an entity that isn't there at the end, and its number to those of the rows.

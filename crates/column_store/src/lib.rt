@@ -4,6 +4,7 @@
 mod column;
 mod column_slot;
 mod entity_list;
+mod gap_list;
 pub mod laws;
 mod order;
 mod packed;

@@ -1,5 +1,4 @@
-use Rattle.std.proofs.Common.{◌≡◌, ◌<◌, length, map, Some, option_map, refl, sym, ap, ◌∙◌, arith}
-use Rattle.kinds.specs.Kind.{kind_number}
+use Rattle.std.proofs.Common.{◌<◌, length, sym, ap, ◌∙◌, arith}
 use Rattle.column_store.specs.Table.{ColumnSlotValue, is_home}
 use Rattle.column_store.specs.Inside.{cell_at, kind_in}
 use Rattle.column_store.proofs.Found.{not_away_found}

@@ -1,6 +1,6 @@
-use Rattle.std.proofs.Common.{◌≡◌, ◌<◌, length, map, sym, ap, subst, ◌∙◌, arith}
+use Rattle.std.proofs.Common.{map, sym, ap, subst, ◌∙◌}
 use Rattle.kinds.specs.Kind.{kind_number}
-use Rattle.kinds.specs.Value.{value_number, value_words}
+use Rattle.kinds.specs.Value.{value_words}
 use Rattle.column_store.specs.Table.{write_cell}
 use Rattle.column_store.specs.Inside.{write_in, room_of, table_of, IsTable}
 use Rattle.column_store.proofs.Lists.{set-changed}

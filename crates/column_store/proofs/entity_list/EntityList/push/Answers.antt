@@ -1,4 +1,4 @@
-use Rattle.std.proofs.Common.{◌++◌, ◌∷◌, [], ◌<◌, length, refl, sym, ap, subst, ◌∙◌, arith}
+use Rattle.std.proofs.Common.{◌++◌, ◌∷◌, [], ◌<◌, length, sym, subst, arith}
 use Rattle.column_store.specs.EntityList.{EntityListValue, IsKept}
 use Rattle.column_store.specs.Order.{is_same, AreRising}
 use Rattle.column_store.specs.Places.{IsNowhere}

@@ -1,4 +1,4 @@
-use Rattle.std.proofs.Common.{◌<◌, length, sym, ap, subst, ◌∙◌, arith}
+use Rattle.std.proofs.Common.{◌<◌, length, sym, subst, ◌∙◌, arith}
 use Rattle.column_store.specs.EntityList.{EntityListValue, IsKept}
 use Rattle.column_store.proofs.Listed.{removed_rising}
 use Rattle.column_store.proofs.Swapped.{swap_removed-is}

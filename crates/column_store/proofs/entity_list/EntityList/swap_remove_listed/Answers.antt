@@ -15,6 +15,6 @@ invariant_of-self c =
     let many = ap length c.deref.ensures.value in
     let is = c.swap_remove.ensures.items ∙ swap_removed-is es row c.swap_remove.result within in
     let a = c.self.inside.list.ok.0 in
-    let same : vec_len c.swap_remove.new.self ≡ vec_len c.take_number.new.numbers = omega (arith, c.swap_remove.ensures.len, c.take_number.ensures.many, c.ensure_listed.ensures.many) in
+    let same : vec_len c.swap_remove.new.self ≡ length c.take_number.new.numbers.items = omega (arith, c.swap_remove.ensures.len, c.take_number.ensures.many, c.ensure_listed.ensures.many) in
     removed_listed es c.swap_remove.new.self.items _ c.take_number.new.numbers row c.self.invariant.apart within is c.is_empty.result (c.is_empty.ensures ∙ ap (λ n. n == 0) same) refl order
     (omega (arith, c.take_number.ensures.many, c.ensure_listed.ensures.many)) (omega (arith, c.take_number.ensures.room, c.ensure_listed.ensures.room)) (omega arith)

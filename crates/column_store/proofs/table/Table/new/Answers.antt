@@ -1,6 +1,5 @@
 use Rattle.std.proofs.Common.{map, ap, ◌∙◌}
 use Rattle.column_store.specs.EntityList.{EntityListValue}
-use Rattle.column_store.specs.Table.{TableValue}
 use Rattle.column_store.specs.Inside.{empty_column}
 use Rattle.column_store.proofs.Made.{numbers_in_order, made_kept, made_view}
 use Rattle.column_store.proofs.Roomy.{no_room}

@@ -1,6 +1,6 @@
 use Rattle.std.proofs.Common.{◌++◌, ◌∷◌, [], ap, sym, arith, ◌∙◌}
 use Rattle.column_store.proofs.Numbers.{numbers-more}
-use Rattle.column_store.proofs.row_numbers.list_all.Goals as goal
+use Rattle.column_store.proofs.gap_list.list_up.Goals as goal
 
 pub loop-row-preserved : goal.loop-row-preserved
 loop-row-preserved c = record {
