@@ -7,6 +7,7 @@ pub mod TableIndex
 pub mod Laid
 pub mod Laying
 pub mod Changing
+pub mod Departures
 pub mod Known
 pub mod Moves
 pub mod Moving

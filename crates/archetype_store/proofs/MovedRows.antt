@@ -30,10 +30,10 @@ module _ (rows : List RowMove) (n : ℕ) (m : RowMove) (l : n < length rows) (is
   rest_is : drop n rows ≡ m ∷ drop (n + 1) rows
   rest_is = drop_more rows n m l ∙ ap (λ x. x ∷ drop (n + 1) rows) is
 
-  change_is : get_or (map change_of rows) n (change_of m) ≡ change_of m
+  pub change_is : get_or (map change_of rows) n (change_of m) ≡ change_of m
   change_is = get_or-map change_of rows n m (change_of m) l ∙ ap change_of is
 
-  within : n < length (map change_of rows)
+  pub within : n < length (map change_of rows)
   within = omega (arith, l, length-map rows change_of)
 
   more : (k : ℕ) → k + 1 ≡ suc k

@@ -85,7 +85,7 @@ planned_rest T T' P P' m shapes many plan same = record {
   none = plan.none;
 }
 
-apart_index : (i j : ℕ) → (i == j) ≡ false → i ≡ j → ⊥
+pub apart_index : (i j : ℕ) → (i == j) ≡ false → i ≡ j → ⊥
 apart_index i j h e = (let t : true ≡ false = sym (eq-eqb i j e) ∙ h in cc)
 
 module _ (T T' : List TableValue) (P P' : List (Option EntityLocation)) (m : RowMove) (shapes : map shape_of T' ≡ map shape_of T) (many : length P' ≡ length P)

@@ -9,7 +9,7 @@ use Rattle.archetype_store.specs.declared.locations.EntityLocation.{EntityLocati
 use Rattle.archetype_store.specs.declared.row_moves.RowMove.{RowMove}
 use Rattle.archetype_store.specs.Changes.{row_left}
 use Rattle.archetype_store.specs.Tables.{kinds_at, room_at, is_in}
-use Rattle.archetype_store.specs.Archetypes.{place_of, holder_in, IsHolder}
+use Rattle.archetype_store.specs.Archetypes.{ArchetypesValue, place_of, holder_in, row_of, holder_of, row_changed, holder_changed, IsHolder}
 
 -- the change that a row is moved for
 abbrev pub change_of : RowMove → EntityChange
@@ -27,6 +27,14 @@ other_table from (Some to) = cond (is_in from to) None (Some to)
 -- the table that the row newly comes into
 abbrev pub arrives_in : List (Option EntityLocation) → RowMove → Option ℕ
 arrives_in places m = other_table (place_of places m.change.now.entity.index) m.to
+
+-- whether a row stays in the table where it is
+abbrev pub stays_there : Option EntityLocation → Option ℕ → Bool
+stays_there from None = false
+stays_there from (Some to) = is_in from to
+
+abbrev pub stays_in : List (Option EntityLocation) → RowMove → Bool
+stays_in places m = stays_there (place_of places m.change.now.entity.index) m.to
 
 -- whether this is the table
 abbrev pub is_table : Option ℕ → ℕ → Bool
@@ -58,3 +66,13 @@ pub record IsPlanned (tables : List TableValue) (places : List (Option EntityLoc
   pub holder : IsHolder m.change.now.entity.generation (holder_in (place_of places m.change.now.entity.index))
   pub to : (t : ℕ) → m.to ≡ Some t → IsTarget tables (components_moved m) t
   pub none : m.to ≡ None → components_moved m ≡ []
+
+-- rows that are alike but for one index
+pub record AreAlikeBut (old : ArchetypesValue) (index : ℕ) (new : ArchetypesValue) : Type 0 where
+  pub rows : (i : ℕ) → (i == index) ≡ false → row_of new.rows i ≡ row_of old.rows i
+  pub holders : (i : ℕ) → (i == index) ≡ false → holder_of new.holders i ≡ holder_of old.holders i
+
+-- rows that are alike but where these changes are: once they are made, it is as if they were made of the old ones
+pub record AreAlikeBefore (old : ArchetypesValue) (cs : List EntityChange) (new : ArchetypesValue) : Type 0 where
+  pub rows : (i : ℕ) → row_changed cs i (row_of new.rows i) ≡ row_changed cs i (row_of old.rows i)
+  pub holders : (i : ℕ) → holder_changed cs i (holder_of new.holders i) ≡ holder_changed cs i (holder_of old.holders i)

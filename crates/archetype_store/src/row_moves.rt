@@ -1,4 +1,5 @@
-// Rows of several entities that change at once: all that can fail is done first, and then one row after the other goes where it goes.
+// Rows of several entities that change at once: all that can fail is done first, then the rows that go elsewhere leave, the last one first,
+// and then one after the other comes where it goes.
 
 ghost use Rattle.std.specs.Prelude.{◌≡◌, ◌+◌, ◌<◌, ◌≤◌, ℕ, [], length, map, None, Some, IfOk, OnOk, OnErr};
 ghost use Rattle.std.specs.List.{AllByRecursion};
@@ -9,7 +10,7 @@ ghost use Rattle.archetype_store.specs.TableIndex.{IsFound};
 ghost use Rattle.archetype_store.specs.Tables.{room_at, shape_of, AreShaped, AreUnlike, AreOwned, AreAllAlike, IsGrown};
 ghost use Rattle.archetype_store.specs.Archetypes.{archetypes_of, holder_in, place_of, AreAlike, AreArchetypes, HasRow, HaveRows, IsHolder};
 ghost use Rattle.archetype_store.specs.RowNumbers.{AreRowsKnown};
-ghost use Rattle.archetype_store.specs.RowMoves.{change_of, arrives_in, one_if, is_table, HaveRoom, IsPlanned, IsTarget};
+ghost use Rattle.archetype_store.specs.RowMoves.{change_of, arrives_in, stays_in, one_if, is_table, HaveRoom, IsPlanned, IsTarget, AreAlikeBut, AreAlikeBefore};
 
 use crate::change::EntityChange;
 use crate::lay::{clear_in, join_in};
@@ -151,6 +152,76 @@ fn release_all(tables: &mut Vec<Table>, places: &[Option<EntityLocation>], rows:
     }
 }
 
+// Whether a row stays in the table where it is.
+fn stays_in(places: &[Option<EntityLocation>], row: &RowMove<'_>) -> bool
+    ensures { result ≡ stays_in places.now row.now }
+{
+    let Some(to) = row.to else {
+        return false;
+    };
+    match place_at(places, row.change.entity.index) {
+        None => false,
+        Some(place) => to == place.table,
+    }
+}
+
+// Takes a row out of its table where it goes elsewhere. It allocates nothing.
+fn leave_row(
+    tables: &mut Vec<Table>,
+    places: &mut Vec<Option<EntityLocation>>,
+    numbers: &mut Vec<usize>,
+    row: &RowMove<'_>,
+)
+    requires whole { AreArchetypes tables.old.items places.old.items }
+    requires known { AreRowsKnown tables.old.items places.old.items numbers.old.items }
+    requires owned { AreOwned tables.old.items }
+    requires planned { IsPlanned tables.old.items places.old.items row.now }
+    ensures whole { AreArchetypes tables.new.items places.new.items }
+    ensures known { AreRowsKnown tables.new.items places.new.items numbers.new.items }
+    ensures owned { AreOwned tables.new.items }
+    ensures shapes { map shape_of tables.new.items ≡ map shape_of tables.old.items }
+    ensures alike { AreAlikeBut (archetypes_of tables.old.items places.old.items) row.now.change.now.entity.index (archetypes_of tables.new.items places.new.items) }
+    ensures others { (i : ℕ) → (i ≡ row.now.change.now.entity.index → ⊥) → place_of places.new.items i ≡ place_of places.old.items i }
+    ensures planned { IsPlanned tables.new.items places.new.items row.now }
+    ensures arrives { arrives_in places.new.items row.now ≡ arrives_in places.old.items row.now }
+    ensures as_many { length places.new.items ≡ length places.old.items }
+    ensures rooms { (t : ℕ) → room_at tables.new.items t ≡ room_at tables.old.items t }
+{
+    if stays_in(places, row) {
+        return;
+    }
+    clear_in(tables, places, numbers, row.change.entity);
+}
+
+// Takes rows out of their tables where they go elsewhere, from the last one on: where their ids rise each is behind those that are left, so
+// none of these has to move. It allocates nothing.
+fn leave_all(
+    tables: &mut Vec<Table>,
+    places: &mut Vec<Option<EntityLocation>>,
+    numbers: &mut Vec<usize>,
+    rows: &[RowMove<'_>],
+)
+    requires whole { AreArchetypes tables.old.items places.old.items }
+    requires known { AreRowsKnown tables.old.items places.old.items numbers.old.items }
+    requires owned { AreOwned tables.old.items }
+    requires apart { AreOfOtherIndices (map change_of rows.now) }
+    requires planned { AllByRecursion (IsPlanned tables.old.items places.old.items) rows.now }
+    requires room { HaveRoom tables.old.items places.old.items rows.now }
+    ensures whole { AreArchetypes tables.new.items places.new.items }
+    ensures known { AreRowsKnown tables.new.items places.new.items numbers.new.items }
+    ensures owned { AreOwned tables.new.items }
+    ensures shapes { map shape_of tables.new.items ≡ map shape_of tables.old.items }
+    ensures planned { AllByRecursion (IsPlanned tables.new.items places.new.items) rows.now }
+    ensures room { HaveRoom tables.new.items places.new.items rows.now }
+    ensures alike { AreAlikeBefore (archetypes_of tables.old.items places.old.items) (map change_of rows.now) (archetypes_of tables.new.items places.new.items) }
+{
+    let mut left = rows.len();
+    while left > 0 {
+        left -= 1;
+        leave_row(tables, places, numbers, &rows[left]);
+    }
+}
+
 // Takes a row where it goes: away, or into another table, or its components are replaced where it stays. It allocates nothing.
 fn move_row(
     tables: &mut Vec<Table>,
@@ -242,6 +313,7 @@ pub(crate) fn change_in(
         release_all(tables, places, &rows);
         return Err(AllocError);
     }
+    leave_all(tables, places, numbers, &rows);
     move_all(tables, places, numbers, &rows);
     Ok(())
 }

@@ -4,9 +4,10 @@ use Rattle.std.proofs.lemmas.Result.{on_ok_weaker}
 use Rattle.archetype_store.specs.declared.change.EntityChange.{EntityChange}
 use Rattle.archetype_store.specs.Changes.{AreOfOtherIndices}
 use Rattle.archetype_store.specs.Archetypes.{archetypes_of, HaveRows}
-use Rattle.archetype_store.specs.RowMoves.{change_of, HaveRoom, IsPlanned}
+use Rattle.archetype_store.specs.RowMoves.{change_of, IsPlanned, AreAlikeBefore}
 use Rattle.archetype_store.proofs.Changed.{planned_alike, rows_from_alike}
 use Rattle.archetype_store.proofs.Changing.{planned_shapes, ready_whole, ready_known, ready_owned, ready_rows}
+use Rattle.archetype_store.proofs.Departures.{rows_from_before}
 use Rattle.archetype_store.proofs.Moves.{on_err_from}
 use Rattle.archetype_store.proofs.Rooms.{alike_twice}
 use Rattle.archetype_store.proofs.TableIndex.{found_shapes}
@@ -89,8 +90,8 @@ returns-then-is_err-clause-err c =
     let alike = alike_twice T1 T2 T3 c.reserve_all.ensures.alike c.release_all.ensures.alike in
     ready_rows T T1 T3 P P1 c.planned_all.ensures.grown c.planned_all.ensures.same shapes alike
 
-pub move_all-requires-clause-whole : goal.move_all-requires-clause-whole
-move_all-requires-clause-whole c =
+pub leave_all-requires-clause-whole : goal.leave_all-requires-clause-whole
+leave_all-requires-clause-whole c =
     let T = c.args.tables.now.items in
     let T1 = c.planned_all.new.tables.items in
     let P = c.args.places.now.items in
@@ -98,8 +99,8 @@ move_all-requires-clause-whole c =
     let T2 = c.reserve_all.new.tables.items in
     ready_whole T T1 T2 P P1 c.planned_all.ensures.grown c.planned_all.ensures.same c.reserve_all.ensures.shapes c.reserve_all.ensures.alike c.requires.whole
 
-pub move_all-requires-clause-known : goal.move_all-requires-clause-known
-move_all-requires-clause-known c =
+pub leave_all-requires-clause-known : goal.leave_all-requires-clause-known
+leave_all-requires-clause-known c =
     let T = c.args.tables.now.items in
     let T1 = c.planned_all.new.tables.items in
     let P = c.args.places.now.items in
@@ -107,8 +108,8 @@ move_all-requires-clause-known c =
     let T2 = c.reserve_all.new.tables.items in
     ready_known T T1 T2 P P1 c.planned_all.ensures.grown c.planned_all.ensures.same c.reserve_all.ensures.shapes c.reserve_all.ensures.alike c.planned_all.new.numbers.items c.planned_all.ensures.known
 
-pub move_all-requires-clause-owned : goal.move_all-requires-clause-owned
-move_all-requires-clause-owned c =
+pub leave_all-requires-clause-owned : goal.leave_all-requires-clause-owned
+leave_all-requires-clause-owned c =
     let T = c.args.tables.now.items in
     let T1 = c.planned_all.new.tables.items in
     let P = c.args.places.now.items in
@@ -116,8 +117,8 @@ move_all-requires-clause-owned c =
     let T2 = c.reserve_all.new.tables.items in
     ready_owned T T1 T2 P P1 c.planned_all.ensures.grown c.planned_all.ensures.same c.reserve_all.ensures.shapes c.reserve_all.ensures.alike c.requires.owned
 
-pub move_all-requires-clause-planned : goal.move_all-requires-clause-planned
-move_all-requires-clause-planned c =
+pub leave_all-requires-clause-planned : goal.leave_all-requires-clause-planned
+leave_all-requires-clause-planned c =
     let T = c.args.tables.now.items in
     let T1 = c.planned_all.new.tables.items in
     let P = c.args.places.now.items in
@@ -127,12 +128,10 @@ move_all-requires-clause-planned c =
 
 pub returns-clause-found : goal.returns-clause-found
 returns-clause-found c =
-    let T = c.args.tables.now.items in
     let T1 = c.planned_all.new.tables.items in
-    let P = c.args.places.now.items in
-    let P1 = c.planned_all.new.places.items in
     let T2 = c.reserve_all.new.tables.items in
-    found_shapes T2 c.move_all.new.tables.items c.planned_all.new.index c.move_all.ensures.shapes (found_shapes T1 T2 c.planned_all.new.index c.reserve_all.ensures.shapes c.planned_all.ensures.found)
+    let T3 = c.leave_all.new.tables.items in
+    found_shapes T2 c.move_all.new.tables.items c.planned_all.new.index (c.move_all.ensures.shapes ∙ c.leave_all.ensures.shapes) (found_shapes T1 T2 c.planned_all.new.index c.reserve_all.ensures.shapes c.planned_all.ensures.found)
 
 pub returns-clause-ok : goal.returns-clause-ok
 returns-clause-ok c =
@@ -143,6 +142,9 @@ returns-clause-ok c =
     let T2 = c.reserve_all.new.tables.items in
     let A = archetypes_of T P in
     let A2 = archetypes_of T2 P1 in
+    let A3 = archetypes_of c.leave_all.new.tables.items c.leave_all.new.places.items in
     let A4 = archetypes_of c.move_all.new.tables.items c.move_all.new.places.items in
-    let changes = ap (map change_of) c.deref-3.ensures.value ∙ c.in_ok-rows.ensures.changes in
-    rows_from_alike A A2 A4 c.args.changes.now (ready_rows T T1 T2 P P1 c.planned_all.ensures.grown c.planned_all.ensures.same c.reserve_all.ensures.shapes c.reserve_all.ensures.alike) (subst (λ (cs : List EntityChange). HaveRows A2 cs A4) changes c.move_all.ensures.left)
+    let left = ap (map change_of) c.deref-3.ensures.value ∙ c.in_ok-rows.ensures.changes in
+    let moved = ap (map change_of) c.deref-4.ensures.value ∙ c.in_ok-rows.ensures.changes in
+    rows_from_alike A A2 A4 c.args.changes.now (ready_rows T T1 T2 P P1 c.planned_all.ensures.grown c.planned_all.ensures.same c.reserve_all.ensures.shapes c.reserve_all.ensures.alike)
+    (rows_from_before A2 A3 A4 c.args.changes.now (subst (λ (cs : List EntityChange). AreAlikeBefore A2 cs A3) left c.leave_all.ensures.alike) (subst (λ (cs : List EntityChange). HaveRows A3 cs A4) moved c.move_all.ensures.left))
