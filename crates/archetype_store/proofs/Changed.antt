@@ -1,5 +1,5 @@
 -- Tables that grow, and rows from alike ones.
-use Rattle.std.proofs.Common.{◌≡◌, ℕ, ◌<◌, ◌≤◌, List, length, Option, refl, sym, ap, subst, ◌∙◌, arith}
+use Rattle.std.proofs.Common.{◌≡◌, ℕ, ◌≤◌, List, length, Option, sym, ap, subst, ◌∙◌, arith}
 use Rattle.column_store.specs.Table.{TableValue}
 use Rattle.archetype_store.specs.declared.change.EntityChange.{EntityChange}
 use Rattle.archetype_store.specs.declared.locations.EntityLocation.{EntityLocation}

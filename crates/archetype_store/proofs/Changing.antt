@@ -1,5 +1,5 @@
 -- Tables where rows can be changed: some may be made, and some have other room.
-use Rattle.std.proofs.Common.{◌≡◌, ℕ, false, List, map, Option, refl, ap, subst, ◌∙◌}
+use Rattle.std.proofs.Common.{◌≡◌, ℕ, false, List, map, Option, refl}
 use Rattle.std.specs.List.{AllByRecursion}
 use Rattle.model.proofs.lists.Each.{each-weaker}
 use Rattle.column_store.specs.Table.{TableValue}

@@ -8,7 +8,7 @@ use Rattle.archetype_store.specs.declared.locations.EntityLocation.{EntityLocati
 use Rattle.archetype_store.specs.declared.row_moves.RowMove.{RowMove}
 use Rattle.archetype_store.specs.Archetypes.{ArchetypesValue, row_of, holder_of, place_of, holder_in, row_changed, holder_changed, holder_if, IsHolder, HasRow, HaveRows}
 use Rattle.archetype_store.specs.Changes.{components_left, AreOfOtherIndices}
-use Rattle.archetype_store.specs.RowMoves.{change_of, other_table, arrives_in, stays_there, stays_in, is_table, one_if, coming_count, HaveRoom, IsTarget, IsPlanned, AreAlikeBut, AreAlikeBefore}
+use Rattle.archetype_store.specs.RowMoves.{change_of, other_table, arrives_in, stays_there, stays_in, is_table, one_if, coming_count, HaveRoom, IsPlanned, AreAlikeBut, AreAlikeBefore}
 use Rattle.archetype_store.specs.Tables.{room_at, shape_of}
 use Rattle.archetype_store.proofs.Laid.{kinds_kept}
 use Rattle.archetype_store.proofs.RowMoves.{index_flipped, as_many_tables}

@@ -1,15 +1,14 @@
 -- Where a row goes that is moved.
-use Rattle.std.proofs.Common.{◌≡◌, ◌≢◌, ℕ, ◌+◌, ◌<◌, ◌≤◌, Bool, true, false, cond, ◌==◌, List, [], ◌∷◌, length, map, Option, Some, None, refl, sym, ap, subst, ◌∙◌, arith}
+use Rattle.std.proofs.Common.{◌≡◌, ◌≢◌, ℕ, ◌+◌, ◌≤◌, Bool, true, false, cond, ◌==◌, List, [], ◌∷◌, Option, Some, None, refl, sym, ap, ◌∙◌, arith}
 use Rattle.std.proofs.lemmas.Bool.{eqb-true}
 use Rattle.model.specs.Lists.{is_there, with_at}
 use Rattle.column_store.specs.declared.stamped.StampedValue.{StampedValue}
-use Rattle.column_store.specs.Cells.{stamped_number}
 use Rattle.column_store.specs.Table.{TableValue}
 use Rattle.archetype_store.specs.declared.locations.EntityLocation.{EntityLocation}
 use Rattle.archetype_store.specs.declared.row_moves.RowMove.{RowMove}
 use Rattle.archetype_store.specs.Archetypes.{place_of}
 use Rattle.archetype_store.specs.RowMoves.{other_table, arrives_in, is_table, one_if}
-use Rattle.archetype_store.specs.Tables.{is_in, room_at}
+use Rattle.archetype_store.specs.Tables.{room_at}
 use Rattle.archetype_store.proofs.Laid.{with_at_apart}
 
 pub arrives_none : (P : List (Option EntityLocation)) (m : RowMove) → m.to ≡ None → arrives_in P m ≡ None

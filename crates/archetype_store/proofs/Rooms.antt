@@ -1,8 +1,8 @@
 -- Tables of which one has other room.
-use Rattle.std.proofs.Common.{◌≡◌, ℕ, ◌<◌, List, [], ◌∷◌, length, set, get_or, map, ◌⊎◌, inl, inr, Result, Ok, Err, OnOk, OnErr, refl, sym, ap, ◌∙◌, arith}
+use Rattle.std.proofs.Common.{◌≡◌, ℕ, ◌<◌, List, [], ◌∷◌, length, set, map, ◌⊎◌, inl, inr, Result, Ok, Err, OnOk, OnErr, refl, sym, ap, ◌∙◌}
 use Rattle.std.proofs.lemmas.Bool.{cases_eq}
 use Rattle.std.proofs.lemmas.List.{get_or-set_same, get_or-set_other}
-use Rattle.column_store.specs.Table.{TableRow, TableValue, IsAlike, empty_table}
+use Rattle.column_store.specs.Table.{TableRow, TableValue, empty_table}
 use Rattle.archetype_store.specs.Tables.{table_at, entities_at, with_room, AreAllAlike}
 use Rattle.archetype_store.proofs.Standings.{alike_set, alike_same}
 

@@ -1,5 +1,5 @@
 -- Rows of several entities that change at once.
-use Rattle.std.proofs.Common.{◌≡◌, ℕ, zero, suc, ◌+◌, ◌<◌, ◌≤◌, ◌⊎◌, inl, inr, Bool, true, false, cond, ◌==◌, List, [], ◌∷◌, ◌++◌, length, get_or, set, take, drop, map, Option, Some, None, refl, sym, ap, ap₂, subst, ◌∙◌, arith}
+use Rattle.std.proofs.Common.{◌≡◌, ℕ, zero, suc, ◌+◌, ◌<◌, ◌≤◌, ◌⊎◌, inl, inr, Bool, true, false, cond, ◌==◌, List, [], ◌∷◌, ◌++◌, length, set, drop, map, Option, Some, None, refl, sym, ap, ap₂, subst, ◌∙◌, arith}
 use Rattle.std.proofs.lemmas.Bool.{eq-eqb, ne_eqb, eqb-true, cases_eq}
 use Rattle.std.proofs.lemmas.Bool.Decides.{nat_tests}
 use Rattle.std.proofs.lemmas.List.{length-map, get_or-set_same, get_or-set_other}
@@ -11,9 +11,9 @@ use Rattle.archetype_store.specs.declared.change.EntityChange.{EntityChange}
 use Rattle.archetype_store.specs.declared.locations.EntityLocation.{EntityLocation}
 use Rattle.archetype_store.specs.declared.row_moves.RowMove.{RowMove}
 use Rattle.archetype_store.specs.Archetypes.{ArchetypesValue, row_of, holder_of, holder_if, place_of, holder_in, IsHolder, HasRow, HaveRows, row_changed, holder_changed}
-use Rattle.archetype_store.specs.Changes.{components_left, AreOfOtherIndices}
-use Rattle.archetype_store.specs.RowMoves.{change_of, components_moved, other_table, arrives_in, is_table, one_if, coming_count, HaveRoom, IsTarget, IsPlanned}
-use Rattle.archetype_store.specs.Tables.{table_at, kinds_at, room_at, with_room, shape_of, is_in, AreOwned, AreAllAlike}
+use Rattle.archetype_store.specs.Changes.{components_left}
+use Rattle.archetype_store.specs.RowMoves.{change_of, other_table, arrives_in, is_table, one_if, coming_count, HaveRoom, IsPlanned}
+use Rattle.archetype_store.specs.Tables.{table_at, room_at, with_room, shape_of, is_in}
 use Rattle.archetype_store.proofs.Laid.{kinds_kept}
 
 pub index_flipped : (i j : ℕ) → (i == j) ≡ false → (j == i) ≡ false

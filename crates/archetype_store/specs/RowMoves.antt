@@ -1,5 +1,5 @@
 -- Rows of several entities that change at once: where each goes, and for how many there is room.
-use Rattle.std.specs.Prelude.{◌≡◌, ℕ, suc, ◌+◌, ◌<◌, ◌≤◌, Bool, false, true, cond, ◌==◌, List, [], ◌∷◌, length, map, Option, Some, None}
+use Rattle.std.specs.Prelude.{◌≡◌, ℕ, ◌+◌, ◌<◌, ◌≤◌, Bool, false, true, cond, ◌==◌, List, [], ◌∷◌, length, map, Option, Some, None}
 use Rattle.model.specs.Lists.{is_there}
 use Rattle.column_store.specs.declared.stamped.StampedValue.{StampedValue}
 use Rattle.column_store.specs.Cells.{stamped_number}

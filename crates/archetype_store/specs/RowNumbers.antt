@@ -1,8 +1,6 @@
 -- The numbers of rows by index: where in its table each entity has its row.
-use Rattle.std.specs.Prelude.{◌≡◌, ℕ, ◌-◌, ◌+◌, ◌<◌, ◌≤◌, List, [], ◌∷◌, ◌++◌, length, get_or, map, slice_get, Option, Some}
-use Rattle.model.specs.declared.entities.Entity.{Entity}
+use Rattle.std.specs.Prelude.{◌≡◌, ℕ, ◌≤◌, List, length, get_or, Option, Some}
 use Rattle.column_store.specs.Order.{AreApart}
-use Rattle.column_store.specs.Swapped.{swap_removed}
 use Rattle.column_store.specs.Table.{TableValue}
 use Rattle.archetype_store.specs.declared.locations.EntityLocation.{EntityLocation}
 use Rattle.archetype_store.specs.Archetypes.{place_of}

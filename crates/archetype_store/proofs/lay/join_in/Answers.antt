@@ -1,11 +1,9 @@
-use Rattle.std.proofs.Common.{◌≡◌, ℕ, ◌+◌, ◌-◌, ◌<◌, ◌≤◌, None, Some, ◌==◌, ◌⊎◌, inl, inr, length, set, sym, ap, ap₂, subst, ◌∙◌, arith}
+use Rattle.std.proofs.Common.{◌≡◌, ℕ, ◌+◌, ◌-◌, ◌≤◌, Some, ◌==◌, inl, inr, set, sym, ap, subst, ◌∙◌, arith}
 use Rattle.std.proofs.lemmas.Bool.{cases_eq, eq-eqb}
 use Rattle.std.proofs.lemmas.List.{length-set}
-use Rattle.archetype_store.specs.declared.locations.EntityLocation.{EntityLocation}
-use Rattle.archetype_store.specs.Archetypes.{place_of}
 use Rattle.archetype_store.specs.RowMoves.{one_if}
 use Rattle.archetype_store.specs.RowNumbers.{AreRowsKnown}
-use Rattle.archetype_store.specs.Tables.{entities_at, room_at}
+use Rattle.archetype_store.specs.Tables.{room_at}
 use Rattle.archetype_store.proofs.Known.{known_joined}
 use Rattle.archetype_store.proofs.Laid.{nowhere}
 use Rattle.archetype_store.proofs.Moves.{placed_set}

@@ -1,13 +1,10 @@
-use Rattle.std.proofs.Common.{◌≡◌, ◌+◌, ◌<◌, ◌≤◌, List, [], length, set, Some, Option, None, map, sym, ap, subst, ◌∙◌, arith}
-use Rattle.column_store.specs.Table.{TableValue, empty_table}
-use Rattle.archetype_store.specs.Archetypes.{archetypes_of, place_of, holder_in, IsHolder, AreAlike, AreArchetypes}
+use Rattle.std.proofs.Common.{◌+◌, [], None, map, ◌∙◌, arith}
+use Rattle.archetype_store.specs.Archetypes.{archetypes_of, place_of}
 use Rattle.archetype_store.specs.Row.{component_of}
-use Rattle.archetype_store.specs.RowNumbers.{AreRowsKnown}
-use Rattle.archetype_store.specs.TableIndex.{IsFound}
-use Rattle.archetype_store.specs.Tables.{room_at, AreOwned}
+use Rattle.archetype_store.specs.Tables.{room_at}
 use Rattle.archetype_store.proofs.Laid.{with_at_same}
-use Rattle.archetype_store.proofs.Laying.{made_shapes, made_whole, made_known, made_rows, made_owned, made_room, later_within, later_kinds, later_found, grown_known}
-use Rattle.archetype_store.proofs.Moves.{grown_whole, grown_alike, row_from_alike, has_row_twice}
+use Rattle.archetype_store.proofs.Laying.{made_whole, made_known, made_rows, made_owned, made_room, later_within, later_kinds, later_found}
+use Rattle.archetype_store.proofs.Moves.{row_from_alike, has_row_twice}
 use Rattle.archetype_store.proofs.TableIndex.{found_shapes}
 use Rattle.archetype_store.proofs.lay.lay.Goals as goal
 

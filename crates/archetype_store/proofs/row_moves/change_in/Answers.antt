@@ -1,8 +1,6 @@
-use Rattle.std.proofs.Common.{◌≡◌, List, map, sym, subst, ◌∙◌, ap}
+use Rattle.std.proofs.Common.{List, map, sym, subst, ◌∙◌, ap}
 use Rattle.std.specs.List.{AllByRecursion}
-use Rattle.std.proofs.lemmas.Result.{on_ok_weaker}
 use Rattle.archetype_store.specs.declared.change.EntityChange.{EntityChange}
-use Rattle.archetype_store.specs.Changes.{AreOfOtherIndices}
 use Rattle.archetype_store.specs.Archetypes.{archetypes_of, HaveRows}
 use Rattle.archetype_store.specs.RowMoves.{change_of, IsPlanned, AreAlikeBefore}
 use Rattle.archetype_store.proofs.Changed.{planned_alike, rows_from_alike}

@@ -1,4 +1,4 @@
-use Rattle.std.proofs.Common.{◌≡◌, ◌+◌, map, take, drop, sym, ap, subst, ◌∙◌}
+use Rattle.std.proofs.Common.{◌+◌, map, take, drop, sym, subst, ◌∙◌}
 use Rattle.archetype_store.specs.Archetypes.{archetypes_of, HaveRows}
 use Rattle.archetype_store.specs.RowMoves.{change_of}
 use Rattle.archetype_store.proofs.MovedRows.{later_apart, earlier_apart, planned_here, room_here, taken_next}

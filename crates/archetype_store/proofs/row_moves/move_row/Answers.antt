@@ -1,19 +1,16 @@
-use Rattle.std.proofs.Common.{◌≡◌, ◌+◌, ◌<◌, ◌≤◌, [], None, Some, ◌⊎◌, inl, inr, map, length, is_some, sym, ap, ap₂, subst, ◌∙◌, arith}
-use Rattle.std.proofs.lemmas.Bool.{cases_eq}
+use Rattle.std.proofs.Common.{◌≡◌, [], None, Some, map, sym, ap, ap₂, subst, ◌∙◌, arith}
 use Rattle.std.proofs.lemmas.List.{get_or_read}
 use Rattle.model.specs.Lists.{is_there}
-use Rattle.model.proofs.serial.Conflicts.{none_from_no as none_of}
 use Rattle.column_store.specs.Cells.{stamped_number}
-use Rattle.archetype_store.specs.Changes.{row_left}
 use Rattle.archetype_store.specs.Row.{component_of}
-use Rattle.archetype_store.specs.RowMoves.{arrives_in, is_table, one_if}
+use Rattle.archetype_store.specs.RowMoves.{arrives_in}
 use Rattle.archetype_store.specs.RowNumbers.{number_of_row}
-use Rattle.archetype_store.specs.Tables.{entity_in_row, kinds_at, room_at, IsHeldNow}
-use Rattle.archetype_store.specs.Archetypes.{archetypes_of, place_of, holder_in, IsHolder, HasRow}
-use Rattle.archetype_store.proofs.Known.{row_there, number_within, known_kept, one_kept}
-use Rattle.archetype_store.proofs.Laid.{with_at_same, kinds_kept}
+use Rattle.archetype_store.specs.Tables.{entity_in_row, kinds_at, IsHeldNow}
+use Rattle.archetype_store.specs.Archetypes.{archetypes_of, holder_in, IsHolder, HasRow}
+use Rattle.archetype_store.proofs.Known.{row_there, number_within}
+use Rattle.archetype_store.proofs.Laid.{kinds_kept}
 use Rattle.archetype_store.proofs.Moves.{has_row_twice}
-use Rattle.archetype_store.proofs.Moving.{arrives_none, arrives_here, arrives_other, some_there, others_kept, rooms_same, rooms_joined}
+use Rattle.archetype_store.proofs.Moving.{arrives_here, some_there, others_kept}
 use Rattle.archetype_store.proofs.RowMoves.{as_many_tables}
 use Rattle.archetype_store.proofs.Standings.{owned_kept}
 use Rattle.archetype_store.proofs.Steps.{renewed}

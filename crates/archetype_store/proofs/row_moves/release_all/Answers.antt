@@ -1,13 +1,11 @@
-use Rattle.std.proofs.Common.{◌≡◌, ◌+◌, ◌<◌, ◌++◌, [], ◌∷◌, Some, None, Vec, Global, length, map, set, take, refl, sym, ap, subst, ◌∙◌, arith}
+use Rattle.std.proofs.Common.{◌≡◌, Some, Vec, Global, map, set, refl, sym, ap, subst, ◌∙◌, arith}
 use Rattle.model.proofs.lists.Each.{each-at}
-use Rattle.model.proofs.serial.Conflicts.{none_from_no as none_of}
 use Rattle.column_store.specs.Table.{TableValue}
-use Rattle.archetype_store.specs.RowMoves.{arrives_in, HaveRoom, IsPlanned}
-use Rattle.archetype_store.specs.Tables.{room_at, with_room, table_at, shape_of, AreAllAlike}
-use Rattle.archetype_store.proofs.MovedRows.{rows_taken}
-use Rattle.archetype_store.proofs.RowMoves.{as_many_tables, arrives_within, shapes_room, room_kept, room_made}
+use Rattle.archetype_store.specs.RowMoves.{arrives_in, IsPlanned}
+use Rattle.archetype_store.specs.Tables.{with_room, table_at, shape_of, AreAllAlike}
+use Rattle.archetype_store.proofs.RowMoves.{as_many_tables, arrives_within, shapes_room}
 use Rattle.archetype_store.proofs.Rooms.{roomed_alike, alike_twice}
-use Rattle.archetype_store.proofs.Standings.{owned_kept, alike_self}
+use Rattle.archetype_store.proofs.Standings.{alike_self}
 use Rattle.archetype_store.proofs.row_moves.release_all.Goals as goal
 use Rattle.archetype_store.proofs.row_moves.release_all.Goals.{in-Some, in_default}
 
