@@ -1,9 +1,11 @@
 // Calls that no command of the program shows: faults of an engine, bodies of several types, gates, what runs side by side, and calls of the
-// store and of the core that only programs of their own make. Each line of the output is a test, which says NO where it is other than it is to be.
+// store, of the core and of the board that only programs of their own make. Each line of the output is a test, which says NO where it is other
+// than it is to be.
 #![tactic(auto)]
 
 ghost use Rattle.std.specs.Prelude.{};
 
+mod board;
 mod bodies;
 mod commands;
 mod engines;
@@ -15,6 +17,7 @@ mod store;
 mod threads;
 mod worlds;
 
+use crate::board::{one_slot, two_hands};
 use crate::commands::{
     has_ids_in_order, has_second_score, ids_of_level, kept_again, last_id, schedule_order,
     spent_ids,
@@ -108,6 +111,17 @@ fn bodies_on_threads<R: Threads + Wait + Copy + Send + Sync + 'static>(
         (
             "a refusal beside three others spoils an engine",
             refuse_on_threads(rt, alloc),
+        ),
+    ]
+}
+
+// The tests of a board of jobs.
+fn boards<R: Threads>(runtime: &R, alloc: Global) -> [Test; 2] {
+    [
+        ("a board of one slot and one hand", one_slot(alloc)),
+        (
+            "two hands in threads of their own",
+            two_hands(runtime, alloc),
         ),
     ]
 }
@@ -216,6 +230,7 @@ fn main(rt: HostRuntime) -> io::Result<()> {
     tell(&mut rt.stdout(), &runs_alone(rt.alloc()))?;
     tell(&mut rt.stdout(), &parts(rt.alloc()))?;
     tell(&mut rt.stdout(), &kept(rt.alloc()))?;
+    tell(&mut rt.stdout(), &boards(&rt, rt.alloc()))?;
     tell(&mut rt.stdout(), &bodies_on_threads(rt, rt.alloc()))?;
     tell(&mut rt.stdout(), &starts(rt, rt.alloc()))?;
     tell(&mut rt.stdout(), &bodies_that_meet(rt, rt.alloc()))?;

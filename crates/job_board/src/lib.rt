@@ -9,8 +9,6 @@ mod plays;
 pub mod rule;
 pub mod slot_state;
 pub mod task;
-#[cfg(test)]
-mod tests;
 pub mod view;
 pub mod words;
 
