@@ -80,23 +80,18 @@ impl<'a> Args<'a> {
         if asks_for_help(words) {
             return Err(help_for(alloc, words)?);
         }
-        let matches = match command(alloc)?.try_get_matches_from(words) {
-            Ok(matches) => matches,
-            Err(error) => return Err(LineFault::of(alloc, &error)),
-        };
+        match command(alloc)?.try_get_matches_from(words) {
+            Ok(matches) => Args::of_matches(alloc, &matches),
+            Err(error) => Err(LineFault::of(alloc, &error)),
+        }
+    }
+
+    // The work that the matches of a line ask for.
+    fn of_matches(alloc: Global, matches: &ArgMatches<'a>) -> Result<Args<'a>, LineFault>
+        ensures { IfOk result (λ args. IsWithin args.work) }
+    {
         if let Some(run) = matches.subcommand_matches("run") {
-            if has_plus(run, "times") || has_plus(run, "workers") {
-                return Err(LineFault::usage(alloc, "error: a number has no plus\n"));
-            }
-            let times = run.get_one::<u32>("times").unwrap_or(1).min(MOST_TIMES);
-            let workers = run.get_one::<u8>("workers").unwrap_or(0).min(MOST_WORKERS);
-            let recorded = run.get_str("record").is_some();
-            let work = Work::Run {
-                times,
-                workers,
-                recorded,
-            };
-            return Ok(Args::of(run, work));
+            return Args::of_run(alloc, run);
         }
         if let Some(check) = matches.subcommand_matches("check") {
             return Ok(Args::of(check, Work::Check));
@@ -108,6 +103,24 @@ impl<'a> Args<'a> {
             return Ok(Args::of(ambiguities, Work::Ambiguities));
         }
         Err(LineFault::usage(alloc, "error: no command is named\n"))
+    }
+
+    // The runs that the matches of `run` ask for.
+    fn of_run(alloc: Global, run: &ArgMatches<'a>) -> Result<Args<'a>, LineFault>
+        ensures { IfOk result (λ args. IsWithin args.work) }
+    {
+        if has_plus(run, "times") || has_plus(run, "workers") {
+            return Err(LineFault::usage(alloc, "error: a number has no plus\n"));
+        }
+        let times = run.get_one::<u32>("times").unwrap_or(1).min(MOST_TIMES);
+        let workers = run.get_one::<u8>("workers").unwrap_or(0).min(MOST_WORKERS);
+        let recorded = run.get_str("record").is_some();
+        let work = Work::Run {
+            times,
+            workers,
+            recorded,
+        };
+        Ok(Args::of(run, work))
     }
 
     // The work, on the files that the matches name.
@@ -214,28 +227,40 @@ fn file<'a>(alloc: Global) -> Arg<'a> {
         .help("the program file")
 }
 
-// What `run` takes.
-fn run<'a>(alloc: Global) -> Result<Command<'a>, AllocError> {
-    let times = Arg::new(alloc, "times")
+// How many runs there are.
+fn times<'a>(alloc: Global) -> Arg<'a> {
+    Arg::new(alloc, "times")
         .long("times")
         .value_name("N")
         .value_parser(value_parser!(u32).range(0..=1_000_000))
-        .help("how many runs, 0 to 1000000, 1 if left out");
-    let workers = Arg::new(alloc, "workers")
+        .help("how many runs, 0 to 1000000, 1 if left out")
+}
+
+// How many workers there are.
+fn workers<'a>(alloc: Global) -> Arg<'a> {
+    Arg::new(alloc, "workers")
         .long("workers")
         .value_name("W")
         .value_parser(value_parser!(u8).range(0..=64))
-        .help("how many worker threads, 0 to 64, 0 (one thread) if left out");
-    let record = Arg::new(alloc, "record")
+        .help("how many worker threads, 0 to 64, 0 (one thread) if left out")
+}
+
+// The path of the record.
+fn record<'a>(alloc: Global) -> Arg<'a> {
+    Arg::new(alloc, "record")
         .long("trace")
         .value_name("OUT")
-        .help("the file in which the steps of the runs are recorded; none if left out");
+        .help("the file in which the steps of the runs are recorded; none if left out")
+}
+
+// What `run` takes.
+fn run<'a>(alloc: Global) -> Result<Command<'a>, AllocError> {
     Command::new(alloc, "run")
         .about("runs the schedule of a program file and prints the world")
         .arg(file(alloc))?
-        .arg(times)?
-        .arg(workers)?
-        .arg(record)
+        .arg(times(alloc))?
+        .arg(workers(alloc))?
+        .arg(record(alloc))
 }
 
 // The path of the trace.
@@ -264,16 +289,28 @@ fn replay<'a>(alloc: Global) -> Result<Command<'a>, AllocError> {
         .arg(trace(alloc))
 }
 
+// What `ambiguities` takes.
+fn ambiguities<'a>(alloc: Global) -> Result<Command<'a>, AllocError> {
+    Command::new(alloc, "ambiguities")
+        .about("prints which systems of a program file race")
+        .arg(file(alloc))
+}
+
+// The program with one command more.
+fn with_command<'a>(
+    program: Command<'a>,
+    command: Result<Command<'a>, AllocError>,
+) -> Result<Command<'a>, AllocError> {
+    program.subcommand(command?)
+}
+
 // What the program takes.
 fn command<'a>(alloc: Global) -> Result<Command<'a>, AllocError> {
-    let ambiguities = Command::new(alloc, "ambiguities")
-        .about("prints which systems of a program file race")
-        .arg(file(alloc))?;
-    Command::new(alloc, "ecsrun")
+    let program = Command::new(alloc, "ecsrun")
         .bin_name("ecsrun")?
-        .subcommand_required(true)
-        .subcommand(run(alloc)?)?
-        .subcommand(check(alloc)?)?
-        .subcommand(replay(alloc)?)?
-        .subcommand(ambiguities)
+        .subcommand_required(true);
+    let program = with_command(program, run(alloc))?;
+    let program = with_command(program, check(alloc))?;
+    let program = with_command(program, replay(alloc))?;
+    with_command(program, ambiguities(alloc))
 }
