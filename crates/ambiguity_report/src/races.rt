@@ -10,7 +10,7 @@ use access_set::Params;
 use schedule_builder::Built;
 
 /// What races with a system.
-#[derive(Clone, Copy, PartialEq, Eq, Debug)]
+#[derive(Clone, Copy)]
 pub enum Racer {
     /// Another system, by number.
     System(u32),

@@ -20,7 +20,7 @@ use schedule_builder::Built;
 use std::alloc::{AllocError, Global};
 
 /// A system and what races with it, and the least datum on which they conflict. Of two systems the lower comes first.
-#[derive(Clone, Copy, PartialEq, Eq, Debug)]
+#[derive(Clone, Copy)]
 pub struct Pair {
     /// What races with the system.
     pub first: Racer,

@@ -8,7 +8,7 @@ use clap::{Arg, ArgMatches, Command, Error, value_parser};
 use std::alloc::{AllocError, Global};
 
 /// The work that a command line asks for.
-#[derive(Clone, Copy, PartialEq, Eq, Debug)]
+#[derive(Clone, Copy)]
 pub enum Work {
     /// So many runs of the schedule, and the world that they leave.
     Run {
@@ -40,7 +40,7 @@ impl Work {
 }
 
 /// What a command line asks for: some work on the schedule that a file declares.
-#[derive(Clone, Copy, PartialEq, Eq, Debug)]
+#[derive(Clone, Copy)]
 pub struct Args<'a> {
     /// The path of the program file.
     pub file: &'a str,

@@ -1,7 +1,7 @@
 // Orders of items.
 
 /// An order of two items, by their numbers.
-#[derive(Clone, Copy, PartialEq, Eq, Debug)]
+#[derive(Clone, Copy)]
 pub struct Order {
     /// The item that comes first.
     pub first: usize,

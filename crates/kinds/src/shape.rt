@@ -1,7 +1,7 @@
 // How many fields a kind has.
 
 /// How the components of a kind are laid out. All fields are words of 64 bits.
-#[derive(Clone, Copy, PartialEq, Eq, Debug)]
+#[derive(Clone, Copy)]
 pub enum Shape {
     /// No field.
     Mark,

@@ -38,7 +38,7 @@ pub enum Term {
 }
 
 /// What a term asks of the kinds that an entity has.
-#[derive(Clone, Copy, PartialEq, Eq, Debug)]
+#[derive(Clone, Copy)]
 pub enum Presence {
     /// Nothing.
     Free,

@@ -9,7 +9,7 @@ use cycle_search::Order;
 use std::alloc::{AllocError, Global};
 
 /// Two ordered sets that share a system, by their numbers.
-#[derive(Clone, Copy, PartialEq, Eq, Debug)]
+#[derive(Clone, Copy)]
 pub struct Sharing {
     /// The set that comes first.
     pub first: usize,

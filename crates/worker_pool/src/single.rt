@@ -8,15 +8,15 @@ use job_board::Bell;
 use std::thread::{JoinHandle, Promise, PromisedHandle, Scope};
 
 /// One thread: each start is finished before anything else is done.
-#[derive(Clone, Copy, PartialEq, Eq, Debug, Default)]
+#[derive(Clone, Copy)]
 pub struct Single;
 
 /// A gate that lets all pass at once.
-#[derive(Clone, Copy, PartialEq, Eq, Debug, Default)]
+#[derive(Clone, Copy)]
 pub struct NoGate;
 
 /// A line on which nothing is heard.
-#[derive(Clone, Copy, PartialEq, Eq, Debug, Default)]
+#[derive(Clone, Copy)]
 pub struct NoLine;
 
 // The gate of a run on one thread.
