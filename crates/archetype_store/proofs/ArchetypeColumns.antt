@@ -1,6 +1,7 @@
 -- Columns of archetypes: which table has them, what they hold, and what is left where one leaves or comes home.
 use Rattle.std.proofs.Common.{◌≡◌, ℕ, zero, suc, ◌+◌, ◌-◌, ◌<◌, ◌≤◌, Bool, true, false, cond, ◌==◌, ◌&&◌, ◌⊎◌, inl, inr, List, [], ◌∷◌, length, get_or, set, take, map, Option, Some, None, option_map, is_some, Result, Ok, Err, OnOk, OnErr, refl, sym, ap, ap₂, subst, ◌∙◌, arith, add-one}
 use Rattle.std.specs.List.{list_all, AllByRecursion}
+use Rattle.std.specs.Prelude.{slice_get}
 use Rattle.std.proofs.Math.Seq.{map-set_same}
 use Rattle.std.proofs.lemmas.Bool.{cases_eq, and_parts, eqb-true, eq-eqb, ne_eqb, and_parts as both}
 use Rattle.std.proofs.lemmas.Bool.Decides.{nat_tests}
@@ -12,14 +13,13 @@ use Rattle.model.specs.declared.entities.Entity.{Entity}
 use Rattle.model.proofs.lists.Lists.{map-same}
 use Rattle.column_store.specs.Column.{ColumnCells}
 use Rattle.column_store.specs.Kinds.{AreBelow, at_kind, update_kind}
-use Rattle.column_store.specs.Order.{is_before, is_same, AreRising}
+use Rattle.column_store.specs.Order.{is_same, AreApart}
 use Rattle.column_store.specs.Components.{components_in, components_of}
 use Rattle.column_store.specs.Table.{Standing, TableRow, TableValue, is_home, standing_of, empty_table, row_of as row_in_table, with_cell_at, cell_of_kind, filled_rows, lent, homed, IsHome}
 use Rattle.column_store.specs.Table.Standing.{Owned, Shared, Away}
-use Rattle.column_store.proofs.Rising.{before_apart}
 use Rattle.column_store.proofs.TheirComponents.{cells_are_theirs}
 use Rattle.model.proofs.agreement.Agreement.{is_some-option_map as is_some-map}
-use Rattle.column_store.proofs.Arrived.{same_self}
+use Rattle.column_store.proofs.Apart.{same_self, same_entity}
 use Rattle.archetype_store.specs.declared.locations.EntityLocation.{EntityLocation}
 use Rattle.archetype_store.specs.Layout.{Archetype, archetype_of, layout_of, archetype_at, column_home, with_column, with_home}
 use Rattle.archetype_store.specs.Tables.{table_at, kinds_at, held_in, held_at, row_or_none, is_unshared, cells_at, number_of, AreUnshared, IsTableOf}
@@ -243,17 +243,24 @@ value_lent T P n t k at =
 
 -- ---- what a column holds
 
-row_found : (rows : List TableRow) → AreRising (map (λ (row : TableRow). row.entity) rows) → (r : TableRow) → IsIn r rows → row_in_table r.entity rows ≡ Some r
-row_found [] rising r here = absurd here
-row_found (x ∷ xs) rising r (inl same) =
+in_get : (rows : List TableRow) (r : TableRow) → IsIn r rows → (i : ℕ) × (slice_get (map (λ (row : TableRow). row.entity) rows) i ≡ Some r.entity)
+in_get [] r here = absurd here
+in_get (x ∷ xs) r (inl same) = (0, ap (λ (y : TableRow). Some y.entity) (sym same))
+in_get (x ∷ xs) r (inr later) = let p = in_get xs r later in (suc p.0, p.1)
+
+row_found : (rows : List TableRow) → AreApart (map (λ (row : TableRow). row.entity) rows) → (r : TableRow) → IsIn r rows → row_in_table r.entity rows ≡ Some r
+row_found [] apart r here = absurd here
+row_found (x ∷ xs) apart r (inl same) =
     ap (λ b. cond b (Some x) (row_in_table r.entity xs)) (ap (λ (y : TableRow). is_same x.entity y.entity) same ∙ same_self x.entity) ∙ ap (λ y. Some y) (sym same)
-row_found (x ∷ xs) rising r (inr later) =
-    ap (λ b. cond b (Some x) (row_in_table r.entity xs)) (before_apart x.entity r.entity (above xs rising.0 later)) ∙ row_found xs rising.1 r later
+row_found (x ∷ xs) apart r (inr later) =
+    ap (λ b. cond b (Some x) (row_in_table r.entity xs)) (other (is_same x.entity r.entity) refl) ∙ row_found xs (λ p q y f g. suc_same p q (apart (suc p) (suc q) y f g)) r later
   where
-    above : (ys : List TableRow) → AllByRecursion (λ y. is_before x.entity y ≡ true) (map (λ (row : TableRow). row.entity) ys) → IsIn r ys → is_before x.entity r.entity ≡ true
-    above [] h i = absurd i
-    above (y ∷ ys) h (inl e) = ap (λ (z : TableRow). is_before x.entity z.entity) e ∙ h.0
-    above (y ∷ ys) h (inr i) = above ys h.1 i
+    suc_same : (p q : ℕ) → suc p ≡ suc q → p ≡ q
+    suc_same p q e = omega arith
+
+    other : (b : Bool) → is_same x.entity r.entity ≡ b → is_same x.entity r.entity ≡ false
+    other false k = k
+    other true k = (let p = in_get xs r later in let none : zero ≡ suc p.0 = apart zero (suc p.0) r.entity (ap (λ y. Some y) (same_entity x.entity r.entity k)) p.1 in absurd (omega arith))
 
 held_found : (t : TableValue) (e : Entity) (r : TableRow) → row_in_table e t.rows ≡ Some r → held_in t e ≡ Some (components_of t.kinds r)
 held_found t e r h = ap (option_map (components_of t.kinds)) h
@@ -271,25 +278,25 @@ module _ (T : List TableValue) (P : List (Option EntityLocation)) (h : AreArchet
       ∙ ap₂ (λ g u. row_or_none (held_at T u (record { index = e.index; generation = g }))) p.2 p.3 ∙ ap row_or_none at
 
   -- the cells of a kind are those of the rows by index
-  pub column_is : (k : ℕ) → t < length T → AreRising (map (λ (row : TableRow). row.entity) (table_at T t).rows) →
+  pub column_is : (k : ℕ) → t < length T → AreApart (map (λ (row : TableRow). row.entity) (table_at T t).rows) →
       cells_at T t k ≡ row_cells (archetypes_of T P).rows (map (λ (row : TableRow). row.entity) (table_at T t).rows) k
-  column_is k within rising = map-same (cell_of_kind u.kinds k) (λ (r : TableRow). cell_at (row_of (archetypes_of T P).rows r.entity.index) k) u.rows one ∙ sym (entity_map u.rows)
+  column_is k within apart = map-same (cell_of_kind u.kinds k) (λ (r : TableRow). cell_at (row_of (archetypes_of T P).rows r.entity.index) k) u.rows one ∙ sym (entity_map u.rows)
     where
       u : TableValue
       u = table_at T t
 
       one : (r : TableRow) → IsIn r (table_at T t).rows → cell_of_kind (table_at T t).kinds k r ≡ cell_at (row_of (archetypes_of T P).rows r.entity.index) k
       one r here = sym (cells_are_theirs (table_at T t).kinds r k (shape_at T t within h.shaped).below)
-          ∙ sym (ap (λ row. cell_at row k) (row_in_there r.entity (components_of (table_at T t).kinds r) (held_found (table_at T t) r.entity r (row_found (table_at T t).rows rising r here))))
+          ∙ sym (ap (λ row. cell_at row k) (row_in_there r.entity (components_of (table_at T t).kinds r) (held_found (table_at T t) r.entity r (row_found (table_at T t).rows apart r here))))
 
       entity_map : (rows : List TableRow) → row_cells (archetypes_of T P).rows (map (λ (row : TableRow). row.entity) rows) k ≡ map (λ (r : TableRow). cell_at (row_of (archetypes_of T P).rows r.entity.index) k) rows
       entity_map [] = refl
       entity_map (r ∷ rs) = ap (λ cs. cell_at (row_of (archetypes_of T P).rows r.entity.index) k ∷ cs) (entity_map rs)
 
 -- those of an archetype
-pub column_seen : (T : List TableValue) (P : List (Option EntityLocation)) → AreArchetypes T P → (n t : ℕ) → IsTableOf T n t → (k : ℕ) → AreRising (map (λ (row : TableRow). row.entity) (table_at T t).rows) →
+pub column_seen : (T : List TableValue) (P : List (Option EntityLocation)) → AreArchetypes T P → (n t : ℕ) → IsTableOf T n t → (k : ℕ) → AreApart (map (λ (row : TableRow). row.entity) (table_at T t).rows) →
     cells_at T t k ≡ row_cells (archetypes_of T P).rows (archetype_at (layout_of T) n).entities k
-column_seen T P h n t at k rising = column_is T P h t k at.within rising ∙ ap (λ es. row_cells (archetypes_of T P).rows es k) (sym (entities_there T n t at))
+column_seen T P h n t at k apart = column_is T P h t k at.within apart ∙ ap (λ es. row_cells (archetypes_of T P).rows es k) (sym (entities_there T n t at))
 
 -- ---- a column comes home
 
@@ -375,7 +382,7 @@ absent_for (r ∷ rows) (c ∷ cells) e h = go (is_same r.entity e) h (absent_fo
     go true k more = absurd (cc)
     go false k more = more k
 
-entities_filled : (ks : List ℕ) (k : ℕ) (cells : List Cell) (rows : List TableRow) → map (λ (row : TableRow). row.entity) (filled_rows ks k cells rows) ≡ map (λ (row : TableRow). row.entity) rows
+pub entities_filled : (ks : List ℕ) (k : ℕ) (cells : List Cell) (rows : List TableRow) → map (λ (row : TableRow). row.entity) (filled_rows ks k cells rows) ≡ map (λ (row : TableRow). row.entity) rows
 entities_filled ks k cells [] = refl
 entities_filled ks k [] (r ∷ rows) = refl
 entities_filled ks k (c ∷ cells) (r ∷ rows) = ap (λ es. r.entity ∷ es) (entities_filled ks k cells rows)

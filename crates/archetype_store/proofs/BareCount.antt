@@ -12,8 +12,7 @@ use Rattle.model.specs.state.Commands.{is_alive, freed}
 use Rattle.model.proofs.progress.Width.{IsOnce}
 use Rattle.model.proofs.lists.Lists.{get_or-update_at_other, has-IsIn, IsIn_from_has, IsIn_from_any, IsIn-append, IsIn_left, IsIn_right, list_any-IsIn, ==-same}
 use Rattle.column_store.specs.Order.{is_same, AreApart}
-use Rattle.column_store.proofs.Arrived.{same_self}
-use Rattle.column_store.proofs.Made.{same_entity}
+use Rattle.column_store.proofs.Apart.{same_self, same_entity}
 use Rattle.entity_table.specs.Ids.{slot_at, lives_at, living_count}
 use Rattle.entity_table.proofs.Counting.{count-less, count-none, none-count}
 use Rattle.entity_table.proofs.Releases.{lives-freed}

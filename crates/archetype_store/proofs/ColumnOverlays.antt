@@ -13,8 +13,8 @@ use Rattle.model.proofs.lists.Each.{each-weaker}
 use Rattle.model.proofs.lists.Lists.{IsIn_from_any, list_any-IsIn, map_index-same, map_index-map_index, get_or-update_at-view}
 use Rattle.kinds.specs.Components.{widths}
 use Rattle.column_store.specs.Order.{is_same}
-use Rattle.column_store.proofs.Made.{same_entity}
-use Rattle.column_store.proofs.Arrived.{same_self}
+use Rattle.column_store.proofs.Apart.{same_entity}
+use Rattle.column_store.proofs.Apart.{same_self}
 use Rattle.archetype_store.specs.declared.columns.TakenColumn.{TakenColumn}
 use Rattle.archetype_store.specs.Layout.{Archetype, archetype_at, with_column, with_home, has_index, IsLayoutOf}
 use Rattle.archetype_store.specs.Archetypes.{cell_for, row_with}

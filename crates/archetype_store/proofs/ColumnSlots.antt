@@ -13,7 +13,7 @@ use Rattle.column_store.specs.Order.{is_same}
 use Rattle.entity_table.specs.Ids.{slot_at, lives_at}
 use Rattle.entity_table.specs.Rows.{with_rows}
 use Rattle.entity_table.proofs.WithRows.{is_alive-with_rows}
-use Rattle.column_store.proofs.Arrived.{same_self}
+use Rattle.column_store.proofs.Apart.{same_self}
 use Rattle.archetype_store.specs.Layout.{archetype_at, is_in_archetype}
 use Rattle.archetype_store.specs.Archetypes.{ArchetypesValue, row_of, holder_of, row_cells, cell_for, cell_held, row_with, IsFilled, IsLaidOut}
 use Rattle.archetype_store.specs.Slot.{cell_of, column_cells}

@@ -1,5 +1,5 @@
 -- Copies of tables whose columns are at home: they hold the same, and their columns are theirs alone.
-use Rattle.std.proofs.Common.{◌≡◌, Bool, true, false, List, [], ◌∷◌, map, Option, refl, sym, ap, ap₂, subst, ◌∙◌}
+use Rattle.std.proofs.Common.{◌≡◌, ℕ, Bool, true, false, List, [], ◌∷◌, map, Option, refl, sym, ap, ap₂, subst, ◌∙◌}
 use Rattle.std.proofs.lemmas.Bool.{and_parts}
 use Rattle.std.specs.List.{list_all}
 use Rattle.column_store.specs.Table.{Standing, TableValue, is_home, owned, IsAlike}
@@ -8,9 +8,12 @@ use Rattle.archetype_store.specs.declared.locations.EntityLocation.{EntityLocati
 use Rattle.archetype_store.specs.declared.table_index.TableIndex.{TableIndex}
 use Rattle.archetype_store.specs.TableIndex.{IsIndexed}
 use Rattle.archetype_store.specs.Tables.{AreHome, AreOwned, AreAllAlike}
-use Rattle.archetype_store.specs.Archetypes.{archetypes_of, IsWhole}
+use Rattle.archetype_store.specs.Archetypes.{archetypes_of}
 use Rattle.archetype_store.proofs.Standings.{owned_all, alike_value, alike_whole, owned_stored}
 use Rattle.archetype_store.proofs.TableIndex.{alike_indexed}
+use Rattle.archetype_store.specs.Whole.{IsWhole}
+use Rattle.archetype_store.proofs.Known.{known_kept}
+use Rattle.archetype_store.proofs.Rooms.{alike_entities}
 
 homes_owned : (ss : List Standing) → list_all is_home ss ≡ true → map is_home (map (λ (s : Standing). Owned) ss) ≡ map is_home ss
 homes_owned [] h = refl
@@ -36,8 +39,9 @@ module _ (T U : List TableValue) (P Q : List (Option EntityLocation)) (tables : 
   copied_value = ap (archetypes_of U) places ∙ alike_value T U P alike
 
   -- they are as whole, and no column is read elsewhere
-  pub copied_whole : (i j : TableIndex) (s : Bool) → ((V : List TableValue) → IsIndexed V i → IsIndexed V j) → IsWhole T i P s → IsWhole U j Q false
-  copied_whole i j s index h = subst (λ R. IsWhole U j R false) (sym places) (record {
+  pub copied_whole : (N M : List ℕ) → M ≡ N → (i j : TableIndex) (s : Bool) → ((V : List TableValue) → IsIndexed V i → IsIndexed V j) → IsWhole T i P N s → IsWhole U j Q M false
+  copied_whole N M numbers i j s index h = subst (λ R. IsWhole U j R M false) (sym places) (subst (λ ns. IsWhole U j P ns false) (sym numbers) (record {
     stored = owned_stored U P false (alike_whole T U P s s alike h.stored.whole) (subst AreOwned (sym tables) (copies_owned T));
     indexed = index U (alike_indexed T U i alike h.indexed);
-  })
+    known = known_kept T U P N (alike_entities T U alike) h.known;
+  }))

@@ -108,7 +108,7 @@ module _ (tables new : List TableValue) (ns : List ℕ) where
       OnOk r (new ≡ tables ++ empty_table ns ∷ []) → OnErr r (new ≡ tables) → IsGrown tables new
   grown_if below some others shaped unlike (Ok x) made same = grown_by_made below some others made shaped unlike
   grown_if below some others shaped unlike (Err x) made same = subst (IsGrown tables) (sym same)
-      (record { held = λ t x. refl; kinds = λ t l. refl; longer = omega arith; shaped = shaped; unlike = unlike; owned = λ h. h; layout = refl })
+      (record { held = λ t x. refl; entities = λ t. refl; rooms = λ t. refl; kinds = λ t l. refl; longer = omega arith; shaped = shaped; unlike = unlike; owned = λ h. h; layout = refl })
 
 -- components have kinds
 pub some_numbers : (ss : List StampedValue) → ss ≢ [] → map stamped_number ss ≢ []

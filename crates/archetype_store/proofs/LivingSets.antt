@@ -15,7 +15,7 @@ use Rattle.model.proofs.lists.Lists.{list_any-IsIn, IsIn_from_any, ==-same}
 use Rattle.model.proofs.serial.There.{number_here, number_stays}
 use Rattle.model.proofs.serial.KindLists.{IsOfLiving, number-cases, with_number-rises, kind_sets-only}
 use Rattle.column_store.specs.Order.{is_same}
-use Rattle.column_store.proofs.Arrived.{same_self}
+use Rattle.column_store.proofs.Apart.{same_self}
 use Rattle.archetype_store.specs.Layout.{Archetype, archetype_at, is_in_archetype, IsArchetype, IsLayoutOf}
 use Rattle.archetype_store.specs.LivingSets.{set_number, numbers_with, first_numbers, is_bare}
 use Rattle.archetype_store.specs.View.{kinds_seen}

@@ -1,13 +1,13 @@
 -- The moves of one row: laid in another table, written where it is, taken away.
-use Rattle.std.proofs.Common.{◌≡◌, ◌≢◌, ℕ, ◌<◌, Bool, true, false, cond, ◌==◌, ◌⊎◌, inl, inr, List, [], length, set, map, Option, Some, None, Result, Ok, Err, OnErr, is_some, refl, sym, ap, subst, ◌∙◌}
-use Rattle.std.proofs.lemmas.Bool.{cases_eq, ne_eqb, eqb-true}
+use Rattle.std.proofs.Common.{◌≡◌, ℕ, ◌<◌, Bool, true, false, cond, ◌==◌, ◌⊎◌, inl, inr, List, [], length, set, map, Option, Some, None, Result, Ok, Err, OnErr, is_some, refl, sym, ap, subst, ◌∙◌}
+use Rattle.std.proofs.lemmas.Bool.{cases_eq}
 use Rattle.std.proofs.lemmas.List.{get_or-set_same, get_or-set_other}
 use Rattle.model.specs.Lists.{with_at, is_there}
 use Rattle.model.specs.state.State.{Component}
 use Rattle.model.specs.declared.entities.Entity.{Entity}
 use Rattle.column_store.specs.Table.{TableValue}
 use Rattle.archetype_store.specs.declared.locations.EntityLocation.{EntityLocation}
-use Rattle.archetype_store.specs.Tables.{kinds_at, held_at, row_or_none, is_in, IsHeldNow, IsLeft, IsGrown}
+use Rattle.archetype_store.specs.Tables.{kinds_at, held_at, row_or_none, IsHeldNow, IsGrown}
 use Rattle.archetype_store.specs.Archetypes.{ArchetypesValue, archetypes_of, row_of, holder_of, holder_if, place_of, row_in, holder_in, IsHolder, IsOfKinds, AreAlike, AreArchetypes, HasRow}
 use Rattle.archetype_store.proofs.Held.{held_within}
 use Rattle.archetype_store.proofs.Laid.{with_at_same, with_at_apart, row_seen, holder_seen, IsMoved, nowhere, not_elsewhere, somewhere, kinds_there, row_there}
@@ -23,7 +23,7 @@ placed_set P i o l j = go (cases_eq j i)
     go (inr apart) = get_or-set_other P i j o None apart ∙ sym (with_at_apart i j o (place_of P) apart)
 
 -- a place that is as it was
-placed_kept : (P : List (Option EntityLocation)) (i : ℕ) (o : Option EntityLocation) → place_of P i ≡ o → (j : ℕ) → place_of P j ≡ with_at i o (place_of P) j
+pub placed_kept : (P : List (Option EntityLocation)) (i : ℕ) (o : Option EntityLocation) → place_of P i ≡ o → (j : ℕ) → place_of P j ≡ with_at i o (place_of P) j
 placed_kept P i o e j = go (cases_eq j i)
   where
     go : (j ≡ i) ⊎ (j ≡ i → ⊥) → place_of P j ≡ with_at i o (place_of P) j
@@ -36,33 +36,17 @@ some_apart t h = cc
 some_same : (t u : ℕ) → Some t ≡ Some u → t ≡ u
 some_same t u h = cc
 
--- ---- laid in a table
+-- ---- laid in a table, by an entity that has no row
 
-module _ (T T' T'' : List TableValue) (P : List (Option EntityLocation)) (e : Entity) (table : ℕ) (row : List Component) (h : AreArchetypes T P) where
-  here_cases : (b d : Bool) (o x : Option (List Component)) → (b ≡ true → d ≡ false) → (b ≡ false → o ≡ None) → cond b None (cond d x o) ≡ cond d x None
-  here_cases true true o x f g = absurd (let e : true ≡ false = f refl in cc)
-  here_cases true false o x f g = refl
-  here_cases false true o x f g = refl
-  here_cases false false o x f g = g refl
-
-  table_apart : (p : EntityLocation) (t : ℕ) → (p.table ≡ table → ⊥) → (t == p.table) ≡ true → (t == table) ≡ false
-  table_apart p t f same = ne_eqb t table (λ at. f (sym (eqb-true t p.table same) ∙ at))
-
-  laid_here : (from : Option EntityLocation) → place_of P e.index ≡ from → ((p : EntityLocation) → from ≡ Some p → p.table ≡ table → ⊥) →
-      (t : ℕ) → cond (is_in from t) None (cond (t == table) (Some row) (held_at T t e)) ≡ cond (t == table) (Some row) None
-  laid_here None at other t = here_cases false (t == table) (held_at T t e) (Some row) (λ f. absurd (cc)) (λ _. nowhere T P h e at t)
-  laid_here (Some p) at other t = here_cases (t == p.table) (t == table) (held_at T t e) (Some row) (table_apart p t (other p refl)) (not_elsewhere T P h e p at t)
-
-  -- the row is in its table, and was removed from where it was
-  pub moved_laid : e.index < length P → ((p : EntityLocation) → place_of P e.index ≡ Some p → kinds_at T p.table ≢ kinds_at T table) → map (λ (c : Component). c.kind) row ≡ kinds_at T table →
-      is_there row ≡ true → IsHeldNow T T' table e (Some row) → IsLeft T' T'' (place_of P e.index) e →
-      IsMoved T T'' P (set P e.index (Some (record { generation = e.generation; table = table }))) e (Some table) row
-  moved_laid within other kinds there put left = record {
-    others = λ t x apart. left.others t x apart ∙ put.others t x apart;
-    here = λ t. left.here t ∙ ap (cond (is_in (place_of P e.index) t) None) (put.here t)
-        ∙ laid_here (place_of P e.index) refl (λ p at same. other p at (ap (kinds_at T) same)) t;
+module _ (T T' : List TableValue) (P : List (Option EntityLocation)) (e : Entity) (table : ℕ) (row : List Component) (h : AreArchetypes T P) where
+  pub moved_joined : e.index < length P → place_of P e.index ≡ None → map (λ (c : Component). c.kind) row ≡ kinds_at T table →
+      is_there row ≡ true → IsHeldNow T T' table e (Some row) →
+      IsMoved T T' P (set P e.index (Some (record { generation = e.generation; table = table }))) e (Some table) row
+  moved_joined within none kinds there put = record {
+    others = put.others;
+    here = λ t. put.here t ∙ ap (cond (t == table) (Some row)) (nowhere T P h e none t);
     place = placed_set P e.index (Some (record { generation = e.generation; table = table })) within;
-    shapes = left.shapes ∙ put.shapes;
+    shapes = put.shapes;
     kinds = λ t at. kinds ∙ ap (kinds_at T) (some_same table t at);
     there = λ t at. there;
   }
@@ -181,3 +165,14 @@ reached_alike T P P' same = record {
 pub on_err_from : {A E : Type 0} (r : Result A E) (Q : Type 0) → Q → OnErr r Q
 on_err_from (Ok a) Q q = tt
 on_err_from (Err e) Q q = q
+
+-- one row after another of one entity
+pub has_row_twice : (A B C : ArchetypesValue) (e : Entity) (first row : List Component) → HasRow A e first B → HasRow B e row C → HasRow A e row C
+has_row_twice A B C e first row h k = record {
+  rows = λ i. k.rows i ∙ ap (cond (i == e.index) row) (h.rows i) ∙ once (i == e.index) row first (row_of A.rows i);
+  holders = λ i. k.holders i ∙ ap (cond (i == e.index) (holder_if row e.generation)) (h.holders i) ∙ once (i == e.index) (holder_if row e.generation) (holder_if first e.generation) (holder_of A.holders i);
+}
+  where
+    once : {X : Type 0} (b : Bool) (x y z : X) → cond b x (cond b y z) ≡ cond b x z
+    once true x y z = refl
+    once false x y z = refl

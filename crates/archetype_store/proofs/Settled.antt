@@ -85,7 +85,7 @@ book-other [] book n h = refl
 book-other (c ∷ cs) book n h = book-other cs (update_at c.entity.index (settled_slot c.fate) book) n h.1
     ∙ get_or-update_at_other c.entity.index n (settled_slot c.fate) book fresh_slot (λ same. let e : true ≡ false = sym (eq-eqb c.entity.index n same) ∙ h.0 in cc)
 
-before-other : (cs : List EntityChange) (i : ℕ) (d : EntityChange) → i < length cs → AreOfOtherIndices cs → AllByRecursion (λ (x : EntityChange). (x.entity.index == (get_or cs i d).entity.index) ≡ false) (take i cs)
+pub before-other : (cs : List EntityChange) (i : ℕ) (d : EntityChange) → i < length cs → AreOfOtherIndices cs → AllByRecursion (λ (x : EntityChange). (x.entity.index == (get_or cs i d).entity.index) ≡ false) (take i cs)
 before-other [] i d l h = absurd (omega arith)
 before-other (c ∷ cs) zero d l h = tt
 before-other (c ∷ cs) (suc i) d l h = (after cs i d (omega arith) h.0, before-other cs i d (omega arith) h.1)

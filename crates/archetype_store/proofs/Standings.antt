@@ -228,7 +228,7 @@ unlike_kinds (t ∷ ts) (u ∷ us) e h =
 
 module _ (ts us : List TableValue) (same : AreSame ts us) where
   pub same_held : (t : ℕ) (e : Entity) → held_at us t e ≡ held_at ts t e
-  same_held t e = ap₂ (λ ks rows. let u : TableValue = record { kinds = ks; standings = []; rows = rows } in held_in u e) (same.kinds t) (same.rows t)
+  same_held t e = ap₂ (λ ks rows. let u : TableValue = record { kinds = ks; standings = []; rows = rows; room = 0 } in held_in u e) (same.kinds t) (same.rows t)
 
   same_row : (i : ℕ) (o : Option EntityLocation) → row_in us i o ≡ row_in ts i o
   same_row i None = refl

@@ -1,5 +1,5 @@
 -- What the steps of one row come to: insertions, removals and writes of a kind.
-use Rattle.std.proofs.Common.{◌≡◌, ◌≢◌, ℕ, zero, suc, ◌<◌, true, false, ℤ, List, [], ◌∷◌, length, set, map, Option, Some, None, option_map, is_some, refl, sym, ap, subst, ◌∙◌, arith}
+use Rattle.std.proofs.Common.{◌≡◌, ◌≢◌, ℕ, ◌<◌, true, false, ℤ, List, [], ◌∷◌, length, set, map, Option, Some, None, option_map, is_some, refl, sym, ap, subst, ◌∙◌}
 use Rattle.model.specs.Lists.{is_there}
 use Rattle.model.specs.state.State.{Component}
 use Rattle.model.specs.declared.entities.Entity.{Entity}
@@ -12,23 +12,13 @@ use Rattle.column_store.specs.Kinds.{AreBelow}
 use Rattle.column_store.specs.Table.{TableValue}
 use Rattle.archetype_store.specs.declared.locations.EntityLocation.{EntityLocation}
 use Rattle.archetype_store.specs.Row.{component_of, only}
-use Rattle.archetype_store.specs.Tables.{kinds_at, held_at, row_or_none, IsHeldNow, IsLeft, IsGrown}
+use Rattle.archetype_store.specs.Tables.{kinds_at, held_at, row_or_none, IsHeldNow}
 use Rattle.archetype_store.specs.Archetypes.{archetypes_of, place_of, row_in, holder_in, IsHolder, AreArchetypes, HasRow}
 use Rattle.archetype_store.proofs.Held.{held_within, shape_at}
 use Rattle.archetype_store.proofs.Laid.{moved_whole, moved_row, somewhere, kinds_there, row_there}
-use Rattle.archetype_store.proofs.Moves.{moved_laid, moved_cleared, moved_written, row_placed, grown_whole, grown_alike, row_from_alike}
+use Rattle.archetype_store.proofs.Moves.{moved_joined, moved_cleared, moved_written, row_placed}
+use Rattle.archetype_store.proofs.Known.{placed_within}
 use Rattle.archetype_store.proofs.RowEdits.{there-inserted, kinds-written, kinds-components, below_from_rising, rising_from_below}
-
--- ---- places
-
-some_of_none : (p : EntityLocation) → None ≡ Some p → ⊥
-some_of_none p h = cc
-
--- an index with a place is there
-placed_within : (P : List (Option EntityLocation)) (i : ℕ) (p : EntityLocation) → place_of P i ≡ Some p → i < length P
-placed_within [] i p h = absurd (some_of_none p h)
-placed_within (o ∷ P) zero p h = omega arith
-placed_within (o ∷ P) (suc i) p h = let l = placed_within P i p h in omega arith
 
 -- ---- a row that is laid
 
@@ -36,24 +26,15 @@ some_components : (ss : List StampedValue) → ss ≢ [] → is_there (map compo
 some_components [] h = absurd (h refl)
 some_components (s ∷ ss) h = refl
 
-module _ (T T₁ T₂ T₃ : List TableValue) (P : List (Option EntityLocation)) (e : Entity) (table : ℕ) (ss : List StampedValue) where
-  pub laid : AreArchetypes T P → e.index < length P → IsHolder e.generation (holder_in (place_of P e.index)) → ss ≢ [] →
-      ((p : EntityLocation) → place_of P e.index ≡ Some p → kinds_at T p.table ≢ map stamped_number ss) → IsGrown T T₁ → kinds_at T₁ table ≡ map stamped_number ss →
-      IsHeldNow T₁ T₂ table e (Some (map component_of ss)) → IsLeft T₂ T₃ (place_of P e.index) e →
-      AreArchetypes T₃ (set P e.index (Some (record { generation = e.generation; table = table })))
-      × HasRow (archetypes_of T P) e (map component_of ss) (archetypes_of T₃ (set P e.index (Some (record { generation = e.generation; table = table }))))
-  laid h within fits some other grown kinds put left =
-      let whole = grown_whole T T₁ P grown h in
-      let moved = moved_laid T₁ T₂ T₃ P e table (map component_of ss) whole within apart (kinds-components ss ∙ sym kinds) (some_components ss some) put left in (
-        moved_whole T₁ T₃ P (set P e.index (Some (record { generation = e.generation; table = table }))) e (Some table) (map component_of ss) whole fits moved,
-        row_from_alike (archetypes_of T P) (archetypes_of T₁ P) (archetypes_of T₃ (set P e.index (Some (record { generation = e.generation; table = table })))) e (map component_of ss)
-            (grown_alike T T₁ P grown) (moved_row T₁ T₃ P (set P e.index (Some (record { generation = e.generation; table = table }))) e (Some table) (map component_of ss) moved),
+module _ (T T' : List TableValue) (P : List (Option EntityLocation)) (e : Entity) (table : ℕ) (ss : List StampedValue) where
+  pub joined : AreArchetypes T P → e.index < length P → place_of P e.index ≡ None → ss ≢ [] → kinds_at T table ≡ map stamped_number ss → IsHeldNow T T' table e (Some (map component_of ss)) →
+      AreArchetypes T' (set P e.index (Some (record { generation = e.generation; table = table })))
+      × HasRow (archetypes_of T P) e (map component_of ss) (archetypes_of T' (set P e.index (Some (record { generation = e.generation; table = table }))))
+  joined whole within none some kinds put =
+      let moved = moved_joined T T' P e table (map component_of ss) whole within none (kinds-components ss ∙ sym kinds) (some_components ss some) put in (
+        moved_whole T T' P (set P e.index (Some (record { generation = e.generation; table = table }))) e (Some table) (map component_of ss) whole (subst (λ o. IsHolder e.generation (holder_in o)) (sym none) tt) moved,
+        moved_row T T' P (set P e.index (Some (record { generation = e.generation; table = table }))) e (Some table) (map component_of ss) moved,
       )
-    where
-      apart : (p : EntityLocation) → place_of P e.index ≡ Some p → kinds_at T₁ p.table ≢ kinds_at T₁ table
-      apart p at same =
-          let gen : p.generation ≡ e.generation = subst (λ o. IsHolder e.generation (holder_in o)) at fits in
-          other p at (sym (grown.kinds p.table (held_within T p.table e (somewhere T P h e p at gen))) ∙ same ∙ kinds)
 
 -- ---- where an entity has a place
 
@@ -102,6 +83,13 @@ module _ (T : List TableValue) (P : List (Option EntityLocation)) (e : Entity) (
         moved_whole T T' P P e (Some p.table) row h fits moved,
         subst (λ r. HasRow (archetypes_of T P) e (row_after t (only k w) r) (archetypes_of T' P)) (sym row_is) (moved_row T T' P P e (Some p.table) row moved),
       )
+
+  -- all of it is replaced
+  pub renewed : (T' : List TableValue) (ss : List StampedValue) → ss ≢ [] → kinds_at T p.table ≡ map stamped_number ss → IsHeldNow T T' p.table e (Some (map component_of ss)) →
+      AreArchetypes T' P × HasRow (archetypes_of T P) e (map component_of ss) (archetypes_of T' P)
+  renewed T' ss some kinds now =
+      let moved = moved_written T T' P e p h at (map component_of ss) gen_there (kinds-components ss ∙ sym kinds) (some_components ss some) now in
+      (moved_whole T T' P P e (Some p.table) (map component_of ss) h fits moved, moved_row T T' P P e (Some p.table) (map component_of ss) moved)
 
   -- an insertion of a kind that is there is a write
   pub inserted_there : (t k : ℕ) (w : List ℤ) → is_some (cell_at (row_or_none (held_at T p.table e)) k) ≡ true →

@@ -11,8 +11,6 @@ use Rattle.archetype_store.specs.declared.change.EntityChange.{EntityChange}
 use Rattle.archetype_store.specs.Changes.{components_left}
 use Rattle.archetype_store.specs.declared.locations.EntityLocation.{EntityLocation}
 use Rattle.archetype_store.specs.Layout.{Archetype, layout_of, archetype_at, is_in_archetype, with_home, IsArchetype, AreOfOtherKinds}
-use Rattle.archetype_store.specs.declared.table_index.TableIndex.{TableIndex}
-use Rattle.archetype_store.specs.TableIndex.{IsIndexed}
 use Rattle.archetype_store.specs.Tables.{kinds_at, held_at, row_or_none, AreShaped, AreUnlike, AreBareHome, AreUnshared}
 
 -- rows by index, of each index that has a row the generation of its entity, and how the rows are laid out
@@ -115,11 +113,6 @@ pub record IsStored (tables : List TableValue) (places : List (Option EntityLoca
   pub whole : AreArchetypes tables places
   pub bare : AreBareHome tables
   pub unshared : shared ≡ false → AreUnshared tables
-
--- the same, with an index of the tables
-pub record IsWhole (tables : List TableValue) (index : TableIndex) (places : List (Option EntityLocation)) (shared : Bool) : Type 0 where
-  pub stored : IsStored tables places shared
-  pub indexed : IsIndexed tables index
 
 -- ---- cells of columns
 

@@ -2,6 +2,8 @@ pub mod Row
 pub mod Layout
 pub mod Tables
 pub mod Archetypes
+pub mod RowNumbers
+pub mod Whole
 pub mod Slot
 pub mod Slots
 pub mod LivingSets
@@ -12,6 +14,4 @@ pub mod Lending
 pub mod Overlays
 pub mod Changes
 pub mod RowMoves
-pub mod Gathering
-pub mod Arrivals
 pub mod TableIndex

@@ -1,5 +1,5 @@
 -- Tables of archetypes: what they hold of an entity, and what a change of one row leaves.
-use Rattle.std.specs.Prelude.{◌≡◌, ◌≢◌, ℕ, zero, suc, ◌<◌, ◌≤◌, Bool, true, false, cond, ◌==◌, ◌&&◌, List, [], ◌∷◌, length, get_or, map, Option, Some, None, option_map}
+use Rattle.std.specs.Prelude.{◌≡◌, ◌≢◌, ℕ, zero, suc, ◌<◌, ◌≤◌, Bool, true, false, cond, ◌==◌, List, [], ◌∷◌, length, get_or, map, slice_get, Option, Some, None, option_map}
 use Rattle.std.specs.List.{AllByRecursion, list_all}
 use Rattle.model.specs.Lists.{is_there}
 use Rattle.model.specs.state.State.{Cell, Component}
@@ -8,7 +8,7 @@ use Rattle.archetype_store.specs.declared.locations.EntityLocation.{EntityLocati
 use Rattle.column_store.specs.Order.{is_same}
 use Rattle.column_store.specs.Components.{components_of}
 use Rattle.archetype_store.specs.Layout.{layout_of, IsShape}
-use Rattle.column_store.specs.Table.{Standing, TableValue, is_home, is_owned, empty_table, is_among, row_of, kind_cells, IsAlike}
+use Rattle.column_store.specs.Table.{Standing, TableValue, is_home, is_owned, empty_table, row_of, kind_cells, IsAlike}
 use Rattle.column_store.specs.Table.Standing.{Shared}
 
 -- the table of a number: past the end one without kinds
@@ -18,6 +18,22 @@ table_at tables table = get_or tables table (empty_table [])
 -- the kinds of a table
 abbrev pub kinds_at : List TableValue → ℕ → List ℕ
 kinds_at tables table = (table_at tables table).kinds
+
+-- for how many further rows a table has room
+abbrev pub room_at : List TableValue → ℕ → ℕ
+room_at tables table = (table_at tables table).room
+
+-- the table with room for so many further rows
+abbrev pub with_room : ℕ → TableValue → TableValue
+with_room room t = record { kinds = t.kinds; standings = t.standings; rows = t.rows; room = room }
+
+-- the entities of a table, row by row
+abbrev pub entities_at : List TableValue → ℕ → List Entity
+entities_at tables table = map (λ row. row.entity) (table_at tables table).rows
+
+-- the entity of a row of a table
+abbrev pub entity_in_row : List TableValue → ℕ → ℕ → Option Entity
+entity_in_row tables table row = slice_get (entities_at tables table) row
 
 -- whether a column isn't read elsewhere while it is at home
 abbrev pub is_unshared : Standing → Bool
@@ -89,9 +105,9 @@ abbrev pub AreUnlike : List TableValue → Type 0
 AreUnlike [] = Unit {0}
 AreUnlike (t ∷ ts) = AllByRecursion (λ u. t.kinds ≢ u.kinds) ts × AreUnlike ts
 
--- a table without its rows
+-- a table without its rows and its room
 abbrev pub shape_of : TableValue → TableValue
-shape_of t = record { kinds = t.kinds; standings = t.standings; rows = [] }
+shape_of t = record { kinds = t.kinds; standings = t.standings; rows = []; room = 0 }
 
 -- ---- a change
 
@@ -104,6 +120,8 @@ pub record IsHeldNow (old new : List TableValue) (table : ℕ) (e : Entity) (hel
 -- there may be one more table, without rows
 pub record IsGrown (old new : List TableValue) : Type 0 where
   pub held : (t : ℕ) (x : Entity) → held_at new t x ≡ held_at old t x
+  pub entities : (t : ℕ) → entities_at new t ≡ entities_at old t
+  pub rooms : (t : ℕ) → room_at new t ≡ room_at old t
   pub kinds : (t : ℕ) → t < length old → kinds_at new t ≡ kinds_at old t
   pub longer : length old ≤ length new
   pub shaped : AreShaped new
@@ -111,18 +129,13 @@ pub record IsGrown (old new : List TableValue) : Type 0 where
   pub owned : AreOwned old → AreOwned new
   pub layout : layout_of new ≡ layout_of old
 
--- a table no longer holds these entities, and nothing else has changed
-pub record AreGone (old new : List TableValue) (table : ℕ) (gone : List Entity) : Type 0 where
-  pub held : (t : ℕ) (x : Entity) → held_at new t x ≡ cond ((t == table) && is_among x gone) None (held_at old t x)
-  pub shapes : map shape_of new ≡ map shape_of old
+-- the rows of one table were changed, those of no other, and no room
+pub record IsOneTable (old new : List TableValue) (table : ℕ) (entities : List Entity) : Type 0 where
+  pub others : (t : ℕ) → (t ≡ table → ⊥) → entities_at new t ≡ entities_at old t
+  pub here : entities_at new table ≡ entities
+  pub other_rooms : (t : ℕ) → (t ≡ table → ⊥) → room_at new t ≡ room_at old t
 
 -- whether a place is in a table
 abbrev pub is_in : Option EntityLocation → ℕ → Bool
 is_in None table = false
 is_in (Some p) table = table == p.table
-
--- the row of an entity is no longer where it was, and nothing else has changed
-pub record IsLeft (old new : List TableValue) (place : Option EntityLocation) (e : Entity) : Type 0 where
-  pub others : (t : ℕ) (x : Entity) → is_same e x ≡ false → held_at new t x ≡ held_at old t x
-  pub here : (t : ℕ) → held_at new t e ≡ cond (is_in place t) None (held_at old t e)
-  pub shapes : map shape_of new ≡ map shape_of old

@@ -41,18 +41,21 @@ pub struct Archetypes {
     tables: Vec<Table>,
     index: TableIndex,
     places: Vec<Option<EntityLocation>>,
+    // By index, beside the places: the number of the row in its table.
+    row_numbers: Vec<usize>,
     // Whether some columns may be read elsewhere too.
     shared: bool,
 }
 
 impl Model for Archetypes {
-    ghost use Rattle.archetype_store.specs.Archetypes.{ArchetypesValue, archetypes_of, IsWhole};
+    ghost use Rattle.archetype_store.specs.Archetypes.{ArchetypesValue, archetypes_of};
+    ghost use Rattle.archetype_store.specs.Whole.{IsWhole};
 
     ghost Value = { ArchetypesValue };
 
     ghost view = { λ a. archetypes_of a.tables.items a.places.items };
 
-    ghost invariant = { λ a. IsWhole a.tables.items a.index a.places.items a.shared };
+    ghost invariant = { λ a. IsWhole a.tables.items a.index a.places.items a.row_numbers.items a.shared };
 }
 
 impl Archetypes {
@@ -64,6 +67,7 @@ impl Archetypes {
             tables: Vec::new(alloc),
             index: TableIndex::new(alloc),
             places: Vec::new(alloc),
+            row_numbers: Vec::new(alloc),
             shared: false,
         }
     }
@@ -77,10 +81,12 @@ impl Archetypes {
         let tables = copied_tables(alloc, &self.tables)?;
         let index = self.index.copy(alloc)?;
         let places = Vec::from_slice(alloc, self.places.as_slice())?;
+        let row_numbers = Vec::from_slice(alloc, self.row_numbers.as_slice())?;
         Ok(Archetypes {
             tables,
             index,
             places,
+            row_numbers,
             shared: false,
         })
     }
@@ -93,7 +99,10 @@ impl Archetypes {
     {
         match place_at(&self.places, index) {
             None => None,
-            Some(place) => find_at(&self.tables, place.table, entity_of(index, place), number),
+            Some(place) => {
+                let row = self.row_numbers[index as usize];
+                find_at(&self.tables, place.table, row, number)
+            }
         }
     }
 
@@ -124,7 +133,10 @@ impl Archetypes {
     {
         match place_at(&self.places, index) {
             None => Ok(Vec::new(alloc)),
-            Some(place) => components_at(alloc, &self.tables, place.table, entity_of(index, place)),
+            Some(place) => {
+                let row = self.row_numbers[index as usize];
+                components_at(alloc, &self.tables, place.table, row)
+            }
         }
     }
 
@@ -233,12 +245,13 @@ impl Archetypes {
         ensures err { OnErr result (AreAlike self.old self.new) }
         ensures home { AreAllHome self.new.layout }
     {
-        reach(&mut self.places, e.index)?;
+        reach(&mut self.places, &mut self.row_numbers, e.index)?;
         own_all(&mut self.tables, &mut self.shared)?;
         let inserted = insert_in(
             &mut self.tables,
             &mut self.index,
             &mut self.places,
+            &mut self.row_numbers,
             e,
             value,
             tick,
@@ -265,6 +278,7 @@ impl Archetypes {
             &mut self.tables,
             &mut self.index,
             &mut self.places,
+            &mut self.row_numbers,
             e,
             number,
         );
@@ -287,7 +301,13 @@ impl Archetypes {
             return Ok(());
         }
         own_all(&mut self.tables, &mut self.shared)?;
-        let changed = change_in(&mut self.tables, &mut self.index, &mut self.places, changes);
+        let changed = change_in(
+            &mut self.tables,
+            &mut self.index,
+            &mut self.places,
+            &mut self.row_numbers,
+            changes,
+        );
         self.index.note_rows(&self.tables);
         changed
     }
@@ -302,18 +322,8 @@ impl Archetypes {
         ensures home { AreAllHome self.new.layout }
     {
         own_all(&mut self.tables, &mut self.shared)?;
-        clear_in(&mut self.tables, &self.index, &mut self.places, e);
+        clear_in(&mut self.tables, &mut self.places, &mut self.row_numbers, e);
         self.index.note_rows(&self.tables);
         Ok(())
-    }
-}
-
-// The entity of an index that has a place.
-fn entity_of(index: u32, place: EntityLocation) -> Entity
-    ensures { result ≡ record { index = index; generation = place.generation } }
-{
-    Entity {
-        index,
-        generation: place.generation,
     }
 }

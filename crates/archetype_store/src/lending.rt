@@ -3,7 +3,7 @@
 ghost use Rattle.std.specs.Prelude.{◌≡◌, ◌<◌, ◌≤◌, length, map, slice_set, Some, MatchOption, IfOk, OnOk, OnErr};
 ghost use Rattle.std.specs.Arc.{arc_value};
 ghost use Rattle.kinds.specs.Kind.{kind_number};
-ghost use Rattle.column_store.specs.Order.{AreRising};
+ghost use Rattle.column_store.specs.Order.{AreApart};
 ghost use Rattle.column_store.specs.Table.{standing_of, lent, homed, IsHome};
 ghost use Rattle.column_store.specs.Table.Standing.{Away};
 ghost use Rattle.archetype_store.specs.Tables.{table_at, cells_at, AreAllAlike, IsTableOf};
@@ -20,9 +20,9 @@ pub(crate) fn column_at(tables: &[Table], table: usize, kind: Kind) -> &StampedC
     requires home { IsHome (standing_of (table_at tables.now table) (kind_number kind)) }
     ensures kind { result.now.kind ≡ kind_number kind }
     ensures cells { map (λ cell. Some cell) result.now.cells ≡ cells_at tables.now table (kind_number kind) }
-    ensures rising { AreRising (map (λ row. row.entity) (table_at tables.now table).rows) }
+    ensures apart { AreApart (map (λ row. row.entity) (table_at tables.now table).rows) }
 {
-    // Proves that ids rise.
+    // Tells that no entity is there twice.
     let _entities = tables[table].entities();
     tables[table].column(kind)
 }
@@ -38,12 +38,12 @@ pub(crate) fn lend_at(
     requires home { IsHome (standing_of (table_at tables.old.items table) (kind_number kind)) }
     ensures kind { IfOk result (λ column. column.kind ≡ kind_number kind) }
     ensures cells { IfOk result (λ column. map (λ cell. Some cell) column.cells ≡ cells_at tables.old.items table (kind_number kind)) }
-    ensures rising { AreRising (map (λ row. row.entity) (table_at tables.old.items table).rows) }
+    ensures apart { AreApart (map (λ row. row.entity) (table_at tables.old.items table).rows) }
     ensures away { OnOk result (tables.new.items ≡ slice_set tables.old.items table (lent (table_at tables.old.items table) (kind_number kind))) }
     ensures err { OnErr result (tables.new.items ≡ tables.old.items) }
 {
     let there = &mut tables[table];
-    // Proves that ids rise.
+    // Tells that no entity is there twice.
     let _entities = there.entities();
     there.lend(alloc, kind)
 }
@@ -59,11 +59,11 @@ pub(crate) fn share_at(
     requires home { IsHome (standing_of (table_at tables.old.items table) (kind_number kind)) }
     ensures kind { IfOk result (λ column. (arc_value column).kind ≡ kind_number kind) }
     ensures cells { IfOk result (λ column. map (λ cell. Some cell) (arc_value column).cells ≡ cells_at tables.old.items table (kind_number kind)) }
-    ensures rising { AreRising (map (λ row. row.entity) (table_at tables.old.items table).rows) }
+    ensures apart { AreApart (map (λ row. row.entity) (table_at tables.old.items table).rows) }
     ensures alike { AreAllAlike tables.old.items tables.new.items }
 {
     let there = &mut tables[table];
-    // Proves that ids rise.
+    // Tells that no entity is there twice.
     let _entities = there.entities();
     there.share(alloc, kind)
 }

@@ -6,7 +6,6 @@ pub mod change;
 mod columns;
 pub mod components;
 pub mod fault;
-mod gathering;
 mod kind_sets;
 pub mod laws;
 mod lay;

@@ -2,6 +2,7 @@
 
 ghost use Rattle.std.specs.Prelude.{◌≡◌, ◌<◌, ◌≤◌, ℕ, length, OnOk};
 ghost use Rattle.archetype_store.specs.Archetypes.{place_of};
+ghost use Rattle.archetype_store.specs.RowNumbers.{number_of_row};
 
 use std::alloc::AllocError;
 
@@ -23,12 +24,23 @@ pub(crate) fn place_at(places: &[Option<EntityLocation>], index: u32) -> Option<
     }
 }
 
-// Makes room for the place of an index, which is none. After an error there may be room for some, which no index can tell.
-pub(crate) fn reach(places: &mut Vec<Option<EntityLocation>>, index: u32) -> Result<(), AllocError>
+// Makes room for the place of an index, which is none, and for the number of its row. After an error there may be room for some, which no
+// index can tell.
+pub(crate) fn reach(
+    places: &mut Vec<Option<EntityLocation>>,
+    numbers: &mut Vec<usize>,
+    index: u32,
+) -> Result<(), AllocError>
+    requires { length places.old.items ≤ length numbers.old.items }
     ensures same { (k : ℕ) → place_of places.new.items k ≡ place_of places.old.items k }
+    ensures numbers { (k : ℕ) → number_of_row numbers.new.items k ≡ number_of_row numbers.old.items k }
     ensures ok { OnOk result (index < length places.new.items) }
     ensures longer { length places.old.items ≤ length places.new.items }
+    ensures as_many { length places.new.items ≤ length numbers.new.items }
 {
+    while numbers.len() <= index as usize {
+        numbers.push(0)?;
+    }
     while places.len() <= index as usize {
         places.push(None)?;
     }

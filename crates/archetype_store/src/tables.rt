@@ -1,9 +1,10 @@
 // The tables of archetypes, and what is done in them to the row of one entity.
 
-ghost use Rattle.std.specs.Prelude.{◌≡◌, ◌≢◌, ◌==◌, ◌<◌, [], length, map, option_map, position, None, Some, IsSome, IfSome, IfOk, OnOk, OnErr};
+ghost use Rattle.std.specs.Prelude.{◌≡◌, ◌≢◌, ◌==◌, ◌<◌, ◌+◌, ◌-◌, ◌++◌, ◌∷◌, [], length, map, option_map, None, Some, IsSome, IfSome, IfOk, OnOk, OnErr, slice_get, slice_set};
 ghost use Rattle.std.specs.List.{list_any, AllByRecursion};
-ghost use Rattle.column_store.specs.Order.{AreRising, AreApart};
+ghost use Rattle.column_store.specs.Order.{AreApart};
 ghost use Rattle.column_store.specs.RowOrder.{OrdersRows};
+ghost use Rattle.column_store.specs.Swapped.{swap_removed};
 ghost use Rattle.kinds.specs.Kind.{kind_number};
 ghost use Rattle.kinds.specs.Value.{value_number, value_words};
 ghost use Rattle.model.specs.Lists.{has};
@@ -11,19 +12,16 @@ ghost use Rattle.model.specs.state.Rows.{cell_at};
 ghost use Rattle.model.specs.shown.Overlay.{row_after};
 ghost use Rattle.column_store.specs.Cells.{stamped_number};
 ghost use Rattle.column_store.specs.Kinds.{AreBelow};
-ghost use Rattle.column_store.specs.Table.{TableRow, empty_table, kind_cells, standing_of, lent, homed, IsHome};
-ghost use Rattle.column_store.specs.Table.Standing.{Away};
-ghost use Rattle.column_store.specs.Arriving.{entity_of};
-ghost use Rattle.archetype_store.specs.Arrivals.{HaveCome};
+ghost use Rattle.column_store.specs.Table.{empty_table};
 ghost use Rattle.archetype_store.specs.Row.{component_of, only};
 ghost use Rattle.archetype_store.specs.Layout.{layout_of};
 ghost use Rattle.archetype_store.specs.View.{kinds_seen, entities_seen};
 ghost use Rattle.archetype_store.specs.TableIndex.{IsFound};
-ghost use Rattle.archetype_store.specs.Tables.{table_at, kinds_at, held_at, row_or_none, AreShaped, AreUnlike, AreGone, AreHome, AreOwned, IsHeldNow, IsGrown};
+ghost use Rattle.archetype_store.specs.Tables.{table_at, kinds_at, held_at, room_at, with_room, entities_at, entity_in_row, shape_of, row_or_none, AreShaped, AreUnlike, AreHome, AreOwned, IsHeldNow, IsGrown, IsOneTable};
 
 use crate::table_index::{TableIndex, word_of};
 use change_ticks::Tick;
-use column_store::{Arrival, RowOrder, StampedValue, Table};
+use column_store::{RowOrder, StampedValue, Table};
 use entity_table::Entity;
 use kinds::{Kind, Value};
 use std::alloc::{AllocError, Global};
@@ -111,20 +109,23 @@ pub(crate) fn table_for(
     }
 }
 
-// The component of the kind with this number of an entity that is in a table.
+// The component of the kind with this number at a row of a table.
 pub(crate) fn find_at(
     tables: &[Table],
     table: usize,
-    e: Entity,
+    row: usize,
     number: u32,
 ) -> Option<StampedValue>
-    requires there { IsSome (held_at tables.now table e) }
+    requires there { IsSome (entity_in_row tables.now table row) }
     requires shaped { AreShaped tables.now }
     requires home { AreHome tables.now }
-    ensures cell { option_map (λ s. (component_of s).cell) result ≡ cell_at (row_or_none (held_at tables.now table e)) number }
+    ensures cell { (e : Entity) → entity_in_row tables.now table row ≡ Some e → option_map (λ s. (component_of s).cell) result ≡ cell_at (row_or_none (held_at tables.now table e)) number }
     ensures number { IfSome result (λ s. stamped_number s ≡ number) }
 {
-    tables[table].find(e, number)
+    let there = &tables[table];
+    // Tells that no entity is there twice.
+    let _entities = there.entities();
+    there.find(row, number)
 }
 
 // Whether one of the kinds has this number.
@@ -150,121 +151,123 @@ pub(crate) fn kind_count_at(tables: &[Table], table: usize) -> usize
     tables[table].kinds().len()
 }
 
-// The components of an entity that is in a table, in the order of its kinds.
+// The components at a row of a table, in the order of its kinds.
 pub(crate) fn components_at(
     alloc: Global,
     tables: &[Table],
     table: usize,
-    e: Entity,
+    row: usize,
 ) -> Result<Vec<StampedValue>, AllocError>
-    requires there { IsSome (held_at tables.now table e) }
-    requires shaped { AreShaped tables.now }
+    requires there { IsSome (entity_in_row tables.now table row) }
     requires home { AreHome tables.now }
-    ensures row { IfOk result (λ components. held_at tables.now table e ≡ Some (map component_of components.items)) }
+    ensures row { IfOk result (λ components. (e : Entity) → entity_in_row tables.now table row ≡ Some e → held_at tables.now table e ≡ Some (map component_of components.items)) }
     ensures kinds { IfOk result (λ components. map stamped_number components.items ≡ kinds_at tables.now table) }
 {
-    tables[table].components(alloc, e)
+    let there = &tables[table];
+    // Tells that no entity is there twice.
+    let _entities = there.entities();
+    there.components(alloc, row)
 }
 
-// Writes a component that an entity has in a table.
-pub(crate) fn write_at(tables: &mut Vec<Table>, table: usize, e: Entity, value: Value, tick: Tick)
+// Writes a component at a row of a table.
+pub(crate) fn write_at(tables: &mut Vec<Table>, table: usize, row: usize, value: Value, tick: Tick)
     requires shaped { AreShaped tables.old.items }
-    requires there { IsSome (cell_at (row_or_none (held_at tables.old.items table e)) (value_number value)) }
+    requires row { IsSome (entity_in_row tables.old.items table row) }
+    requires there { (e : Entity) → entity_in_row tables.old.items table row ≡ Some e → IsSome (cell_at (row_or_none (held_at tables.old.items table e)) (value_number value)) }
     requires owned { AreOwned tables.old.items }
-    ensures { IsHeldNow tables.old.items tables.new.items table e
+    ensures held { (e : Entity) → entity_in_row tables.old.items table row ≡ Some e → IsHeldNow tables.old.items tables.new.items table e
         (Some (row_after tick (only (value_number value) (value_words value)) (row_or_none (held_at tables.old.items table e)))) }
+    ensures shapes { map shape_of tables.new.items ≡ map shape_of tables.old.items }
+    ensures entities { IsOneTable tables.old.items tables.new.items table (entities_at tables.old.items table) }
 {
     let there = &mut tables[table];
-    there.write(e, value, tick);
+    // Tells that no entity is there twice.
+    let _entities = there.entities();
+    there.write(row, value, tick);
 }
 
-// Adds the row of an entity that isn't in the table. Where an allocation fails the tables stay as they were.
-pub(crate) fn put_at(
+// Makes room for a further row of a table. Where an allocation fails the tables stay as they were.
+pub(crate) fn reserve_at(tables: &mut Vec<Table>, table: usize) -> Result<(), AllocError>
+    requires within { table < length tables.old.items }
+    requires owned { AreOwned tables.old.items }
+    ensures ok { OnOk result (tables.new.items ≡ slice_set tables.old.items table (with_room (room_at tables.old.items table + 1) (table_at tables.old.items table))) }
+    ensures err { OnErr result (tables.new.items ≡ tables.old.items) }
+{
+    let there = &mut tables[table];
+    there.reserve(1)
+}
+
+// Counts no row that room was made for in a table any more.
+pub(crate) fn release_at(tables: &mut Vec<Table>, table: usize)
+    requires { table < length tables.old.items }
+    ensures { tables.new.items ≡ slice_set tables.old.items table (with_room 0 (table_at tables.old.items table)) }
+{
+    let there = &mut tables[table];
+    there.release();
+}
+
+// Adds the row of an entity that isn't in the table, which room was made for, and tells its number. It allocates nothing.
+pub(crate) fn push_at(
     tables: &mut Vec<Table>,
     table: usize,
     e: Entity,
     components: &[StampedValue],
-) -> Result<(), AllocError>
-    requires shaped { AreShaped tables.old.items }
+) -> usize
     requires within { table < length tables.old.items }
     requires absent { held_at tables.old.items table e ≡ None }
     requires kinds { kinds_at tables.old.items table ≡ map stamped_number components.now }
     requires owned { AreOwned tables.old.items }
-    ensures ok { OnOk result (IsHeldNow tables.old.items tables.new.items table e (Some (map component_of components.now))) }
-    ensures err { OnErr result (tables.new.items ≡ tables.old.items) }
+    requires room { 0 < room_at tables.old.items table }
+    ensures held { IsHeldNow tables.old.items tables.new.items table e (Some (map component_of components.now)) }
+    ensures row { result ≡ length (entities_at tables.old.items table) }
+    ensures entities { IsOneTable tables.old.items tables.new.items table (entities_at tables.old.items table ++ e ∷ []) }
+    ensures room { room_at tables.new.items table ≡ room_at tables.old.items table - 1 }
 {
     let there = &mut tables[table];
-    there.put(e, components)
+    let row = there.len();
+    there.push(e, components);
+    row
 }
 
-// Adds the rows of entities that aren't in a table, whose ids rise, in one pass. Where an allocation fails the tables stay as they were.
-pub(crate) fn put_all_at(
-    tables: &mut Vec<Table>,
-    table: usize,
-    arrivals: &[Arrival<'_>],
-) -> Result<(), AllocError>
-    requires within { table < length tables.old.items }
-    requires rising { AreRising (map entity_of arrivals.now) }
-    requires absent { AllByRecursion (λ a. held_at tables.old.items table a.entity ≡ None) arrivals.now }
-    requires kinds { AllByRecursion (λ a. map stamped_number a.components.now ≡ kinds_at tables.old.items table) arrivals.now }
-    requires owned { AreOwned tables.old.items }
-    ensures ok { OnOk result (HaveCome tables.old.items tables.new.items table arrivals.now) }
-    ensures err { OnErr result (tables.new.items ≡ tables.old.items) }
-{
-    let there = &mut tables[table];
-    there.put_all(arrivals)
-}
-
-// Replaces the components of an entity that is in a table by others of its kinds.
+// Replaces the components at a row of a table by others of its kinds.
 pub(crate) fn renew_at(
     tables: &mut Vec<Table>,
     table: usize,
-    e: Entity,
+    row: usize,
     components: &[StampedValue],
 )
-    requires shaped { AreShaped tables.old.items }
-    requires there { IsSome (held_at tables.old.items table e) }
+    requires there { IsSome (entity_in_row tables.old.items table row) }
     requires kinds { kinds_at tables.old.items table ≡ map stamped_number components.now }
     requires owned { AreOwned tables.old.items }
-    ensures { IsHeldNow tables.old.items tables.new.items table e (Some (map component_of components.now)) }
+    ensures held { (e : Entity) → entity_in_row tables.old.items table row ≡ Some e → IsHeldNow tables.old.items tables.new.items table e (Some (map component_of components.now)) }
+    ensures entities { IsOneTable tables.old.items tables.new.items table (entities_at tables.old.items table) }
+    ensures room { room_at tables.new.items table ≡ room_at tables.old.items table }
 {
     let there = &mut tables[table];
-    there.renew(e, components);
-}
-
-// Removes the row of an entity.
-pub(crate) fn remove_at(tables: &mut Vec<Table>, table: usize, e: Entity)
-    requires shaped { AreShaped tables.old.items }
-    requires there { IsSome (held_at tables.old.items table e) }
-    requires owned { AreOwned tables.old.items }
-    ensures { IsHeldNow tables.old.items tables.new.items table e None }
-{
-    let there = &mut tables[table];
-    // Proves that ids rise, so that none of them is there twice.
+    // Tells that no entity is there twice.
     let _entities = there.entities();
-    there.remove(e);
+    there.renew(row, components);
 }
 
-// Removes the row of an entity, where it has one in a table.
-pub(crate) fn clear_at(tables: &mut Vec<Table>, table: usize, e: Entity)
-    requires shaped { AreShaped tables.old.items }
-    requires within { table < length tables.old.items }
+// Removes a row of a table, and tells whose row takes its place: the last one's.
+pub(crate) fn remove_at(tables: &mut Vec<Table>, table: usize, row: usize) -> Entity
+    requires there { IsSome (entity_in_row tables.old.items table row) }
     requires owned { AreOwned tables.old.items }
-    ensures { IsHeldNow tables.old.items tables.new.items table e None }
-{
-    if tables[table].has(e) {
-        remove_at(tables, table, e);
-    }
-}
-
-// Removes the rows of entities that are in a table, whose ids rise, in one pass.
-pub(crate) fn remove_all_at(tables: &mut Vec<Table>, table: usize, gone: &[Entity])
-    requires within { table < length tables.old.items }
-    requires rising { AreRising gone.now }
-    requires there { AllByRecursion (λ e. IsSome (held_at tables.old.items table e)) gone.now }
-    requires owned { AreOwned tables.old.items }
-    ensures { AreGone tables.old.items tables.new.items table gone.now }
+    ensures held { (e : Entity) → entity_in_row tables.old.items table row ≡ Some e → IsHeldNow tables.old.items tables.new.items table e None }
+    ensures moved { entity_in_row tables.old.items table (length (entities_at tables.old.items table) - 1) ≡ Some result }
+    ensures entities { IsOneTable tables.old.items tables.new.items table (swap_removed (entities_at tables.old.items table) row) }
+    ensures room { room_at tables.new.items table ≡ room_at tables.old.items table }
 {
     let there = &mut tables[table];
-    there.remove_all(gone);
+    let moved = last_of(there.entities());
+    there.swap_remove(row);
+    moved
+}
+
+// The last of entities, of which there are some.
+fn last_of(entities: &[Entity]) -> Entity
+    requires { 0 < length entities.now }
+    ensures { slice_get entities.now (length entities.now - 1) ≡ Some result }
+{
+    entities[entities.len() - 1]
 }

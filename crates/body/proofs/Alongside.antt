@@ -66,7 +66,7 @@ cells-same tick f g kind [] (c ∷ cs) h = refl
 cells-same tick f g kind (e ∷ es) (c ∷ cs) h = ap₂ (λ o xs. cell_after tick o c ∷ xs) (h zero e refl) (cells-same tick f g kind es cs (λ p x i. h (suc p) x i))
 
 with-cells : Column → List Cell → Column
-with-cells c cells = record { archetype = c.archetype; entities = c.entities; is_written = c.is_written; kind = c.kind; cells = cells }
+with-cells c cells = record { archetype = c.archetype; entities = c.entities; is_written = c.is_written; kind = c.kind; cells = cells; room = c.room }
 
 pub close-together : CloseTogether
 unfolding with-cells

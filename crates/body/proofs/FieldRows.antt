@@ -24,7 +24,7 @@ use Rattle.body.proofs.SheetCalls.{held-is, rows-within, row-readable, row-withi
 pub cells-alike : (columns : List Column) (j i : ℕ) (f g : Cell → Cell) → ((c : Cell) → cell_in columns j i ≡ Some c → f c ≡ g c) → update_at j (with_cell i f) columns ≡ update_at j (with_cell i g) columns
 cells-alike [] j i f g h = refl
 cells-alike (c ∷ cs) zero i f g h =
-    ap (λ (cells : List Cell). let x : Column = record { archetype = c.archetype; entities = c.entities; is_written = c.is_written; kind = c.kind; cells = cells } in x ∷ cs) (update-as f g c.cells i h)
+    ap (λ (cells : List Cell). let x : Column = record { archetype = c.archetype; entities = c.entities; is_written = c.is_written; kind = c.kind; cells = cells; room = c.room } in x ∷ cs) (update-as f g c.cells i h)
 cells-alike (c ∷ cs) (suc j) i f g h = ap (λ xs. c ∷ xs) (cells-alike cs j i f g h)
 
 -- ---- one value more
@@ -33,7 +33,7 @@ pub field-set : (width tick place at : ℕ) (value v : ℤ) (column new : Column
     option_map (λ (c : Cell). c.words) (slice_get column.cells at) ≡ Some old → new ≡ with_cell at (field_cell width tick place value) column
 field-set width tick place at value v column new old words read e made is =
     e
-    ∙ ap (λ (cells : List Cell). let x : Column = record { archetype = column.archetype; entities = column.entities; is_written = column.is_written; kind = column.kind; cells = cells } in x)
+    ∙ ap (λ (cells : List Cell). let x : Column = record { archetype = column.archetype; entities = column.entities; is_written = column.is_written; kind = column.kind; cells = cells; room = column.room } in x)
     (update-as (changed_cell words tick) (field_cell width tick place value) column.cells at
     (λ c there. ap (λ ws. let x : Cell = record { words = ws; added = c.added; changed = tick } in x)
     (made ∙ ap₂ (words_with width place) read (sym (same-some c.words old (sym (ap (option_map (λ (c : Cell). c.words)) there) ∙ is))))))

@@ -61,7 +61,7 @@ cells_untouched tick words kind (e ∷ es) (c ∷ cs) h = ap₂ ◌∷◌ (ap (�
 columns_untouched : (tick : ℕ) (words : ℕ → ℕ → Option (List ℤ)) (columns : List Column) → ((i k : ℕ) → words i k ≡ None) → map (column_after tick words) columns ≡ columns
 columns_untouched tick words [] h = refl
 columns_untouched tick words (c ∷ cs) h =
-    ap₂ ◌∷◌ (ap (λ cells. let d : Column = record { archetype = c.archetype; entities = c.entities; is_written = c.is_written; kind = c.kind; cells = cells } in d) (cells_untouched tick words c.kind c.entities c.cells h))
+    ap₂ ◌∷◌ (ap (λ cells. let d : Column = record { archetype = c.archetype; entities = c.entities; is_written = c.is_written; kind = c.kind; cells = cells; room = c.room } in d) (cells_untouched tick words c.kind c.entities c.cells h))
     (columns_untouched tick words cs h)
 
 lent_untouched : (sheets : List Sheet) → AllByRecursion (λ (s : Sheet). s.cells ≡ untouched_rows s.terms s.rows) sheets → lent_after sheets ≡ lent_in (map (λ (s : Sheet). s.taken) sheets)

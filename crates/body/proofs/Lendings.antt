@@ -125,7 +125,7 @@ can_come-join (x ∷ xs) ys w h = let more = can_come-join xs ys w h.0 in (more.
 -- ---- places
 
 abbrev pub place_of : TakenColumn → TakenColumn
-place_of c = record { archetype = c.archetype; column = record { kind = c.column.kind; cells = [] } }
+place_of c = record { archetype = c.archetype; column = record { kind = c.column.kind; cells = []; room = 0 } }
 
 back_places : (cs : List TakenColumn) (layout : List Archetype) → with_back (map place_of cs) layout ≡ with_back cs layout
 back_places [] layout = refl

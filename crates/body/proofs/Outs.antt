@@ -32,7 +32,7 @@ use Rattle.query_plan.specs.Picks.{Picked, picks_of}
 use Rattle.query_plan.specs.Standing.{ArePickedHome}
 use Rattle.query_plan.proofs.PickedHome.{from_picked}
 use Rattle.model.proofs.serial.Conflicts.{touches_from_writes as writes-touches}
-use Rattle.column_store.proofs.Arrived.{same_self}
+use Rattle.column_store.proofs.Apart.{same_self}
 use Rattle.body.specs.Columns.{Column}
 use Rattle.body.specs.Laid.{with_slots}
 use Rattle.body.specs.Lent.{lent_in, with_away, with_back, AreOfOtherPlaces, IsLent, IsOfEntities, AreLent}

@@ -96,7 +96,7 @@ same-cell : (c d : Cell) → c.words ≡ d.words → c.added ≡ d.added → c.c
 same-cell c d e f g = λ i. record { words = e i; added = f i; changed = g i }
 
 same-column : (c d : Column) → head_of c ≡ head_of d → c.cells ≡ d.cells → c ≡ d
-same-column c d e f = λ i. record { archetype = (e i).archetype; entities = (e i).entities; is_written = (e i).is_written; kind = (e i).kind; cells = f i }
+same-column c d e f = λ i. record { archetype = (e i).archetype; entities = (e i).entities; is_written = (e i).is_written; kind = (e i).kind; cells = f i; room = (e i).room }
 
 -- ---- a query over columns
 

@@ -20,7 +20,7 @@ is_own (Written column) = true
 is_own (Read shared) = false
 
 abbrev pub held_seen : ViewColumn → Column
-held_seen h = record { archetype = h.archetype; entities = (archetype_at h.world.value.layout h.archetype).entities; is_written = is_own h.cells; kind = (column_in h.cells).kind; cells = (column_in h.cells).cells }
+held_seen h = record { archetype = h.archetype; entities = (archetype_at h.world.value.layout h.archetype).entities; is_written = is_own h.cells; kind = (column_in h.cells).kind; cells = (column_in h.cells).cells; room = (column_in h.cells).room }
 
 -- the number of the column of each kind
 abbrev pub slots_seen : ColumnIndex → List (Option ℕ)

@@ -11,7 +11,7 @@ use Rattle.body.specs.Together.{words_of_sheet}
 
 -- a column as the store knows it
 abbrev pub taken_of : Column → TakenColumn
-taken_of c = record { archetype = c.archetype; column = record { kind = c.kind; cells = c.cells } }
+taken_of c = record { archetype = c.archetype; column = record { kind = c.kind; cells = c.cells; room = c.room } }
 
 -- the own columns of a query, which the world lends
 abbrev pub lent_of : List Column → List TakenColumn

@@ -46,10 +46,10 @@ AreOtherSpots (p ∷ ps) = AllByRecursion (IsOtherSpot p) ps × AreOtherSpots ps
 
 -- a column that was taken, and one that was shared, as a query of a view holds them
 abbrev pub own_column : StoreValue → TakenColumn → Column
-own_column w c = record { archetype = c.archetype; entities = (archetype_at w.layout c.archetype).entities; is_written = true; kind = c.column.kind; cells = c.column.cells }
+own_column w c = record { archetype = c.archetype; entities = (archetype_at w.layout c.archetype).entities; is_written = true; kind = c.column.kind; cells = c.column.cells; room = c.column.room }
 
 abbrev pub read_column : StoreValue → SharedColumn → Column
-read_column w c = record { archetype = c.archetype; entities = (archetype_at w.layout c.archetype).entities; is_written = false; kind = (arc_value c.column).kind; cells = (arc_value c.column).cells }
+read_column w c = record { archetype = c.archetype; entities = (archetype_at w.layout c.archetype).entities; is_written = false; kind = (arc_value c.column).kind; cells = (arc_value c.column).cells; room = (arc_value c.column).room }
 
 -- a column that was picked, as it is held
 pub record IsHeldOf (w : StoreValue) (p : Picked) (column : Column) : Type 0 where

@@ -123,7 +123,7 @@ pub record IsPlan (tick : ℕ) (terms : List Term) (slots : List (List (Option �
 
 -- what a view never changes of a column
 abbrev pub head_of : Column → Column
-head_of c = record { archetype = c.archetype; entities = c.entities; is_written = c.is_written; kind = c.kind; cells = [] }
+head_of c = record { archetype = c.archetype; entities = c.entities; is_written = c.is_written; kind = c.kind; cells = []; room = c.room }
 
 -- a cell was written through a row of the query, of a kind that it writes: its added stamp stays, and it is changed at the tick
 pub record IsOverwritten (tick : ℕ) (terms : List Term) (slots : List (List (Option ℕ))) (rows : List Row) (taken columns : List Column) (j i : ℕ) : Type 0 where

@@ -1,14 +1,15 @@
 -- Cells of words and stamps, and edits of them.
-use Rattle.std.proofs.Common.{◌≡◌, ℕ, zero, suc, ◌<◌, ◌≤◌, ℤ, List, [], ◌∷◌, length, get_or, set, option_map, refl, ap, arith}
+use Rattle.std.proofs.Common.{◌≡◌, ℕ, zero, suc, ◌-◌, ◌<◌, min, ℤ, List, [], ◌∷◌, ◌++◌, length, get_or, set, take, option_map, refl, sym, ap, ◌∙◌, arith}
+use Rattle.std.specs.List.{swap_remove}
 use Rattle.kinds.specs.Components.{word_at}
-use Rattle.std.specs.List.{insert, remove}
 use Rattle.std.specs.Prelude.{slice_get, Some}
-use Rattle.std.proofs.lemmas.List.Edits.{length-remove}
 use Rattle.change_ticks.specs.declared.stamp.Stamp.{Stamp}
 use Rattle.model.specs.state.State.{Cell}
 use Rattle.model.specs.Lists.{update_at}
 use Rattle.column_store.specs.Column.{cell_of, cells_of}
 use Rattle.column_store.specs.Cells.{stamp_of, changed_cell}
+use Rattle.column_store.specs.Swapped.{swap_removed}
+use Rattle.column_store.proofs.Swapped.{swap_removed-is, length-swap_removed}
 
 -- as many cells as words
 pub length-cells_of : (ws : List (List ℤ)) (ss : List Stamp) → length ws ≡ length ss → length (cells_of ws ss) ≡ length ss
@@ -42,23 +43,49 @@ cells_of-replace (x ∷ ws) [] i w s h l = absurd (omega arith)
 cells_of-replace (x ∷ ws) (y ∷ ss) zero w s h l = refl
 cells_of-replace (x ∷ ws) (y ∷ ss) (suc i) w s h l = ap (λ cs. cell_of x y ∷ cs) (cells_of-replace ws ss i w s (omega arith) (omega arith))
 
--- an insertion of both
-pub cells_of-insert : (ws : List (List ℤ)) (ss : List Stamp) (i : ℕ) (w : List ℤ) (s : Stamp) → length ws ≡ length ss → i ≤ length ss →
-    cells_of (insert ws i w) (insert ss i s) ≡ insert (cells_of ws ss) i (cell_of w s)
-cells_of-insert [] [] zero w s h l = refl
-cells_of-insert [] [] (suc i) w s h l = absurd (omega arith)
-cells_of-insert [] (y ∷ ss) i w s h l = absurd (omega arith)
-cells_of-insert (x ∷ ws) [] i w s h l = absurd (omega arith)
-cells_of-insert (x ∷ ws) (y ∷ ss) zero w s h l = refl
-cells_of-insert (x ∷ ws) (y ∷ ss) (suc i) w s h l = ap (λ cs. cell_of x y ∷ cs) (cells_of-insert ws ss i w s (omega arith) (omega arith))
+-- an element more of both
+pub cells_of-append : (ws : List (List ℤ)) (ss : List Stamp) (w : List ℤ) (s : Stamp) → length ws ≡ length ss →
+    cells_of (ws ++ w ∷ []) (ss ++ s ∷ []) ≡ cells_of ws ss ++ cell_of w s ∷ []
+cells_of-append [] [] w s h = refl
+cells_of-append [] (y ∷ ss) w s h = absurd (omega arith)
+cells_of-append (x ∷ ws) [] w s h = absurd (omega arith)
+cells_of-append (x ∷ ws) (y ∷ ss) w s h = ap (λ cs. cell_of x y ∷ cs) (cells_of-append ws ss w s (omega arith))
 
--- a removal of both
-pub cells_of-remove : (ws : List (List ℤ)) (ss : List Stamp) (i : ℕ) → length ws ≡ length ss → i < length ss →
-    cells_of (remove ws i) (remove ss i) ≡ remove (cells_of ws ss) i
-cells_of-remove [] ss i h l = absurd (omega arith)
-cells_of-remove (x ∷ ws) [] i h l = absurd (omega arith)
-cells_of-remove (x ∷ ws) (y ∷ ss) zero h l = refl
-cells_of-remove (x ∷ ws) (y ∷ ss) (suc i) h l = ap (λ cs. cell_of x y ∷ cs) (cells_of-remove ws ss i (omega arith) (omega arith))
+take-cells_of : (n : ℕ) (ws : List (List ℤ)) (ss : List Stamp) → cells_of (take n ws) (take n ss) ≡ take n (cells_of ws ss)
+take-cells_of zero ws ss = refl
+take-cells_of (suc n) [] ss = refl
+take-cells_of (suc n) (x ∷ ws) [] = refl
+take-cells_of (suc n) (x ∷ ws) (y ∷ ss) = ap (λ cs. cell_of x y ∷ cs) (take-cells_of n ws ss)
+
+set-cells_of : (ws : List (List ℤ)) (ss : List Stamp) (i : ℕ) (w : List ℤ) (s : Stamp) → cells_of (set ws i w) (set ss i s) ≡ set (cells_of ws ss) i (cell_of w s)
+set-cells_of [] ss i w s = refl
+set-cells_of (x ∷ ws) [] zero w s = refl
+set-cells_of (x ∷ ws) [] (suc i) w s = refl
+set-cells_of (x ∷ ws) (y ∷ ss) zero w s = refl
+set-cells_of (x ∷ ws) (y ∷ ss) (suc i) w s = ap (λ cs. cell_of x y ∷ cs) (set-cells_of ws ss i w s)
+
+get_or-cells_of : (ws : List (List ℤ)) (ss : List Stamp) (i : ℕ) (w : List ℤ) (s : Stamp) → length ws ≡ length ss → cell_of (get_or ws i w) (get_or ss i s) ≡ get_or (cells_of ws ss) i (cell_of w s)
+get_or-cells_of [] [] i w s h = refl
+get_or-cells_of [] (y ∷ ss) i w s h = absurd (omega arith)
+get_or-cells_of (x ∷ ws) [] i w s h = absurd (omega arith)
+get_or-cells_of (x ∷ ws) (y ∷ ss) zero w s h = refl
+get_or-cells_of (x ∷ ws) (y ∷ ss) (suc i) w s h = get_or-cells_of ws ss i w s (omega arith)
+
+cells_of-swap : (ws : List (List ℤ)) (ss : List Stamp) (i : ℕ) (w : List ℤ) (s : Stamp) → length ws ≡ length ss →
+    cells_of (swap_remove ws i w) (swap_remove ss i s) ≡ swap_remove (cells_of ws ss) i (cell_of w s)
+cells_of-swap ws ss i w s h =
+    let n = length ss - 1 in
+    ap (λ m. cells_of (take (m - 1) (set ws i (get_or ws (m - 1) w))) (take n (set ss i (get_or ss n s)))) h
+    ∙ take-cells_of n (set ws i (get_or ws n w)) (set ss i (get_or ss n s))
+    ∙ ap (take n) (set-cells_of ws ss i (get_or ws n w) (get_or ss n s) ∙ ap (set (cells_of ws ss) i) (get_or-cells_of ws ss n w s h))
+    ∙ ap (λ m. take (m - 1) (set (cells_of ws ss) i (get_or (cells_of ws ss) (m - 1) (cell_of w s)))) (sym (length-cells_of ws ss h))
+
+-- one removed of both
+pub cells_of-swap_removed : (ws : List (List ℤ)) (ss : List Stamp) (i : ℕ) (d : Stamp) → length ws ≡ length ss → i < length ss →
+    cells_of (swap_removed ws i) (swap_remove ss i d) ≡ swap_removed (cells_of ws ss) i
+cells_of-swap_removed [] ss i d h l = absurd (omega arith)
+cells_of-swap_removed (x ∷ ws) [] i d h l = absurd (omega arith)
+cells_of-swap_removed (x ∷ ws) (y ∷ ss) i d h l = ap (cells_of (swap_removed (x ∷ ws) i)) (swap_removed-is (y ∷ ss) i d l) ∙ cells_of-swap (x ∷ ws) (y ∷ ss) i x y h
 
 -- the words at a place
 pub words-cells_of : (ws : List (List ℤ)) (ss : List Stamp) (i : ℕ) (w : List ℤ) → length ws ≡ length ss → slice_get ws i ≡ Some w → option_map (λ (c : Cell). c.words) (slice_get (cells_of ws ss) i) ≡ Some w
@@ -89,7 +116,11 @@ get-there (y ∷ ys) zero x l e = cc
 get-there (y ∷ ys) (suc i) x l e = get-there ys i x (omega arith) e
 
 -- lists of one length have one length after a removal
-pub length-removed : {A B : Type 0} (xs : List A) (ys : List B) (i : ℕ) → length xs ≡ length ys → i < length ys → length (remove xs i) ≡ length (remove ys i)
-length-removed xs ys i h l = omega (arith, length-remove xs i (omega arith), length-remove ys i l)
+pub length-removed : {A B : Type 0} (xs : List A) (ys : List B) (i : ℕ) (d : B) → length xs ≡ length ys → i < length ys → length (swap_removed xs i) ≡ length (swap_remove ys i d)
+length-removed xs ys i d h l = omega (arith, length-swap_removed xs i (omega arith), length-swap_removed ys i l, ap length (swap_removed-is ys i d l))
 
-pub ruleset cell_edits = (length-cells_of, get-cells_of, cells_of-set, cells_of-replace, cells_of-insert, cells_of-remove, words-cells_of, stamp-cells_of, get-there, length-removed)
+-- room for both
+pub room-both : (n a b : ℕ) → n < min a b → (n < a) × (n < b)
+room-both n a b h = (omega arith, omega arith)
+
+pub ruleset cell_edits = (length-cells_of, get-cells_of, cells_of-set, cells_of-replace, cells_of-append, cells_of-swap_removed, words-cells_of, stamp-cells_of, get-there, length-removed)

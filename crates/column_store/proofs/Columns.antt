@@ -1,20 +1,21 @@
 -- Rows as columns: what a change of the columns is of the rows.
-use Rattle.std.proofs.Common.{◌≡◌, ℕ, zero, suc, ◌<◌, ◌≤◌, ℤ, cond, List, [], ◌∷◌, length, get_or, map, option_map, option_and_then, Option, Some, refl, sym, ap, ap₂, ◌∙◌, arith}
-use Rattle.std.specs.List.{insert, remove, AllByRecursion}
+use Rattle.std.proofs.Common.{◌≡◌, ℕ, zero, suc, ◌+◌, ◌-◌, ◌<◌, ℤ, ◌⊎◌, inl, inr, List, [], ◌∷◌, ◌++◌, length, get_or, map, option_map, option_and_then, Option, Some, refl, sym, ap, ap₂, ◌∙◌, arith}
+use Rattle.std.specs.List.{AllByRecursion}
 use Rattle.std.specs.Prelude.{slice_get}
-use Rattle.std.proofs.lemmas.List.{length-map}
+use Rattle.std.proofs.lemmas.Bool.{cases_eq}
+use Rattle.std.proofs.lemmas.List.{length-map, same_lists}
 use Rattle.std.proofs.lemmas.Simd.{map-map}
 use Rattle.model.specs.Lists.{tail_of, update_at}
 use Rattle.model.specs.state.State.{Cell}
 use Rattle.model.specs.declared.entities.Entity.{Entity}
 use Rattle.column_store.specs.Cells.{changed_cell}
-use Rattle.column_store.specs.Order.{is_same}
-use Rattle.column_store.specs.Places.{IsPlace, IsNowhere, IsGap}
 use Rattle.column_store.specs.Column.{ColumnCells}
-use Rattle.column_store.specs.Table.{Standing, ColumnSlotValue, TableRow, put_row}
+use Rattle.column_store.specs.Swapped.{swap_removed}
+use Rattle.column_store.specs.Table.{Standing, ColumnSlotValue, TableRow}
 use Rattle.column_store.specs.Table.Standing.{Owned}
-use Rattle.column_store.specs.Inside.{cell_at, tail_in, write_in, remove_in, insert_all, replace_all, rows_of, IsOfLength}
+use Rattle.column_store.specs.Inside.{cell_at, tail_in, seen_column, write_in, swap_out_in, push_all, replace_all, rows_of, IsOfLength}
 use Rattle.column_store.proofs.Lists.{map-update_at, map-update_at_same, get-map}
+use Rattle.column_store.proofs.Swapped.{length-swap_removed, get_or-swap_here, get_or-swap_other, get-swap_here, get-swap_other}
 
 -- a row with f applied to the cell of a column
 abbrev pub with_cell : ℕ → (Option Cell → Option Cell) → TableRow → TableRow
@@ -31,8 +32,8 @@ filled j [] (row ∷ rows) = row ∷ rows
 filled j (cell ∷ cells) (row ∷ rows) = with_cell j (λ _. Some cell) row ∷ filled j cells rows
 
 -- a slot by its parts
-abbrev slot : Standing → ℕ → List Cell → ColumnSlotValue
-slot s k cells = record { standing = s; column = record { kind = k; cells = cells } }
+abbrev slot : Standing → ℕ → ℕ → List Cell → ColumnSlotValue
+slot s k r cells = record { standing = s; column = record { kind = k; cells = cells; room = r } }
 
 -- the row of an entity with these cells
 abbrev row : Entity → List (Option Cell) → TableRow
@@ -70,24 +71,6 @@ pub entities-rows_of : (es : List Entity) (ps : List ColumnSlotValue) → map (�
 entities-rows_of [] ps = refl
 entities-rows_of (e ∷ es) ps = ap (λ xs. e ∷ xs) (entities-rows_of es (map tail_in ps))
 
-pub place-rows_of : (e : Entity) (es : List Entity) (ps : List ColumnSlotValue) (i : ℕ) → IsPlace (λ x. is_same x e) es i → IsPlace (λ (r : TableRow). is_same r.entity e) (rows_of es ps) i
-place-rows_of e [] ps i p = p
-place-rows_of e (x ∷ es) ps zero p = p
-place-rows_of e (x ∷ es) ps (suc i) p = (p.0, place-rows_of e es (map tail_in ps) i p.1)
-
-pub nowhere-rows_of : (e : Entity) (es : List Entity) (ps : List ColumnSlotValue) → IsNowhere (λ x. is_same x e) es → IsNowhere (λ (r : TableRow). is_same r.entity e) (rows_of es ps)
-nowhere-rows_of e [] ps p = tt
-nowhere-rows_of e (x ∷ es) ps p = (p.0, nowhere-rows_of e es (map tail_in ps) p.1)
-
-pub put_row-rows_of : (es : List Entity) (ps : List ColumnSlotValue) (i : ℕ) (new : TableRow) → IsGap new.entity es i → put_row new (rows_of es ps) ≡ insert (rows_of es ps) i new
-put_row-rows_of [] ps zero new g = refl
-put_row-rows_of [] ps (suc i) new g = absurd g
-put_row-rows_of (x ∷ es) ps zero new g =
-    ap (λ b. cond b (row x (map (cell_at 0) ps) ∷ put_row new (rows_of es (map tail_in ps))) (new ∷ rows_of (x ∷ es) ps)) g
-put_row-rows_of (x ∷ es) ps (suc i) new g =
-    ap (λ b. cond b (row x (map (cell_at 0) ps) ∷ put_row new (rows_of es (map tail_in ps))) (new ∷ rows_of (x ∷ es) ps)) g.0
-    ∙ ap (λ rs. row x (map (cell_at 0) ps) ∷ rs) (put_row-rows_of es (map tail_in ps) i new g.1)
-
 -- ---- a write of one cell
 
 head_updated : (f : Cell → Cell) (cells : List Cell) → slice_get (update_at 0 f cells) 0 ≡ option_map f (slice_get cells 0)
@@ -114,10 +97,10 @@ module _ (w : List ℤ) (t : ℕ) where
   write_other i p = head_kept i (changed_cell w t) p.column.cells
 
   write_before : (p : ColumnSlotValue) → tail_in (write_in 0 w t p) ≡ tail_in p
-  write_before p = ap (slot p.standing p.column.kind) (tail_kept (changed_cell w t) p.column.cells)
+  write_before p = ap (slot p.standing p.column.kind p.column.room) (tail_kept (changed_cell w t) p.column.cells)
 
   write_behind : (i : ℕ) (p : ColumnSlotValue) → tail_in (write_in (suc i) w t p) ≡ write_in i w t (tail_in p)
-  write_behind i p = ap (slot p.standing p.column.kind) (tail_updated i (changed_cell w t) p.column.cells)
+  write_behind i p = ap (slot p.standing p.column.kind p.column.room) (tail_updated i (changed_cell w t) p.column.cells)
 
   pub rows_of-write : (es : List Entity) (ps : List ColumnSlotValue) (i j : ℕ) →
       rows_of es (update_at j (write_in i w t) ps) ≡ update_at i (with_cell j (option_map (changed_cell w t))) (rows_of es ps)
@@ -150,12 +133,12 @@ kept_heads i (p ∷ ps) (c ∷ cs) = ap₂ ◌∷◌ (head_kept i (λ _. c) p.co
 renewed_tails : (ps : List ColumnSlotValue) (cs : List Cell) → map tail_in (replace_all 0 ps cs) ≡ map tail_in ps
 renewed_tails [] cs = refl
 renewed_tails (p ∷ ps) [] = refl
-renewed_tails (p ∷ ps) (c ∷ cs) = ap₂ ◌∷◌ (ap (slot p.standing p.column.kind) (tail_kept (λ _. c) p.column.cells)) (renewed_tails ps cs)
+renewed_tails (p ∷ ps) (c ∷ cs) = ap₂ ◌∷◌ (ap (slot p.standing p.column.kind p.column.room) (tail_kept (λ _. c) p.column.cells)) (renewed_tails ps cs)
 
 later_renewed : (i : ℕ) (ps : List ColumnSlotValue) (cs : List Cell) → map tail_in (replace_all (suc i) ps cs) ≡ replace_all i (map tail_in ps) cs
 later_renewed i [] cs = refl
 later_renewed i (p ∷ ps) [] = refl
-later_renewed i (p ∷ ps) (c ∷ cs) = ap₂ ◌∷◌ (ap (slot p.standing p.column.kind) (tail_updated i (λ _. c) p.column.cells)) (later_renewed i ps cs)
+later_renewed i (p ∷ ps) (c ∷ cs) = ap₂ ◌∷◌ (ap (slot p.standing p.column.kind p.column.room) (tail_updated i (λ _. c) p.column.cells)) (later_renewed i ps cs)
 
 pub shorter_tails : (n : ℕ) (ps : List ColumnSlotValue) → AllByRecursion (IsOfLength (suc n)) ps → AllByRecursion (IsOfLength n) (map tail_in ps)
 shorter_tails n [] h = tt
@@ -175,123 +158,121 @@ rows_of-replace (e ∷ es) ps cs (suc i) l h = row_cons e _ _ _ _ (kept_heads i 
 -- ---- columns that leave or come home
 
 -- rows depend on the columns alone, wherever they stand
-pub rows_of-columns : (es : List Entity) (ps qs : List ColumnSlotValue) → map (λ (p : ColumnSlotValue). p.column) qs ≡ map (λ (p : ColumnSlotValue). p.column) ps → rows_of es qs ≡ rows_of es ps
+pub rows_of-columns : (es : List Entity) (ps qs : List ColumnSlotValue) → map seen_column qs ≡ map seen_column ps → rows_of es qs ≡ rows_of es ps
 rows_of-columns [] ps qs h = refl
 rows_of-columns (e ∷ es) ps qs h = row_cons e _ _ _ _ (heads ps qs h) (rows_of-columns es (map tail_in ps) (map tail_in qs) (tails ps qs h))
   where
-    heads : (ps qs : List ColumnSlotValue) → map (λ (p : ColumnSlotValue). p.column) qs ≡ map (λ (p : ColumnSlotValue). p.column) ps → map (cell_at 0) qs ≡ map (cell_at 0) ps
-    heads ps qs h = sym (map-map (λ (c : ColumnCells). slice_get c.cells 0) (λ (p : ColumnSlotValue). p.column) qs)
-        ∙ ap (map (λ (c : ColumnCells). slice_get c.cells 0)) h ∙ map-map (λ (c : ColumnCells). slice_get c.cells 0) (λ (p : ColumnSlotValue). p.column) ps
+    heads : (ps qs : List ColumnSlotValue) → map seen_column qs ≡ map seen_column ps → map (cell_at 0) qs ≡ map (cell_at 0) ps
+    heads ps qs h = sym (map-map (λ (c : ColumnCells). slice_get c.cells 0) seen_column qs)
+        ∙ ap (map (λ (c : ColumnCells). slice_get c.cells 0)) h ∙ map-map (λ (c : ColumnCells). slice_get c.cells 0) seen_column ps
 
-    tail : (ps : List ColumnSlotValue) → map (λ (p : ColumnSlotValue). p.column) (map tail_in ps) ≡ map (λ (c : ColumnCells). let d : ColumnCells = record { kind = c.kind; cells = tail_of c.cells } in d) (map (λ (p : ColumnSlotValue). p.column) ps)
-    tail ps = map-map (λ (p : ColumnSlotValue). p.column) tail_in ps
-        ∙ sym (map-map (λ (c : ColumnCells). let d : ColumnCells = record { kind = c.kind; cells = tail_of c.cells } in d) (λ (p : ColumnSlotValue). p.column) ps)
+    tail : (ps : List ColumnSlotValue) → map seen_column (map tail_in ps) ≡ map (λ (c : ColumnCells). let d : ColumnCells = record { kind = c.kind; cells = tail_of c.cells; room = c.room } in d) (map seen_column ps)
+    tail ps = map-map seen_column tail_in ps
+        ∙ sym (map-map (λ (c : ColumnCells). let d : ColumnCells = record { kind = c.kind; cells = tail_of c.cells; room = c.room } in d) seen_column ps)
 
-    tails : (ps qs : List ColumnSlotValue) → map (λ (p : ColumnSlotValue). p.column) qs ≡ map (λ (p : ColumnSlotValue). p.column) ps →
-        map (λ (p : ColumnSlotValue). p.column) (map tail_in qs) ≡ map (λ (p : ColumnSlotValue). p.column) (map tail_in ps)
-    tails ps qs h = tail qs ∙ ap (map (λ (c : ColumnCells). let d : ColumnCells = record { kind = c.kind; cells = tail_of c.cells } in d)) h ∙ sym (tail ps)
+    tails : (ps qs : List ColumnSlotValue) → map seen_column qs ≡ map seen_column ps →
+        map seen_column (map tail_in qs) ≡ map seen_column (map tail_in ps)
+    tails ps qs h = tail qs ∙ ap (map (λ (c : ColumnCells). let d : ColumnCells = record { kind = c.kind; cells = tail_of c.cells; room = c.room } in d)) h ∙ sym (tail ps)
 
 -- the cells of a column
-pub cells-rows_of : (es : List Entity) (ps : List ColumnSlotValue) (j k : ℕ) (s : Standing) (cells : List Cell) → slice_get ps j ≡ Some (slot s k cells) → length cells ≡ length es →
+pub cells-rows_of : (es : List Entity) (ps : List ColumnSlotValue) (j k r : ℕ) (s : Standing) (cells : List Cell) → slice_get ps j ≡ Some (slot s k r cells) → length cells ≡ length es →
     map (cell_of_column j) (rows_of es ps) ≡ map (λ c. Some c) cells
-cells-rows_of [] ps j k s [] h l = refl
-cells-rows_of [] ps j k s (c ∷ cs) h l = absurd (omega arith)
-cells-rows_of (e ∷ es) ps j k s [] h l = absurd (omega arith)
-cells-rows_of (e ∷ es) ps j k s (c ∷ cs) h l = ap₂ ◌∷◌
+cells-rows_of [] ps j k r s [] h l = refl
+cells-rows_of [] ps j k r s (c ∷ cs) h l = absurd (omega arith)
+cells-rows_of (e ∷ es) ps j k r s [] h l = absurd (omega arith)
+cells-rows_of (e ∷ es) ps j k r s (c ∷ cs) h l = ap₂ ◌∷◌
     (ap (option_and_then (λ cell. cell)) (get-map (cell_at 0) ps j ∙ ap (option_map (cell_at 0)) h))
-    (cells-rows_of es (map tail_in ps) j k s cs (get-map tail_in ps j ∙ ap (option_map tail_in) h) (omega arith))
+    (cells-rows_of es (map tail_in ps) j k r s cs (get-map tail_in ps j ∙ ap (option_map tail_in) h) (omega arith))
 
-pub rows_of-home : (es : List Entity) (ps : List ColumnSlotValue) (j k : ℕ) (cells : List Cell) → length cells ≡ length es →
-    rows_of es (update_at j (λ _. slot Owned k cells) ps) ≡ filled j cells (rows_of es ps)
-rows_of-home [] ps j k cells l = refl
-rows_of-home (e ∷ es) ps j k [] l = absurd (omega arith)
-rows_of-home (e ∷ es) ps j k (c ∷ cs) l = row_cons e _ _ _ _
-    (map-update_at (cell_at 0) (λ _. slot Owned k (c ∷ cs)) (λ _. Some c) (λ p. refl) j ps)
-    (ap (rows_of es) (map-update_at tail_in (λ _. slot Owned k (c ∷ cs)) (λ _. slot Owned k cs) (λ p. refl) j ps) ∙ rows_of-home es (map tail_in ps) j k cs (omega arith))
+pub rows_of-home : (es : List Entity) (ps : List ColumnSlotValue) (j k r : ℕ) (cells : List Cell) → length cells ≡ length es →
+    rows_of es (update_at j (λ _. slot Owned k r cells) ps) ≡ filled j cells (rows_of es ps)
+rows_of-home [] ps j k r cells l = refl
+rows_of-home (e ∷ es) ps j k r [] l = absurd (omega arith)
+rows_of-home (e ∷ es) ps j k r (c ∷ cs) l = row_cons e _ _ _ _
+    (map-update_at (cell_at 0) (λ _. slot Owned k r (c ∷ cs)) (λ _. Some c) (λ p. refl) j ps)
+    (ap (rows_of es) (map-update_at tail_in (λ _. slot Owned k r (c ∷ cs)) (λ _. slot Owned k r cs) (λ p. refl) j ps) ∙ rows_of-home es (map tail_in ps) j k r cs (omega arith))
 
 -- ---- a further row
 
-first_heads : (n : ℕ) (ps : List ColumnSlotValue) (cs : List Cell) → length ps ≡ length cs → AllByRecursion (IsOfLength n) ps → map (cell_at 0) (insert_all 0 ps cs) ≡ map (λ c. Some c) cs
-first_heads n [] [] l h = refl
-first_heads n [] (c ∷ cs) l h = absurd (omega arith)
-first_heads n (p ∷ ps) [] l h = absurd (omega arith)
-first_heads n (p ∷ ps) (c ∷ cs) l h = ap₂ ◌∷◌ (go p.column.cells) (first_heads n ps cs (omega arith) h.1)
+pushed_heads : (n : ℕ) (ps : List ColumnSlotValue) (cs : List Cell) → length ps ≡ length cs → AllByRecursion (IsOfLength (suc n)) ps → map (cell_at 0) (push_all ps cs) ≡ map (cell_at 0) ps
+pushed_heads n [] [] l h = refl
+pushed_heads n [] (c ∷ cs) l h = absurd (omega arith)
+pushed_heads n (p ∷ ps) [] l h = absurd (omega arith)
+pushed_heads n (p ∷ ps) (c ∷ cs) l h = ap₂ ◌∷◌ (go p.column.cells h.0) (pushed_heads n ps cs (omega arith) h.1)
   where
-    go : (cells : List Cell) → slice_get (insert cells 0 c) 0 ≡ Some c
-    go [] = refl
-    go (x ∷ xs) = refl
-
-first_tails : (n : ℕ) (ps : List ColumnSlotValue) (cs : List Cell) → length ps ≡ length cs → AllByRecursion (IsOfLength n) ps → map tail_in (insert_all 0 ps cs) ≡ ps
-first_tails n [] [] l h = refl
-first_tails n [] (c ∷ cs) l h = absurd (omega arith)
-first_tails n (p ∷ ps) [] l h = absurd (omega arith)
-first_tails n (p ∷ ps) (c ∷ cs) l h = ap₂ ◌∷◌ (ap (slot p.standing p.column.kind) (go p.column.cells)) (first_tails n ps cs (omega arith) h.1)
-  where
-    go : (cells : List Cell) → tail_of (insert cells 0 c) ≡ cells
-    go [] = refl
-    go (x ∷ xs) = refl
-
-later_heads : (n i : ℕ) (ps : List ColumnSlotValue) (cs : List Cell) → length ps ≡ length cs → AllByRecursion (IsOfLength (suc n)) ps → map (cell_at 0) (insert_all (suc i) ps cs) ≡ map (cell_at 0) ps
-later_heads n i [] [] l h = refl
-later_heads n i [] (c ∷ cs) l h = absurd (omega arith)
-later_heads n i (p ∷ ps) [] l h = absurd (omega arith)
-later_heads n i (p ∷ ps) (c ∷ cs) l h = ap₂ ◌∷◌ (go p.column.cells h.0) (later_heads n i ps cs (omega arith) h.1)
-  where
-    go : (cells : List Cell) → length cells ≡ suc n → slice_get (insert cells (suc i) c) 0 ≡ slice_get cells 0
+    go : (cells : List Cell) → length cells ≡ suc n → slice_get (cells ++ c ∷ []) 0 ≡ slice_get cells 0
     go [] k = absurd (omega arith)
     go (x ∷ xs) k = refl
 
-later_tails : (n i : ℕ) (ps : List ColumnSlotValue) (cs : List Cell) → length ps ≡ length cs → AllByRecursion (IsOfLength (suc n)) ps → map tail_in (insert_all (suc i) ps cs) ≡ insert_all i (map tail_in ps) cs
-later_tails n i [] [] l h = refl
-later_tails n i [] (c ∷ cs) l h = absurd (omega arith)
-later_tails n i (p ∷ ps) [] l h = absurd (omega arith)
-later_tails n i (p ∷ ps) (c ∷ cs) l h = ap₂ ◌∷◌ (ap (slot p.standing p.column.kind) (go p.column.cells h.0)) (later_tails n i ps cs (omega arith) h.1)
+pushed_tails : (n : ℕ) (ps : List ColumnSlotValue) (cs : List Cell) → length ps ≡ length cs → AllByRecursion (IsOfLength (suc n)) ps → map tail_in (push_all ps cs) ≡ push_all (map tail_in ps) cs
+pushed_tails n [] [] l h = refl
+pushed_tails n [] (c ∷ cs) l h = absurd (omega arith)
+pushed_tails n (p ∷ ps) [] l h = absurd (omega arith)
+pushed_tails n (p ∷ ps) (c ∷ cs) l h = ap₂ ◌∷◌ (ap (slot p.standing p.column.kind p.column.room) (go p.column.cells h.0)) (pushed_tails n ps cs (omega arith) h.1)
   where
-    go : (cells : List Cell) → length cells ≡ suc n → tail_of (insert cells (suc i) c) ≡ insert (tail_of cells) i c
+    go : (cells : List Cell) → length cells ≡ suc n → tail_of (cells ++ c ∷ []) ≡ tail_of cells ++ c ∷ []
     go [] k = absurd (omega arith)
     go (x ∷ xs) k = refl
 
-length-tails : (ps : List ColumnSlotValue) (cs : List Cell) → length ps ≡ length cs → length (map tail_in ps) ≡ length cs
-length-tails ps cs l = length-map ps tail_in ∙ l
+only_heads : (ps : List ColumnSlotValue) (cs : List Cell) → length ps ≡ length cs → AllByRecursion (IsOfLength 0) ps → map (cell_at 0) (push_all ps cs) ≡ map (λ c. Some c) cs
+only_heads [] [] l h = refl
+only_heads [] (c ∷ cs) l h = absurd (omega arith)
+only_heads (p ∷ ps) [] l h = absurd (omega arith)
+only_heads (p ∷ ps) (c ∷ cs) l h = ap₂ ◌∷◌ (go p.column.cells h.0) (only_heads ps cs (omega arith) h.1)
+  where
+    go : (cells : List Cell) → length cells ≡ 0 → slice_get (cells ++ c ∷ []) 0 ≡ Some c
+    go [] k = refl
+    go (x ∷ xs) k = absurd (omega arith)
 
-pub rows_of-insert : (es : List Entity) (e : Entity) (ps : List ColumnSlotValue) (cs : List Cell) (i : ℕ) → length ps ≡ length cs → AllByRecursion (IsOfLength (length es)) ps → i ≤ length es →
-    rows_of (insert es i e) (insert_all i ps cs) ≡ insert (rows_of es ps) i (row e (map (λ c. Some c) cs))
-rows_of-insert [] e ps cs zero l h le = row_cons e _ _ _ _ (first_heads 0 ps cs l h) refl
-rows_of-insert [] e ps cs (suc i) l h le = absurd (omega arith)
-rows_of-insert (x ∷ es) e ps cs zero l h le = row_cons e _ _ _ _ (first_heads (length (x ∷ es)) ps cs l h) (ap (rows_of (x ∷ es)) (first_tails (length (x ∷ es)) ps cs l h))
-rows_of-insert (x ∷ es) e ps cs (suc i) l h le = row_cons x _ _ _ _ (later_heads (length es) i ps cs l h)
-    (ap (rows_of (insert es i e)) (later_tails (length es) i ps cs l h)
-    ∙ rows_of-insert es e (map tail_in ps) cs i (length-tails ps cs l) (shorter_tails (length es) ps h) (omega arith))
+pub rows_of-push : (es : List Entity) (e : Entity) (ps : List ColumnSlotValue) (cs : List Cell) → length ps ≡ length cs → AllByRecursion (IsOfLength (length es)) ps →
+    rows_of (es ++ e ∷ []) (push_all ps cs) ≡ rows_of es ps ++ row e (map (λ c. Some c) cs) ∷ []
+rows_of-push [] e ps cs l h = row_cons e _ _ _ _ (only_heads ps cs l h) refl
+rows_of-push (x ∷ es) e ps cs l h = row_cons x _ _ _ _ (pushed_heads (length es) ps cs l h)
+    (ap (rows_of (es ++ e ∷ [])) (pushed_tails (length es) ps cs l h)
+    ∙ rows_of-push es e (map tail_in ps) cs (length-map ps tail_in ∙ l) (shorter_tails (length es) ps h))
 
 -- ---- a row less
 
-removed_first : (ps : List ColumnSlotValue) → map (remove_in 0) ps ≡ map tail_in ps
-removed_first [] = refl
-removed_first (p ∷ ps) = ap₂ ◌∷◌ (ap (slot p.standing p.column.kind) (go p.column.cells)) (removed_first ps)
+-- the cells of a row that stays
+kept_cells : (n i k : ℕ) (ps : List ColumnSlotValue) → k + 1 < n → (k ≡ i → ⊥) → AllByRecursion (IsOfLength n) ps → map (cell_at k) (map (swap_out_in i) ps) ≡ map (cell_at k) ps
+kept_cells n i k [] l other h = refl
+kept_cells n i k (p ∷ ps) l other h = ap₂ ◌∷◌ (go p.column.cells h.0) (kept_cells n i k ps l other h.1)
   where
-    go : (cells : List Cell) → remove cells 0 ≡ tail_of cells
-    go [] = refl
-    go (x ∷ xs) = refl
+    go : (cells : List Cell) → length cells ≡ n → slice_get (swap_removed cells i) k ≡ slice_get cells k
+    go [] m = refl
+    go (c ∷ cs) m = get-swap_other (c ∷ cs) i k (omega arith) other
 
-removed_heads : (n i : ℕ) (ps : List ColumnSlotValue) → AllByRecursion (IsOfLength (suc n)) ps → map (cell_at 0) (map (remove_in (suc i)) ps) ≡ map (cell_at 0) ps
-removed_heads n i [] h = refl
-removed_heads n i (p ∷ ps) h = ap₂ ◌∷◌ (go p.column.cells h.0) (removed_heads n i ps h.1)
+-- those of the row that is moved
+moved_cells : (n i : ℕ) (ps : List ColumnSlotValue) → i + 1 < n → AllByRecursion (IsOfLength n) ps → map (cell_at i) (map (swap_out_in i) ps) ≡ map (cell_at (n - 1)) ps
+moved_cells n i [] l h = refl
+moved_cells n i (p ∷ ps) l h = ap₂ ◌∷◌ (go p.column.cells h.0) (moved_cells n i ps l h.1)
   where
-    go : (cells : List Cell) → length cells ≡ suc n → slice_get (remove cells (suc i)) 0 ≡ slice_get cells 0
-    go [] l = absurd (omega arith)
-    go (x ∷ xs) l = refl
+    go : (cells : List Cell) → length cells ≡ n → slice_get (swap_removed cells i) i ≡ slice_get cells (n - 1)
+    go cells m = get-swap_here cells i (omega arith) ∙ ap (λ k. slice_get cells (k - 1)) m
 
-removed_tails : (n i : ℕ) (ps : List ColumnSlotValue) → AllByRecursion (IsOfLength (suc n)) ps → map tail_in (map (remove_in (suc i)) ps) ≡ map (remove_in i) (map tail_in ps)
-removed_tails n i [] h = refl
-removed_tails n i (p ∷ ps) h = ap₂ ◌∷◌ (ap (slot p.standing p.column.kind) (go p.column.cells h.0)) (removed_tails n i ps h.1)
+pub rows_of-swap : (es : List Entity) (ps : List ColumnSlotValue) (i : ℕ) → AllByRecursion (IsOfLength (length es)) ps → i < length es →
+    rows_of (swap_removed es i) (map (swap_out_in i) ps) ≡ swap_removed (rows_of es ps) i
+rows_of-swap es ps i h l =
+    let one = length-swap_removed es i l in
+    let many = length-rows_of es ps in
+    let other = length-swap_removed (rows_of es ps) i (omega arith) in
+    let left = length-rows_of (swap_removed es i) (map (swap_out_in i) ps) in
+    same_lists (rows_of (swap_removed es i) (map (swap_out_in i) ps)) (swap_removed (rows_of es ps) i) (omega arith) (λ k d m. at k d (omega arith) (cases_eq k i))
   where
-    go : (cells : List Cell) → length cells ≡ suc n → tail_of (remove cells (suc i)) ≡ remove (tail_of cells) i
-    go [] l = absurd (omega arith)
-    go (x ∷ xs) l = refl
-
-pub rows_of-remove : (es : List Entity) (ps : List ColumnSlotValue) (i : ℕ) → AllByRecursion (IsOfLength (length es)) ps → i < length es →
-    rows_of (remove es i) (map (remove_in i) ps) ≡ remove (rows_of es ps) i
-rows_of-remove [] ps i h l = absurd (omega arith)
-rows_of-remove (x ∷ es) ps zero h l = ap (rows_of es) (removed_first ps)
-rows_of-remove (x ∷ es) ps (suc i) h l = row_cons x _ _ _ _ (removed_heads (length es) i ps h)
-    (ap (rows_of (remove es i)) (removed_tails (length es) i ps h) ∙ rows_of-remove es (map tail_in ps) i (shorter_tails (length es) ps h) (omega arith))
+    at : (k : ℕ) (d : TableRow) → k + 1 < length es → (k ≡ i) ⊎ (k ≡ i → ⊥) → get_or (rows_of (swap_removed es i) (map (swap_out_in i) ps)) k d ≡ get_or (swap_removed (rows_of es ps) i) k d
+    at k d m (inl same) =
+        let shorter = length-swap_removed es i l in
+        let many = length-rows_of es ps in
+        get_or-rows_of (swap_removed es i) (map (swap_out_in i) ps) k d.entity d (omega arith)
+        ∙ ap₂ row (ap (λ j. get_or (swap_removed es i) j d.entity) same ∙ get_or-swap_here es i d.entity (omega arith))
+        (ap (λ j. map (cell_at j) (map (swap_out_in i) ps)) same ∙ moved_cells (length es) i ps (omega arith) h)
+        ∙ sym (get_or-rows_of es ps (length es - 1) d.entity d (omega arith))
+        ∙ ap (λ j. get_or (rows_of es ps) (j - 1) d) (sym many)
+        ∙ sym (ap (λ j. get_or (swap_removed (rows_of es ps) i) j d) same ∙ get_or-swap_here (rows_of es ps) i d (omega arith))
+    at k d m (inr other) =
+        let shorter = length-swap_removed es i l in
+        let many = length-rows_of es ps in
+        get_or-rows_of (swap_removed es i) (map (swap_out_in i) ps) k d.entity d (omega arith)
+        ∙ ap₂ row (get_or-swap_other es i k d.entity m other) (kept_cells (length es) i k ps m other h)
+        ∙ sym (get_or-rows_of es ps k d.entity d (omega arith))
+        ∙ sym (get_or-swap_other (rows_of es ps) i k d (omega arith) other)

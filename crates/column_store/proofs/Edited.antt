@@ -1,21 +1,21 @@
 -- What a row more or less leaves.
-use Rattle.std.proofs.Common.{◌≡◌, ℕ, ◌≤◌, ◌<◌, Bool, true, false, cond, ◌&&◌, List, [], ◌∷◌, length, map, Option, Some, None, Result, Ok, Err, OnOk, OnErr, is_err, refl, sym, ap, ap₂, subst, ◌∙◌, arith}
+use Rattle.std.proofs.Common.{◌≡◌, ℕ, ◌<◌, Bool, true, false, cond, ◌&&◌, List, [], ◌∷◌, ◌++◌, length, map, option_map, Option, Some, None, Result, Ok, Err, IfOk, refl, sym, ap, ap₂, subst, ◌∙◌, arith}
 use Rattle.std.proofs.lemmas.List.{length-map}
-use Rattle.std.specs.Prelude.{IsNone, IsSome}
+use Rattle.std.specs.Prelude.{IsNone, slice_get}
 use Rattle.std.specs.List.{list_all, AllByRecursion}
+use Rattle.model.specs.Lists.{update_at}
 use Rattle.model.specs.declared.entities.Entity.{Entity}
 use Rattle.std.proofs.lemmas.Bool.{and_parts as both}
 use Rattle.column_store.specs.declared.stamped.StampedValue.{StampedValue}
 use Rattle.column_store.specs.Cells.{stamped_number, stamped_cell}
 use Rattle.column_store.specs.Order.{is_same}
 use Rattle.column_store.specs.Places.{IsNowhere}
-use Rattle.column_store.specs.Table.{Standing, ColumnSlotValue, TableRow, TableValue, is_home, is_owned, row_of, put_row, new_row, without_row, update_row, renewed_row}
+use Rattle.column_store.specs.Swapped.{swap_removed}
+use Rattle.column_store.specs.Table.{Standing, ColumnSlotValue, TableRow, TableValue, is_home, is_owned, row_of, new_row, renewed_row}
 use Rattle.column_store.specs.Table.Standing.{Owned, Shared, Away}
-use Rattle.column_store.specs.Inside.{standing_in, kind_in, tail_in, remove_in, insert_all, rows_of, table_of, IsOfLength, IsAtHome, IsOwned, HoldsRow, OwnsRow, AllTake, AllRenew, IsTable, IsPutAt, IsRemovedAt, IsRenewedAt, IsThere}
-use Rattle.column_store.proofs.Rows.{row_of-nowhere}
-use Rattle.column_store.proofs.Columns.{nowhere-rows_of}
-use Rattle.column_store.proofs.Tables.{place-within, length-of_kinds, table-put, table-remove, table-renew}
-use Rattle.column_store.proofs.Kept.{all_take, all_renew, kept-insert, kept-remove, kept-replace}
+use Rattle.column_store.specs.Inside.{standing_in, kind_in, tail_in, cell_at, swap_out_in, push_all, replace_all, rows_of, table_of, HasRoom, IsOfLength, IsAtHome, IsOwned, HoldsRow, OwnsRow, AllTake, AllRenew, IsTable}
+use Rattle.column_store.proofs.Tables.{length-of_kinds, get-rows_of, table-push, table-swap, table-renew}
+use Rattle.column_store.proofs.Kept.{all_take, all_renew, kept-push, kept-swap, kept-replace}
 
 -- ---- columns that are at home, or the table's alone
 
@@ -38,10 +38,10 @@ pub owned_home : (ss : List Standing) → list_all is_owned ss ≡ true → list
 owned_home [] h = refl
 owned_home (s ∷ ss) h = let k = both (is_owned s) (list_all is_owned ss) h in ap₂ ◌&&◌ (own_home s k.0) (owned_home ss k.1)
 
--- they take a row of components of their kinds
-pub takes_row : (ns : List ℕ) (es : List Entity) (ps : List ColumnSlotValue) (ss : List StampedValue) → IsTable ns es ps → list_all is_owned (map standing_in ps) ≡ true → map stamped_number ss ≡ ns →
-    (i : ℕ) → i ≤ length es → AllTake i ps ss
-takes_row ns es ps ss h owned k i le = all_take ns ps (length es) i ss h.of_kinds h.of_length (all_owned ps owned) le k
+-- they take a row of components of their kinds, where there is room
+pub takes_row : (ns : List ℕ) (es : List Entity) (ps : List ColumnSlotValue) (m : ℕ) (ss : List StampedValue) → IsTable ns es ps → list_all is_owned (map standing_in ps) ≡ true → length es < m →
+    AllByRecursion (HasRoom m) ps → map stamped_number ss ≡ ns → AllTake ps ss
+takes_row ns es ps m ss h owned l r k = all_take ns ps (length es) m ss h.of_kinds h.of_length (all_owned ps owned) l r k
 
 -- each holds the rows of the table
 pub held_rows : (n i : ℕ) (ps : List ColumnSlotValue) → i < n → AllByRecursion (IsOfLength n) ps → AllByRecursion IsAtHome ps → AllByRecursion (HoldsRow i) ps
@@ -71,16 +71,6 @@ nowhere_from_rows e (x ∷ es) ps h =
 pub absent_nowhere : (e : Entity) (es : List Entity) (ps : List ColumnSlotValue) → IsNone (row_of e (rows_of es ps)) → IsNowhere (λ x. is_same x e) es
 absent_nowhere e es ps h = nowhere_from_rows e es ps (none_is _ h)
 
--- one with a row is there
-pub there_from_rows : (e : Entity) (es : List Entity) (ps : List ColumnSlotValue) → IsSome (row_of e (rows_of es ps)) → IsThere e es
-there_from_rows e es ps h nowhere = let none = row_of-nowhere e (rows_of es ps) (nowhere-rows_of e es ps nowhere) in absurd (cc (none, h))
-
--- ---- results
-
-pub at_ok : {A E : Type 0} (r : Result A E) (P : Type 0) → is_err r ≡ false → OnOk r P → P
-at_ok (Ok a) P e h = h
-at_ok (Err k) P e h = absurd (cc)
-
 -- ---- a row more
 
 as_many : (ns : List ℕ) (ps : List ColumnSlotValue) (ss : List StampedValue) → map kind_in ps ≡ ns → map stamped_number ss ≡ ns → length ps ≡ length (map stamped_cell ss)
@@ -90,42 +80,27 @@ some_cells : (ss : List StampedValue) → map (λ c. Some c) (map stamped_cell s
 some_cells [] = refl
 some_cells (s ∷ ss) = ap (λ cs. Some (stamped_cell s) ∷ cs) (some_cells ss)
 
-pub table_put : (ns : List ℕ) (es es' : List Entity) (ps ps' : List ColumnSlotValue) (e : Entity) (ss : List StampedValue) → IsTable ns es ps →
-    map stamped_number ss ≡ ns → IsPutAt e ss es es' ps ps' →
-    table_of ns es' ps' ≡ record { kinds = ns; standings = map standing_in ps; rows = put_row (new_row e ss) (rows_of es ps) }
-table_put ns es es' ps ps' e ss h k p =
-    ap₂ (table_of ns) p.entities_after p.columns_after
-    ∙ table-put ns es ps e p.row (map stamped_cell ss) (as_many ns ps ss h.of_kinds k) h.of_length p.within p.gap
-    ∙ ap (λ cells. let t : TableValue = record { kinds = ns; standings = map standing_in ps; rows = put_row (record { entity = e; cells = cells }) (rows_of es ps) } in t) (some_cells ss)
+module _ (ns : List ℕ) (es es' : List Entity) (ps ps' : List ColumnSlotValue) (table : IsTable ns es ps) where
+  module _ (e : Entity) (ss : List StampedValue) (kinds : map stamped_number ss ≡ ns) (entities : es' ≡ es ++ e ∷ []) (columns : ps' ≡ push_all ps (map stamped_cell ss)) where
+    pub pushed_table : table_of ns es' ps' ≡ record { kinds = ns; standings = map standing_in ps; rows = rows_of es ps ++ new_row e ss ∷ []; room = 0 }
+    pushed_table =
+        ap₂ (table_of ns) entities columns
+        ∙ table-push ns es ps e (map stamped_cell ss) (as_many ns ps ss table.of_kinds kinds) table.of_length
+        ∙ ap (λ cells. let t : TableValue = record { kinds = ns; standings = map standing_in ps; rows = rows_of es ps ++ record { entity = e; cells = cells } ∷ []; room = 0 } in t) (some_cells ss)
 
-pub table_put_kept : (ns : List ℕ) (es es' : List Entity) (ps ps' : List ColumnSlotValue) (e : Entity) (ss : List StampedValue) → IsTable ns es ps →
-    map stamped_number ss ≡ ns → IsNowhere (λ x. is_same x e) es → IsPutAt e ss es es' ps ps' → IsTable ns es' ps'
-table_put_kept ns es es' ps ps' e ss h k absent p =
-    subst (IsTable ns es') (sym p.columns_after) (subst (λ xs. IsTable ns xs (insert_all p.row ps (map stamped_cell ss))) (sym p.entities_after)
-    (kept-insert ns es ps (map stamped_cell ss) e p.row (as_many ns ps ss h.of_kinds k) p.within p.gap absent h))
+    pub pushed_kept : IsNowhere (λ x. is_same x e) es → IsTable ns es' ps'
+    pushed_kept absent =
+        subst (IsTable ns es') (sym columns) (subst (λ xs. IsTable ns xs (push_all ps (map stamped_cell ss))) (sym entities)
+        (kept-push ns es ps (map stamped_cell ss) e (as_many ns ps ss table.of_kinds kinds) absent table))
 
-module _ (ns : List ℕ) (es es' : List Entity) (ps ps' : List ColumnSlotValue) (e : Entity) (ss : List StampedValue) {A E : Type 0} where
-  pub put_ok : (r : Result A E) → IsTable ns es ps → map stamped_number ss ≡ ns → OnOk r (IsPutAt e ss es es' ps ps') →
-      OnOk r (table_of ns es' ps' ≡ record { kinds = ns; standings = map standing_in ps; rows = put_row (new_row e ss) (rows_of es ps) })
-  put_ok (Ok a) h k p = table_put ns es es' ps ps' e ss h k p
-  put_ok (Err x) h k p = tt
+  -- ---- a row less
 
-  pub put_kept : (r : Result A E) → IsTable ns es ps → map stamped_number ss ≡ ns → IsNowhere (λ x. is_same x e) es →
-      OnOk r (IsPutAt e ss es es' ps ps') → OnErr r (es' ≡ es) → OnErr r (ps' ≡ ps) → IsTable ns es' ps'
-  put_kept (Ok a) h k absent p x y = table_put_kept ns es es' ps ps' e ss h k absent p
-  put_kept (Err a) h k absent p x y = subst (IsTable ns es') (sym y) (subst (λ xs. IsTable ns xs ps) (sym x) h)
+  module _ (i : ℕ) (within : i < length es) (entities : es' ≡ swap_removed es i) (columns : ps' ≡ map (swap_out_in i) ps) where
+    pub swapped_table : table_of ns es' ps' ≡ record { kinds = ns; standings = map standing_in ps; rows = swap_removed (rows_of es ps) i; room = 0 }
+    swapped_table = ap₂ (table_of ns) entities columns ∙ table-swap ns es ps i table.of_length within
 
--- ---- a row less
-
-pub removed_table : (ns : List ℕ) (es es' : List Entity) (ps ps' : List ColumnSlotValue) (e : Entity) → IsTable ns es ps → IsRemovedAt e es es' ps ps' →
-    table_of ns es' ps' ≡ record { kinds = ns; standings = map standing_in ps; rows = without_row e (rows_of es ps) }
-removed_table ns es es' ps ps' e h p =
-    ap₂ (table_of ns) p.entities_after p.columns_after ∙ table-remove ns es ps e p.row h.of_length p.place
-
-pub removed_kept : (ns : List ℕ) (es es' : List Entity) (ps ps' : List ColumnSlotValue) (e : Entity) → IsTable ns es ps → IsRemovedAt e es es' ps ps' → IsTable ns es' ps'
-removed_kept ns es es' ps ps' e h p =
-    subst (IsTable ns es') (sym p.columns_after) (subst (λ xs. IsTable ns xs (map (remove_in p.row) ps)) (sym p.entities_after)
-    (kept-remove ns es ps p.row (place-within (λ x. is_same x e) es p.row p.place) h))
+    pub swapped_kept : IsTable ns es' ps'
+    swapped_kept = subst (IsTable ns es') (sym columns) (subst (λ xs. IsTable ns xs (map (swap_out_in i) ps)) (sym entities) (kept-swap ns es ps i within table))
 
 -- ---- a row whose components are replaced
 
@@ -134,13 +109,25 @@ pub renews_row : (ns : List ℕ) (es : List Entity) (ps : List ColumnSlotValue) 
     (i : ℕ) → i < length es → AllRenew i ps ss
 renews_row ns es ps ss h owned k i l = all_renew ns ps (length es) i ss h.of_kinds h.of_length (all_owned ps owned) l k
 
-module _ (ns : List ℕ) (es : List Entity) (ps ps' : List ColumnSlotValue) (e : Entity) (ss : List StampedValue) where
-  pub renewed_table : IsTable ns es ps → map stamped_number ss ≡ ns → IsRenewedAt e ss es ps ps' →
-      table_of ns es ps' ≡ record { kinds = ns; standings = map standing_in ps; rows = update_row e (renewed_row ss) (rows_of es ps) }
-  renewed_table h k p =
-      ap (table_of ns es) p.columns_after
-      ∙ table-renew ns es ps e p.row (map stamped_cell ss) (as_many ns ps ss h.of_kinds k) h.of_length p.place
-      ∙ ap (λ cells. let t : TableValue = record { kinds = ns; standings = map standing_in ps; rows = update_row e (λ (r : TableRow). let s : TableRow = record { entity = r.entity; cells = cells } in s) (rows_of es ps) } in t) (some_cells ss)
+module _ (ns : List ℕ) (es : List Entity) (ps ps' : List ColumnSlotValue) (i : ℕ) (ss : List StampedValue) (columns : ps' ≡ replace_all i ps (map stamped_cell ss)) where
+  pub renewed_table : IsTable ns es ps → map stamped_number ss ≡ ns →
+      table_of ns es ps' ≡ record { kinds = ns; standings = map standing_in ps; rows = update_at i (renewed_row ss) (rows_of es ps); room = 0 }
+  renewed_table h k =
+      ap (table_of ns es) columns
+      ∙ table-renew ns es ps i (map stamped_cell ss) (as_many ns ps ss h.of_kinds k) h.of_length
+      ∙ ap (λ cells. let t : TableValue = record { kinds = ns; standings = map standing_in ps; rows = update_at i (λ (r : TableRow). let s : TableRow = record { entity = r.entity; cells = cells } in s) (rows_of es ps); room = 0 } in t) (some_cells ss)
 
-  pub renewed_kept : IsTable ns es ps → IsRenewedAt e ss es ps ps' → IsTable ns es ps'
-  renewed_kept h p = subst (IsTable ns es) (sym p.columns_after) (kept-replace ns es ps (map stamped_cell ss) p.row h)
+  pub renewed_kept : IsTable ns es ps → IsTable ns es ps'
+  renewed_kept h = subst (IsTable ns es) (sym columns) (kept-replace ns es ps (map stamped_cell ss) i h)
+
+-- ---- a row that is read
+
+pub read_row_is : (ns : List ℕ) (es : List Entity) (ps : List ColumnSlotValue) (i : ℕ) (ss : List StampedValue) → i < length es → map (λ s. Some (stamped_cell s)) ss ≡ map (cell_at i) ps →
+    option_map (λ (row : TableRow). row.cells) (slice_get (rows_of es ps) i) ≡ Some (map (λ s. Some (stamped_cell s)) ss)
+read_row_is ns es ps i ss l h =
+    ap (option_map (λ (row : TableRow). row.cells)) (get-rows_of es ps i (record { index = 0; generation = 0 }) l) ∙ ap (λ cells. Some cells) (sym h)
+
+-- what holds of a result holds of what follows
+pub if_ok : {A E : Type 0} (r : Result A E) (P Q : A → Type 0) → ((x : A) → P x → Q x) → IfOk r P → IfOk r Q
+if_ok (Ok a) P Q f h = f a h
+if_ok (Err e) P Q f h = tt

@@ -1,36 +1,21 @@
--- Where a cell is in the inside of a table.
-use Rattle.std.proofs.Common.{◌≡◌, ℕ, ◌<◌, ◌==◌, true, List, length, get_or, set, Result, Ok, Err, OnOk, OnErr, Option, Some, option_map, sym, ap, subst, ◌∙◌, arith, map, MatchOption, None}
+-- Where a column is in the inside of a table.
+use Rattle.std.proofs.Common.{◌≡◌, ℕ, ◌<◌, ◌==◌, true, List, length, get_or, set, Result, Ok, Err, OnOk, OnErr, Option, Some, option_map, refl, sym, ap, subst, ◌∙◌, arith, map, MatchOption, None}
 use Rattle.std.specs.List.{position}
 use Rattle.std.proofs.Math.Seq.{map-set_same}
+use Rattle.std.proofs.lemmas.List.{map-set}
 use Rattle.kinds.specs.declared.kind.Kind.{Kind}
 use Rattle.kinds.specs.Kind.{kind_number}
 use Rattle.model.proofs.lists.Each.{each-at}
 use Rattle.model.specs.declared.entities.Entity.{Entity}
-use Rattle.column_store.specs.Order.{is_same}
+use Rattle.column_store.specs.Column.{ColumnCells}
 use Rattle.column_store.specs.Places.{IsPlace}
-use Rattle.column_store.specs.Inside.{standing_at, table_of, IsOfLength, IsTable, IsCellPlace, IsKindPlace, IsKindPlaced, IsNoKind}
+use Rattle.column_store.specs.Inside.{standing_at, seen_column, seen_slot, room_of, write_in, table_of, IsOfLength, IsTable, IsKindPlace, IsKindPlaced, IsNoKind}
 use Rattle.column_store.specs.Table.{Standing, ColumnSlotValue, is_home, is_owned, is_not_away, is_own_if, lent, IsHome, IsAlike}
 use Rattle.column_store.specs.Table.Standing.{Away}
-use Rattle.column_store.proofs.Lists.{get-there, set-changed, set-same}
+use Rattle.column_store.proofs.Lists.{get-there, map-update_at_same, set-changed, set-same}
 use Rattle.column_store.proofs.Rows.{place_from_position, nowhere_from_position}
-use Rattle.column_store.proofs.Tables.{place-within, length-of_kinds, cell_in-place, table-write, standing-place, standing-nowhere, kind_cells-place, table-move, table-home, table-alike}
-use Rattle.column_store.proofs.Kept.{kind-place, kept-move, kept-home, kept-columns}
-
-pub place-found : (ns : List ℕ) (es : List Entity) (e : Entity) (k i j : ℕ) → IsPlace (λ x. is_same x e) es i → IsPlace (λ n. n == k) ns j →
-    (ps : List ColumnSlotValue) → IsTable ns es ps → IsCellPlace ns es ps e k i j
-place-found ns es e k i j at of ps h =
-    let row : i < length es = place-within (λ x. is_same x e) es i at in
-    let column : j < length ns = place-within (λ n. n == k) ns j of in
-    let same : length ns ≡ length ps = length-of_kinds ns ps h.of_kinds in
-    let within : j < length ps = omega arith in
-    record {
-      within = within;
-      has_row = λ d. (let l : length (get_or ps j d).column.cells ≡ length es = each-at (IsOfLength (length es)) ps j d within h.of_length in omega arith);
-      of_kind = λ d. kind-place k j ns ps (get_or ps j d) of h.of_kinds (get-there ps j d within);
-      standing = λ d. standing-place ns es ps k j (get_or ps j d) of same (get-there ps j d within);
-      cell = λ d. cell_in-place ns es ps e k i j (get_or ps j d) at of same (get-there ps j d within);
-      written = λ w t. table-write ns es ps e k i j w t at of;
-    }
+use Rattle.column_store.proofs.Tables.{place-within, length-of_kinds, cell_in-place, cell_in-no_kind, table-write, table-seen, standing-place, standing-nowhere, kind_cells-place, table-move, table-home, table-alike}
+use Rattle.column_store.proofs.Kept.{kind-place, kept-write, kept-move, kept-home, kept-columns}
 
 -- ---- a column
 
@@ -41,6 +26,11 @@ kind-found ns k j of es ps h =
     let within : j < length ps = omega arith in
     record {
       within = within;
+      has_rows = λ i d l. (let long : length (get_or ps j d).column.cells ≡ length es = each-at (IsOfLength (length es)) ps j d within h.of_length in omega arith);
+      cell = λ i d l. cell_in-place ns es ps k i j (get_or ps j d) l of same (get-there ps j d within);
+      written = λ i w t. table-write ns es ps k i j w t of;
+      written_table = λ i w t. kept-write ns es ps i j w t h;
+      written_rooms = λ i w t. map-update_at_same room_of (write_in i w t) (λ p. refl) j ps;
       standing = λ d. standing-place ns es ps k j (get_or ps j d) of same (get-there ps j d within);
       of_kind = λ d. kind-place k j ns ps (get_or ps j d) of h.of_kinds (get-there ps j d within);
       cells = λ d. sym (kind_cells-place ns es ps k j (get_or ps j d) of same (get-there ps j d within)
@@ -53,8 +43,9 @@ kind-found ns k j of es ps h =
 
 -- the column that a search by the kind's number gives
 pub kind-answer : (ks : List Kind) (n : ℕ) (o : Option ℕ) → o ≡ position (λ kind. kind_number kind == n) ks → MatchOption o (IsNoKind (map kind_number ks) n) (IsKindPlaced (map kind_number ks) n)
-kind-answer ks n None h = let nowhere = nowhere_from_position kind_number (λ m. m == n) ks (sym h) in
-    λ es ps. standing-nowhere (map kind_number ks) es ps n 0 nowhere
+kind-answer ks n None h =
+    let nowhere = nowhere_from_position kind_number (λ m. m == n) ks (sym h) in
+    record { standing = λ es ps. standing-nowhere (map kind_number ks) es ps n 0 nowhere; cell = λ es ps i. cell_in-no_kind (map kind_number ks) es ps n i nowhere }
 kind-answer ks n (Some j) h = kind-found (map kind_number ks) n j (place_from_position kind_number (λ m. m == n) ks j (sym h))
 
 -- ---- where a column that was found stands
@@ -74,33 +65,39 @@ home_there o none h = let e : option_map is_home None ≡ Some true = subst IsHo
 
 -- ---- a slot that was changed
 
-column_kept : {A E : Type 0} (r : Result A E) (p q : ColumnSlotValue) → OnOk r (q ≡ standing_at Away p) → OnErr r (q ≡ p) → q.column ≡ p.column
-column_kept (Ok a) p q h k = ap (λ (x : ColumnSlotValue). x.column) h
-column_kept (Err e) p q h k = ap (λ (x : ColumnSlotValue). x.column) k
-
 set_kept : {A E : Type 0} (r : Result A E) (ps : List ColumnSlotValue) (j : ℕ) (d q : ColumnSlotValue) → j < length ps → OnErr r (q ≡ get_or ps j d) → OnErr r (set ps j q ≡ ps)
 set_kept (Ok a) ps j d q l h = tt
 set_kept (Err e) ps j d q l h = ap (set ps j) h ∙ set-same ps j d l
 
+-- a slot in place of one that is seen as another
+seen-set : (ps : List ColumnSlotValue) (j : ℕ) (q p : ColumnSlotValue) → seen_slot q ≡ seen_slot p → map seen_slot (set ps j q) ≡ map seen_slot (set ps j p)
+seen-set ps j q p h = map-set seen_slot ps j q ∙ ap (set (map seen_slot ps) j) h ∙ sym (map-set seen_slot ps j p)
+
 module _ (ns : List ℕ) (es : List Entity) (ps : List ColumnSlotValue) (k j : ℕ) (at : IsKindPlace ns es ps k j) (d q : ColumnSlotValue) where
   module _ {A E : Type 0} where
     -- a column that left
-    pub lent_there : (r : Result A E) → OnOk r (q ≡ standing_at Away (get_or ps j d)) → OnOk r (table_of ns es (set ps j q) ≡ lent (table_of ns es ps) k)
-    lent_there (Ok a) h = ap (table_of ns es) (set-changed (standing_at Away) ps j d q at.within h) ∙ at.moves Away
+    pub lent_there : (r : Result A E) → OnOk r (seen_slot q ≡ standing_at Away (seen_slot (get_or ps j d))) → OnOk r (table_of ns es (set ps j q) ≡ lent (table_of ns es ps) k)
+    lent_there (Ok a) h =
+        table-seen ns es (set ps j (standing_at Away (get_or ps j d))) (set ps j q) (seen-set ps j q (standing_at Away (get_or ps j d)) h)
+        ∙ ap (table_of ns es) (set-changed (standing_at Away) ps j d (standing_at Away (get_or ps j d)) at.within refl) ∙ at.moves Away
     lent_there (Err e) h = tt
 
     pub lent_err : (r : Result A E) → OnErr r (q ≡ get_or ps j d) → OnErr r (set ps j q ≡ ps)
     lent_err r h = set_kept r ps j d q at.within h
 
-    pub lent_kept : (r : Result A E) → OnOk r (q ≡ standing_at Away (get_or ps j d)) → OnErr r (q ≡ get_or ps j d) → IsTable ns es ps → IsTable ns es (set ps j q)
-    lent_kept r h e table = kept-columns ns es ps (set ps j q) (map-set_same (λ (p : ColumnSlotValue). p.column) ps j q d (column_kept r (get_or ps j d) q h e)) table
+    pub lent_kept : (r : Result A E) → OnOk r (seen_slot q ≡ standing_at Away (seen_slot (get_or ps j d))) → OnErr r (q ≡ get_or ps j d) → IsTable ns es ps → IsTable ns es (set ps j q)
+    lent_kept r h e table = kept-columns ns es ps (set ps j q) (map-set_same seen_column ps j q d (column_kept r h e)) table
+      where
+        column_kept : (r : Result A E) → OnOk r (seen_slot q ≡ standing_at Away (seen_slot (get_or ps j d))) → OnErr r (q ≡ get_or ps j d) → seen_column q ≡ seen_column (get_or ps j d)
+        column_kept (Ok a) h k = ap (λ (x : ColumnSlotValue). x.column) h
+        column_kept (Err e) h k = ap seen_column k
 
   -- one that is read elsewhere too
   pub shared_alike : q.column ≡ (get_or ps j d).column → is_home q.standing ≡ true → is_home (get_or ps j d).standing ≡ true → IsAlike (table_of ns es ps) (table_of ns es (set ps j q))
   shared_alike column home old = table-alike ns es ps (set ps j q) (record {
-    columns = map-set_same (λ (p : ColumnSlotValue). p.column) ps j q d column;
+    columns = map-set_same seen_column ps j q d (ap (λ (c : ColumnCells). let v : ColumnCells = record { kind = c.kind; cells = c.cells; room = 0 } in v) column);
     homes = map-set_same (λ (p : ColumnSlotValue). is_home p.standing) ps j q d (home ∙ sym old);
   })
 
   pub shared_kept : q.column ≡ (get_or ps j d).column → IsTable ns es ps → IsTable ns es (set ps j q)
-  shared_kept column table = kept-columns ns es ps (set ps j q) (map-set_same (λ (p : ColumnSlotValue). p.column) ps j q d column) table
+  shared_kept column table = kept-columns ns es ps (set ps j q) (map-set_same seen_column ps j q d (ap (λ (c : ColumnCells). let v : ColumnCells = record { kind = c.kind; cells = c.cells; room = 0 } in v) column)) table

@@ -1,8 +1,10 @@
 -- What every table keeps.
-use Rattle.std.proofs.Common.{◌≡◌, ℕ, zero, suc, ◌+◌, ◌<◌, ◌≤◌, ℤ, ◌==◌, true, List, [], ◌∷◌, length, map, Some, Result, Ok, Err, OnErr, is_err, refl, sym, ap, ap₂, subst, ◌∙◌, arith}
+use Rattle.std.proofs.Common.{◌≡◌, ℕ, zero, suc, ◌+◌, ◌-◌, ◌<◌, ◌≤◌, ℤ, ◌==◌, ◌⊎◌, inl, inr, List, [], ◌∷◌, ◌++◌, length, map, Some, refl, sym, ap, ap₂, subst, ◌∙◌, arith}
+use Rattle.std.proofs.lemmas.Bool.{cases_eq}
 use Rattle.std.proofs.lemmas.Bool.Decides.{nat_tests}
-use Rattle.std.proofs.lemmas.List.Edits.{length-insert, length-remove}
-use Rattle.std.specs.List.{insert, remove, AllByRecursion}
+use Rattle.std.proofs.lemmas.List.{length_push}
+use Rattle.std.proofs.lemmas.Simd.{map-map}
+use Rattle.std.specs.List.{AllByRecursion}
 use Rattle.std.specs.Prelude.{slice_get}
 use Rattle.model.specs.Lists.{update_at}
 use Rattle.model.proofs.lists.Lists.{length-update_at}
@@ -12,12 +14,14 @@ use Rattle.model.specs.declared.entities.Entity.{Entity}
 use Rattle.column_store.specs.declared.stamped.StampedValue.{StampedValue}
 use Rattle.column_store.specs.Cells.{changed_cell, stamped_number, stamped_cell}
 use Rattle.column_store.specs.Column.{ColumnCells}
-use Rattle.column_store.specs.Order.{is_before, is_same, AreRising}
-use Rattle.column_store.specs.Places.{IsPlace, IsNowhere, IsGap}
+use Rattle.column_store.specs.Order.{is_same, AreApart}
+use Rattle.column_store.specs.Places.{IsPlace, IsNowhere}
+use Rattle.column_store.specs.Swapped.{swap_removed}
 use Rattle.column_store.specs.Table.{Standing, ColumnSlotValue}
-use Rattle.column_store.specs.Inside.{kind_in, standing_at, owned_slot, with_cells, write_in, insert_in, remove_in, insert_all, replace_all, IsOfLength, IsOwned, Takes, AllTake, AllRenew, IsTable}
-use Rattle.column_store.proofs.Lists.{map-update_at_same, each-updated, each-insert, each-remove, remove-insert}
-use Rattle.column_store.proofs.Rising.{before_trans, after_rest}
+use Rattle.column_store.specs.Inside.{kind_in, standing_at, owned_slot, seen_column, seen_slot, write_in, swap_out_in, push_all, replace_all, HasRoom, IsOfLength, IsOwned, AllTake, AllRenew, AreRoomier, IsTable}
+use Rattle.column_store.proofs.Lists.{map-update_at_same, each-updated}
+use Rattle.column_store.proofs.Swapped.{length-swap_removed, get-swap_here, get-swap_other}
+use Rattle.column_store.proofs.Apart.{get_within, get_push, elsewhere}
 
 -- ---- columns of their kinds
 
@@ -42,7 +46,7 @@ kind-place k (suc j) (n ∷ ns) (q ∷ ps) p at h e = let rest : map kind_in ps 
 pub kept-write : (ns : List ℕ) (es : List Entity) (ps : List ColumnSlotValue) (i j : ℕ) (w : List ℤ) (t : ℕ) → IsTable ns es ps → IsTable ns es (update_at j (write_in i w t) ps)
 kept-write ns es ps i j w t h = record {
   below = h.below;
-  rising = h.rising;
+  apart = h.apart;
   of_kinds = map-update_at_same kind_in (write_in i w t) (λ p. refl) j ps ∙ h.of_kinds;
   of_length = each-updated (IsOfLength (length es)) (write_in i w t) (λ p l. length-update_at i (changed_cell w t) p.column.cells ∙ l) j ps h.of_length;
 }
@@ -52,7 +56,7 @@ kept-write ns es ps i j w t h = record {
 pub kept-move : (ns : List ℕ) (es : List Entity) (ps : List ColumnSlotValue) (j : ℕ) (s : Standing) → IsTable ns es ps → IsTable ns es (update_at j (standing_at s) ps)
 kept-move ns es ps j s h = record {
   below = h.below;
-  rising = h.rising;
+  apart = h.apart;
   of_kinds = map-update_at_same kind_in (standing_at s) (λ p. refl) j ps ∙ h.of_kinds;
   of_length = each-updated (IsOfLength (length es)) (standing_at s) (λ p l. l) j ps h.of_length;
 }
@@ -61,75 +65,116 @@ pub kept-home : (ns : List ℕ) (es : List Entity) (ps : List ColumnSlotValue) (
     IsTable ns es (update_at j (λ _. owned_slot c) ps)
 kept-home ns es ps j c at l h = record {
   below = h.below;
-  rising = h.rising;
+  apart = h.apart;
   of_kinds = kinds-home c j ns ps at h.of_kinds;
   of_length = each-updated (IsOfLength (length es)) (λ _. owned_slot c) (λ p q. l) j ps h.of_length;
 }
 
-kinds-columns : (ps : List ColumnSlotValue) → map kind_in ps ≡ map (λ (c : ColumnCells). c.kind) (map (λ (p : ColumnSlotValue). p.column) ps)
+kinds-columns : (ps : List ColumnSlotValue) → map kind_in ps ≡ map (λ (c : ColumnCells). c.kind) (map seen_column ps)
 kinds-columns [] = refl
 kinds-columns (p ∷ ps) = ap (λ ks. p.column.kind ∷ ks) (kinds-columns ps)
 
-lengths_as : (n : ℕ) (ps qs : List ColumnSlotValue) → map (λ (p : ColumnSlotValue). p.column) qs ≡ map (λ (p : ColumnSlotValue). p.column) ps → AllByRecursion (IsOfLength n) ps → AllByRecursion (IsOfLength n) qs
+lengths_as : (n : ℕ) (ps qs : List ColumnSlotValue) → map seen_column qs ≡ map seen_column ps → AllByRecursion (IsOfLength n) ps → AllByRecursion (IsOfLength n) qs
 lengths_as n ps [] h l = tt
 lengths_as n [] (q ∷ qs) h l = absurd (cc)
 lengths_as n (p ∷ ps) (q ∷ qs) h l =
-    let first : q.column ≡ p.column = cc in let rest : map (λ (p : ColumnSlotValue). p.column) qs ≡ map (λ (p : ColumnSlotValue). p.column) ps = cc in
+    let first : seen_column q ≡ seen_column p = cc in let rest : map seen_column qs ≡ map seen_column ps = cc in
     (ap (λ (c : ColumnCells). length c.cells) first ∙ l.0, lengths_as n ps qs rest l.1)
 
 -- the same columns, wherever they stand
-pub kept-columns : (ns : List ℕ) (es : List Entity) (ps qs : List ColumnSlotValue) → map (λ (p : ColumnSlotValue). p.column) qs ≡ map (λ (p : ColumnSlotValue). p.column) ps → IsTable ns es ps → IsTable ns es qs
+pub kept-columns : (ns : List ℕ) (es : List Entity) (ps qs : List ColumnSlotValue) → map seen_column qs ≡ map seen_column ps → IsTable ns es ps → IsTable ns es qs
 kept-columns ns es ps qs same h = record {
   below = h.below;
-  rising = h.rising;
+  apart = h.apart;
   of_kinds = kinds-columns qs ∙ ap (map (λ (c : ColumnCells). c.kind)) same ∙ sym (kinds-columns ps) ∙ h.of_kinds;
   of_length = lengths_as (length es) ps qs same h.of_length;
 }
 
 -- ---- a row more
 
-pub rising-insert : (e : Entity) (es : List Entity) (i : ℕ) → AreRising es → IsGap e es i → IsNowhere (λ x. is_same x e) es → AreRising (insert es i e)
-rising-insert e [] zero r g a = (tt, tt)
-rising-insert e [] (suc i) r g a = absurd g
-rising-insert e (x ∷ es) zero r g a = let first = after_rest x e g a.0 in
-    ((first, each-weaker (λ y. is_before x y ≡ true) (λ y. is_before e y ≡ true) (λ y h. before_trans e x y first h) es r.0), r)
-rising-insert e (x ∷ es) (suc i) r g a = (each-insert (λ y. is_before x y ≡ true) es i e g.0 r.0, rising-insert e es i r.1 g.1 a.1)
-
-kinds-insert : (ps : List ColumnSlotValue) (cs : List Cell) (i : ℕ) → map kind_in (insert_all i ps cs) ≡ map kind_in ps
-kinds-insert [] cs i = refl
-kinds-insert (p ∷ ps) [] i = refl
-kinds-insert (p ∷ ps) (c ∷ cs) i = ap (λ ks. p.column.kind ∷ ks) (kinds-insert ps cs i)
-
-lengths-insert : (n : ℕ) (ps : List ColumnSlotValue) (cs : List Cell) (i : ℕ) → length ps ≡ length cs → i ≤ n → AllByRecursion (IsOfLength n) ps → AllByRecursion (IsOfLength (n + 1)) (insert_all i ps cs)
-lengths-insert n [] cs i l le h = tt
-lengths-insert n (p ∷ ps) [] i l le h = absurd (omega arith)
-lengths-insert n (p ∷ ps) (c ∷ cs) i l le h = (go (h.0), lengths-insert n ps cs i (omega arith) le h.1)
+-- ids of which none is there twice, with one that isn't there
+pub apart-push : (e : Entity) (es : List Entity) → AreApart es → IsNowhere (λ x. is_same x e) es → AreApart (es ++ e ∷ [])
+apart-push e es h absent p q x f g = go (get_push es e p x f) (get_push es e q x g)
   where
-    go : length p.column.cells ≡ n → length (insert p.column.cells i c) ≡ n + 1
-    go e = let k = length-insert p.column.cells i c (omega arith) in omega arith
+    go : ((p < length es) × (slice_get es p ≡ Some x)) ⊎ ((p ≡ length es) × (e ≡ x)) → ((q < length es) × (slice_get es q ≡ Some x)) ⊎ ((q ≡ length es) × (e ≡ x)) → p ≡ q
+    go (inl a) (inl b) = h p q x a.1 b.1
+    go (inl a) (inr b) = absurd (elsewhere e es p x absent a.1 b.1)
+    go (inr a) (inl b) = absurd (elsewhere e es q x absent b.1 a.1)
+    go (inr a) (inr b) = a.0 ∙ sym b.0
 
-pub kept-insert : (ns : List ℕ) (es : List Entity) (ps : List ColumnSlotValue) (cs : List Cell) (e : Entity) (i : ℕ) → length ps ≡ length cs → i ≤ length es →
-    IsGap e es i → IsNowhere (λ x. is_same x e) es → IsTable ns es ps → IsTable ns (insert es i e) (insert_all i ps cs)
-kept-insert ns es ps cs e i l le g a h = record {
+kinds-push : (ps : List ColumnSlotValue) (cs : List Cell) → map kind_in (push_all ps cs) ≡ map kind_in ps
+kinds-push [] cs = refl
+kinds-push (p ∷ ps) [] = refl
+kinds-push (p ∷ ps) (c ∷ cs) = ap (λ ks. p.column.kind ∷ ks) (kinds-push ps cs)
+
+lengths-push : (n : ℕ) (ps : List ColumnSlotValue) (cs : List Cell) → length ps ≡ length cs → AllByRecursion (IsOfLength n) ps → AllByRecursion (IsOfLength (n + 1)) (push_all ps cs)
+lengths-push n [] cs l h = tt
+lengths-push n (p ∷ ps) [] l h = absurd (omega arith)
+lengths-push n (p ∷ ps) (c ∷ cs) l h = (go h.0, lengths-push n ps cs (omega arith) h.1)
+  where
+    go : length p.column.cells ≡ n → length (p.column.cells ++ c ∷ []) ≡ n + 1
+    go e = let k = length_push p.column.cells c in omega arith
+
+pub rooms-push : (n : ℕ) (ps : List ColumnSlotValue) (cs : List Cell) → AllByRecursion (HasRoom n) ps → AllByRecursion (HasRoom n) (push_all ps cs)
+rooms-push n [] cs h = tt
+rooms-push n (p ∷ ps) [] h = h
+rooms-push n (p ∷ ps) (c ∷ cs) h = (h.0, rooms-push n ps cs h.1)
+
+pub kept-push : (ns : List ℕ) (es : List Entity) (ps : List ColumnSlotValue) (cs : List Cell) (e : Entity) → length ps ≡ length cs → IsNowhere (λ x. is_same x e) es → IsTable ns es ps →
+    IsTable ns (es ++ e ∷ []) (push_all ps cs)
+kept-push ns es ps cs e l a h = record {
   below = h.below;
-  rising = rising-insert e es i h.rising g a;
-  of_kinds = kinds-insert ps cs i ∙ h.of_kinds;
-  of_length = subst (λ n. AllByRecursion (IsOfLength n) (insert_all i ps cs)) (sym (length-insert es i e le)) (lengths-insert (length es) ps cs i l le h.of_length);
+  apart = apart-push e es h.apart a;
+  of_kinds = kinds-push ps cs ∙ h.of_kinds;
+  of_length = subst (λ n. AllByRecursion (IsOfLength n) (push_all ps cs)) (sym (length_push es e)) (lengths-push (length es) ps cs l h.of_length);
 }
 
--- the columns take the row, where all are the table's alone and the components are of the kinds
-pub all_take : (ns : List ℕ) (ps : List ColumnSlotValue) (n i : ℕ) (ss : List StampedValue) → map kind_in ps ≡ ns → AllByRecursion (IsOfLength n) ps → AllByRecursion IsOwned ps → i ≤ n →
-    map stamped_number ss ≡ ns → AllTake i ps ss
-all_take ns [] n i [] k h o le e = tt
-all_take ns [] n i (s ∷ ss) k h o le e = absurd (cc)
-all_take ns (p ∷ ps) n i [] k h o le e = absurd (cc)
-all_take [] (p ∷ ps) n i (s ∷ ss) k h o le e = absurd (cc)
-all_take (m ∷ ns) (p ∷ ps) n i (s ∷ ss) k h o le e =
+-- the columns take the row, where all are the table's alone and have room, and the components are of the kinds
+pub all_take : (ns : List ℕ) (ps : List ColumnSlotValue) (n m : ℕ) (ss : List StampedValue) → map kind_in ps ≡ ns → AllByRecursion (IsOfLength n) ps → AllByRecursion IsOwned ps → n < m →
+    AllByRecursion (HasRoom m) ps → map stamped_number ss ≡ ns → AllTake ps ss
+all_take ns [] n m [] k h o le r e = tt
+all_take ns [] n m (s ∷ ss) k h o le r e = absurd (cc)
+all_take ns (p ∷ ps) n m [] k h o le r e = absurd (cc)
+all_take [] (p ∷ ps) n m (s ∷ ss) k h o le r e = absurd (cc)
+all_take (j ∷ ns) (p ∷ ps) n m (s ∷ ss) k h o le r e =
     let l : length p.column.cells ≡ n = h.0 in
-    let same : stamped_number s ≡ m = cc in
-    let kind : p.column.kind ≡ m = cc in
+    let room : m ≤ p.column.room = r.0 in
+    let same : stamped_number s ≡ j = cc in
+    let kind : p.column.kind ≡ j = cc in
     let rest : map kind_in ps ≡ ns = cc in
-    (record { owned = o.0; kind = kind ∙ sym same; within = omega arith }, all_take ns ps n i ss rest h.1 o.1 le (cc))
+    (record { owned = o.0; kind = kind ∙ sym same; room = omega arith }, all_take ns ps n m ss rest h.1 o.1 le r.1 (cc))
+
+-- ---- columns with more room
+
+pub roomier-same : (ps : List ColumnSlotValue) → AreRoomier ps ps
+roomier-same [] = tt
+roomier-same (p ∷ ps) = (record { same = refl; room = omega arith }, roomier-same ps)
+
+pub roomier-seen : (ps qs : List ColumnSlotValue) → AreRoomier ps qs → map seen_slot qs ≡ map seen_slot ps
+roomier-seen [] [] h = refl
+roomier-seen [] (q ∷ qs) h = absurd h
+roomier-seen (p ∷ ps) [] h = absurd h
+roomier-seen (p ∷ ps) (q ∷ qs) h = ap₂ ◌∷◌ h.0.same (roomier-seen ps qs h.1)
+
+pub rooms-roomier : (n : ℕ) (ps qs : List ColumnSlotValue) → AreRoomier ps qs → AllByRecursion (HasRoom n) ps → AllByRecursion (HasRoom n) qs
+rooms-roomier n [] [] h r = tt
+rooms-roomier n [] (q ∷ qs) h r = absurd h
+rooms-roomier n (p ∷ ps) [] h r = absurd h
+rooms-roomier n (p ∷ ps) (q ∷ qs) h r = let more = h.0.room in let old : n ≤ p.column.room = r.0 in (omega arith, rooms-roomier n ps qs h.1 r.1)
+
+pub fewer_rooms : (n m : ℕ) (ps : List ColumnSlotValue) → m ≤ n → AllByRecursion (HasRoom n) ps → AllByRecursion (HasRoom m) ps
+fewer_rooms n m ps le h = each-weaker (HasRoom n) (HasRoom m) (λ p r. (let k : n ≤ p.column.room = r in omega arith)) ps h
+
+pub rooms-swap : (n i : ℕ) (ps : List ColumnSlotValue) → AllByRecursion (HasRoom n) ps → AllByRecursion (HasRoom n) (map (swap_out_in i) ps)
+rooms-swap n i ps h = each-map (HasRoom n) (HasRoom n) (swap_out_in i) (λ p r. r) ps h
+
+pub rooms-replace : (n i : ℕ) (ps : List ColumnSlotValue) (cs : List Cell) → AllByRecursion (HasRoom n) ps → AllByRecursion (HasRoom n) (replace_all i ps cs)
+rooms-replace n i [] cs h = tt
+rooms-replace n i (p ∷ ps) [] h = h
+rooms-replace n i (p ∷ ps) (c ∷ cs) h = (h.0, rooms-replace n i ps cs h.1)
+
+pub kept-seen : (ns : List ℕ) (es : List Entity) (ps qs : List ColumnSlotValue) → map seen_slot qs ≡ map seen_slot ps → IsTable ns es ps → IsTable ns es qs
+kept-seen ns es ps qs same h = kept-columns ns es ps qs (sym (map-map (λ (p : ColumnSlotValue). p.column) seen_slot qs) ∙ ap (map (λ (p : ColumnSlotValue). p.column)) same ∙ map-map (λ (p : ColumnSlotValue). p.column) seen_slot ps) h
 
 -- ---- a row whose components are replaced
 
@@ -146,7 +191,7 @@ lengths-replace n (p ∷ ps) (c ∷ cs) i h = (length-update_at i (λ _. c) p.co
 pub kept-replace : (ns : List ℕ) (es : List Entity) (ps : List ColumnSlotValue) (cs : List Cell) (i : ℕ) → IsTable ns es ps → IsTable ns es (replace_all i ps cs)
 kept-replace ns es ps cs i h = record {
   below = h.below;
-  rising = h.rising;
+  apart = h.apart;
   of_kinds = kinds-replace ps cs i ∙ h.of_kinds;
   of_length = lengths-replace (length es) ps cs i h.of_length;
 }
@@ -171,49 +216,49 @@ all_renew (m ∷ ns) (p ∷ ps) n i (s ∷ ss) k h o l e =
     let rest : map kind_in ps ≡ ns = cc in
     (record { owned = o.0; kind = kind ∙ sym same; within = omega arith }, all_renew ns ps n i ss rest h.1 o.1 l (cc))
 
+-- no column takes a component where there is none
+pub push_all-none : (ps : List ColumnSlotValue) (ss : List StampedValue) → AllTake ps ss → length ss ≡ 0 → ps ≡ push_all ps (map stamped_cell ss)
+push_all-none [] ss h l = refl
+push_all-none (p ∷ ps) [] h l = absurd h
+push_all-none (p ∷ ps) (s ∷ ss) h l = absurd (omega arith)
+
 -- ---- a row less
 
-rising-remove : (es : List Entity) (i : ℕ) → AreRising es → AreRising (remove es i)
-rising-remove [] zero r = tt
-rising-remove [] (suc i) r = tt
-rising-remove (x ∷ es) zero r = r.1
-rising-remove (x ∷ es) (suc i) r = (each-remove (λ y. is_before x y ≡ true) es i r.0, rising-remove es i r.1)
+pub apart-swap : (es : List Entity) (i : ℕ) → AreApart es → i < length es → AreApart (swap_removed es i)
+apart-swap es i h l p q x f g =
+    let shorter = length-swap_removed es i l in
+    go (cases_eq p i) (cases_eq q i) (get_within (swap_removed es i) p x f) (get_within (swap_removed es i) q x g)
+  where
+    last : (k : ℕ) → k ≡ i → k + 1 < length es → slice_get (swap_removed es i) k ≡ Some x → slice_get es (length es - 1) ≡ Some x
+    last k same m e = sym (get-swap_here es i (subst (λ j. j + 1 < length es) same m)) ∙ ap (slice_get (swap_removed es i)) (sym same) ∙ e
 
-kinds-remove : (ps : List ColumnSlotValue) (i : ℕ) → map kind_in (map (remove_in i) ps) ≡ map kind_in ps
-kinds-remove [] i = refl
-kinds-remove (p ∷ ps) i = ap (λ ks. p.column.kind ∷ ks) (kinds-remove ps i)
+    there : (k : ℕ) → (k ≡ i → ⊥) → k + 1 < length es → slice_get (swap_removed es i) k ≡ Some x → slice_get es k ≡ Some x
+    there k other m e = sym (get-swap_other es i k m other) ∙ e
 
-remove-length : (n m i : ℕ) → i < n → m + 1 ≡ n → (p : ColumnSlotValue) → IsOfLength n p → IsOfLength m (remove_in i p)
-remove-length n m i l e p h = let k = length-remove p.column.cells i (omega arith) in omega arith
+    go : (p ≡ i) ⊎ (p ≡ i → ⊥) → (q ≡ i) ⊎ (q ≡ i → ⊥) → p < length (swap_removed es i) → q < length (swap_removed es i) → p ≡ q
+    go (inl a) (inl b) m n = a ∙ sym b
+    go (inl a) (inr b) m n =
+        let shorter = length-swap_removed es i l in
+        let e = h (length es - 1) q x (last p a (omega arith) f) (there q b (omega arith) g) in absurd (omega arith)
+    go (inr a) (inl b) m n =
+        let shorter = length-swap_removed es i l in
+        let e = h p (length es - 1) x (there p a (omega arith) f) (last q b (omega arith) g) in absurd (omega arith)
+    go (inr a) (inr b) m n =
+        let shorter = length-swap_removed es i l in
+        h p q x (there p a (omega arith) f) (there q b (omega arith) g)
 
-pub kept-remove : (ns : List ℕ) (es : List Entity) (ps : List ColumnSlotValue) (i : ℕ) → i < length es → IsTable ns es ps → IsTable ns (remove es i) (map (remove_in i) ps)
-kept-remove ns es ps i l h = record {
+kinds-swap : (ps : List ColumnSlotValue) (i : ℕ) → map kind_in (map (swap_out_in i) ps) ≡ map kind_in ps
+kinds-swap [] i = refl
+kinds-swap (p ∷ ps) i = ap (λ ks. p.column.kind ∷ ks) (kinds-swap ps i)
+
+swap-length : (n m i : ℕ) → i < n → m + 1 ≡ n → (p : ColumnSlotValue) → IsOfLength n p → IsOfLength m (swap_out_in i p)
+swap-length n m i l e p h = let k = length-swap_removed p.column.cells i (omega arith) in omega arith
+
+pub kept-swap : (ns : List ℕ) (es : List Entity) (ps : List ColumnSlotValue) (i : ℕ) → i < length es → IsTable ns es ps → IsTable ns (swap_removed es i) (map (swap_out_in i) ps)
+kept-swap ns es ps i l h = record {
   below = h.below;
-  rising = rising-remove es i h.rising;
-  of_kinds = kinds-remove ps i ∙ h.of_kinds;
-  of_length = each-map (IsOfLength (length es)) (IsOfLength (length (remove es i))) (remove_in i)
-      (remove-length (length es) (length (remove es i)) i l (length-remove es i l)) ps h.of_length;
+  apart = apart-swap es i h.apart l;
+  of_kinds = kinds-swap ps i ∙ h.of_kinds;
+  of_length = each-map (IsOfLength (length es)) (IsOfLength (length (swap_removed es i))) (swap_out_in i)
+      (swap-length (length es) (length (swap_removed es i)) i l (length-swap_removed es i l)) ps h.of_length;
 }
-
--- ---- a row that goes in and comes out again
-
-pub remove_in-insert_in : (i : ℕ) (c : Cell) (p : ColumnSlotValue) (s : StampedValue) → Takes i p s → remove_in i (insert_in i c p) ≡ p
-remove_in-insert_in i c p s h = ap (λ cells. with_cells (λ _. cells) p) (remove-insert p.column.cells i c h.within)
-
--- no column takes a component where there is none
-pub insert_all-none : (i : ℕ) (ps : List ColumnSlotValue) (ss : List StampedValue) → AllTake i ps ss → length ss ≡ 0 → ps ≡ insert_all i ps (map stamped_cell ss)
-insert_all-none i [] ss h l = refl
-insert_all-none i (p ∷ ps) [] h l = absurd h
-insert_all-none i (p ∷ ps) (s ∷ ss) h l = absurd (omega arith)
-
--- where a further column refused, the first one has its cells again, and the others have theirs
-pub given_back : (i : ℕ) (columns ps qs : List ColumnSlotValue) (p given back : ColumnSlotValue) (s : StampedValue) (ss rs : List StampedValue) → AllTake i columns rs → columns ≡ p ∷ ps → rs ≡ s ∷ ss →
-    given ≡ insert_in i (stamped_cell s) p → back ≡ remove_in i given → qs ≡ ps → back ∷ qs ≡ columns
-given_back i columns ps qs p given back s ss rs take split others put_in put_out rest =
-    let takes : AllTake i (p ∷ ps) (s ∷ ss) = subst (λ xs. AllTake i xs (s ∷ ss)) split (subst (λ xs. AllTake i columns xs) others take) in
-    ap₂ ◌∷◌ (put_out ∙ ap (remove_in i) put_in ∙ remove_in-insert_in i (stamped_cell s) p s takes.0) rest ∙ sym split
-
--- what an error says
-pub at_error : {A E : Type 0} (r : Result A E) (xs ys : List ColumnSlotValue) → is_err r ≡ true → OnErr r (xs ≡ ys) → xs ≡ ys
-at_error (Ok a) xs ys e h = absurd (cc)
-at_error (Err e) xs ys k h = h

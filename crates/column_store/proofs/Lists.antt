@@ -4,6 +4,7 @@ use Rattle.std.specs.List.{insert, remove, AllByRecursion}
 use Rattle.std.specs.Prelude.{slice_get}
 use Rattle.std.proofs.lemmas.List.{map-set, map-append, take-map, drop-map}
 use Rattle.model.specs.Lists.{update_at}
+use Rattle.column_store.proofs.Swapped.{map-swap_out}
 
 -- an insertion
 pub map-insert : {A B : Type 0} (f : A → B) (xs : List A) (i : ℕ) (y : A) → map f (insert xs i y) ≡ insert (map f xs) i (f y)
@@ -13,7 +14,7 @@ map-insert f xs i y = simp (map-append, take-map, drop-map)
 pub map-remove : {A B : Type 0} (f : A → B) (xs : List A) (i : ℕ) → map f (remove xs i) ≡ remove (map f xs) i
 map-remove f xs i = simp (map-append, take-map, drop-map)
 
-pub ruleset edits = (map-set, map-insert, map-remove)
+pub ruleset edits = (map-set, map-append, map-swap_out)
 
 -- ---- a change at one index
 

@@ -1,22 +1,15 @@
--- A table without rows, and the components of a row.
-use Rattle.std.proofs.Common.{◌≡◌, ℕ, zero, suc, ◌+◌, ◌<◌, ◌==◌, Bool, true, false, cond, ◌&&◌, ◌||◌, List, [], ◌∷◌, get_or, map, filter, Some, Result, Ok, Err, IfOk, refl, sym, ap, ap₂, subst, ◌∙◌, arith}
-use Rattle.std.proofs.lemmas.Bool.Decides.{nat_tests}
+-- A table without rows.
+use Rattle.std.proofs.Common.{◌≡◌, ℕ, zero, suc, ◌+◌, ◌<◌, ◌==◌, Bool, true, false, cond, ◌||◌, List, [], ◌∷◌, map, filter, refl, sym, ap, ap₂, subst, ◌∙◌, arith}
 use Rattle.std.specs.List.{list_any, AllByRecursion}
 use Rattle.kinds.specs.declared.kind.Kind.{Kind}
 use Rattle.kinds.specs.Kind.{kind_count, kind_number, numbers_from}
 use Rattle.model.specs.Lists.{has}
 use Rattle.model.specs.declared.entities.Entity.{Entity}
-use Rattle.column_store.specs.declared.stamped.StampedValue.{StampedValue}
-use Rattle.column_store.specs.Cells.{stamped_number}
-use Rattle.column_store.specs.Order.{is_same}
 use Rattle.column_store.specs.Kinds.{in_order, AreBelow}
-use Rattle.column_store.specs.Places.{IsPlace}
-use Rattle.column_store.specs.Table.{ColumnSlotValue, TableRow, row_of, new_row, empty_table}
+use Rattle.column_store.specs.Order.{AreApart}
+use Rattle.column_store.specs.Table.{ColumnSlotValue, empty_table}
 use Rattle.column_store.specs.Table.Standing.{Owned}
-use Rattle.column_store.specs.Inside.{standing_in, kind_in, empty_column, rows_of, table_of, IsOfLength, IsTable, AreReadAt}
-use Rattle.column_store.proofs.Rows.{row_of-place}
-use Rattle.column_store.proofs.Columns.{get_or-rows_of, place-rows_of}
-use Rattle.column_store.proofs.Tables.{place-within}
+use Rattle.column_store.specs.Inside.{standing_in, kind_in, empty_column, table_of, IsOfLength, IsTable}
 
 -- ---- kinds in order
 
@@ -79,8 +72,11 @@ empty_standings : (ks : List Kind) → map standing_in (map empty_column ks) ≡
 empty_standings [] = refl
 empty_standings (k ∷ ks) = ap (λ ss. Owned ∷ ss) (empty_standings ks)
 
+none_apart : AreApart []
+none_apart p q e f g = absurd (cc)
+
 empty_kept : (ks : List Kind) → AreBelow (map kind_number ks) → IsTable (map kind_number ks) [] (map empty_column ks)
-empty_kept ks h = record { below = h; rising = tt; of_kinds = empty_kinds ks; of_length = empty_lengths ks }
+empty_kept ks h = record { below = h; apart = none_apart; of_kinds = empty_kinds ks; of_length = empty_lengths ks }
 
 pub made_kept : (ks given : List Kind) (es : List Entity) (ps : List ColumnSlotValue) → map kind_number ks ≡ in_order (map kind_number given) → es ≡ [] → ps ≡ map empty_column ks →
     IsTable (map kind_number ks) es ps
@@ -92,32 +88,3 @@ pub made_view : (ks given : List Kind) (es : List Entity) (ps : List ColumnSlotV
     table_of (map kind_number ks) es ps ≡ empty_table (in_order (map kind_number given))
 made_view ks given es ps k e p =
     ap₂ (table_of (map kind_number ks)) e p ∙ ap (λ ss. record (empty_table (map kind_number ks)) { standings = ss }) (empty_standings ks) ∙ ap empty_table k
-
--- ---- the components of a row
-
-same_numbers : (a b c d : ℕ) → ((a == c) && (b == d)) ≡ true → (a ≡ c) × (b ≡ d)
-same_numbers a b c d h = (grind (arith, nat_tests), grind (arith, nat_tests))
-
-pub same_entity : (x e : Entity) → is_same x e ≡ true → x ≡ e
-same_entity x e h = let p = same_numbers x.index x.generation e.index e.generation h in
-    ap₂ (λ i g. let y : Entity = record { index = i; generation = g } in y) p.0 p.1
-
-entity_at_place : (e : Entity) (es : List Entity) (i : ℕ) (d : Entity) → IsPlace (λ x. is_same x e) es i → get_or es i d ≡ e
-entity_at_place e [] i d p = absurd p
-entity_at_place e (x ∷ es) zero d p = same_entity x e p
-entity_at_place e (x ∷ es) (suc i) d p = entity_at_place e es i d p.1
-
-pub read_is_row : (e : Entity) (ss : List StampedValue) (es : List Entity) (ps : List ColumnSlotValue) → AreReadAt e ss es ps → row_of e (rows_of es ps) ≡ Some (new_row e ss)
-read_is_row e ss es ps h =
-    let d = new_row e ss in
-    row_of-place e (rows_of es ps) h.row d (place-rows_of e es ps h.row h.place)
-    ∙ ap (λ r. Some r) (get_or-rows_of es ps h.row e d (place-within (λ x. is_same x e) es h.row h.place)
-    ∙ ap₂ (λ x cs. let r : TableRow = record { entity = x; cells = cs } in r) (entity_at_place e es h.row e h.place) (sym h.cells))
-
-pub read_numbers : (e : Entity) (ns : List ℕ) (ss : List StampedValue) (es : List Entity) (ps : List ColumnSlotValue) → map kind_in ps ≡ ns → AreReadAt e ss es ps → map stamped_number ss ≡ ns
-read_numbers e ns ss es ps k r = r.kinds ∙ k
-
--- what holds of a result holds of what follows
-pub if_ok : {A E : Type 0} (r : Result A E) (P Q : A → Type 0) → ((x : A) → P x → Q x) → IfOk r P → IfOk r Q
-if_ok (Ok a) P Q f h = f a h
-if_ok (Err e) P Q f h = tt

@@ -1,5 +1,5 @@
 -- The order of rows whose ids rise as they stand.
-use Rattle.std.proofs.Common.{◌≡◌, ℕ, zero, suc, ◌+◌, ◌<◌, ◌≤◌, true, ◌==◌, ◌||◌, ◌&&◌, nat_lt, refl, sym, ap, subst, ◌∙◌, List, [], ◌∷◌, length, map, get_or, slice_get, Some, None, inl, inr, arith}
+use Rattle.std.proofs.Common.{◌≡◌, ℕ, zero, suc, ◌+◌, ◌<◌, ◌≤◌, true, ◌==◌, ◌||◌, ◌&&◌, nat_lt, refl, sym, ap, subst, ◌∙◌, List, [], ◌∷◌, length, map, get_or, slice_get, Some, inl, inr, arith}
 use Rattle.std.proofs.lemmas.Bool.{eq-eqb, cases_eq, or_left, or_right}
 use Rattle.std.proofs.lemmas.Bool.Decides.{nat_tests}
 use Rattle.std.specs.List.{AllByRecursion}

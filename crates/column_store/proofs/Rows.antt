@@ -1,14 +1,14 @@
 -- Rows and kinds by their places.
 use Rattle.std.proofs.Common.{◌≡◌, ℕ, zero, suc, ◌+◌, ◌<◌, ◌≤◌, ◌==◌, nat_lt, cond, Bool, true, false, not, List, [], ◌∷◌, length, get_or, map, Some, None, is_some, refl, ap, ◌∙◌, arith}
 use Rattle.std.proofs.lemmas.Bool.Decides.{nat_tests}
-use Rattle.std.specs.List.{remove, position, position_or_len}
+use Rattle.std.specs.List.{position, position_or_len}
 use Rattle.std.specs.Prelude.{slice_get}
 use Rattle.model.specs.Lists.{update_at}
 use Rattle.model.specs.declared.entities.Entity.{Entity}
 use Rattle.column_store.specs.Order.{is_same}
 use Rattle.column_store.specs.Kinds.{at_kind, update_kind}
 use Rattle.column_store.specs.Places.{IsPlace, IsNowhere}
-use Rattle.column_store.specs.Table.{TableRow, row_of, without_row, update_row}
+use Rattle.column_store.specs.Table.{TableRow, row_of}
 
 -- ---- the row of an entity, by its place
 
@@ -20,18 +20,6 @@ row_of-place e (row ∷ rows) (suc i) d p = ap (λ b. cond b (Some row) (row_of 
 pub row_of-nowhere : (e : Entity) (rows : List TableRow) → IsNowhere (λ row. is_same row.entity e) rows → row_of e rows ≡ None
 row_of-nowhere e [] p = refl
 row_of-nowhere e (row ∷ rows) p = ap (λ b. cond b (Some row) (row_of e rows)) p.0 ∙ row_of-nowhere e rows p.1
-
-pub update_row-place : (e : Entity) (f : TableRow → TableRow) (rows : List TableRow) (i : ℕ) → IsPlace (λ row. is_same row.entity e) rows i → update_row e f rows ≡ update_at i f rows
-update_row-place e f [] i p = absurd p
-update_row-place e f (row ∷ rows) zero p = ap (λ b. cond b (f row ∷ rows) (row ∷ update_row e f rows)) p
-update_row-place e f (row ∷ rows) (suc i) p =
-    ap (λ b. cond b (f row ∷ rows) (row ∷ update_row e f rows)) p.0 ∙ ap (λ rs. row ∷ rs) (update_row-place e f rows i p.1)
-
-pub without_row-place : (e : Entity) (rows : List TableRow) (i : ℕ) → IsPlace (λ row. is_same row.entity e) rows i → without_row e rows ≡ remove rows i
-without_row-place e [] i p = absurd p
-without_row-place e (row ∷ rows) zero p = ap (λ b. cond b rows (row ∷ without_row e rows)) p
-without_row-place e (row ∷ rows) (suc i) p =
-    ap (λ b. cond b rows (row ∷ without_row e rows)) p.0 ∙ ap (λ rs. row ∷ rs) (without_row-place e rows i p.1)
 
 -- ---- a kind, by its place
 

@@ -1,21 +1,22 @@
--- What a table's calls leave, from the places of the row and of the column.
-use Rattle.std.proofs.Common.{◌≡◌, ℕ, zero, suc, ◌<◌, ◌≤◌, ℤ, ◌==◌, Bool, List, [], ◌∷◌, length, map, option_map, option_and_then, Option, Some, None, refl, sym, ap, ap₂, ◌∙◌, arith}
-use Rattle.std.specs.List.{insert, remove, AllByRecursion}
+-- What a table's calls leave, from the row and the place of the column.
+use Rattle.std.proofs.Common.{◌≡◌, ℕ, zero, suc, ◌<◌, ℤ, ◌==◌, Bool, List, [], ◌∷◌, ◌++◌, length, get_or, map, option_map, option_and_then, Option, Some, None, refl, sym, ap, ap₂, ◌∙◌, arith}
+use Rattle.std.specs.List.{AllByRecursion}
 use Rattle.std.specs.Prelude.{slice_get}
 use Rattle.std.proofs.lemmas.List.{length-map}
+use Rattle.std.proofs.lemmas.Simd.{map-map}
 use Rattle.model.specs.Lists.{update_at}
 use Rattle.model.specs.state.State.{Cell}
 use Rattle.model.specs.declared.entities.Entity.{Entity}
 use Rattle.column_store.specs.Cells.{changed_cell}
 use Rattle.column_store.specs.Column.{ColumnCells}
-use Rattle.column_store.specs.Order.{is_same}
-use Rattle.column_store.specs.Places.{IsPlace, IsNowhere, IsGap}
-use Rattle.column_store.specs.Table.{Standing, ColumnSlotValue, TableRow, TableValue, is_home, row_of, put_row, without_row, update_row, with_cell_at, cell_of_kind, filled_rows, cell_in, standing_of, kind_cells, write_cell, moved_to, owned, homed, IsAlike}
+use Rattle.column_store.specs.Places.{IsPlace, IsNowhere}
+use Rattle.column_store.specs.Swapped.{swap_removed}
+use Rattle.column_store.specs.Table.{Standing, ColumnSlotValue, TableRow, TableValue, is_home, with_cell_at, cell_of_kind, filled_rows, cell_in_row, standing_of, kind_cells, write_cell, moved_to, owned, homed, IsAlike}
 use Rattle.column_store.specs.Table.Standing.{Owned}
-use Rattle.column_store.specs.Inside.{standing_in, kind_in, standing_at, owned_slot, cell_at, tail_in, write_in, remove_in, insert_all, replace_all, rows_of, table_of, IsOfLength, AreAlike}
-use Rattle.column_store.proofs.Lists.{map-update_at, map-update_at_same, update_at-same, get-map}
-use Rattle.column_store.proofs.Rows.{row_of-place, row_of-nowhere, update_row-place, without_row-place, at_kind-place, at_kind-nowhere, update_kind-place}
-use Rattle.column_store.proofs.Columns.{with_cell, cell_of_column, filled, get_or-rows_of, place-rows_of, nowhere-rows_of, put_row-rows_of, rows_of-write, rows_of-columns, cells-rows_of, rows_of-home, rows_of-insert, rows_of-remove, rows_of-replace}
+use Rattle.column_store.specs.Inside.{standing_in, kind_in, standing_at, owned_slot, seen_column, seen_slot, cell_at, tail_in, write_in, swap_out_in, push_all, replace_all, rows_of, table_of, IsOfLength, AreAlike}
+use Rattle.column_store.proofs.Lists.{map-update_at, map-update_at_same, update_at-same, get-map, get-there}
+use Rattle.column_store.proofs.Rows.{at_kind-place, at_kind-nowhere, update_kind-place}
+use Rattle.column_store.proofs.Columns.{with_cell, cell_of_column, filled, get_or-rows_of, length-rows_of, rows_of-write, rows_of-columns, cells-rows_of, rows_of-home, rows_of-push, rows_of-swap, rows_of-replace}
 
 pub place-within : {A : Type 0} (test : A → Bool) (xs : List A) (i : ℕ) → IsPlace test xs i → i < length xs
 place-within test [] i p = absurd p
@@ -26,29 +27,31 @@ pub length-of_kinds : (ns : List ℕ) (ps : List ColumnSlotValue) → map kind_i
 length-of_kinds ns ps h = sym (ap length h) ∙ length-map ps kind_in
 
 pub made : (ns : List ℕ) (ss ts : List Standing) (rs qs : List TableRow) → ss ≡ ts → rs ≡ qs →
-    (let t : TableValue = record { kinds = ns; standings = ss; rows = rs } in t) ≡ record { kinds = ns; standings = ts; rows = qs }
-made ns ss ts rs qs h k = ap₂ (λ s r. let t : TableValue = record { kinds = ns; standings = s; rows = r } in t) h k
+    (let t : TableValue = record { kinds = ns; standings = ss; rows = rs; room = 0 } in t) ≡ record { kinds = ns; standings = ts; rows = qs; room = 0 }
+made ns ss ts rs qs h k = ap₂ (λ s r. let t : TableValue = record { kinds = ns; standings = s; rows = r; room = 0 } in t) h k
 
 same_row : (e : Entity) (cs ds : List (Option Cell)) → cs ≡ ds → (let r : TableRow = record { entity = e; cells = cs } in r) ≡ record { entity = e; cells = ds }
 same_row e cs ds h = ap (λ c. let r : TableRow = record { entity = e; cells = c } in r) h
 
-module _ (ns : List ℕ) (es : List Entity) (ps : List ColumnSlotValue) (e : Entity) (k : ℕ) where
-  -- ---- a cell
+-- ---- a cell
 
-  pub cell_in-place : (i j : ℕ) (p : ColumnSlotValue) → IsPlace (λ x. is_same x e) es i → IsPlace (λ n. n == k) ns j → length ns ≡ length ps → slice_get ps j ≡ Some p →
-      cell_in (table_of ns es ps) e k ≡ cell_at i p
+pub get-rows_of : (es : List Entity) (ps : List ColumnSlotValue) (i : ℕ) (e : Entity) → i < length es → slice_get (rows_of es ps) i ≡ Some (record { entity = get_or es i e; cells = map (cell_at i) ps })
+get-rows_of es ps i e l =
+    let d : TableRow = record { entity = e; cells = [] } in
+    let many = length-rows_of es ps in
+    get-there (rows_of es ps) i d (omega arith) ∙ ap (λ r. Some r) (get_or-rows_of es ps i e d l)
+
+module _ (ns : List ℕ) (es : List Entity) (ps : List ColumnSlotValue) (k : ℕ) where
+  pub cell_in-place : (i j : ℕ) (p : ColumnSlotValue) → i < length es → IsPlace (λ n. n == k) ns j → length ns ≡ length ps → slice_get ps j ≡ Some p →
+      cell_in_row (table_of ns es ps) i k ≡ cell_at i p
   cell_in-place i j p at of l h =
-      let d : TableRow = record { entity = e; cells = [] } in
-      ap (option_and_then (cell_of_kind ns k)) (row_of-place e (rows_of es ps) i d (place-rows_of e es ps i at)
-      ∙ ap (λ r. Some r) (get_or-rows_of es ps i e d (place-within (λ x. is_same x e) es i at)))
+      let e : Entity = record { index = 0; generation = 0 } in
+      ap (option_and_then (cell_of_kind ns k)) (get-rows_of es ps i e at)
       ∙ ap (option_and_then (λ cell. cell)) (at_kind-place k ns (map (cell_at i) ps) j of (l ∙ sym (length-map ps (cell_at i)))
       ∙ get-map (cell_at i) ps j ∙ ap (option_map (cell_at i)) h)
 
-  pub cell_in-no_row : IsNowhere (λ x. is_same x e) es → cell_in (table_of ns es ps) e k ≡ None
-  cell_in-no_row h = ap (option_and_then (cell_of_kind ns k)) (row_of-nowhere e (rows_of es ps) (nowhere-rows_of e es ps h))
-
-  pub cell_in-no_kind : IsNowhere (λ n. n == k) ns → cell_in (table_of ns es ps) e k ≡ None
-  cell_in-no_kind h = go (row_of e (rows_of es ps))
+  pub cell_in-no_kind : (i : ℕ) → IsNowhere (λ n. n == k) ns → cell_in_row (table_of ns es ps) i k ≡ None
+  cell_in-no_kind i h = go (slice_get (rows_of es ps) i)
     where
       go : (o : Option TableRow) → option_and_then (cell_of_kind ns k) o ≡ None
       go None = refl
@@ -56,12 +59,11 @@ module _ (ns : List ℕ) (es : List Entity) (ps : List ColumnSlotValue) (e : Ent
 
   -- ---- a write
 
-  pub table-write : (i j : ℕ) (w : List ℤ) (t : ℕ) → IsPlace (λ x. is_same x e) es i → IsPlace (λ n. n == k) ns j →
-      table_of ns es (update_at j (write_in i w t) ps) ≡ write_cell (table_of ns es ps) e k w t
-  table-write i j w t at of = made ns _ _ _ _ (map-update_at_same standing_in (write_in i w t) (λ p. refl) j ps)
+  pub table-write : (i j : ℕ) (w : List ℤ) (t : ℕ) → IsPlace (λ n. n == k) ns j →
+      table_of ns es (update_at j (write_in i w t) ps) ≡ write_cell (table_of ns es ps) i k w t
+  table-write i j w t of = made ns _ _ _ _ (map-update_at_same standing_in (write_in i w t) (λ p. refl) j ps)
       (rows_of-write w t es ps i j
-      ∙ sym (update_row-place e (with_cell_at ns k (option_map (changed_cell w t))) (rows_of es ps) i (place-rows_of e es ps i at)
-      ∙ update_at-same (with_cell_at ns k (option_map (changed_cell w t))) (with_cell j (option_map (changed_cell w t)))
+      ∙ sym (update_at-same (with_cell_at ns k (option_map (changed_cell w t))) (with_cell j (option_map (changed_cell w t)))
       (λ r. same_row r.entity _ _ (update_kind-place k (option_map (changed_cell w t)) ns r.cells j of)) i (rows_of es ps)))
 
 -- ---- a column that is lent or comes home
@@ -70,7 +72,7 @@ module _ (ns : List ℕ) (es : List Entity) (ps : List ColumnSlotValue) (k j : �
   pub table-move : (s : Standing) → IsPlace (λ n. n == k) ns j → table_of ns es (update_at j (standing_at s) ps) ≡ moved_to s (table_of ns es ps) k
   table-move s of = made ns _ _ _ _
       (map-update_at standing_in (standing_at s) (λ _. s) (λ p. refl) j ps ∙ sym (update_kind-place k (λ _. s) ns (map standing_in ps) j of))
-      (rows_of-columns es ps (update_at j (standing_at s) ps) (map-update_at_same (λ (p : ColumnSlotValue). p.column) (standing_at s) (λ p. refl) j ps))
+      (rows_of-columns es ps (update_at j (standing_at s) ps) (map-update_at_same seen_column (standing_at s) (λ p. refl) j ps))
 
   pub standing-place : (p : ColumnSlotValue) → IsPlace (λ n. n == k) ns j → length ns ≡ length ps → slice_get ps j ≡ Some p → standing_of (table_of ns es ps) k ≡ Some (standing_in p)
   standing-place p of l h = at_kind-place k ns (map standing_in ps) j of (l ∙ sym (length-map ps standing_in)) ∙ get-map standing_in ps j ∙ ap (option_map standing_in) h
@@ -88,7 +90,7 @@ pub table-home : (ns : List ℕ) (es : List Entity) (ps : List ColumnSlotValue) 
     table_of ns es (update_at j (λ _. owned_slot c) ps) ≡ homed (table_of ns es ps) c
 table-home ns es ps j c of l = made ns _ _ _ _
     (map-update_at standing_in (λ _. owned_slot c) (λ _. Owned) (λ p. refl) j ps ∙ sym (update_kind-place c.kind (λ _. Owned) ns (map standing_in ps) j of))
-    (rows_of-home es ps j c.kind c.cells l ∙ sym (filled_rows-place ns c.kind j c.cells (rows_of es ps) of))
+    (rows_of-home es ps j c.kind c.room c.cells l ∙ sym (filled_rows-place ns c.kind j c.cells (rows_of es ps) of))
 
 cells_by_column : (ns : List ℕ) (es : List Entity) (ps : List ColumnSlotValue) (k j : ℕ) → IsPlace (λ n. n == k) ns j → length ns ≡ length ps →
     map (cell_of_kind ns k) (rows_of es ps) ≡ map (cell_of_column j) (rows_of es ps)
@@ -100,7 +102,7 @@ cells_by_column ns (e ∷ es) ps k j of l = ap₂ ◌∷◌
 -- the cells of a column that is at home
 pub kind_cells-place : (ns : List ℕ) (es : List Entity) (ps : List ColumnSlotValue) (k j : ℕ) (p : ColumnSlotValue) → IsPlace (λ n. n == k) ns j → length ns ≡ length ps →
     slice_get ps j ≡ Some p → length p.column.cells ≡ length es → kind_cells (table_of ns es ps) k ≡ map (λ cell. Some cell) p.column.cells
-kind_cells-place ns es ps k j p of l h n = cells_by_column ns es ps k j of l ∙ cells-rows_of es ps j p.column.kind p.standing p.column.cells h n
+kind_cells-place ns es ps k j p of l h n = cells_by_column ns es ps k j of l ∙ cells-rows_of es ps j p.column.kind p.column.room p.standing p.column.cells h n
 
 -- ---- columns that differ in which are read elsewhere too
 
@@ -111,48 +113,68 @@ homes_seen (p ∷ ps) = ap (λ bs. is_home p.standing ∷ bs) (homes_seen ps)
 pub table-alike : (ns : List ℕ) (es : List Entity) (ps qs : List ColumnSlotValue) → AreAlike ps qs → IsAlike (table_of ns es ps) (table_of ns es qs)
 table-alike ns es ps qs h = record { kinds = refl; homes = homes_seen qs ∙ h.homes ∙ sym (homes_seen ps); rows = rows_of-columns es ps qs h.columns }
 
-owned_standings : (ps : List ColumnSlotValue) → map standing_in (map (standing_at Owned) ps) ≡ map (λ _. Owned) (map standing_in ps)
-owned_standings [] = refl
-owned_standings (p ∷ ps) = ap (λ ss. Owned ∷ ss) (owned_standings ps)
+owned_standings : (ps qs : List ColumnSlotValue) → map seen_slot qs ≡ map (standing_at Owned) (map seen_slot ps) → map standing_in qs ≡ map (λ _. Owned) (map standing_in ps)
+owned_standings [] [] h = refl
+owned_standings [] (q ∷ qs) h = absurd (cc)
+owned_standings (p ∷ ps) [] h = absurd (cc)
+owned_standings (p ∷ ps) (q ∷ qs) h =
+    let first : seen_slot q ≡ standing_at Owned (seen_slot p) = cc in
+    let rest : map seen_slot qs ≡ map (standing_at Owned) (map seen_slot ps) = cc in
+    ap₂ ◌∷◌ (ap standing_in first) (owned_standings ps qs rest)
 
-pub owned_columns : (ps : List ColumnSlotValue) → map (λ (p : ColumnSlotValue). p.column) (map (standing_at Owned) ps) ≡ map (λ (p : ColumnSlotValue). p.column) ps
-owned_columns [] = refl
-owned_columns (p ∷ ps) = ap (λ cs. p.column ∷ cs) (owned_columns ps)
+pub owned_columns : (ps qs : List ColumnSlotValue) → map seen_slot qs ≡ map (standing_at Owned) (map seen_slot ps) → map seen_column qs ≡ map seen_column ps
+owned_columns [] [] h = refl
+owned_columns [] (q ∷ qs) h = absurd (cc)
+owned_columns (p ∷ ps) [] h = absurd (cc)
+owned_columns (p ∷ ps) (q ∷ qs) h =
+    let first : seen_slot q ≡ standing_at Owned (seen_slot p) = cc in
+    let rest : map seen_slot qs ≡ map (standing_at Owned) (map seen_slot ps) = cc in
+    ap₂ ◌∷◌ (ap (λ (x : ColumnSlotValue). x.column) first) (owned_columns ps qs rest)
 
-pub table-owned : (ns : List ℕ) (es : List Entity) (ps : List ColumnSlotValue) → table_of ns es (map (standing_at Owned) ps) ≡ owned (table_of ns es ps)
-table-owned ns es ps = made ns _ _ _ _ (owned_standings ps) (rows_of-columns es ps (map (standing_at Owned) ps) (owned_columns ps))
+pub table-owned : (ns : List ℕ) (es : List Entity) (ps qs : List ColumnSlotValue) → map seen_slot qs ≡ map (standing_at Owned) (map seen_slot ps) → table_of ns es qs ≡ owned (table_of ns es ps)
+table-owned ns es ps qs h = made ns _ _ _ _ (owned_standings ps qs h) (rows_of-columns es ps qs (owned_columns ps qs h))
+
+-- slots that are seen alike make one table
+pub table-seen : (ns : List ℕ) (es : List Entity) (ps qs : List ColumnSlotValue) → map seen_slot qs ≡ map seen_slot ps → table_of ns es qs ≡ table_of ns es ps
+table-seen ns es ps qs h = made ns _ _ _ _ (standings ps qs h) (rows_of-columns es ps qs (columns ps qs h))
+  where
+    standings : (ps qs : List ColumnSlotValue) → map seen_slot qs ≡ map seen_slot ps → map standing_in qs ≡ map standing_in ps
+    standings ps qs h = sym (map-map standing_in seen_slot qs) ∙ ap (map standing_in) h ∙ map-map standing_in seen_slot ps
+
+    columns : (ps qs : List ColumnSlotValue) → map seen_slot qs ≡ map seen_slot ps → map seen_column qs ≡ map seen_column ps
+    columns ps qs h = sym (map-map (λ (p : ColumnSlotValue). p.column) seen_slot qs) ∙ ap (map (λ (p : ColumnSlotValue). p.column)) h ∙ map-map (λ (p : ColumnSlotValue). p.column) seen_slot ps
+
+pub alike_room : (t u : TableValue) (r s : ℕ) → IsAlike t u → IsAlike (record t { room = r }) (record u { room = s })
+alike_room t u r s h = record { kinds = h.kinds; homes = h.homes; rows = h.rows }
 
 -- ---- a row more or less
 
-module _ (ns : List ℕ) (es : List Entity) (ps : List ColumnSlotValue) (e : Entity) (i : ℕ) where
-  pub table-put : (cs : List Cell) → length ps ≡ length cs → AllByRecursion (IsOfLength (length es)) ps → i ≤ length es → IsGap e es i →
-      table_of ns (insert es i e) (insert_all i ps cs)
-      ≡ record { kinds = ns; standings = map standing_in ps; rows = put_row (record { entity = e; cells = map (λ c. Some c) cs }) (rows_of es ps) }
-  table-put cs l h le g = made ns _ _ _ _ (go ps cs i)
-      (rows_of-insert es e ps cs i l h le ∙ sym (put_row-rows_of es ps i (record { entity = e; cells = map (λ c. Some c) cs }) g))
-    where
-      go : (ps : List ColumnSlotValue) (cs : List Cell) (i : ℕ) → map standing_in (insert_all i ps cs) ≡ map standing_in ps
-      go [] cs i = refl
-      go (p ∷ ps) [] i = refl
-      go (p ∷ ps) (c ∷ cs) i = ap (λ ss. p.standing ∷ ss) (go ps cs i)
+standings-push : (ps : List ColumnSlotValue) (cs : List Cell) → map standing_in (push_all ps cs) ≡ map standing_in ps
+standings-push [] cs = refl
+standings-push (p ∷ ps) [] = refl
+standings-push (p ∷ ps) (c ∷ cs) = ap (λ ss. p.standing ∷ ss) (standings-push ps cs)
 
-  pub table-remove : AllByRecursion (IsOfLength (length es)) ps → IsPlace (λ x. is_same x e) es i →
-      table_of ns (remove es i) (map (remove_in i) ps)
-      ≡ record { kinds = ns; standings = map standing_in ps; rows = without_row e (rows_of es ps) }
-  table-remove h at = made ns _ _ _ _ (go ps i)
-      (rows_of-remove es ps i h (place-within (λ x. is_same x e) es i at) ∙ sym (without_row-place e (rows_of es ps) i (place-rows_of e es ps i at)))
-    where
-      go : (ps : List ColumnSlotValue) (i : ℕ) → map standing_in (map (remove_in i) ps) ≡ map standing_in ps
-      go [] i = refl
-      go (p ∷ ps) i = ap (λ ss. p.standing ∷ ss) (go ps i)
+standings-swap : (ps : List ColumnSlotValue) (i : ℕ) → map standing_in (map (swap_out_in i) ps) ≡ map standing_in ps
+standings-swap [] i = refl
+standings-swap (p ∷ ps) i = ap (λ ss. p.standing ∷ ss) (standings-swap ps i)
 
-  pub table-renew : (cs : List Cell) → length ps ≡ length cs → AllByRecursion (IsOfLength (length es)) ps → IsPlace (λ x. is_same x e) es i →
+standings-replace : (ps : List ColumnSlotValue) (cs : List Cell) (i : ℕ) → map standing_in (replace_all i ps cs) ≡ map standing_in ps
+standings-replace [] cs i = refl
+standings-replace (p ∷ ps) [] i = refl
+standings-replace (p ∷ ps) (c ∷ cs) i = ap (λ ss. p.standing ∷ ss) (standings-replace ps cs i)
+
+module _ (ns : List ℕ) (es : List Entity) (ps : List ColumnSlotValue) where
+  pub table-push : (e : Entity) (cs : List Cell) → length ps ≡ length cs → AllByRecursion (IsOfLength (length es)) ps →
+      table_of ns (es ++ e ∷ []) (push_all ps cs)
+      ≡ record { kinds = ns; standings = map standing_in ps; rows = rows_of es ps ++ record { entity = e; cells = map (λ c. Some c) cs } ∷ []; room = 0 }
+  table-push e cs l h = made ns _ _ _ _ (standings-push ps cs) (rows_of-push es e ps cs l h)
+
+  pub table-swap : (i : ℕ) → AllByRecursion (IsOfLength (length es)) ps → i < length es →
+      table_of ns (swap_removed es i) (map (swap_out_in i) ps)
+      ≡ record { kinds = ns; standings = map standing_in ps; rows = swap_removed (rows_of es ps) i; room = 0 }
+  table-swap i h l = made ns _ _ _ _ (standings-swap ps i) (rows_of-swap es ps i h l)
+
+  pub table-renew : (i : ℕ) (cs : List Cell) → length ps ≡ length cs → AllByRecursion (IsOfLength (length es)) ps →
       table_of ns es (replace_all i ps cs)
-      ≡ record { kinds = ns; standings = map standing_in ps; rows = update_row e (λ (r : TableRow). let s : TableRow = record { entity = r.entity; cells = map (λ c. Some c) cs } in s) (rows_of es ps) }
-  table-renew cs l h at = made ns _ _ _ _ (go ps cs i)
-      (rows_of-replace es ps cs i l h ∙ sym (update_row-place e (λ (r : TableRow). let s : TableRow = record { entity = r.entity; cells = map (λ c. Some c) cs } in s) (rows_of es ps) i (place-rows_of e es ps i at)))
-    where
-      go : (ps : List ColumnSlotValue) (cs : List Cell) (i : ℕ) → map standing_in (replace_all i ps cs) ≡ map standing_in ps
-      go [] cs i = refl
-      go (p ∷ ps) [] i = refl
-      go (p ∷ ps) (c ∷ cs) i = ap (λ ss. p.standing ∷ ss) (go ps cs i)
+      ≡ record { kinds = ns; standings = map standing_in ps; rows = update_at i (λ (r : TableRow). let s : TableRow = record { entity = r.entity; cells = map (λ c. Some c) cs } in s) (rows_of es ps); room = 0 }
+  table-renew i cs l h = made ns _ _ _ _ (standings-replace ps cs i) (rows_of-replace es ps cs i l h)

@@ -3,10 +3,11 @@ use Rattle.std.specs.Prelude.{ℕ, ℤ, List, [], ◌∷◌}
 use Rattle.change_ticks.specs.declared.stamp.Stamp.{Stamp}
 use Rattle.model.specs.state.State.{Cell}
 
--- a column: the number of its kind, and its cells
+-- a column: the number of its kind, its cells, and for how many there is room
 pub record ColumnCells : Type 0 where
   pub kind : ℕ
   pub cells : List Cell
+  pub room : ℕ
 
 -- the cell of these words with this stamp
 abbrev pub cell_of : List ℤ → Stamp → Cell

@@ -1,18 +1,19 @@
 -- Rows as columns: what a table has inside, and what is done to its columns.
-use Rattle.std.specs.Prelude.{◌≡◌, ℕ, ◌<◌, ◌≤◌, ℤ, true, List, [], ◌∷◌, length, map, get_or, Option, Some, None, slice_get}
-use Rattle.std.specs.List.{AllByRecursion, insert, remove}
+use Rattle.std.specs.Prelude.{◌≡◌, ℕ, ◌+◌, ◌<◌, ◌≤◌, ℤ, true, List, [], ◌∷◌, ◌++◌, length, map, get_or, Option, Some, None, slice_get}
+use Rattle.std.specs.List.{AllByRecursion}
 use Rattle.kinds.specs.declared.kind.Kind.{Kind}
 use Rattle.kinds.specs.Kind.{kind_number}
 use Rattle.model.specs.state.State.{Cell}
 use Rattle.model.specs.declared.entities.Entity.{Entity}
 use Rattle.model.specs.Lists.{tail_of, update_at}
 use Rattle.column_store.specs.declared.stamped.StampedValue.{StampedValue}
-use Rattle.column_store.specs.Cells.{changed_cell, stamped_number, stamped_cell}
+use Rattle.column_store.specs.Cells.{changed_cell, stamped_number}
 use Rattle.column_store.specs.Column.{ColumnCells}
-use Rattle.column_store.specs.Order.{is_same, AreRising}
-use Rattle.column_store.specs.Places.{IsPlace, IsNowhere, IsGap}
+use Rattle.column_store.specs.EntityList.{EntityListValue}
+use Rattle.column_store.specs.Order.{AreApart}
 use Rattle.column_store.specs.Kinds.{AreBelow}
-use Rattle.column_store.specs.Table.{Standing, ColumnSlotValue, TableRow, TableValue, is_home, is_owned, cell_in, standing_of, kind_cells, write_cell, moved_to, homed}
+use Rattle.column_store.specs.Swapped.{swap_removed}
+use Rattle.column_store.specs.Table.{Standing, ColumnSlotValue, TableRow, TableValue, is_home, is_owned, cell_in_row, standing_of, kind_cells, write_cell, moved_to, homed}
 use Rattle.column_store.specs.Table.Standing.{Owned}
 
 -- ---- one column
@@ -26,7 +27,19 @@ kind_in p = p.column.kind
 
 -- the slot with its column's cells changed
 abbrev pub with_cells : (List Cell → List Cell) → ColumnSlotValue → ColumnSlotValue
-with_cells f p = record { standing = p.standing; column = record { kind = p.column.kind; cells = f p.column.cells } }
+with_cells f p = record { standing = p.standing; column = record { kind = p.column.kind; cells = f p.column.cells; room = p.column.room } }
+
+-- a column, whatever its room
+abbrev pub seen_column : ColumnSlotValue → ColumnCells
+seen_column p = record { kind = p.column.kind; cells = p.column.cells; room = 0 }
+
+-- the room of a column
+abbrev pub room_of : ColumnSlotValue → ℕ
+room_of p = p.column.room
+
+-- the slot, whatever the room of its column
+abbrev pub seen_slot : ColumnSlotValue → ColumnSlotValue
+seen_slot p = record { standing = p.standing; column = seen_column p }
 
 -- the slot of a column that stands otherwise
 abbrev pub standing_at : Standing → ColumnSlotValue → ColumnSlotValue
@@ -47,11 +60,11 @@ tail_in p = with_cells tail_of p
 abbrev pub write_in : ℕ → List ℤ → ℕ → ColumnSlotValue → ColumnSlotValue
 write_in row words tick p = with_cells (update_at row (changed_cell words tick)) p
 
-abbrev pub insert_in : ℕ → Cell → ColumnSlotValue → ColumnSlotValue
-insert_in row cell p = with_cells (λ cells. insert cells row cell) p
+abbrev pub push_in : Cell → ColumnSlotValue → ColumnSlotValue
+push_in cell p = with_cells (λ cells. cells ++ cell ∷ []) p
 
-abbrev pub remove_in : ℕ → ColumnSlotValue → ColumnSlotValue
-remove_in row p = with_cells (λ cells. remove cells row) p
+abbrev pub swap_out_in : ℕ → ColumnSlotValue → ColumnSlotValue
+swap_out_in row p = with_cells (λ cells. swap_removed cells row) p
 
 abbrev pub replace_in : ℕ → Cell → ColumnSlotValue → ColumnSlotValue
 replace_in row cell p = with_cells (update_at row (λ _. cell)) p
@@ -66,11 +79,20 @@ IsOwned p = is_owned p.standing ≡ true
 abbrev pub IsAtHome : ColumnSlotValue → Type 0
 IsAtHome p = is_home p.standing ≡ true
 
--- a column of the table's alone, which a component of its kind can go into before a row
-pub record Takes (row : ℕ) (p : ColumnSlotValue) (s : StampedValue) : Type 0 where
+-- a column has room for so many components
+abbrev pub HasRoom : ℕ → ColumnSlotValue → Type 0
+HasRoom n p = n ≤ p.column.room
+
+-- a column of the table's alone, in which there is room for a further component of its kind
+pub record Takes (p : ColumnSlotValue) (s : StampedValue) : Type 0 where
   pub owned : is_owned p.standing ≡ true
   pub kind : p.column.kind ≡ stamped_number s
-  pub within : row ≤ length p.column.cells
+  pub room : length p.column.cells < p.column.room
+
+-- a column may have more room than before, and nothing else has changed
+pub record IsRoomier (old new : ColumnSlotValue) : Type 0 where
+  pub same : seen_slot new ≡ seen_slot old
+  pub room : old.column.room ≤ new.column.room
 
 -- a column of the table's alone, in which a component of its kind can replace that of a row
 pub record Renews (row : ℕ) (p : ColumnSlotValue) (s : StampedValue) : Type 0 where
@@ -80,7 +102,7 @@ pub record Renews (row : ℕ) (p : ColumnSlotValue) (s : StampedValue) : Type 0 
 
 -- the column of a kind without cells
 abbrev pub empty_column : Kind → ColumnSlotValue
-empty_column kind = owned_slot (record { kind = kind_number kind; cells = [] })
+empty_column kind = owned_slot (record { kind = kind_number kind; cells = []; room = 0 })
 
 -- a column at home has this row
 pub record HoldsRow (row : ℕ) (p : ColumnSlotValue) : Type 0 where
@@ -99,21 +121,27 @@ abbrev pub rows_of : List Entity → List ColumnSlotValue → List TableRow
 rows_of [] columns = []
 rows_of (e ∷ es) columns = record { entity = e; cells = map (cell_at 0) columns } ∷ rows_of es (map tail_in columns)
 
--- the table of these kinds, entities and columns
+-- the table of these kinds, entities and columns, whatever the room
 abbrev pub table_of : List ℕ → List Entity → List ColumnSlotValue → TableValue
-table_of kinds entities columns = record { kinds = kinds; standings = map standing_in columns; rows = rows_of entities columns }
+table_of kinds entities columns = record { kinds = kinds; standings = map standing_in columns; rows = rows_of entities columns; room = 0 }
 
--- a cell goes into each column
-abbrev pub insert_all : ℕ → List ColumnSlotValue → List Cell → List ColumnSlotValue
-insert_all row [] cells = []
-insert_all row (p ∷ ps) [] = p ∷ ps
-insert_all row (p ∷ ps) (c ∷ cs) = insert_in row c p ∷ insert_all row ps cs
+-- a cell goes behind those of each column
+abbrev pub push_all : List ColumnSlotValue → List Cell → List ColumnSlotValue
+push_all [] cells = []
+push_all (p ∷ ps) [] = p ∷ ps
+push_all (p ∷ ps) (c ∷ cs) = push_in c p ∷ push_all ps cs
 
-abbrev pub AllTake : ℕ → List ColumnSlotValue → List StampedValue → Type 0
-AllTake row [] [] = Unit {0}
-AllTake row [] (s ∷ ss) = ⊥
-AllTake row (p ∷ ps) [] = ⊥
-AllTake row (p ∷ ps) (s ∷ ss) = Takes row p s × AllTake row ps ss
+abbrev pub AllTake : List ColumnSlotValue → List StampedValue → Type 0
+AllTake [] [] = Unit {0}
+AllTake [] (s ∷ ss) = ⊥
+AllTake (p ∷ ps) [] = ⊥
+AllTake (p ∷ ps) (s ∷ ss) = Takes p s × AllTake ps ss
+
+abbrev pub AreRoomier : List ColumnSlotValue → List ColumnSlotValue → Type 0
+AreRoomier [] [] = Unit {0}
+AreRoomier [] (q ∷ qs) = ⊥
+AreRoomier (p ∷ ps) [] = ⊥
+AreRoomier (p ∷ ps) (q ∷ qs) = IsRoomier p q × AreRoomier ps qs
 
 -- a cell of each column is replaced
 abbrev pub replace_all : ℕ → List ColumnSlotValue → List Cell → List ColumnSlotValue
@@ -130,37 +158,34 @@ AllRenew row (p ∷ ps) (s ∷ ss) = Renews row p s × AllRenew row ps ss
 -- what holds of the inside of every table
 pub record IsTable (kinds : List ℕ) (entities : List Entity) (columns : List ColumnSlotValue) : Type 0 where
   pub below : AreBelow kinds
-  pub rising : AreRising entities
+  pub apart : AreApart entities
   pub of_kinds : map kind_in columns ≡ kinds
   pub of_length : AllByRecursion (IsOfLength (length entities)) columns
 
--- ---- where a cell is
+-- the same, with room for so many further rows
+pub record IsTableWithRoom (kinds : List ℕ) (entities : EntityListValue) (columns : List ColumnSlotValue) (room : ℕ) : Type 0 where
+  pub table : IsTable kinds entities.list columns
+  pub within : 0 < room → length entities.list + room ≤ entities.room
+  pub each : 0 < room → AllByRecursion (HasRoom (length entities.list + room)) columns
 
--- the row of an entity and the column of a kind hold the cell that the table has, and a write there is a write of the cell
-pub record IsCellPlace (kinds : List ℕ) (entities : List Entity) (columns : List ColumnSlotValue) (e : Entity) (kind row column : ℕ) : Type 0 where
-  pub within : column < length columns
-  pub has_row : (d : ColumnSlotValue) → row < length (get_or columns column d).column.cells
-  pub of_kind : (d : ColumnSlotValue) → (get_or columns column d).column.kind ≡ kind
-  pub standing : (d : ColumnSlotValue) → standing_of (table_of kinds entities columns) kind ≡ Some (get_or columns column d).standing
-  pub cell : (d : ColumnSlotValue) → cell_in (table_of kinds entities columns) e kind ≡ cell_at row (get_or columns column d)
-  pub written : (words : List ℤ) (tick : ℕ) →
-      table_of kinds entities (update_at column (write_in row words tick) columns) ≡ write_cell (table_of kinds entities columns) e kind words tick
-
--- whatever the columns are, the cell is there
-abbrev pub IsPlaced : List ℕ → List Entity → Entity → ℕ → ℕ → ℕ → Type 0
-IsPlaced kinds entities e kind row column = (columns : List ColumnSlotValue) → IsTable kinds entities columns → IsCellPlace kinds entities columns e kind row column
-
--- whatever the columns are, there is none
-abbrev pub IsAbsent : List ℕ → List Entity → Entity → ℕ → Type 0
-IsAbsent kinds entities e kind = (columns : List ColumnSlotValue) → cell_in (table_of kinds entities columns) e kind ≡ None
+-- the table that is seen of it
+abbrev pub table_with_room : List ℕ → EntityListValue → List ColumnSlotValue → ℕ → TableValue
+table_with_room kinds entities columns room = record (table_of kinds entities.list columns) { room = room }
 
 -- ---- where a column is
 
--- the place of a kind's column, and what the table is where it stands otherwise and with another one
+-- the place of a kind's column: what the table has there at a row, and what it is after a write, and where the column stands otherwise or another one
+-- comes
 pub record IsKindPlace (kinds : List ℕ) (entities : List Entity) (columns : List ColumnSlotValue) (kind column : ℕ) : Type 0 where
   pub within : column < length columns
+  pub has_rows : (row : ℕ) (d : ColumnSlotValue) → row < length entities → row < length (get_or columns column d).column.cells
   pub standing : (d : ColumnSlotValue) → standing_of (table_of kinds entities columns) kind ≡ Some (get_or columns column d).standing
   pub of_kind : (d : ColumnSlotValue) → (get_or columns column d).column.kind ≡ kind
+  pub cell : (row : ℕ) (d : ColumnSlotValue) → row < length entities → cell_in_row (table_of kinds entities columns) row kind ≡ cell_at row (get_or columns column d)
+  pub written : (row : ℕ) (words : List ℤ) (tick : ℕ) →
+      table_of kinds entities (update_at column (write_in row words tick) columns) ≡ write_cell (table_of kinds entities columns) row kind words tick
+  pub written_table : (row : ℕ) (words : List ℤ) (tick : ℕ) → IsTable kinds entities (update_at column (write_in row words tick) columns)
+  pub written_rooms : (row : ℕ) (words : List ℤ) (tick : ℕ) → map room_of (update_at column (write_in row words tick) columns) ≡ map room_of columns
   pub cells : (d : ColumnSlotValue) → map (λ cell. Some cell) (get_or columns column d).column.cells ≡ kind_cells (table_of kinds entities columns) kind
   pub moves : (s : Standing) → table_of kinds entities (update_at column (standing_at s) columns) ≡ moved_to s (table_of kinds entities columns) kind
   pub moves_table : (s : Standing) → IsTable kinds entities (update_at column (standing_at s) columns)
@@ -168,9 +193,9 @@ pub record IsKindPlace (kinds : List ℕ) (entities : List Entity) (columns : Li
       table_of kinds entities (update_at column (λ _. owned_slot c) columns) ≡ homed (table_of kinds entities columns) c
   pub homes_table : (c : ColumnCells) → c.kind ≡ kind → length c.cells ≡ length entities → IsTable kinds entities (update_at column (λ _. owned_slot c) columns)
 
--- columns that differ in nothing but which of those at home are read elsewhere too
+-- columns that differ in nothing but which of those at home are read elsewhere too, and their room
 pub record AreAlike (old new : List ColumnSlotValue) : Type 0 where
-  pub columns : map (λ p. p.column) new ≡ map (λ p. p.column) old
+  pub columns : map seen_column new ≡ map seen_column old
   pub homes : map (λ p. is_home p.standing) new ≡ map (λ p. is_home p.standing) old
 
 -- whatever the rows are, the column is there
@@ -178,39 +203,6 @@ abbrev pub IsKindPlaced : List ℕ → ℕ → ℕ → Type 0
 IsKindPlaced kinds kind column = (entities : List Entity) (columns : List ColumnSlotValue) → IsTable kinds entities columns → IsKindPlace kinds entities columns kind column
 
 -- whatever the rows are, the table has no such kind
-abbrev pub IsNoKind : List ℕ → ℕ → Type 0
-IsNoKind kinds kind = (entities : List Entity) (columns : List ColumnSlotValue) → standing_of (table_of kinds entities columns) kind ≡ None
-
--- ---- a row more or less
-
--- the entity is one of these
-abbrev pub IsThere : Entity → List Entity → Type 0
-IsThere e entities = IsNowhere (λ x. is_same x e) entities → ⊥
-
--- the entity and its components were put in before the first entity that doesn't come before it
-pub record IsPutAt (e : Entity) (components : List StampedValue) (entities entities' : List Entity) (columns columns' : List ColumnSlotValue) : Type 0 where
-  pub row : ℕ
-  pub within : row ≤ length entities
-  pub gap : IsGap e entities row
-  pub entities_after : entities' ≡ insert entities row e
-  pub columns_after : columns' ≡ insert_all row columns (map stamped_cell components)
-
--- the entity and its components were taken out
-pub record IsRemovedAt (e : Entity) (entities entities' : List Entity) (columns columns' : List ColumnSlotValue) : Type 0 where
-  pub row : ℕ
-  pub place : IsPlace (λ x. is_same x e) entities row
-  pub entities_after : entities' ≡ remove entities row
-  pub columns_after : columns' ≡ map (remove_in row) columns
-
--- the entity's components were replaced
-pub record IsRenewedAt (e : Entity) (components : List StampedValue) (entities : List Entity) (columns columns' : List ColumnSlotValue) : Type 0 where
-  pub row : ℕ
-  pub place : IsPlace (λ x. is_same x e) entities row
-  pub columns_after : columns' ≡ replace_all row columns (map stamped_cell components)
-
--- these are the entity's components, in the order of the columns
-pub record AreReadAt (e : Entity) (components : List StampedValue) (entities : List Entity) (columns : List ColumnSlotValue) : Type 0 where
-  pub row : ℕ
-  pub place : IsPlace (λ x. is_same x e) entities row
-  pub cells : map (λ s. Some (stamped_cell s)) components ≡ map (cell_at row) columns
-  pub kinds : map stamped_number components ≡ map kind_in columns
+pub record IsNoKind (kinds : List ℕ) (kind : ℕ) : Type 0 where
+  pub standing : (entities : List Entity) (columns : List ColumnSlotValue) → standing_of (table_of kinds entities columns) kind ≡ None
+  pub cell : (entities : List Entity) (columns : List ColumnSlotValue) (row : ℕ) → cell_in_row (table_of kinds entities columns) row kind ≡ None

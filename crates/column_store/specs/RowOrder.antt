@@ -1,5 +1,5 @@
 -- The order of the rows of a table.
-use Rattle.std.specs.Prelude.{◌≡◌, ◌<◌, ℕ, zero, suc, true, List, [], ◌∷◌, length, map, get_or}
+use Rattle.std.specs.Prelude.{◌≡◌, ◌<◌, ℕ, zero, suc, true, List, [], ◌∷◌, ◌++◌, length, reverse, map, get_or}
 use Rattle.std.specs.List.{AllByRecursion}
 use Rattle.model.specs.Lists.{has}
 use Rattle.model.specs.declared.entities.Entity.{Entity}
@@ -15,7 +15,7 @@ numbers_from first (suc count) = first ∷ numbers_from (suc first) count
 -- the row numbers in their order, where there are so many rows
 abbrev pub rows_in : ℕ → RowOrder → List ℕ
 rows_in count Rising = numbers_from 0 count
-rows_in count (Listed rows) = rows.now
+rows_in count (Listed front back) = front.now ++ reverse back.now
 
 -- the entity of a row
 abbrev pub entity_at : List Entity → ℕ → Entity

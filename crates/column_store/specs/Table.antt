@@ -1,8 +1,9 @@
 -- What a table is: the rows of the entities of one archetype, and which of its columns are at home.
-use Rattle.std.specs.Prelude.{◌≡◌, ℕ, ℤ, Bool, true, false, ◌||◌, cond, List, [], ◌∷◌, map, Option, Some, None, option_map, option_and_then}
+use Rattle.std.specs.Prelude.{◌≡◌, ℕ, ℤ, Bool, true, false, cond, List, [], ◌∷◌, map, slice_get, Option, Some, None, option_map, option_and_then}
 use Rattle.model.specs.state.State.{Cell}
 use Rattle.model.specs.declared.entities.Entity.{Entity}
-use Rattle.column_store.specs.Order.{is_before, is_same}
+use Rattle.column_store.specs.Order.{is_same}
+use Rattle.model.specs.Lists.{update_at}
 use Rattle.column_store.specs.Kinds.{at_kind, update_kind}
 use Rattle.column_store.specs.declared.stamped.StampedValue.{StampedValue}
 use Rattle.column_store.specs.Cells.{changed_cell, stamped_cell}
@@ -22,12 +23,13 @@ pub record TableRow : Type 0 where
   pub entity : Entity
   pub cells : List (Option Cell)
 
--- a table: the numbers of its kinds, rising, where the column of each is, and the rows. A column that is away has in them the cells with
--- which it left
+-- a table: the numbers of its kinds, rising, where the column of each is, the rows as they stand, and for how many further ones there is
+-- room. A column that is away has in them the cells with which it left
 pub record TableValue : Type 0 where
   pub kinds : List ℕ
   pub standings : List Standing
   pub rows : List TableRow
+  pub room : ℕ
 
 -- whether a column is at home
 abbrev pub is_home : Standing → Bool
@@ -64,31 +66,6 @@ abbrev pub row_of : Entity → List TableRow → Option TableRow
 row_of e [] = None
 row_of e (row ∷ rows) = cond (is_same row.entity e) (Some row) (row_of e rows)
 
--- rows with a further one, before the first that doesn't come before it
-abbrev pub put_row : TableRow → List TableRow → List TableRow
-put_row new [] = new ∷ []
-put_row new (row ∷ rows) = cond (is_before row.entity new.entity) (row ∷ put_row new rows) (new ∷ row ∷ rows)
-
--- rows without that of an entity
-abbrev pub without_row : Entity → List TableRow → List TableRow
-without_row e [] = []
-without_row e (row ∷ rows) = cond (is_same row.entity e) rows (row ∷ without_row e rows)
-
--- whether an entity is among some
-abbrev pub is_among : Entity → List Entity → Bool
-is_among e [] = false
-is_among e (x ∷ xs) = is_same e x || is_among e xs
-
--- rows without those of some entities
-abbrev pub without_rows : List Entity → List TableRow → List TableRow
-without_rows gone [] = []
-without_rows gone (row ∷ rows) = cond (is_among row.entity gone) (without_rows gone rows) (row ∷ without_rows gone rows)
-
--- rows with f applied to that of an entity
-abbrev pub update_row : Entity → (TableRow → TableRow) → List TableRow → List TableRow
-update_row e f [] = []
-update_row e f (row ∷ rows) = cond (is_same row.entity e) (f row ∷ rows) (row ∷ update_row e f rows)
-
 -- a row that has these components in place of its own
 abbrev pub renewed_row : List StampedValue → TableRow → TableRow
 renewed_row components row = record { entity = row.entity; cells = map (λ s. Some (stamped_cell s)) components }
@@ -110,9 +87,9 @@ filled_rows kinds kind (cell ∷ cells) (row ∷ rows) =
 
 -- ---- a table
 
--- the cell of a kind of an entity: there where the entity is there and the kind is the table's
-abbrev pub cell_in : TableValue → Entity → ℕ → Option Cell
-cell_in t e kind = option_and_then (cell_of_kind t.kinds kind) (row_of e t.rows)
+-- the cell of a kind at a row: there where both are
+abbrev pub cell_in_row : TableValue → ℕ → ℕ → Option Cell
+cell_in_row t row kind = option_and_then (cell_of_kind t.kinds kind) (slice_get t.rows row)
 
 -- where the column of a kind is
 abbrev pub standing_of : TableValue → ℕ → Option Standing
@@ -122,20 +99,22 @@ standing_of t kind = at_kind t.kinds kind t.standings
 abbrev pub kind_cells : TableValue → ℕ → List (Option Cell)
 kind_cells t kind = map (cell_of_kind t.kinds kind) t.rows
 
--- the table after a write of a component at a tick: its added stamp stays
-abbrev pub write_cell : TableValue → Entity → ℕ → List ℤ → ℕ → TableValue
-write_cell t e kind words tick = record {
+-- the table after a write of a component at a row at a tick: its added stamp stays
+abbrev pub write_cell : TableValue → ℕ → ℕ → List ℤ → ℕ → TableValue
+write_cell t row kind words tick = record {
   kinds = t.kinds;
   standings = t.standings;
-  rows = update_row e (with_cell_at t.kinds kind (option_map (changed_cell words tick))) t.rows;
+  rows = update_at row (with_cell_at t.kinds kind (option_map (changed_cell words tick))) t.rows;
+  room = t.room;
 }
 
--- the table whose column of a kind stands otherwise
+-- the table whose column of a kind stands otherwise. Where columns change place, room is made anew
 abbrev pub moved_to : Standing → TableValue → ℕ → TableValue
 moved_to standing t kind = record {
   kinds = t.kinds;
   standings = update_kind t.kinds kind (λ _. standing) t.standings;
   rows = t.rows;
+  room = 0;
 }
 
 -- the table whose column of a kind has left
@@ -144,9 +123,9 @@ lent t kind = moved_to Away t kind
 
 -- the table whose columns are its alone
 abbrev pub owned : TableValue → TableValue
-owned t = record { kinds = t.kinds; standings = map (λ _. Owned) t.standings; rows = t.rows }
+owned t = record { kinds = t.kinds; standings = map (λ _. Owned) t.standings; rows = t.rows; room = 0 }
 
--- tables that differ in nothing but which of the columns at home are read elsewhere too
+-- tables that differ in nothing but which of the columns at home are read elsewhere too, and their room
 pub record IsAlike (old new : TableValue) : Type 0 where
   pub kinds : new.kinds ≡ old.kinds
   pub homes : map is_home new.standings ≡ map is_home old.standings
@@ -158,8 +137,9 @@ homed t column = record {
   kinds = t.kinds;
   standings = update_kind t.kinds column.kind (λ _. Owned) t.standings;
   rows = filled_rows t.kinds column.kind column.cells t.rows;
+  room = 0;
 }
 
 -- the table of these kinds without rows
 abbrev pub empty_table : List ℕ → TableValue
-empty_table kinds = record { kinds = kinds; standings = map (λ _. Owned) kinds; rows = [] }
+empty_table kinds = record { kinds = kinds; standings = map (λ _. Owned) kinds; rows = []; room = 0 }

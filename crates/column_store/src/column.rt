@@ -1,18 +1,14 @@
 // A column without stamps: the components of one kind, packed by their shape.
 
-ghost use Rattle.std.specs.Prelude.{◌≡◌, ◌<◌, ◌≤◌, [], map, option_map, Some, length, insert, remove, slice_get, slice_set, take, IfOk, OnOk, OnErr};
+ghost use Rattle.std.specs.Prelude.{◌≡◌, ◌+◌, ◌<◌, ◌≤◌, ◌++◌, ◌∷◌, [], map, option_map, Some, length, slice_get, slice_set, take, IfOk, OnOk};
 ghost use Rattle.std.specs.List.{AllByRecursion};
 ghost use Rattle.kinds.specs.Kind.{kind_number};
 ghost use Rattle.kinds.specs.Components.{widths, word_at};
 ghost use Rattle.kinds.specs.Value.{value_number, value_words};
-ghost use Rattle.column_store.specs.Cells.{stamped_number};
-ghost use Rattle.column_store.specs.Keeping.{kept_from};
-ghost use Rattle.column_store.specs.Arriving.{laid, Fit};
+ghost use Rattle.column_store.specs.Swapped.{swap_removed};
 
 use crate::packed::{Amount, Mark, Packed, Pair};
-use crate::packs::{copied, insert_in, keep_in, merged_in, remove_in, set_in, set_words_in};
-use crate::stamped::StampedValue;
-use entity_table::Entity;
+use crate::packs::{copied, push_in, reserve_in, set_in, set_words_in, swap_remove_in};
 use kinds::{Component, Fields, Kind, Shape, Value};
 use std::alloc::{AllocError, Global};
 use std::marker::Model;
@@ -25,7 +21,7 @@ enum Packs {
     Pairs(Vec<Pair>),
 }
 
-// Components of one kind. Contracts see the number of the kind and the words of each component.
+// Components of one kind. Contracts see the number of the kind, the words of each component, and for how many there is room.
 #[derive(Drop)]
 pub(crate) struct Column {
     kind: Kind,
@@ -40,9 +36,9 @@ impl Model for Column {
 
     ghost Value = { ColumnWords };
 
-    ghost use Rattle.column_store.specs.Held.{words_in, width_in};
+    ghost use Rattle.column_store.specs.Held.{words_in, width_in, room_in};
 
-    ghost view = { λ c. record { kind = kind_number c.kind; words = words_in c.packs } };
+    ghost view = { λ c. record { kind = kind_number c.kind; words = words_in c.packs; room = room_in c.packs } };
 
     ghost invariant = { λ c. width_in c.packs ≡ widths (kind_number c.kind) };
 }
@@ -50,7 +46,7 @@ impl Model for Column {
 impl Column {
     // The column of a kind without components.
     pub(crate) fn new(alloc: Global, kind: Kind) -> Self
-        ensures { result ≡ record { kind = kind_number kind; words = [] } }
+        ensures { result ≡ record { kind = kind_number kind; words = []; room = 0 } }
     {
         match kind.shape() {
             Shape::Mark => Column {
@@ -75,9 +71,9 @@ impl Column {
         self.kind
     }
 
-    // A column of the same components.
+    // A column of the same components. It may have room for others.
     pub(crate) fn try_copy(&self, alloc: Global) -> Result<Self, AllocError>
-        ensures { IfOk result (λ copy. copy ≡ self.now) }
+        ensures { IfOk result (λ copy. copy ≡ record self.now { room = copy.room }) }
     {
         let kind = self.kind;
         let packs = match &self.packs {
@@ -163,63 +159,41 @@ impl Column {
         }
     }
 
-    // Inserts a component of the kind before a place. Where an allocation fails the column stays as it was.
-    pub(crate) fn insert(&mut self, place: usize, value: Value) -> Result<(), AllocError>
+    // Adds a component of the kind at the end, where there is room.
+    pub(crate) fn push(&mut self, value: Value)
         requires kind { self.old.kind ≡ value_number value }
-        requires within { place ≤ length self.old.words }
-        ensures ok { OnOk result (self.new ≡ record self.old { words = insert self.old.words place (value_words value) }) }
-        ensures err { OnErr result (self.new ≡ self.old) }
+        requires room { length self.old.words < self.old.room }
+        ensures { self.new ≡ record self.old { words = self.old.words ++ value_words value ∷ [] } }
     {
         match &mut self.packs {
-            Packs::Marks(items) => insert_in(items, place, value),
-            Packs::Amounts(items) => insert_in(items, place, value),
-            Packs::Pairs(items) => insert_in(items, place, value),
+            Packs::Marks(items) => push_in(items, value),
+            Packs::Amounts(items) => push_in(items, value),
+            Packs::Pairs(items) => push_in(items, value),
         }
     }
 
-    // Removes the component at a place.
-    pub(crate) fn remove(&mut self, place: usize)
+    // Removes the component at a place, and moves the last one there.
+    pub(crate) fn swap_remove(&mut self, place: usize)
         requires { place < length self.old.words }
-        ensures { self.new ≡ record self.old { words = remove self.old.words place } }
+        ensures { self.new ≡ record self.old { words = swap_removed self.old.words place } }
     {
         match &mut self.packs {
-            Packs::Marks(items) => remove_in(items, place),
-            Packs::Amounts(items) => remove_in(items, place),
-            Packs::Pairs(items) => remove_in(items, place),
+            Packs::Marks(items) => swap_remove_in(items, place),
+            Packs::Amounts(items) => swap_remove_in(items, place),
+            Packs::Pairs(items) => swap_remove_in(items, place),
         }
     }
 
-    // Leaves the components of the entities that stay. Those before a place stay where they are.
-    pub(crate) fn keep(&mut self, first: usize, entities: &[Entity], gone: &[Entity])
-        requires alike { length self.old.words ≡ length entities.now }
-        requires within { first ≤ length entities.now }
-        ensures { self.new ≡ record self.old { words = kept_from first gone.now entities.now self.old.words } }
+    // Makes room for so many further components.
+    pub(crate) fn reserve(&mut self, further: usize) -> Result<(), AllocError>
+        ensures same { self.new ≡ record self.old { room = self.new.room } }
+        ensures room { self.old.room ≤ self.new.room }
+        ensures ok { OnOk result (length self.old.words + further ≤ self.new.room) }
     {
         match &mut self.packs {
-            Packs::Marks(items) => keep_in(items, first, entities, gone),
-            Packs::Amounts(items) => keep_in(items, first, entities, gone),
-            Packs::Pairs(items) => keep_in(items, first, entities, gone),
+            Packs::Marks(items) => reserve_in(items, further),
+            Packs::Amounts(items) => reserve_in(items, further),
+            Packs::Pairs(items) => reserve_in(items, further),
         }
-    }
-
-    // A column of the same components and further ones, each before the row of its gap.
-    pub(crate) fn merged(
-        &self,
-        alloc: Global,
-        gaps: &[usize],
-        components: &[StampedValue],
-    ) -> Result<Self, AllocError>
-        requires kind { AllByRecursion (λ s. stamped_number s ≡ self.now.kind) components.now }
-        requires as_many { length components.now ≡ length gaps.now }
-        requires fit { Fit 0 (length self.now.words) gaps.now }
-        ensures { IfOk result (λ c. c ≡ record self.now { words = laid 0 gaps.now (map (λ s. value_words s.value) components.now) self.now.words }) }
-    {
-        let kind = self.kind;
-        let packs = match &self.packs {
-            Packs::Marks(items) => Packs::Marks(merged_in(alloc, items, gaps, components)?),
-            Packs::Amounts(items) => Packs::Amounts(merged_in(alloc, items, gaps, components)?),
-            Packs::Pairs(items) => Packs::Pairs(merged_in(alloc, items, gaps, components)?),
-        };
-        Ok(Column { kind, packs })
     }
 }

@@ -1,21 +1,16 @@
 // The slots of columns in a table, and what is done to all columns at a row.
 
-ghost use Rattle.std.specs.Prelude.{◌≡◌, ◌≤◌, ℕ, true, length, map, option_map, Some, IfOk, IfErr, OnOk, OnErr};
+ghost use Rattle.std.specs.Prelude.{◌≡◌, ◌+◌, true, length, map, Some, IfOk, IfErr, OnOk, OnErr};
 ghost use Rattle.std.specs.List.{AllByRecursion};
 ghost use Rattle.std.specs.Arc.{arc_value};
 ghost use Rattle.kinds.specs.Value.{value_number, value_words};
 ghost use Rattle.column_store.specs.Cells.{stamped_number, stamped_cell};
 ghost use Rattle.column_store.specs.Table.{is_home};
 ghost use Rattle.column_store.specs.Table.Standing.{Owned, Away};
-ghost use Rattle.column_store.specs.Inside.{cell_at, kind_in, standing_at, owned_slot, empty_column, write_in, insert_in, remove_in, replace_in, insert_all, replace_all, HoldsRow, OwnsRow, Takes, AllTake, with_cells, Renews, AllRenew, IsAtHome, IsOwned, AreAlike};
-ghost use Rattle.std.specs.Prelude.{slice_get};
-ghost use Rattle.column_store.specs.Keeping.{keep_in, OwnsRows};
-ghost use Rattle.column_store.specs.Arriving.{components_brought, cells_brought, laid, lay_all, IsMergeable};
+ghost use Rattle.column_store.specs.Inside.{cell_at, kind_in, standing_at, seen_slot, owned_slot, empty_column, write_in, push_in, swap_out_in, replace_in, push_all, replace_all, HasRoom, HoldsRow, OwnsRow, IsOfLength, Takes, AllTake, Renews, AllRenew, IsAtHome, IsOwned, IsRoomier, AreRoomier, AreAlike};
 
-use crate::arrivals::{Arrival, components_of};
 use crate::stamped::{StampedColumn, StampedValue};
 use change_ticks::Tick;
-use entity_table::Entity;
 use kinds::{Kind, Value};
 use std::alloc::{AllocError, Global};
 use std::marker::Model;
@@ -72,7 +67,7 @@ impl ColumnSlot {
     // A slot of the same column, which is at home. The copy is its table's alone, whoever reads this one.
     fn copy(&self, alloc: Global) -> Result<Self, AllocError>
         requires { is_home self.now.standing ≡ true }
-        ensures { IfOk result (λ copy. copy ≡ standing_at Owned self.now) }
+        ensures { IfOk result (λ copy. seen_slot copy ≡ standing_at Owned (seen_slot self.now)) }
     {
         Ok(ColumnSlot::of(self.seen().try_copy(alloc)?))
     }
@@ -81,7 +76,7 @@ impl ColumnSlot {
     // it was.
     pub(crate) fn own(&mut self, alloc: Global) -> Result<(), AllocError>
         requires { is_home self.old.standing ≡ true }
-        ensures ok { OnOk result (self.new ≡ standing_at Owned self.old) }
+        ensures ok { OnOk result (seen_slot self.new ≡ standing_at Owned (seen_slot self.old)) }
         ensures err { OnErr result (self.new ≡ self.old) }
     {
         if let Spot::Home(_) = &self.spot {
@@ -106,8 +101,8 @@ impl ColumnSlot {
     // Takes the column, which is at home, out of the slot. Where an allocation fails the slot stays as it was.
     pub(crate) fn lend(&mut self, alloc: Global) -> Result<StampedColumn, AllocError>
         requires { is_home self.old.standing ≡ true }
-        ensures column { IfOk result (λ column. column ≡ self.old.column) }
-        ensures away { OnOk result (self.new ≡ standing_at Away self.old) }
+        ensures column { IfOk result (λ column. column ≡ record self.old.column { room = column.room }) }
+        ensures away { OnOk result (seen_slot self.new ≡ standing_at Away (seen_slot self.old)) }
         ensures err { OnErr result (self.new ≡ self.old) }
     {
         self.own(alloc)?;
@@ -179,37 +174,36 @@ impl ColumnSlot {
         }
     }
 
-    // Inserts a component before a row. Where an allocation fails the column stays as it was.
-    fn insert(&mut self, row: usize, component: StampedValue) -> Result<(), AllocError>
-        requires { Takes row self.old component }
-        ensures ok { OnOk result (self.new ≡ insert_in row (stamped_cell component) self.old) }
-        ensures err { OnErr result (self.new ≡ self.old) }
+    // Adds a component at the end, where there is room.
+    fn push(&mut self, component: StampedValue)
+        requires { Takes self.old component }
+        ensures { self.new ≡ push_in (stamped_cell component) self.old }
     {
         match &mut self.spot {
-            Spot::Home(column) => column.insert(row, component),
+            Spot::Home(column) => column.push(component),
             _ => unreachable!(),
         }
     }
 
-    // Removes the component at a row.
-    fn remove(&mut self, row: usize)
+    // Removes the component at a row, and moves the last one there.
+    fn swap_remove(&mut self, row: usize)
         requires { OwnsRow row self.old }
-        ensures { self.new ≡ remove_in row self.old }
+        ensures { self.new ≡ swap_out_in row self.old }
     {
         match &mut self.spot {
-            Spot::Home(column) => column.remove(row),
+            Spot::Home(column) => column.swap_remove(row),
             _ => unreachable!(),
         }
     }
 
-    // Leaves the components of the entities that stay. Those before a row stay where they are.
-    fn keep(&mut self, first: usize, entities: &[Entity], gone: &[Entity])
-        requires owned { OwnsRows (length entities.now) self.old }
-        requires within { first ≤ length entities.now }
-        ensures { self.new ≡ keep_in first gone.now entities.now self.old }
+    // Makes room for so many further components of a column that is the table's alone.
+    fn reserve(&mut self, further: usize) -> Result<(), AllocError>
+        requires { IsOwned self.old }
+        ensures roomier { IsRoomier self.old self.new }
+        ensures ok { OnOk result (HasRoom (length self.old.column.cells + further) self.new) }
     {
         match &mut self.spot {
-            Spot::Home(column) => column.keep(first, entities, gone),
+            Spot::Home(column) => column.reserve(further),
             _ => unreachable!(),
         }
     }
@@ -220,7 +214,7 @@ fn regained(
     alloc: Global,
     shared: Arc<StampedColumn, Global>,
 ) -> Result<StampedColumn, Arc<StampedColumn, Global>>
-    ensures ok { IfOk result (λ column. column ≡ arc_value shared) }
+    ensures ok { IfOk result (λ column. column ≡ record (arc_value shared) { room = column.room }) }
     ensures err { IfErr result (λ kept. arc_value kept ≡ arc_value shared) }
 {
     match Arc::try_unwrap(shared) {
@@ -235,7 +229,7 @@ fn regained(
 // Takes all columns for the table alone. Where an allocation fails some that were read elsewhere too may be the table's alone.
 pub(crate) fn own_each(columns: &mut [ColumnSlot], alloc: Global) -> Result<(), AllocError>
     requires { AllByRecursion IsAtHome columns.old }
-    ensures ok { OnOk result (columns.new ≡ map (standing_at Owned) columns.old) }
+    ensures ok { OnOk result (map seen_slot columns.new ≡ map (standing_at Owned) (map seen_slot columns.old)) }
     ensures alike { AreAlike columns.old columns.new }
 {
     if let Some((column, other_columns)) = columns.split_first_mut() {
@@ -251,7 +245,7 @@ pub(crate) fn copied_slots(
     columns: &[ColumnSlot],
 ) -> Result<Vec<ColumnSlot>, AllocError>
     requires { AllByRecursion IsAtHome columns.now }
-    ensures { IfOk result (λ copies. copies.items ≡ map (standing_at Owned) columns.now) }
+    ensures { IfOk result (λ copies. map seen_slot copies.items ≡ map (standing_at Owned) (map seen_slot columns.now)) }
 {
     let mut copies = Vec::with_capacity(alloc, columns.len())?;
     for column in columns {
@@ -260,26 +254,34 @@ pub(crate) fn copied_slots(
     Ok(copies)
 }
 
-// Inserts a row of components, one into each column. Where an allocation fails all columns stay as they were.
-pub(crate) fn insert_row(
-    columns: &mut [ColumnSlot],
-    row: usize,
-    components: &[StampedValue],
-) -> Result<(), AllocError>
-    requires { AllTake row columns.old components.now }
-    ensures ok { OnOk result (columns.new ≡ insert_all row columns.old (map stamped_cell components.now)) }
-    ensures err { OnErr result (columns.new ≡ columns.old) }
+// Adds a row of components at the end, one in each column, where there is room.
+pub(crate) fn push_row(columns: &mut [ColumnSlot], components: &[StampedValue])
+    requires { AllTake columns.old components.now }
+    ensures { columns.new ≡ push_all columns.old (map stamped_cell components.now) }
 {
     let Some((component, other_components)) = components.split_first() else {
-        return Ok(());
+        return;
     };
-    let Some((column, other_columns)) = columns.split_first_mut() else {
-        return Ok(());
-    };
-    column.insert(row, *component)?;
-    if insert_row(other_columns, row, other_components).is_err() {
-        column.remove(row);
-        return Err(AllocError);
+    if let Some((column, other_columns)) = columns.split_first_mut() {
+        column.push(*component);
+        push_row(other_columns, other_components);
+    }
+}
+
+// Makes room for so many further rows. Where an allocation fails there may be some in some columns.
+pub(crate) fn reserve_rows(
+    columns: &mut [ColumnSlot],
+    count: usize,
+    further: usize,
+) -> Result<(), AllocError>
+    requires owned { AllByRecursion IsOwned columns.old }
+    requires long { AllByRecursion (IsOfLength count) columns.old }
+    ensures roomier { AreRoomier columns.old columns.new }
+    ensures ok { OnOk result (AllByRecursion (HasRoom (count + further)) columns.new) }
+{
+    if let Some((column, other_columns)) = columns.split_first_mut() {
+        column.reserve(further)?;
+        reserve_rows(other_columns, count, further)?;
     }
     Ok(())
 }
@@ -298,31 +300,14 @@ pub(crate) fn replace_row(columns: &mut [ColumnSlot], row: usize, components: &[
     }
 }
 
-// Removes a row from each column.
-pub(crate) fn remove_row(columns: &mut [ColumnSlot], row: usize)
+// Removes a row from each column, and moves the last one there.
+pub(crate) fn swap_remove_row(columns: &mut [ColumnSlot], row: usize)
     requires { AllByRecursion (OwnsRow row) columns.old }
-    ensures { columns.new ≡ map (remove_in row) columns.old }
+    ensures { columns.new ≡ map (swap_out_in row) columns.old }
 {
     if let Some((column, other_columns)) = columns.split_first_mut() {
-        column.remove(row);
-        remove_row(other_columns, row);
-    }
-}
-
-// Leaves the rows of the entities that stay in each column. Those before a row stay where they are.
-pub(crate) fn keep_rows(
-    columns: &mut [ColumnSlot],
-    first: usize,
-    entities: &[Entity],
-    gone: &[Entity],
-)
-    requires owned { AllByRecursion (OwnsRows (length entities.now)) columns.old }
-    requires within { first ≤ length entities.now }
-    ensures { columns.new ≡ map (keep_in first gone.now entities.now) columns.old }
-{
-    if let Some((column, other_columns)) = columns.split_first_mut() {
-        column.keep(first, entities, gone);
-        keep_rows(other_columns, first, entities, gone);
+        column.swap_remove(row);
+        swap_remove_row(other_columns, row);
     }
 }
 
@@ -352,41 +337,4 @@ pub(crate) fn empty_columns(alloc: Global, kinds: &[Kind]) -> Result<Vec<ColumnS
         columns.push(ColumnSlot::of(StampedColumn::new(alloc, *kind)))?;
     }
     Ok(columns)
-}
-
-// The slot of a column with the components of arrivals that come into it, each before the row of its gap.
-fn merged_slot(
-    alloc: Global,
-    slot: &ColumnSlot,
-    place: usize,
-    gaps: &[usize],
-    arrivals: &[Arrival<'_>],
-) -> Result<ColumnSlot, AllocError>
-    requires can { IsMergeable gaps.now slot.now }
-    requires as_many { length arrivals.now ≡ length gaps.now }
-    requires kinds { AllByRecursion (λ a. option_map stamped_number (slice_get a.components.now place) ≡ Some (kind_in slot.now)) arrivals.now }
-    ensures { IfOk result (λ p. p ≡ with_cells (laid 0 gaps.now (cells_brought place (map components_brought arrivals.now))) slot.now) }
-{
-    let components = components_of(alloc, arrivals, place)?;
-    let column = slot.seen().merged(alloc, gaps, &components)?;
-    Ok(ColumnSlot::of(column))
-}
-
-// The slots of columns with the components of arrivals, each row before that of its gap.
-pub(crate) fn merged_slots(
-    alloc: Global,
-    columns: &[ColumnSlot],
-    gaps: &[usize],
-    arrivals: &[Arrival<'_>],
-) -> Result<Vec<ColumnSlot>, AllocError>
-    requires can { AllByRecursion (IsMergeable gaps.now) columns.now }
-    requires as_many { length arrivals.now ≡ length gaps.now }
-    requires kinds { AllByRecursion (λ a. map stamped_number a.components.now ≡ map kind_in columns.now) arrivals.now }
-    ensures { IfOk result (λ slots. slots.items ≡ lay_all 0 gaps.now (map components_brought arrivals.now) columns.now) }
-{
-    let mut slots = Vec::new(alloc);
-    for place in 0..columns.len() {
-        slots.push(merged_slot(alloc, &columns[place], place, gaps, arrivals)?)?;
-    }
-    Ok(slots)
 }

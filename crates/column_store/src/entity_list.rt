@@ -1,114 +1,174 @@
-// The entities of a table, and the copy of them that readers elsewhere have a part in.
+// The entities of a table, their order, and the copy of them that readers elsewhere have a part in.
 
-ghost use Rattle.std.specs.Prelude.{◌≡◌, ◌<◌, ◌≤◌, [], length, IfOk, OnOk, OnErr};
+ghost use Rattle.std.specs.Prelude.{◌≡◌, ◌+◌, ◌<◌, ◌≤◌, ◌++◌, ◌∷◌, [], length, IfOk, OnOk};
 ghost use Rattle.std.specs.Arc.{arc_value};
-ghost use Rattle.std.specs.List.{insert, remove};
-ghost use Rattle.column_store.specs.Keeping.{kept_from};
+ghost use Rattle.column_store.specs.Order.{is_same, AreApart};
+ghost use Rattle.column_store.specs.Places.{IsNowhere};
+ghost use Rattle.column_store.specs.RowOrder.{OrdersRows};
+ghost use Rattle.column_store.specs.Swapped.{swap_removed};
 
-use crate::keeping::keep_entities;
+use crate::gap_list::GapList;
+use crate::row_numbers::{comes_behind, ensure_listed, put_number, take_number};
+use crate::row_order::RowOrder;
 use entity_table::Entity;
 use std::alloc::{AllocError, Global};
 use std::marker::Model;
 use std::mem;
 use std::sync::Arc;
 
-// The entities of a table, row by row. To be read elsewhere too they are copied once, for all readers together, and the copy is kept until
-// rows change: so rows change without allocating, whoever still reads. The room of a copy that nobody reads any more is used for the next one.
+// The entities of a table, row by row, and beside them the order in which their ids rise: the rows in turn, or their numbers. To be read
+// elsewhere too the entities are copied once, for all readers together, and the copy is kept until rows change: so rows change without
+// allocating, whoever still reads. The room of a copy that nobody reads any more is used for the next one.
 #[derive(Drop)]
 pub(crate) struct EntityList {
     list: Vec<Entity>,
+    // Whether the numbers are those of the rows, in rising ids: else ids rise row by row.
+    listed: bool,
+    numbers: GapList,
     copy: Option<Arc<Vec<Entity>, Global>>,
-    room: Vec<Entity>,
+    spare: Vec<Entity>,
 }
 
 impl Model for EntityList {
-    ghost use Rattle.std.specs.Prelude.{List};
-    ghost use Rattle.model.specs.declared.entities.Entity.{Entity};
-    ghost use Rattle.column_store.specs.EntityList.{IsCopy};
+    ghost use Rattle.std.specs.Prelude.{min, vec_capacity};
+    ghost use Rattle.column_store.specs.EntityList.{EntityListValue, row_limit, IsEntityList};
 
-    ghost Value = { List Entity };
+    ghost Value = { EntityListValue };
 
-    ghost view = { λ l. l.list.items };
+    ghost view = { λ l. record { list = l.list.items; room = min (min (vec_capacity l.list) l.numbers.room) row_limit } };
 
-    ghost invariant = { λ l. IsCopy l.list.items l.copy };
+    ghost invariant = { λ l. IsEntityList l.list.items l.listed l.numbers l.copy };
 }
+
+// So many rows have numbers of 32 bits.
+const ROW_LIMIT: usize = u32::MAX as usize;
 
 impl EntityList {
     // No entities.
     pub(crate) fn new(alloc: Global) -> Self
-        ensures { result ≡ [] }
+        ensures { result ≡ record { list = []; room = 0 } }
     {
         EntityList {
             list: Vec::new(alloc),
+            listed: false,
+            numbers: GapList::new(alloc),
             copy: None,
-            room: Vec::new(alloc),
-        }
-    }
-
-    // These entities.
-    pub(crate) fn of(list: Vec<Entity>) -> Self
-        ensures { result ≡ list.items }
-    {
-        let room = Vec::new(*list.allocator());
-        EntityList {
-            list,
-            copy: None,
-            room,
+            spare: Vec::new(alloc),
         }
     }
 
     // The same entities once more, of which readers elsewhere have no part.
     pub(crate) fn copy(&self, alloc: Global) -> Result<Self, AllocError>
-        ensures { IfOk result (λ copy. copy ≡ self.now) }
+        ensures { IfOk result (λ copy. copy.list ≡ self.now.list) }
     {
-        Ok(EntityList::of(Vec::from_slice(alloc, self.list.as_slice())?))
+        let list = Vec::from_slice(alloc, self.list.as_slice())?;
+        let numbers = self.numbers.copy(alloc)?;
+        Ok(EntityList {
+            list,
+            listed: self.listed,
+            numbers,
+            copy: None,
+            spare: Vec::new(alloc),
+        })
     }
 
     // The entities.
     pub(crate) fn as_slice(&self) -> &[Entity]
-        ensures { result.now ≡ self.now }
+        ensures entities { result.now ≡ self.now.list }
+        ensures apart { AreApart result.now }
     {
         self.list.as_slice()
     }
 
-    // Inserts an entity before a row. Where an allocation fails the list stays as it was.
-    pub(crate) fn insert(&mut self, row: usize, e: Entity) -> Result<(), AllocError>
-        requires { row ≤ length self.old }
-        ensures ok { OnOk result (self.new ≡ insert self.old row e) }
-        ensures err { OnErr result (self.new ≡ self.old) }
+    // The order of the rows, in which ids rise.
+    pub(crate) fn order(&self) -> RowOrder<'_>
+        ensures { OrdersRows self.now.list result }
     {
-        keep_room(self.copy.take(), &mut self.room);
-        self.list.insert(row, e)?;
-        Ok(())
+        if self.listed {
+            self.numbers.order()
+        } else {
+            RowOrder::Rising
+        }
     }
 
-    // Removes the entity of a row.
-    pub(crate) fn remove(&mut self, row: usize)
-        requires { row < length self.old }
-        ensures { self.new ≡ remove self.old row }
+    // Makes room for so many further entities.
+    pub(crate) fn reserve(&mut self, further: usize) -> Result<(), AllocError>
+        ensures same { self.new ≡ record self.old { room = self.new.room } }
+        ensures room { self.old.room ≤ self.new.room }
+        ensures ok { OnOk result (length self.old.list + further ≤ self.new.room) }
     {
-        keep_room(self.copy.take(), &mut self.room);
-        self.list.remove(row);
+        let count = self.list.len();
+        if further > ROW_LIMIT - count {
+            return Err(AllocError);
+        }
+        self.list.reserve(further)?;
+        self.numbers.reserve(count + further)
     }
 
-    // Leaves the entities that stay. Those before a row stay where they are.
-    pub(crate) fn keep(&mut self, first: usize, gone: &[Entity])
-        requires { first ≤ length self.old }
-        ensures { self.new ≡ kept_from first gone.now self.old self.old }
+    // Adds an entity that isn't there at the end, and its number to those of the rows.
+    fn push_listed(&mut self, e: Entity)
+        requires absent { IsNowhere (λ x. is_same x e) self.old.list }
+        requires room { length self.old.list < self.old.room }
+        ensures list { self.new.list ≡ self.old.list ++ e ∷ [] }
+        ensures room { self.old.room ≤ self.new.room }
     {
-        keep_room(self.copy.take(), &mut self.room);
-        keep_entities(&mut self.list, first, gone);
+        self.copy = None;
+        ensure_listed(&self.list, &mut self.listed, &mut self.numbers);
+        put_number(&self.list, &mut self.numbers, e);
+        self.list.push_reserved(e);
+    }
+
+    // Adds an entity that isn't there at the end, where there is room.
+    pub(crate) fn push(&mut self, e: Entity)
+        requires absent { IsNowhere (λ x. is_same x e) self.old.list }
+        requires room { length self.old.list < self.old.room }
+        ensures list { self.new.list ≡ self.old.list ++ e ∷ [] }
+        ensures room { self.old.room ≤ self.new.room }
+    {
+        keep_room(self.copy.take(), &mut self.spare);
+        if !self.listed && comes_behind(&self.list, e) {
+            self.list.push_reserved(e);
+            return;
+        }
+        self.push_listed(e);
+    }
+
+    // Removes the entity of a row, and moves the last one there, and takes the number from those of the rows.
+    fn swap_remove_listed(&mut self, row: usize)
+        requires { row < length self.old.list }
+        ensures list { self.new.list ≡ swap_removed self.old.list row }
+        ensures room { self.new.room ≡ self.old.room }
+    {
+        self.copy = None;
+        ensure_listed(&self.list, &mut self.listed, &mut self.numbers);
+        take_number(&self.list, &mut self.numbers, row);
+        self.list.swap_remove(row);
+        self.listed = !self.list.is_empty();
+    }
+
+    // Removes the entity of a row, and moves the last one there.
+    pub(crate) fn swap_remove(&mut self, row: usize)
+        requires { row < length self.old.list }
+        ensures list { self.new.list ≡ swap_removed self.old.list row }
+        ensures room { self.new.room ≡ self.old.room }
+    {
+        keep_room(self.copy.take(), &mut self.spare);
+        if !self.listed && row + 1 == self.list.len() {
+            self.list.swap_remove(row);
+            return;
+        }
+        self.swap_remove_listed(row);
     }
 
     // The entities, to be read elsewhere too.
     pub(crate) fn share(&mut self, alloc: Global) -> Result<Arc<Vec<Entity>, Global>, AllocError>
-        ensures shared { IfOk result (λ list. (arc_value list).items ≡ self.old) }
+        ensures shared { IfOk result (λ list. (arc_value list).items ≡ self.old.list) }
         ensures same { self.new ≡ self.old }
     {
         if let Some(copy) = &self.copy {
             return Arc::try_clone(copy);
         }
-        let mut list = mem::replace(&mut self.room, Vec::new(alloc));
+        let mut list = mem::replace(&mut self.spare, Vec::new(alloc));
         list.clear();
         list.reserve(self.list.len())?;
         list.extend_from_slice(&self.list)?;

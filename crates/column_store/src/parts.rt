@@ -1,19 +1,16 @@
 // What a table's calls do to its parts: its kinds, its entities and its columns.
 
-ghost use Rattle.std.specs.Prelude.{◌≡◌, ◌==◌, ℕ, ◌<◌, ◌≤◌, length, map, MatchOption, option_map, Some, IsSome, IsTrue, IfSome, IfOk, OnOk, OnErr};
-ghost use Rattle.std.specs.List.{list_any, filter, AllByRecursion};
+ghost use Rattle.std.specs.Prelude.{◌≡◌, ◌==◌, ◌<◌, length, map, MatchOption, option_map, Some, IsSome, IsTrue, IfSome, IfOk, OnOk, OnErr};
+ghost use Rattle.std.specs.List.{list_any, filter};
 ghost use Rattle.kinds.specs.Kind.{kind_number};
 ghost use Rattle.kinds.specs.Value.{value_number, value_words};
 ghost use Rattle.column_store.specs.Cells.{stamped_number, stamped_cell};
-ghost use Rattle.column_store.specs.Table.{Standing, is_not_away, is_own_if, cell_in, standing_of, kind_cells, write_cell, lent, homed, IsHome, IsAlike};
-ghost use Rattle.column_store.specs.Order.{AreRising};
+ghost use Rattle.column_store.specs.Table.{Standing, is_not_away, is_own_if, cell_in_row, standing_of, kind_cells, write_cell, lent, homed, IsHome, IsAlike};
 ghost use Rattle.std.specs.Arc.{arc_value};
-ghost use Rattle.column_store.specs.Inside.{table_of, IsTable, IsPlaced, IsAbsent, IsKindPlaced, IsNoKind, AllTake, IsPutAt, IsRemovedAt, IsRenewedAt, AllRenew, IsThere, AreReadAt, HoldsRow, OwnsRow};
-ghost use Rattle.column_store.specs.Keeping.{kept, keep_all, OwnsRows};
+ghost use Rattle.column_store.specs.Inside.{room_of, table_of, IsTable, IsKindPlaced, IsNoKind};
 
-use crate::column_slot::{ColumnSlot, insert_row, keep_rows, read_row, remove_row, replace_row};
-use crate::entity_list::EntityList;
-use crate::order::{column_in, gap_in, row_in};
+use crate::column_slot::ColumnSlot;
+use crate::order::column_in;
 use crate::stamped::{StampedColumn, StampedValue};
 use change_ticks::Tick;
 use entity_table::Entity;
@@ -21,60 +18,11 @@ use kinds::{Kind, Value};
 use std::alloc::{AllocError, Global};
 use std::sync::Arc;
 
-// The row of an entity and the column of a kind, where there are both.
-fn cell_place(kinds: &[Kind], entities: &[Entity], e: Entity, number: u32) -> Option<(usize, usize)>
-    requires { AreRising entities.now }
-    ensures { MatchOption result (IsAbsent (map kind_number kinds.now) entities.now e number)
-        (λ at. IsPlaced (map kind_number kinds.now) entities.now e number at.0 at.1) }
+// The place of the column of the kind with this number.
+fn number_place(kinds: &[Kind], number: u32) -> Option<usize>
+    ensures { MatchOption result (IsNoKind (map kind_number kinds.now) number) (IsKindPlaced (map kind_number kinds.now) number) }
 {
-    match row_in(entities, e) {
-        None => None,
-        Some(row) => match column_in(kinds, number) {
-            None => None,
-            Some(column) => Some((row, column)),
-        },
-    }
-}
-
-// The component of a kind of an entity.
-pub(crate) fn find_in(
-    kinds: &[Kind],
-    entities: &[Entity],
-    columns: &[ColumnSlot],
-    e: Entity,
-    number: u32,
-) -> Option<StampedValue>
-    requires table { IsTable (map kind_number kinds.now) entities.now columns.now }
-    requires home { IsTrue (is_not_away (standing_of (table_of (map kind_number kinds.now) entities.now columns.now) number)) }
-    ensures cell { option_map stamped_cell result ≡ cell_in (table_of (map kind_number kinds.now) entities.now columns.now) e number }
-    ensures number { IfSome result (λ s. stamped_number s ≡ number) }
-{
-    match cell_place(kinds, entities, e, number) {
-        None => None,
-        Some((row, column)) => Some(columns[column].at(row)),
-    }
-}
-
-// Replaces a component of an entity at a tick.
-pub(crate) fn write_in(
-    kinds: &[Kind],
-    entities: &[Entity],
-    columns: &mut [ColumnSlot],
-    e: Entity,
-    value: Value,
-    tick: Tick,
-)
-    requires table { IsTable (map kind_number kinds.now) entities.now columns.old }
-    requires there { IsSome (cell_in (table_of (map kind_number kinds.now) entities.now columns.old) e (value_number value)) }
-    requires owned { IsTrue (is_own_if (standing_of (table_of (map kind_number kinds.now) entities.now columns.old) (value_number value))) }
-    ensures written { table_of (map kind_number kinds.now) entities.now columns.new
-        ≡ write_cell (table_of (map kind_number kinds.now) entities.now columns.old) e (value_number value) (value_words value) tick }
-    ensures table { IsTable (map kind_number kinds.now) entities.now columns.new }
-{
-    match cell_place(kinds, entities, e, value.number()) {
-        None => unreachable!(),
-        Some((row, column)) => columns[column].write(row, value, tick),
-    }
+    column_in(kinds, number)
 }
 
 // The place of a kind's column.
@@ -82,7 +30,51 @@ fn kind_place(kinds: &[Kind], kind: Kind) -> Option<usize>
     ensures { MatchOption result (IsNoKind (map kind_number kinds.now) (kind_number kind))
         (IsKindPlaced (map kind_number kinds.now) (kind_number kind)) }
 {
-    column_in(kinds, kind.number())
+    number_place(kinds, kind.number())
+}
+
+// The component of a kind at a row.
+pub(crate) fn find_in(
+    kinds: &[Kind],
+    entities: &[Entity],
+    columns: &[ColumnSlot],
+    row: usize,
+    number: u32,
+) -> Option<StampedValue>
+    requires table { IsTable (map kind_number kinds.now) entities.now columns.now }
+    requires within { row < length entities.now }
+    requires home { IsTrue (is_not_away (standing_of (table_of (map kind_number kinds.now) entities.now columns.now) number)) }
+    ensures cell { option_map stamped_cell result ≡ cell_in_row (table_of (map kind_number kinds.now) entities.now columns.now) row number }
+    ensures number { IfSome result (λ s. stamped_number s ≡ number) }
+{
+    match number_place(kinds, number) {
+        None => None,
+        Some(column) => Some(columns[column].at(row)),
+    }
+}
+
+// Replaces a component at a row at a tick.
+pub(crate) fn write_in(
+    kinds: &[Kind],
+    entities: &[Entity],
+    columns: &mut [ColumnSlot],
+    row: usize,
+    value: Value,
+    tick: Tick,
+)
+    requires table { IsTable (map kind_number kinds.now) entities.now columns.old }
+    requires within { row < length entities.now }
+    requires there { IsSome (cell_in_row (table_of (map kind_number kinds.now) entities.now columns.old) row (value_number value)) }
+    requires owned { IsTrue (is_own_if (standing_of (table_of (map kind_number kinds.now) entities.now columns.old) (value_number value))) }
+    ensures written { table_of (map kind_number kinds.now) entities.now columns.new
+        ≡ write_cell (table_of (map kind_number kinds.now) entities.now columns.old) row (value_number value) (value_words value) tick }
+    ensures table { IsTable (map kind_number kinds.now) entities.now columns.new }
+    ensures rooms { map room_of columns.new ≡ map room_of columns.old }
+{
+    match number_place(kinds, value.number()) {
+        None => unreachable!(),
+        Some(column) => columns[column].write(row, value, tick),
+    }
 }
 
 // Takes the column of a kind, which is at home, out of the table. Where an allocation fails it stays.
@@ -168,100 +160,6 @@ pub(crate) fn home_in(
         unreachable!();
     };
     columns[place] = ColumnSlot::of(column);
-}
-
-// Adds the row of an entity.
-pub(crate) fn put_in(
-    entities: &mut EntityList,
-    columns: &mut [ColumnSlot],
-    e: Entity,
-    components: &[StampedValue],
-) -> Result<(), AllocError>
-    requires rising { AreRising entities.old }
-    requires take { (row : ℕ) → row ≤ length entities.old → AllTake row columns.old components.now }
-    ensures ok { OnOk result (IsPutAt e components.now entities.old entities.new columns.old columns.new) }
-    ensures entities_stay { OnErr result (entities.new ≡ entities.old) }
-    ensures columns_stay { OnErr result (columns.new ≡ columns.old) }
-{
-    let row = gap_in(entities.as_slice(), e);
-    entities.insert(row, e)?;
-    if insert_row(columns, row, components).is_err() {
-        entities.remove(row);
-        return Err(AllocError);
-    }
-    Ok(())
-}
-
-// Removes the row of an entity.
-pub(crate) fn remove_in(entities: &mut EntityList, columns: &mut [ColumnSlot], e: Entity)
-    requires rising { AreRising entities.old }
-    requires there { IsThere e entities.old }
-    requires owned { (row : ℕ) → row < length entities.old → AllByRecursion (OwnsRow row) columns.old }
-    ensures { IsRemovedAt e entities.old entities.new columns.old columns.new }
-{
-    match row_in(entities.as_slice(), e) {
-        None => unreachable!(),
-        Some(row) => {
-            entities.remove(row);
-            remove_row(columns, row);
-        }
-    }
-}
-
-// Removes the rows of entities, whose ids rise, in one pass over the rows from the first of them on.
-pub(crate) fn remove_all_in(entities: &mut EntityList, columns: &mut [ColumnSlot], gone: &[Entity])
-    requires rising { AreRising entities.old }
-    requires there { AllByRecursion (λ e. IsThere e entities.old) gone.now }
-    requires owned { AllByRecursion (OwnsRows (length entities.old)) columns.old }
-    ensures entities { entities.new ≡ kept gone.now entities.old entities.old }
-    ensures columns { columns.new ≡ map (keep_all gone.now entities.old) columns.old }
-{
-    let Some((first, _)) = gone.split_first() else {
-        return;
-    };
-    match row_in(entities.as_slice(), *first) {
-        None => unreachable!(),
-        Some(row) => {
-            keep_rows(columns, row, entities.as_slice(), gone);
-            entities.keep(row, gone);
-        }
-    }
-}
-
-// Replaces the components of an entity.
-pub(crate) fn renew_in(
-    entities: &[Entity],
-    columns: &mut [ColumnSlot],
-    e: Entity,
-    components: &[StampedValue],
-)
-    requires rising { AreRising entities.now }
-    requires there { IsThere e entities.now }
-    requires renew { (row : ℕ) → row < length entities.now → AllRenew row columns.old components.now }
-    ensures { IsRenewedAt e components.now entities.now columns.old columns.new }
-{
-    match row_in(entities, e) {
-        None => unreachable!(),
-        Some(row) => replace_row(columns, row, components),
-    }
-}
-
-// The components of an entity, one of each column.
-pub(crate) fn read_in(
-    alloc: Global,
-    entities: &[Entity],
-    columns: &[ColumnSlot],
-    e: Entity,
-) -> Result<Vec<StampedValue>, AllocError>
-    requires rising { AreRising entities.now }
-    requires there { IsThere e entities.now }
-    requires home { (row : ℕ) → row < length entities.now → AllByRecursion (HoldsRow row) columns.now }
-    ensures { IfOk result (λ components. AreReadAt e components.items entities.now columns.now) }
-{
-    match row_in(entities, e) {
-        None => unreachable!(),
-        Some(row) => read_row(alloc, columns, row),
-    }
 }
 
 // The same kinds once more.

@@ -1,22 +1,34 @@
 // The order of the rows of a table.
 
-ghost use Rattle.std.specs.Prelude.{◌≡◌, ◌<◌, length, get_or};
+ghost use Rattle.std.specs.Prelude.{◌≡◌, ◌<◌, ◌++◌, length, reverse, get_or};
 
 /// The numbers of the rows of a table in the order of their entities: as ids rise.
 #[derive(Clone, Copy)]
 pub enum RowOrder<'a> {
     /// Each row number in turn, from 0.
     Rising,
-    /// These row numbers.
-    Listed(&'a [u32]),
+    /// The row numbers of the first list, and then those of the second one from its end to its start.
+    Listed(&'a [u32], &'a [u32]),
 }
 
-// The row number at a place of a list.
-fn listed_row(rows: &[u32], at: usize) -> u32
+// The number at a place of a list.
+fn listed_at(rows: &[u32], at: usize) -> u32
     requires { at < length rows.now }
     ensures { result ≡ get_or rows.now at 0 }
 {
     rows[at]
+}
+
+// The number at a place of two lists, of which the second one is read from its end.
+pub(crate) fn number_at(front: &[u32], back: &[u32], at: usize) -> u32
+    requires { at < length (front.now ++ reverse back.now) }
+    ensures { result ≡ get_or (front.now ++ reverse back.now) at 0 }
+{
+    let count = front.len();
+    if at < count {
+        return listed_at(front, at);
+    }
+    listed_at(back, back.len() - 1 - (at - count))
 }
 
 impl RowOrder<'_> {
@@ -29,7 +41,7 @@ impl RowOrder<'_> {
     {
         match self {
             RowOrder::Rising => true,
-            RowOrder::Listed(_rows) => false,
+            RowOrder::Listed(_front, _back) => false,
         }
     }
 
@@ -39,7 +51,7 @@ impl RowOrder<'_> {
     {
         match self {
             RowOrder::Rising => count as usize,
-            RowOrder::Listed(rows) => rows.len(),
+            RowOrder::Listed(front, back) => front.len() + back.len(),
         }
     }
 
@@ -54,7 +66,7 @@ impl RowOrder<'_> {
                 let _count = count;
                 at as u32
             }
-            RowOrder::Listed(rows) => listed_row(rows, at),
+            RowOrder::Listed(front, back) => number_at(front, back, at),
         }
     }
 }

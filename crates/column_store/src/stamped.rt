@@ -1,21 +1,16 @@
 // A column with the stamps of its components.
 
-ghost use Rattle.std.specs.Prelude.{◌≡◌, ◌<◌, ◌≤◌, [], Some, length, insert, remove, slice_get, take, option_map, IfOk, OnOk, OnErr};
+ghost use Rattle.std.specs.Prelude.{◌≡◌, ◌+◌, ◌<◌, ◌≤◌, ◌++◌, ◌∷◌, [], Some, length, slice_get, take, option_map, IfOk, OnOk};
 ghost use Rattle.std.specs.List.{AllByRecursion};
 ghost use Rattle.kinds.specs.Kind.{kind_number};
 ghost use Rattle.kinds.specs.Value.{value_number, value_words};
 ghost use Rattle.kinds.specs.Components.{widths, word_at};
 ghost use Rattle.model.specs.Lists.{update_at};
 ghost use Rattle.column_store.specs.Cells.{stamped_number, stamped_cell, stamp_of, changed_cell};
-ghost use Rattle.std.specs.Prelude.{map};
-ghost use Rattle.column_store.specs.Keeping.{kept_from};
-ghost use Rattle.column_store.specs.Arriving.{laid, Fit};
+ghost use Rattle.column_store.specs.Swapped.{swap_removed};
 
 use crate::column::Column;
-use crate::keeping::keep;
-use crate::merging::merged;
 use change_ticks::{Stamp, Tick};
-use entity_table::Entity;
 use kinds::{Component, Fields, Kind, Value};
 use std::alloc::{AllocError, Global};
 use std::marker::Model;
@@ -29,7 +24,7 @@ pub struct StampedValue {
     pub stamp: Stamp,
 }
 
-/// Components of one kind with their stamps. Contracts see the number of the kind and the cells.
+/// Components of one kind with their stamps. Contracts see the number of the kind, the cells, and for how many there is room.
 #[derive(Drop)]
 pub struct StampedColumn {
     column: Column,
@@ -37,12 +32,12 @@ pub struct StampedColumn {
 }
 
 impl Model for StampedColumn {
-    ghost use Rattle.std.specs.Prelude.{◌≡◌, length};
+    ghost use Rattle.std.specs.Prelude.{◌≡◌, length, min, vec_capacity};
     ghost use Rattle.column_store.specs.Column.{ColumnCells, cells_of};
 
     ghost Value = { ColumnCells };
 
-    ghost view = { λ c. record { kind = c.column.kind; cells = cells_of c.column.words c.stamps.items } };
+    ghost view = { λ c. record { kind = c.column.kind; cells = cells_of c.column.words c.stamps.items; room = min c.column.room (vec_capacity c.stamps) } };
 
     ghost invariant = { λ c. length c.column.words ≡ length c.stamps.items };
 }
@@ -51,7 +46,7 @@ impl Model for StampedColumn {
 impl StampedColumn {
     /// The column of a kind without components.
     pub fn new(alloc: Global, kind: Kind) -> Self
-        ensures { result ≡ record { kind = kind_number kind; cells = [] } }
+        ensures { result ≡ record { kind = kind_number kind; cells = []; room = 0 } }
     {
         StampedColumn {
             column: Column::new(alloc, kind),
@@ -73,9 +68,9 @@ impl StampedColumn {
         self.stamps.len()
     }
 
-    /// A column of the same components with the same stamps.
+    /// A column of the same components with the same stamps. It may have room for others.
     pub fn try_copy(&self, alloc: Global) -> Result<Self, AllocError>
-        ensures { IfOk result (λ column. column ≡ self.now) }
+        ensures { IfOk result (λ column. column ≡ record self.now { room = column.room }) }
     {
         let column = self.column.try_copy(alloc)?;
         let stamps = self.stamps.iter().copied().collect(alloc)?;
@@ -175,64 +170,32 @@ impl StampedColumn {
         self.stamps[place] = component.stamp;
     }
 
-    /// Inserts a component of the column's kind before a place. Where an allocation fails the column stays as it was.
-    pub fn insert(&mut self, place: usize, component: StampedValue) -> Result<(), AllocError>
+    /// Adds a component of the column's kind at the end, where there is room.
+    pub fn push(&mut self, component: StampedValue)
         requires kind { self.old.kind ≡ stamped_number component }
-        requires within { place ≤ length self.old.cells }
-        ensures ok { OnOk result (self.new ≡ record self.old { cells = insert self.old.cells place (stamped_cell component) }) }
-        ensures err { OnErr result (self.new ≡ self.old) }
+        requires room { length self.old.cells < self.old.room }
+        ensures { self.new ≡ record self.old { cells = self.old.cells ++ stamped_cell component ∷ [] } }
     {
-        self.stamps.insert(place, component.stamp)?;
-        if self.column.insert(place, component.value).is_err() {
-            self.stamps.remove(place);
-            return Err(AllocError);
-        }
-        Ok(())
+        self.column.push(component.value);
+        self.stamps.push_reserved(component.stamp);
     }
 
-    /// Removes the component at a place.
-    pub fn remove(&mut self, place: usize)
+    /// Removes the component at a place, and moves the last one there.
+    pub fn swap_remove(&mut self, place: usize)
         requires { place < length self.old.cells }
-        ensures { self.new ≡ record self.old { cells = remove self.old.cells place } }
+        ensures { self.new ≡ record self.old { cells = swap_removed self.old.cells place } }
     {
-        self.column.remove(place);
-        self.stamps.remove(place);
+        self.column.swap_remove(place);
+        self.stamps.swap_remove(place);
     }
 
-    // Leaves the components of the entities that stay. Those before a place stay where they are.
-    #[tactic(auto, using(crate::proofs::Passes::cell_passes))]
-    pub(crate) fn keep(&mut self, first: usize, entities: &[Entity], gone: &[Entity])
-        requires alike { length self.old.cells ≡ length entities.now }
-        requires within { first ≤ length entities.now }
-        ensures { self.new ≡ record self.old { cells = kept_from first gone.now entities.now self.old.cells } }
+    /// Makes room for so many further components. Where an allocation fails there may be room for fewer.
+    pub fn reserve(&mut self, further: usize) -> Result<(), AllocError>
+        ensures same { self.new ≡ record self.old { room = self.new.room } }
+        ensures room { self.old.room ≤ self.new.room }
+        ensures ok { OnOk result (length self.old.cells + further ≤ self.new.room) }
     {
-        self.column.keep(first, entities, gone);
-        keep(&mut self.stamps, first, entities, gone);
+        self.column.reserve(further)?;
+        self.stamps.reserve(further)
     }
-
-    // A column of the same components and further ones, each before the row of its gap.
-    #[tactic(auto, using(crate::proofs::Merged::cell_merges))]
-    pub(crate) fn merged(
-        &self,
-        alloc: Global,
-        gaps: &[usize],
-        components: &[StampedValue],
-    ) -> Result<Self, AllocError>
-        requires kind { AllByRecursion (λ s. stamped_number s ≡ self.now.kind) components.now }
-        requires as_many { length components.now ≡ length gaps.now }
-        requires fit { Fit 0 (length self.now.cells) gaps.now }
-        ensures { IfOk result (λ column. column ≡ record self.now { cells = laid 0 gaps.now (map stamped_cell components.now) self.now.cells }) }
-    {
-        let further = stamps_of(alloc, components)?;
-        let stamps = merged(alloc, &self.stamps, gaps, &further)?;
-        let column = self.column.merged(alloc, gaps, components)?;
-        Ok(StampedColumn { column, stamps })
-    }
-}
-
-// The stamps of components.
-fn stamps_of(alloc: Global, components: &[StampedValue]) -> Result<Vec<Stamp>, AllocError>
-    ensures { IfOk result (λ list. list.items ≡ map (λ s. s.stamp) components.now) }
-{
-    components.iter().map(|s| s.stamp).collect(alloc)
 }

@@ -1,26 +1,24 @@
 // Tables.
 
-ghost use Rattle.std.specs.Prelude.{◌≡◌, ◌<◌, length, map, option_map, Some, IsSome, IsNone, IfSome, IfOk, OnOk, OnErr, IsTrue, slice_get, is_some};
-ghost use Rattle.std.specs.List.{list_all, AllByRecursion};
+ghost use Rattle.std.specs.Prelude.{◌≡◌, ◌+◌, ◌-◌, ◌<◌, ◌++◌, ◌∷◌, [], length, map, option_map, Some, IsSome, IsNone, IfSome, IfOk, OnOk, OnErr, IsTrue, slice_get};
+ghost use Rattle.std.specs.List.{list_all};
 ghost use Rattle.kinds.specs.Kind.{kind_number};
 ghost use Rattle.kinds.specs.Value.{value_number, value_words};
+ghost use Rattle.model.specs.Lists.{update_at};
 ghost use Rattle.column_store.specs.Cells.{stamped_number, stamped_cell, stamp_of};
 ghost use Rattle.column_store.specs.Kinds.{in_order, AreBelow};
-ghost use Rattle.column_store.specs.Order.{AreRising, AreApart};
+ghost use Rattle.column_store.specs.Order.{AreApart};
 ghost use Rattle.column_store.specs.RowOrder.{OrdersRows};
-ghost use Rattle.column_store.specs.Arriving.{entity_of, row_arriving, put_rows};
+ghost use Rattle.column_store.specs.Swapped.{swap_removed};
 ghost use Rattle.std.specs.Arc.{arc_value};
-ghost use Rattle.column_store.specs.Table.{Standing, empty_table, is_home, is_owned, is_not_away, is_own_if, row_of, put_row, new_row, without_row, without_rows, update_row, renewed_row, cell_in, standing_of, kind_cells, write_cell, lent, owned, homed, IsHome, IsAlike};
+ghost use Rattle.column_store.specs.Table.{Standing, empty_table, is_home, is_owned, is_not_away, is_own_if, row_of, new_row, renewed_row, cell_in_row, standing_of, kind_cells, write_cell, lent, owned, homed, IsHome, IsAlike};
 
-use crate::arrivals::{Arrival, entities_of, gaps_of};
-use crate::column_slot::{ColumnSlot, copied_slots, empty_columns, merged_slots, own_each};
-use crate::entity_list::EntityList;
-use crate::merging::merged;
-use crate::order::{is_before, row_in};
-use crate::parts::{
-    among, copied_kinds, find_in, home_in, lend_in, put_in, read_in, remove_all_in, remove_in,
-    renew_in, seen_in, share_in, write_in,
+use crate::column_slot::{
+    ColumnSlot, copied_slots, empty_columns, own_each, push_row, read_row, replace_row,
+    reserve_rows, swap_remove_row,
 };
+use crate::entity_list::EntityList;
+use crate::parts::{among, copied_kinds, find_in, home_in, lend_in, seen_in, share_in, write_in};
 use crate::row_order::RowOrder;
 use crate::stamped::{StampedColumn, StampedValue};
 use change_ticks::{Stamp, Tick};
@@ -30,37 +28,29 @@ use std::alloc::{AllocError, Global};
 use std::marker::Model;
 use std::sync::Arc;
 
-/// The entities of one archetype with their components: a row for each entity, in rising ids, and a column for each kind, in rising
-/// kinds. A column can leave and come home, and be read elsewhere too. To contracts one that is away has the cells with which it left.
+/// The entities of one archetype with their components: a row for each entity, and a column for each kind, in rising kinds. A row comes in at
+/// the end, and where one is removed the last one takes its place; beside them their order in rising ids is kept. A column can leave and
+/// come home, and be read elsewhere too. To contracts one that is away has the cells with which it left.
 #[derive(Drop)]
 pub struct Table {
     kinds: Vec<Kind>,
     entities: EntityList,
     columns: Vec<ColumnSlot>,
+    // So many further rows come in without allocating.
+    room: usize,
 }
 
 impl Model for Table {
     ghost use Rattle.std.specs.Prelude.{map};
     ghost use Rattle.kinds.specs.Kind.{kind_number};
     ghost use Rattle.column_store.specs.Table.{TableValue};
-    ghost use Rattle.column_store.specs.Inside.{table_of, IsTable};
+    ghost use Rattle.column_store.specs.Inside.{table_with_room, IsTableWithRoom};
 
     ghost Value = { TableValue };
 
-    ghost view = { λ t. table_of (map kind_number t.kinds.items) t.entities t.columns.items };
+    ghost view = { λ t. table_with_room (map kind_number t.kinds.items) t.entities t.columns.items t.room };
 
-    ghost invariant = { λ t. IsTable (map kind_number t.kinds.items) t.entities t.columns.items };
-}
-
-// So many rows come into a table one by one, wherever they come.
-const FEW: usize = 4;
-
-// Whether the first of arrivals comes behind all entities.
-fn come_behind(entities: &[Entity], arrivals: &[Arrival<'_>]) -> bool {
-    match (entities.last(), arrivals.first()) {
-        (Some(last), Some(first)) => is_before(*last, first.entity),
-        _ => true,
-    }
+    ghost invariant = { λ t. IsTableWithRoom (map kind_number t.kinds.items) t.entities t.columns.items t.room };
 }
 
 impl Table {
@@ -74,6 +64,7 @@ impl Table {
             kinds,
             entities: EntityList::new(alloc),
             columns,
+            room: 0,
         })
     }
 
@@ -90,6 +81,7 @@ impl Table {
             kinds,
             entities,
             columns,
+            room: 0,
         })
     }
 
@@ -104,19 +96,16 @@ impl Table {
     /// The entities, row by row.
     pub fn entities(&self) -> &[Entity]
         ensures entities { result.now ≡ map (λ row. row.entity) self.now.rows }
-        ensures rising { AreRising result.now }
         ensures apart { AreApart result.now }
     {
         self.entities.as_slice()
     }
 
-    /// The order of the rows, in which ids rise.
+    /// The order of the rows, in which ids rise. It is kept: nothing is computed.
     pub fn order(&self) -> RowOrder<'_>
         ensures { OrdersRows (map (λ row. row.entity) self.now.rows) result }
     {
-        // Proves that ids rise.
-        let _entities = self.entities.as_slice();
-        RowOrder::Rising
+        self.entities.order()
     }
 
     /// The entities, row by row, to be read elsewhere too. They are copied only where rows changed since they were asked for last.
@@ -142,61 +131,55 @@ impl Table {
         self.entities()[row]
     }
 
-    /// Whether an entity is there.
-    pub fn has(&self, e: Entity) -> bool
-        ensures { result ≡ is_some (row_of e self.now.rows) }
-    {
-        match row_in(self.entities(), e) {
-            None => false,
-            Some(_) => true,
-        }
-    }
-
-    /// The component of the kind with this number of an entity, where the entity is there and the kind is the table's.
-    pub fn find(&self, e: Entity, number: u32) -> Option<StampedValue>
-        requires { IsTrue (is_not_away (standing_of self.now number)) }
-        ensures cell { option_map stamped_cell result ≡ cell_in self.now e number }
+    /// The component of the kind with this number at a row, where the kind is the table's.
+    pub fn find(&self, row: usize, number: u32) -> Option<StampedValue>
+        requires within { row < length self.now.rows }
+        requires home { IsTrue (is_not_away (standing_of self.now number)) }
+        ensures cell { option_map stamped_cell result ≡ cell_in_row self.now row number }
         ensures number { IfSome result (λ s. stamped_number s ≡ number) }
     {
         find_in(
             &self.kinds,
             self.entities.as_slice(),
             &self.columns,
-            e,
+            row,
             number,
         )
     }
 
-    /// The component of a kind of an entity.
-    pub fn value(&self, e: Entity, kind: Kind) -> Option<Value>
-        requires { IsTrue (is_not_away (standing_of self.now (kind_number kind))) }
-        ensures words { option_map value_words result ≡ option_map (λ c. c.words) (cell_in self.now e (kind_number kind)) }
+    /// The component of a kind at a row.
+    pub fn value(&self, row: usize, kind: Kind) -> Option<Value>
+        requires within { row < length self.now.rows }
+        requires home { IsTrue (is_not_away (standing_of self.now (kind_number kind))) }
+        ensures words { option_map value_words result ≡ option_map (λ c. c.words) (cell_in_row self.now row (kind_number kind)) }
         ensures number { IfSome result (λ value. value_number value ≡ kind_number kind) }
     {
-        match self.find(e, kind.number()) {
+        match self.find(row, kind.number()) {
             None => None,
             Some(component) => Some(component.value),
         }
     }
 
-    /// When the component of a kind of an entity was added and last changed.
-    pub fn stamp(&self, e: Entity, kind: Kind) -> Option<Stamp>
-        requires { IsTrue (is_not_away (standing_of self.now (kind_number kind))) }
-        ensures { result ≡ option_map stamp_of (cell_in self.now e (kind_number kind)) }
+    /// When the component of a kind at a row was added and last changed.
+    pub fn stamp(&self, row: usize, kind: Kind) -> Option<Stamp>
+        requires within { row < length self.now.rows }
+        requires home { IsTrue (is_not_away (standing_of self.now (kind_number kind))) }
+        ensures { result ≡ option_map stamp_of (cell_in_row self.now row (kind_number kind)) }
     {
-        match self.find(e, kind.number()) {
+        match self.find(row, kind.number()) {
             None => None,
             Some(component) => Some(component.stamp),
         }
     }
 
-    /// The component of an entity.
-    pub fn get<C: Component>(&self, e: Entity) -> C
-        requires there { IsSome (cell_in self.now e C.NUMBER) }
+    /// The component at a row.
+    pub fn get<C: Component>(&self, row: usize) -> C
+        requires within { row < length self.now.rows }
+        requires there { IsSome (cell_in_row self.now row C.NUMBER) }
         requires home { IsTrue (is_not_away (standing_of self.now C.NUMBER)) }
-        ensures { option_map (λ c. c.words) (cell_in self.now e C.NUMBER) ≡ Some (C.words result) }
+        ensures { option_map (λ c. c.words) (cell_in_row self.now row C.NUMBER) ≡ Some (C.words result) }
     {
-        match self.find(e, C::NUMBER) {
+        match self.find(row, C::NUMBER) {
             None => unreachable!(),
             Some(component) => match C::from_value(component.value) {
                 None => unreachable!(),
@@ -205,148 +188,88 @@ impl Table {
         }
     }
 
-    /// Replaces a component of an entity, which counts as changed at this tick, also where the value stays.
-    pub fn write(&mut self, e: Entity, value: Value, tick: Tick)
-        requires there { IsSome (cell_in self.old e (value_number value)) }
+    /// Replaces a component at a row, which counts as changed at this tick, also where the value stays.
+    pub fn write(&mut self, row: usize, value: Value, tick: Tick)
+        requires within { row < length self.old.rows }
+        requires there { IsSome (cell_in_row self.old row (value_number value)) }
         requires owned { IsTrue (is_own_if (standing_of self.old (value_number value))) }
-        ensures { self.new ≡ write_cell self.old e (value_number value) (value_words value) tick }
+        ensures { self.new ≡ write_cell self.old row (value_number value) (value_words value) tick }
     {
         write_in(
             &self.kinds,
             self.entities.as_slice(),
             &mut self.columns,
-            e,
+            row,
             value,
             tick,
         );
     }
 
-    /// Adds the row of an entity that isn't there, with its components in the order of the kinds. Where an allocation fails the table
-    /// stays as it was.
-    pub fn put(&mut self, e: Entity, components: &[StampedValue]) -> Result<(), AllocError>
+    /// Makes room for so many rows more than before. Where an allocation fails the table stays as it was.
+    pub fn reserve(&mut self, further: usize) -> Result<(), AllocError>
+        requires { IsTrue (list_all is_owned self.old.standings) }
+        ensures ok { OnOk result (self.new ≡ record self.old { room = self.old.room + further }) }
+        ensures err { OnErr result (self.new ≡ self.old) }
+    {
+        let Some(room) = self.room.checked_add(further) else {
+            return Err(AllocError);
+        };
+        self.entities.reserve(room)?;
+        let count = self.entities.as_slice().len();
+        reserve_rows(&mut self.columns, count, room)?;
+        self.room = room;
+        Ok(())
+    }
+
+    /// Counts no row that room was made for any more.
+    pub fn release(&mut self)
+        ensures { self.new ≡ record self.old { room = 0 } }
+    {
+        self.room = 0;
+    }
+
+    /// Adds the row of an entity that isn't there at the end, with its components in the order of the kinds. Room was made for it, so it
+    /// allocates nothing.
+    pub fn push(&mut self, e: Entity, components: &[StampedValue])
         requires absent { IsNone (row_of e self.old.rows) }
         requires kinds { map stamped_number components.now ≡ self.old.kinds }
         requires owned { IsTrue (list_all is_owned self.old.standings) }
-        ensures ok { OnOk result (self.new ≡ record self.old { rows = put_row (new_row e components.now) self.old.rows }) }
-        ensures err { OnErr result (self.new ≡ self.old) }
+        requires room { 0 < self.old.room }
+        ensures { self.new ≡ record self.old { rows = self.old.rows ++ new_row e components.now ∷ []; room = self.old.room - 1 } }
     {
-        put_in(&mut self.entities, &mut self.columns, e, components)
+        self.entities.push(e);
+        push_row(&mut self.columns, components);
+        self.room -= 1;
     }
 
-    // Adds rows one after the other, each of which moves those behind it.
-    fn put_each(&mut self, arrivals: &[Arrival<'_>]) -> Result<(), AllocError>
-        requires rising { AreRising (map entity_of arrivals.now) }
-        requires absent { AllByRecursion (λ a. IsNone (row_of a.entity self.old.rows)) arrivals.now }
-        requires kinds { AllByRecursion (λ a. map stamped_number a.components.now ≡ self.old.kinds) arrivals.now }
-        requires owned { IsTrue (list_all is_owned self.old.standings) }
-        ensures ok { OnOk result (self.new ≡ record self.old { rows = put_rows (map row_arriving arrivals.now) self.old.rows }) }
-        ensures err { OnErr result (self.new ≡ self.old) }
-    {
-        for at in 0..arrivals.len() {
-            if self
-                .put(arrivals[at].entity, arrivals[at].components)
-                .is_err()
-            {
-                for back in 0..at {
-                    self.remove(arrivals[at - 1 - back].entity);
-                }
-                return Err(AllocError);
-            }
-        }
-        Ok(())
-    }
-
-    // The table with further rows, made in one pass over the rows.
-    fn merged(&self, arrivals: &[Arrival<'_>]) -> Result<Self, AllocError>
-        requires rising { AreRising (map entity_of arrivals.now) }
-        requires absent { AllByRecursion (λ a. IsNone (row_of a.entity self.now.rows)) arrivals.now }
-        requires kinds { AllByRecursion (λ a. map stamped_number a.components.now ≡ self.now.kinds) arrivals.now }
-        requires owned { IsTrue (list_all is_owned self.now.standings) }
-        ensures { IfOk result (λ table. table ≡ record self.now { rows = put_rows (map row_arriving arrivals.now) self.now.rows }) }
-    {
-        let alloc = *self.columns.allocator();
-        let gaps = gaps_of(alloc, self.entities.as_slice(), arrivals)?;
-        let further = entities_of(alloc, arrivals)?;
-        let entities = merged(alloc, self.entities.as_slice(), &gaps, &further)?;
-        let columns = merged_slots(alloc, &self.columns, &gaps, arrivals)?;
-        let kinds = copied_kinds(alloc, &self.kinds)?;
-        Ok(Table {
-            kinds,
-            entities: EntityList::of(entities),
-            columns,
-        })
-    }
-
-    /// Adds the rows of entities that aren't there, whose ids rise, each with its components in the order of the kinds, in one pass over the
-    /// rows; where they come behind all rows, no row is moved. Where an allocation fails the table stays as it was.
-    pub fn put_all(&mut self, arrivals: &[Arrival<'_>]) -> Result<(), AllocError>
-        requires rising { AreRising (map entity_of arrivals.now) }
-        requires absent { AllByRecursion (λ a. IsNone (row_of a.entity self.old.rows)) arrivals.now }
-        requires kinds { AllByRecursion (λ a. map stamped_number a.components.now ≡ self.old.kinds) arrivals.now }
-        requires owned { IsTrue (list_all is_owned self.old.standings) }
-        ensures ok { OnOk result (self.new ≡ record self.old { rows = put_rows (map row_arriving arrivals.now) self.old.rows }) }
-        ensures err { OnErr result (self.new ≡ self.old) }
-    {
-        if arrivals.len() <= FEW || come_behind(self.entities(), arrivals) {
-            return self.put_each(arrivals);
-        }
-        let table = self.merged(arrivals)?;
-        *self = table;
-        Ok(())
-    }
-
-    /// Replaces all components of an entity, which are in the order of the kinds, with their stamps.
-    pub fn renew(&mut self, e: Entity, components: &[StampedValue])
-        requires there { IsSome (row_of e self.old.rows) }
+    /// Replaces all components at a row, which are in the order of the kinds, with their stamps.
+    pub fn renew(&mut self, row: usize, components: &[StampedValue])
+        requires within { row < length self.old.rows }
         requires kinds { map stamped_number components.now ≡ self.old.kinds }
         requires owned { IsTrue (list_all is_owned self.old.standings) }
-        ensures { self.new ≡ record self.old { rows = update_row e (renewed_row components.now) self.old.rows } }
+        ensures { self.new ≡ record self.old { rows = update_at row (renewed_row components.now) self.old.rows } }
     {
-        renew_in(self.entities.as_slice(), &mut self.columns, e, components);
+        replace_row(&mut self.columns, row, components);
     }
 
-    /// Removes the row of an entity.
-    pub fn remove(&mut self, e: Entity)
-        requires there { IsSome (row_of e self.old.rows) }
+    /// Removes a row, and moves the last one into its place. It allocates nothing.
+    pub fn swap_remove(&mut self, row: usize)
+        requires within { row < length self.old.rows }
         requires owned { IsTrue (list_all is_owned self.old.standings) }
-        ensures { self.new ≡ record self.old { rows = without_row e self.old.rows } }
+        ensures { self.new ≡ record self.old { rows = swap_removed self.old.rows row } }
     {
-        remove_in(&mut self.entities, &mut self.columns, e);
+        self.entities.swap_remove(row);
+        swap_remove_row(&mut self.columns, row);
     }
 
-    /// Removes the rows of entities, whose ids rise, in one pass over the rows from the first of them on.
-    pub fn remove_all(&mut self, gone: &[Entity])
-        requires rising { AreRising gone.now }
-        requires there { AllByRecursion (λ e. IsSome (row_of e self.old.rows)) gone.now }
-        requires owned { IsTrue (list_all is_owned self.old.standings) }
-        ensures { self.new ≡ record self.old { rows = without_rows gone.now self.old.rows } }
-    {
-        remove_all_in(&mut self.entities, &mut self.columns, gone);
-    }
-
-    /// The components of an entity, in the order of the kinds.
-    pub fn components(&self, alloc: Global, e: Entity) -> Result<Vec<StampedValue>, AllocError>
-        requires there { IsSome (row_of e self.now.rows) }
+    /// The components at a row, in the order of the kinds.
+    pub fn components(&self, alloc: Global, row: usize) -> Result<Vec<StampedValue>, AllocError>
+        requires within { row < length self.now.rows }
         requires home { IsTrue (list_all is_home self.now.standings) }
-        ensures row { IfOk result (λ components. row_of e self.now.rows ≡ Some (new_row e components.items)) }
+        ensures cells { IfOk result (λ components. option_map (λ r. r.cells) (slice_get self.now.rows row) ≡ Some (map (λ s. Some (stamped_cell s)) components.items)) }
         ensures kinds { IfOk result (λ components. map stamped_number components.items ≡ self.now.kinds) }
     {
-        read_in(alloc, self.entities.as_slice(), &self.columns, e)
-    }
-
-    /// Removes the row of an entity, and gives its components, in the order of the kinds. Where an allocation fails the table stays as
-    /// it was.
-    pub fn take(&mut self, alloc: Global, e: Entity) -> Result<Vec<StampedValue>, AllocError>
-        requires there { IsSome (row_of e self.old.rows) }
-        requires owned { IsTrue (list_all is_owned self.old.standings) }
-        ensures row { IfOk result (λ components. row_of e self.old.rows ≡ Some (new_row e components.items)) }
-        ensures kinds { IfOk result (λ components. map stamped_number components.items ≡ self.old.kinds) }
-        ensures ok { OnOk result (self.new ≡ record self.old { rows = without_row e self.old.rows }) }
-        ensures err { OnErr result (self.new ≡ self.old) }
-    {
-        let components = self.components(alloc, e)?;
-        self.remove(e);
-        Ok(components)
+        read_row(alloc, &self.columns, row)
     }
 
     /// The column of a kind, which is at home.
@@ -367,13 +290,15 @@ impl Table {
         ensures away { OnOk result (self.new ≡ lent self.old (kind_number kind)) }
         ensures err { OnErr result (self.new ≡ self.old) }
     {
-        lend_in(
+        let column = lend_in(
             &self.kinds,
             self.entities.as_slice(),
             &mut self.columns,
             alloc,
             kind,
-        )
+        )?;
+        self.room = 0;
+        Ok(column)
     }
 
     /// A column that is at home, to be read elsewhere too. No row is copied.
@@ -387,6 +312,7 @@ impl Table {
         ensures cells { IfOk result (λ column. map (λ cell. Some cell) (arc_value column).cells ≡ kind_cells self.old (kind_number kind)) }
         ensures alike { IsAlike self.old self.new }
     {
+        self.room = 0;
         share_in(
             &self.kinds,
             self.entities.as_slice(),
@@ -403,6 +329,7 @@ impl Table {
         ensures ok { OnOk result (self.new ≡ owned self.old) }
         ensures alike { IsAlike self.old self.new }
     {
+        self.room = 0;
         own_each(&mut self.columns, alloc)
     }
 
@@ -412,6 +339,7 @@ impl Table {
         requires same_length { length column.cells ≡ length self.old.rows }
         ensures { self.new ≡ homed self.old column }
     {
+        self.room = 0;
         home_in(
             &self.kinds,
             self.entities.as_slice(),
@@ -420,12 +348,13 @@ impl Table {
         );
     }
 
-    /// Replaces a component of an entity, which counts as changed at this tick, also where the value stays.
-    pub fn set<C: Component>(&mut self, e: Entity, component: C, tick: Tick)
-        requires there { IsSome (cell_in self.old e C.NUMBER) }
+    /// Replaces the component at a row, which counts as changed at this tick, also where the value stays.
+    pub fn set<C: Component>(&mut self, row: usize, component: C, tick: Tick)
+        requires within { row < length self.old.rows }
+        requires there { IsSome (cell_in_row self.old row C.NUMBER) }
         requires owned { IsTrue (is_own_if (standing_of self.old C.NUMBER)) }
-        ensures { self.new ≡ write_cell self.old e C.NUMBER (C.words component) tick }
+        ensures { self.new ≡ write_cell self.old row C.NUMBER (C.words component) tick }
     {
-        self.write(e, component.into_value(), tick);
+        self.write(row, component.into_value(), tick);
     }
 }

@@ -11,7 +11,6 @@ use Rattle.model.specs.shown.Input.{passes}
 use Rattle.model.specs.state.Commands.{is_alive}
 use Rattle.model.proofs.lists.Each.{each-append}
 use Rattle.archetype_store.specs.Slot.{cell_of, column_cells}
-use Rattle.archetype_store.proofs.Noted.{and_true as and_one}
 use Rattle.query_plan.specs.declared.filter.Filter.{Filter}
 use Rattle.query_plan.specs.Standing.{is_newer}
 use Rattle.query_plan.specs.Filters.{IsFilterOf, AreFiltersOf}
@@ -41,12 +40,12 @@ filter_is slots es k f t are same = record {
 
 -- ---- filters, term by term
 
+and_one : (b : Bool) → (b && true) ≡ b
+and_one true = refl
+and_one false = refl
+
 all_end : {A : Type 0} (p : A → Bool) (xs : List A) (y : A) → list_all p (xs ++ y ∷ []) ≡ (list_all p xs && p y)
-all_end p [] y = and_true (p y)
-  where
-    and_true : (b : Bool) → (b && true) ≡ b
-    and_true true = refl
-    and_true false = refl
+all_end p [] y = and_one (p y)
 all_end p (x ∷ xs) y = ap (λ b. p x && b) (all_end p xs y) ∙ and_assoc (p x) (list_all p xs) (p y)
   where
     and_assoc : (a b c : Bool) → (a && (b && c)) ≡ ((a && b) && c)

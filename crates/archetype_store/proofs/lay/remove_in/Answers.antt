@@ -1,11 +1,15 @@
 use Rattle.std.proofs.Common.{◌≡◌, ℕ, Bool, true, false, cond, ◌==◌, List, [], ◌∷◌, length, None, Some, map, is_some, IsSome, OnOk, refl, sym, ap, subst, ◌∙◌, arith}
+use Rattle.std.proofs.lemmas.List.{get_or_read}
 use Rattle.model.specs.state.State.{Component}
 use Rattle.model.specs.state.Rows.{cell_at, remove_component}
 use Rattle.column_store.specs.Cells.{stamped_number}
 use Rattle.column_store.specs.Kinds.{AreBelow}
 use Rattle.archetype_store.specs.Row.{component_of}
-use Rattle.archetype_store.specs.Tables.{kinds_at}
-use Rattle.archetype_store.specs.Archetypes.{archetypes_of, place_of, row_in, HasRow}
+use Rattle.archetype_store.specs.Tables.{kinds_at, entity_in_row}
+use Rattle.archetype_store.specs.Archetypes.{archetypes_of, place_of, row_in, holder_in, IsHolder, HasRow}
+use Rattle.archetype_store.specs.RowNumbers.{number_of_row}
+use Rattle.archetype_store.proofs.Known.{row_there, number_within}
+use Rattle.archetype_store.proofs.TableIndex.{found_shapes}
 use Rattle.archetype_store.proofs.Steps.{row_read, below_removed, kinds_at_place}
 use Rattle.archetype_store.specs.Tables.{AreHome}
 use Rattle.archetype_store.proofs.Standings.{owned_are_home}
@@ -13,6 +17,33 @@ use Rattle.archetype_store.proofs.lay.remove_in.Goals as goal
 
 pub components_at-requires-clause-home : goal.components_at-requires-clause-home
 components_at-requires-clause-home c = subst AreHome (sym c.deref-3.ensures.value) (owned_are_home c.args.tables.now.items c.requires.owned)
+
+pub index-requires : goal.index-requires
+index-requires c =
+    let T = c.args.tables.now.items in
+    let P = c.args.places.now.items in
+    let N = c.args.numbers.now.items in
+    let at = rw c.deref.ensures.value at (sym c.place_at.ensures ∙ c.in-Some.is) in
+    let within = number_within T P N c.requires.whole c.requires.known c.args.e.index c.in-Some.place at in
+    let same = c.args.numbers.now.ok.0 in
+    omega arith
+
+pub components_at-requires-clause-there : goal.components_at-requires-clause-there
+components_at-requires-clause-there c =
+    let T = c.args.tables.now.items in
+    let P = c.args.places.now.items in
+    let N = c.args.numbers.now.items in
+    let e = c.args.e in
+    let p = c.in-Some.place in
+    let at = rw c.deref.ensures.value at (sym c.place_at.ensures ∙ c.in-Some.is) in
+    let gen = subst (λ o. IsHolder e.generation (holder_in o)) at c.requires.holder in
+    let there = row_there T P N c.requires.whole c.requires.known e p at gen in
+    let row : c.index.result.now ≡ number_of_row N e.index = get_or_read N e.index c.index.result.now (number_within T P N c.requires.whole c.requires.known e.index p at) c.index.ensures 0 in
+    let here = ap (entity_in_row T p.table) row ∙ there in
+    ap (λ ts. is_some (entity_in_row ts p.table c.index.result.now)) c.deref-3.ensures.value ∙ ap is_some here
+
+pub returns-then-kind_count_at-eq1-clause-found : goal.returns-then-kind_count_at-eq1-clause-found
+returns-then-kind_count_at-eq1-clause-found c = found_shapes c.args.tables.now.items c.clear_in.new.tables.items c.args.index.now c.clear_in.ensures.shapes c.requires.found
 
 -- a row of one kind has nothing left without it
 one_removed : (k : ℕ) (row : List Component) → length (map (λ (c : Component). c.kind) row) ≡ 1 → is_some (cell_at row k) ≡ true → remove_component k row ≡ []
@@ -37,29 +68,56 @@ returns-then-kind_count_at-eq1-clause-ok c =
 
 pub take_out-requires : goal.take_out-requires
 take_out-requires c =
+    let T = c.args.tables.now.items in
+    let P = c.args.places.now.items in
+    let N = c.args.numbers.now.items in
+    let e = c.args.e in
+    let p = c.in-Some.place in
+    let at = rw c.deref.ensures.value at (sym c.place_at.ensures ∙ c.in-Some.is) in
+    let gen = subst (λ o. IsHolder e.generation (holder_in o)) at c.requires.holder in
+    let there = row_there T P N c.requires.whole c.requires.known e p at gen in
+    let row : c.index.result.now ≡ number_of_row N e.index = get_or_read N e.index c.index.result.now (number_within T P N c.requires.whole c.requires.known e.index p at) c.index.ensures 0 in
+    let here = ap (entity_in_row T p.table) row ∙ there in
     let tables = c.args.tables.now.items in
     let places = c.args.places.now.items in
-    let at = rw c.deref.ensures.value at (sym c.place_at.ensures ∙ c.in-Some.is) in
-    let held = rw c.deref-3.ensures.value at c.in_ok-components.ensures.row in
-    let row = row_read tables places c.args.e c.in-Some.place c.requires.whole c.requires.holder at c.in_ok-components.components.items held in
-    subst (λ r. IsSome (cell_at r c.args.number)) row c.requires.there
+    let held = (rw c.deref-3.ensures.value at c.in_ok-components.ensures.row) e here in
+    let read = row_read tables places c.args.e c.in-Some.place c.requires.whole c.requires.holder at c.in_ok-components.components.items held in
+    subst (λ r. IsSome (cell_at r c.args.number)) read c.requires.there
 
 pub lay-requires-clause-below : goal.lay-requires-clause-below
 lay-requires-clause-below c =
+    let T = c.args.tables.now.items in
+    let P = c.args.places.now.items in
+    let N = c.args.numbers.now.items in
+    let e = c.args.e in
+    let p = c.in-Some.place in
+    let at = rw c.deref.ensures.value at (sym c.place_at.ensures ∙ c.in-Some.is) in
+    let gen = subst (λ o. IsHolder e.generation (holder_in o)) at c.requires.holder in
+    let there = row_there T P N c.requires.whole c.requires.known e p at gen in
+    let row : c.index.result.now ≡ number_of_row N e.index = get_or_read N e.index c.index.result.now (number_within T P N c.requires.whole c.requires.known e.index p at) c.index.ensures 0 in
+    let here = ap (entity_in_row T p.table) row ∙ there in
     let tables = c.args.tables.now.items in
     let places = c.args.places.now.items in
-    let at = rw c.deref.ensures.value at (sym c.place_at.ensures ∙ c.in-Some.is) in
-    let held = rw c.deref-3.ensures.value at c.in_ok-components.ensures.row in
+    let held = (rw c.deref-3.ensures.value at c.in_ok-components.ensures.row) e here in
     subst (λ ss. AreBelow (map stamped_number ss)) (sym c.deref-4.ensures.value)
     (below_removed tables places c.args.e c.in-Some.place c.requires.whole c.requires.holder at c.in_ok-components.components.items c.take_out.new.components.items c.args.number held c.take_out.ensures.row)
 
 pub returns-clause-ok : goal.returns-clause-ok
 returns-clause-ok c =
+    let T = c.args.tables.now.items in
+    let P = c.args.places.now.items in
+    let N = c.args.numbers.now.items in
+    let e = c.args.e in
+    let p = c.in-Some.place in
+    let at = rw c.deref.ensures.value at (sym c.place_at.ensures ∙ c.in-Some.is) in
+    let gen = subst (λ o. IsHolder e.generation (holder_in o)) at c.requires.holder in
+    let there = row_there T P N c.requires.whole c.requires.known e p at gen in
+    let row : c.index.result.now ≡ number_of_row N e.index = get_or_read N e.index c.index.result.now (number_within T P N c.requires.whole c.requires.known e.index p at) c.index.ensures 0 in
+    let here = ap (entity_in_row T p.table) row ∙ there in
     let tables = c.args.tables.now.items in
     let places = c.args.places.now.items in
-    let at = rw c.deref.ensures.value at (sym c.place_at.ensures ∙ c.in-Some.is) in
-    let held = rw c.deref-3.ensures.value at c.in_ok-components.ensures.row in
-    let row = row_read tables places c.args.e c.in-Some.place c.requires.whole c.requires.holder at c.in_ok-components.components.items held in
+    let held = (rw c.deref-3.ensures.value at c.in_ok-components.ensures.row) e here in
+    let read = row_read tables places c.args.e c.in-Some.place c.requires.whole c.requires.holder at c.in_ok-components.components.items held in
     subst (λ r. OnOk c.lay.result (HasRow (archetypes_of tables places) c.args.e r (archetypes_of c.lay.new.tables.items c.lay.new.places.items)))
-    (ap (map component_of) c.deref-4.ensures.value ∙ c.take_out.ensures.row ∙ ap (remove_component c.args.number) (sym row))
+    (ap (map component_of) c.deref-4.ensures.value ∙ c.take_out.ensures.row ∙ ap (remove_component c.args.number) (sym read))
     c.lay.ensures.ok

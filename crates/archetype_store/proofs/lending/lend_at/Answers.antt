@@ -1,7 +1,7 @@
 use Rattle.std.proofs.Common.{◌≡◌, [], map, Some, IfOk, ◌∙◌, sym, subst}
 use Rattle.std.proofs.lemmas.List.{get_or_default}
 use Rattle.kinds.specs.Kind.{kind_number}
-use Rattle.column_store.specs.Order.{AreRising}
+use Rattle.column_store.specs.Order.{AreApart}
 use Rattle.column_store.specs.Table.{TableRow, TableValue, empty_table, kind_cells, standing_of, IsHome}
 use Rattle.archetype_store.specs.Tables.{table_at}
 use Rattle.archetype_store.proofs.lending.lend_at.Goals as goal
@@ -18,8 +18,8 @@ returns-clause-cells c =
     let is : there ≡ table_at c.args.tables.now.items c.args.table = c.index_mut-there.ensures.value ∙ get_or_default c.args.tables.now.items c.args.table there (empty_table []) c.requires.within in
     subst (λ (t : TableValue). IfOk c.lend.result (λ column. map (λ cell. Some cell) column.cells ≡ kind_cells t (kind_number c.args.kind))) is c.lend.ensures.cells
 
-pub returns-clause-rising : goal.returns-clause-rising
-returns-clause-rising c =
+pub returns-clause-apart : goal.returns-clause-apart
+returns-clause-apart c =
     let there = c.index_mut-there.result.now in
     let is : there ≡ table_at c.args.tables.now.items c.args.table = c.index_mut-there.ensures.value ∙ get_or_default c.args.tables.now.items c.args.table there (empty_table []) c.requires.within in
-    subst (λ (t : TableValue). AreRising (map (λ (row : TableRow). row.entity) t.rows)) is (subst AreRising c.entities-entities.ensures.entities c.entities-entities.ensures.rising)
+    subst (λ (t : TableValue). AreApart (map (λ (row : TableRow). row.entity) t.rows)) is (subst AreApart c.entities-entities.ensures.entities c.entities-entities.ensures.apart)

@@ -1,25 +1,60 @@
-use Rattle.std.proofs.Common.{sym, ap, ◌∙◌}
-use Rattle.std.specs.Prelude.{Vec}
-use Rattle.std.specs.declared.alloc.Global.{Global}
-use Rattle.model.specs.declared.entities.Entity.{Entity}
-use Rattle.archetype_store.proofs.Standings.{owned_kept}
-use Rattle.archetype_store.proofs.ByTable.{list_is}
-use Rattle.archetype_store.proofs.Leaving.{still_held, left_next}
+use Rattle.std.proofs.Common.{◌≡◌, ◌<◌, ◌-◌, length, get_or, map, refl, sym, ap, ◌∙◌, arith}
+use Rattle.archetype_store.specs.Archetypes.{archetypes_of}
+use Rattle.archetype_store.specs.RowMoves.{change_of, other_table, arrives_in, IsPlanned}
+use Rattle.archetype_store.proofs.Departures.{all_stepped, room_after, arrives_first, alike_first, alike_next}
+use Rattle.archetype_store.proofs.MovedRows.{change_is, within}
+use Rattle.archetype_store.proofs.RowMoves.{planned_rest, apart_index}
 use Rattle.archetype_store.proofs.row_moves.leave_all.Goals as goal
 
-pub remove_all_at-requires-clause-there : goal.remove_all_at-requires-clause-there
-remove_all_at-requires-clause-there c =
-    let lists = c.args.leaving.now in
-    let n = c.loop-table.table in
-    let is = c.deref.ensures.value ∙ ap (λ (list : Vec Entity Global). list.items) c.index-leaving-table.is ∙ sym (list_is lists n c.index-leaving-table.result c.loop-table-test.true) in
-    still_held lists c.args.tables.now.items c.loop-table.tables.items n c.loop-table-test.true c.loop-table.invariant c.deref.result.now is c.requires.there
+pub loop-left-init : goal.loop-left-init
+loop-left-init c =
+    let T = c.args.tables.now.items in
+    let P = c.args.places.now.items in
+    record {
+      within = omega arith;
+      whole = c.requires.whole;
+      known = c.requires.known;
+      owned = c.requires.owned;
+      shapes = refl;
+      planned = c.requires.planned;
+      arrives = arrives_first P c.args.rows.now;
+      rooms = λ t. refl;
+      alike = alike_first (archetypes_of T P) (map change_of c.args.rows.now);
+    }
 
-pub remove_all_at-requires-clause-owned : goal.remove_all_at-requires-clause-owned
-remove_all_at-requires-clause-owned c = owned_kept c.args.tables.now.items c.loop-table.tables.items c.loop-table.invariant.shapes c.requires.owned
+pub loop-left-preserved : goal.loop-left-preserved
+loop-left-preserved c =
+    let rows = c.args.rows.now in
+    let n = c.loop-left.left - 1 in
+    let m = c.index-rows-left.result in
+    let T0 = c.args.tables.now.items in
+    let P0 = c.args.places.now.items in
+    let T = c.loop-left.tables.items in
+    let P = c.loop-left.places.items in
+    let T' = c.leave_row.new.tables.items in
+    let P' = c.leave_row.new.places.items in
+    let i = c.loop-left.invariant in
+    let e = c.leave_row.ensures in
+    let l : n < length rows = (let w = i.within in let t = c.loop-left-test.true in omega (arith, w, t)) in
+    let is : get_or rows n m ≡ m = sym c.index-rows-left.is in
+    let at = change_is rows n m l is in
+    let among = within rows n m l is in
+    record {
+      within = (let w = i.within in omega (arith, w));
+      whole = e.whole;
+      known = e.known;
+      owned = e.owned;
+      shapes = e.shapes ∙ i.shapes;
+      planned = all_stepped m (IsPlanned T P) (IsPlanned T' P')
+          (λ x other plan. planned_rest T T' P P' x e.shapes e.as_many plan (e.others x.change.now.entity.index (apart_index x.change.now.entity.index m.change.now.entity.index other)))
+          (λ plan. e.planned) rows n l is c.requires.apart i.planned;
+      arrives = all_stepped m (λ x. arrives_in P x ≡ arrives_in P0 x) (λ x. arrives_in P' x ≡ arrives_in P0 x)
+          (λ x other same. ap (λ o. other_table o x.to) (e.others x.change.now.entity.index (apart_index x.change.now.entity.index m.change.now.entity.index other)) ∙ same)
+          (λ same. e.arrives ∙ same) rows n l is c.requires.apart i.arrives;
+      rooms = λ t. e.rooms t ∙ i.rooms t;
+      alike = alike_next (archetypes_of T0 P0) (archetypes_of T P) (archetypes_of T' P') (map change_of rows) n (change_of m) among at i.alike e.alike;
+    }
 
-pub loop-table-preserved : goal.loop-table-preserved
-loop-table-preserved c =
-    let lists = c.args.leaving.now in
-    let n = c.loop-table.table in
-    let is = c.deref.ensures.value ∙ ap (λ (list : Vec Entity Global). list.items) c.index-leaving-table.is ∙ sym (list_is lists n c.index-leaving-table.result c.loop-table-test.true) in
-    left_next lists c.args.tables.now.items c.loop-table.tables.items n c.loop-table-test.true c.loop-table.invariant c.remove_all_at.new.tables.items c.deref.result.now is c.remove_all_at.ensures
+pub returns-clause-room : goal.returns-clause-room
+returns-clause-room c =
+    room_after c.args.tables.now.items c.loop-left.tables.items c.args.places.now.items c.loop-left.places.items c.args.rows.now c.loop-left.invariant.arrives c.loop-left.invariant.rooms c.requires.room

@@ -1,7 +1,24 @@
-use Rattle.std.proofs.Common.{take}
-use Rattle.archetype_store.specs.Gathering.{AreLeft}
+use Rattle.std.proofs.Common.{◌≡◌, ◌≤◌, ℕ, length, map}
+use Rattle.std.specs.List.{AllByRecursion}
+use Rattle.archetype_store.specs.Archetypes.{archetypes_of, AreArchetypes}
+use Rattle.archetype_store.specs.RowMoves.{change_of, arrives_in, IsPlanned, AreAlikeBefore}
+use Rattle.archetype_store.specs.RowNumbers.{AreRowsKnown}
+use Rattle.archetype_store.specs.Tables.{shape_of, room_at, AreOwned}
 use Rattle.archetype_store.proofs.row_moves.leave_all.Given as goal
 
--- the tables so far are left
-abbrev pub invariant-loop-table : goal.invariant-loop-table
-invariant-loop-table l = AreLeft (take l.table l.leaving) l.fn.tables.items l.tables.items
+-- the rows that have left come where they would have come
+abbrev pub invariant-loop-left : goal.invariant-loop-left
+invariant-loop-left l = record {
+  within : l.left ≤ length l.rows;
+  whole : AreArchetypes l.tables.items l.places.items;
+  known : AreRowsKnown l.tables.items l.places.items l.numbers.items;
+  owned : AreOwned l.tables.items;
+  shapes : map shape_of l.tables.items ≡ map shape_of l.fn.tables.items;
+  planned : AllByRecursion (IsPlanned l.tables.items l.places.items) l.rows;
+  arrives : AllByRecursion (λ m. arrives_in l.places.items m ≡ arrives_in l.fn.places.items m) l.rows;
+  rooms : (t : ℕ) → room_at l.tables.items t ≡ room_at l.fn.tables.items t;
+  alike : AreAlikeBefore (archetypes_of l.fn.tables.items l.fn.places.items) (map change_of l.rows) (archetypes_of l.tables.items l.places.items);
+}
+
+abbrev pub decreases-loop-left : goal.decreases-loop-left
+decreases-loop-left l = l.left

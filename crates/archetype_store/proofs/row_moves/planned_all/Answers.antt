@@ -2,8 +2,7 @@ use Rattle.std.proofs.Common.{◌++◌, [], ◌∷◌, map, sym, ap, ap₂, subs
 use Rattle.std.proofs.lemmas.List.{map-append, take_more}
 use Rattle.std.specs.List.{AllByRecursion}
 use Rattle.model.proofs.lists.Each.{each-append, each-weaker}
-use Rattle.archetype_store.specs.declared.row_moves.RowMove.{RowMove}
-use Rattle.archetype_store.specs.RowMoves.{placing_of, change_of, IsPlanned}
+use Rattle.archetype_store.specs.RowMoves.{change_of, IsPlanned}
 use Rattle.archetype_store.proofs.Changed.{grown_trans, planned_kept}
 use Rattle.archetype_store.proofs.row_moves.planned_all.Goals as goal
 
@@ -17,12 +16,13 @@ loop-change-preserved c =
     record {
       found = c.planned.ensures.found;
       grown = grown_trans c.args.tables.now.items T T' i.grown c.planned.ensures.grown;
+      known = c.planned.ensures.known;
       same = λ k. c.planned.ensures.same k ∙ i.same k;
       changes = ap (map change_of) c.in_ok-push.ensures.items ∙ map-append change_of c.loop-change.rows.items _
           ∙ ap₂ (λ xs x. xs ++ x ∷ []) i.changes (c.in_ok-planned.ensures.change ∙ c.change-item.is) ∙ sym (take_more c.args.changes.now c.loop-change.change-index c.change-item.result c.loop-change-test.true);
-      planned = subst (AllByRecursion (λ m. IsPlanned T' P' (placing_of m))) (sym c.in_ok-push.ensures.items)
-          (each-append (λ (m : RowMove). IsPlanned T' P' (placing_of m)) c.loop-change.rows.items _
-          (each-weaker (λ (m : RowMove). IsPlanned T P (placing_of m)) (λ (m : RowMove). IsPlanned T' P' (placing_of m))
-          (λ m plan. planned_kept T T' P P' (placing_of m) c.planned.ensures.grown c.planned.ensures.same c.planned.ensures.longer plan) c.loop-change.rows.items i.planned)
+      planned = subst (AllByRecursion (IsPlanned T' P')) (sym c.in_ok-push.ensures.items)
+          (each-append (IsPlanned T' P') c.loop-change.rows.items _
+          (each-weaker (IsPlanned T P) (IsPlanned T' P')
+          (λ m plan. planned_kept T T' P P' m c.planned.ensures.grown c.planned.ensures.same c.planned.ensures.longer plan) c.loop-change.rows.items i.planned)
           (c.in_ok-planned.ensures.planned, tt));
     }

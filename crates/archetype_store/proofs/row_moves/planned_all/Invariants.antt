@@ -3,7 +3,8 @@ use Rattle.std.specs.List.{AllByRecursion}
 use Rattle.archetype_store.specs.TableIndex.{IsFound}
 use Rattle.archetype_store.specs.Tables.{IsGrown}
 use Rattle.archetype_store.specs.Archetypes.{place_of}
-use Rattle.archetype_store.specs.RowMoves.{placing_of, change_of, IsPlanned}
+use Rattle.archetype_store.specs.RowMoves.{change_of, IsPlanned}
+use Rattle.archetype_store.specs.RowNumbers.{AreRowsKnown}
 use Rattle.archetype_store.proofs.row_moves.planned_all.Given as goal
 
 -- the changes so far are planned
@@ -11,7 +12,8 @@ abbrev pub invariant-loop-change : goal.invariant-loop-change
 invariant-loop-change l = record {
   found : IsFound l.tables.items l.index;
   grown : IsGrown l.fn.tables.items l.tables.items;
+  known : AreRowsKnown l.tables.items l.places.items l.numbers.items;
   same : (i : ℕ) → place_of l.places.items i ≡ place_of l.fn.places.items i;
   changes : map change_of l.rows.items ≡ take l.change-index l.changes;
-  planned : AllByRecursion (λ m. IsPlanned l.tables.items l.places.items (placing_of m)) l.rows.items;
+  planned : AllByRecursion (IsPlanned l.tables.items l.places.items) l.rows.items;
 }

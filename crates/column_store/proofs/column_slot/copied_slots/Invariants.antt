@@ -1,13 +1,13 @@
 use Rattle.std.proofs.Common.{◌≡◌, ◌≤◌, length, map, take, vec_len}
 use Rattle.std.specs.Prelude.{vec_capacity}
 use Rattle.column_store.specs.Table.Standing.{Owned}
-use Rattle.column_store.specs.Inside.{standing_at}
+use Rattle.column_store.specs.Inside.{standing_at, seen_slot}
 use Rattle.column_store.proofs.column_slot.copied_slots.Given as goal
 
 -- the columns so far are copied, and there is room for all
 abbrev pub invariant-loop-column : goal.invariant-loop-column
 invariant-loop-column l = record {
-  same : l.copies.items ≡ map (standing_at Owned) (take l.column-index l.columns);
+  same : map seen_slot l.copies.items ≡ map (standing_at Owned) (map seen_slot (take l.column-index l.columns));
   many : vec_len l.copies ≡ l.column-index;
   room : length l.columns ≤ vec_capacity l.copies;
 }

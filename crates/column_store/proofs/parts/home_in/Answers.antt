@@ -7,7 +7,7 @@ use Rattle.column_store.proofs.parts.home_in.Goals as goal
 
 pub unreachable-requires : goal.unreachable-requires
 unreachable-requires c =
-    let none : standing_of (table_of (map kind_number c.args.kinds.now) c.args.entities.now c.args.columns.now) c.args.column.kind ≡ None = rw c.kind.ensures at (c.in_default.ensures c.args.entities.now c.args.columns.now) in
+    let none : standing_of (table_of (map kind_number c.args.kinds.now) c.args.entities.now c.args.columns.now) c.args.column.kind ≡ None = rw c.kind.ensures at (c.in_default.ensures.standing c.args.entities.now c.args.columns.now) in
     cc (none, c.requires.away)
 
 pub bounds-columns-place : goal.bounds-columns-place

@@ -4,7 +4,7 @@ use Rattle.column_store.proofs.Found.{home_found, home_there, lent_there, lent_e
 use Rattle.column_store.proofs.parts.lend_in.Goals as goal
 
 pub unreachable-requires : goal.unreachable-requires
-unreachable-requires c = home_there _ (c.in_default.ensures c.args.entities.now c.args.columns.now) c.requires.home
+unreachable-requires c = home_there _ (c.in_default.ensures.standing c.args.entities.now c.args.columns.now) c.requires.home
 
 pub bounds-columns-place : goal.bounds-columns-place
 bounds-columns-place c = (c.in-Some.ensures c.args.entities.now c.args.columns.now c.requires.table).within

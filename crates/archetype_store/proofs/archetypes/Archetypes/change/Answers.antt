@@ -11,6 +11,8 @@ use Rattle.archetype_store.proofs.Changed.{rows_from_alike}
 use Rattle.archetype_store.proofs.Standings.{home_tables, alike_value, value_alike, alike_whole, alike_stored, alike_all_home, owned_stored, owned_layout}
 use Rattle.archetype_store.specs.TableIndex.{IsFound, IsIndexed}
 use Rattle.archetype_store.proofs.TableIndex.{alike_found, alike_indexed}
+use Rattle.archetype_store.proofs.Known.{known_kept}
+use Rattle.archetype_store.proofs.Rooms.{alike_entities}
 use Rattle.archetype_store.proofs.archetypes.Archetypes.change.Goals as goal
 
 pub own_all-requires-clause-home : goal.own_all-requires-clause-home
@@ -22,6 +24,7 @@ invariant_of-self c =
     record {
       stored = alike_stored c.self.inside.tables.items c.own_all.new.tables.items c.self.inside.places.items c.self.inside.shared c.own_all.new.shared c.own_all.ensures.alike c.self.invariant.stored.whole c.self.invariant.stored.bare c.own_all.ensures.unshared;
       indexed = alike_indexed c.self.inside.tables.items c.own_all.new.tables.items c.self.inside.index c.own_all.ensures.alike c.self.invariant.indexed;
+      known = known_kept c.self.inside.tables.items c.own_all.new.tables.items c.self.inside.places.items c.self.inside.row_numbers.items (alike_entities c.self.inside.tables.items c.own_all.new.tables.items c.own_all.ensures.alike) c.self.invariant.known;
     }
 
 pub returns-in_err-own_all-clause-err : goal.returns-in_err-own_all-clause-err
@@ -56,10 +59,15 @@ change_in-changed-requires-clause-holders c =
     each-weaker (λ (x : EntityChange). IsHolder x.entity.generation (holder_of (archetypes_of T P).holders x.entity.index)) (λ (x : EntityChange). IsHolder x.entity.generation (holder_in (place_of P x.entity.index)))
     (λ x h. subst (IsHolder x.entity.generation) (holder_seen T P x.entity.index) h) c.args.changes.now known
 
+pub change_in-changed-requires-clause-known : goal.change_in-changed-requires-clause-known
+change_in-changed-requires-clause-known c =
+    known_kept c.self.inside.tables.items c.own_all.new.tables.items c.self.inside.places.items c.self.inside.row_numbers.items (alike_entities c.self.inside.tables.items c.own_all.new.tables.items c.own_all.ensures.alike) c.self.invariant.known
+
 pub invariant_of-self-2 : goal.invariant_of-self-2
 invariant_of-self-2 c = record {
   stored = owned_stored c.change_in-changed.new.tables.items c.change_in-changed.new.places.items c.own_all.new.shared c.change_in-changed.ensures.whole c.change_in-changed.ensures.owned;
   indexed = subst (λ ts. IsIndexed ts c.note_rows.new.self) c.deref.ensures.value c.note_rows.ensures;
+  known = c.change_in-changed.ensures.known;
 }
 
 pub returns-clause-ok : goal.returns-clause-ok

@@ -6,7 +6,9 @@ use Rattle.archetype_store.proofs.Laid.{row_seen}
 use Rattle.archetype_store.proofs.Moves.{on_err_from}
 use Rattle.archetype_store.proofs.Standings.{home_tables, alike_value, value_alike, alike_whole, alike_stored, alike_all_home, owned_stored, owned_layout, moved_from}
 use Rattle.archetype_store.specs.TableIndex.{IsFound, IsIndexed}
-use Rattle.archetype_store.proofs.TableIndex.{alike_found, alike_indexed}
+use Rattle.archetype_store.proofs.TableIndex.{alike_found, alike_indexed, found_shapes}
+use Rattle.archetype_store.proofs.Known.{known_kept}
+use Rattle.archetype_store.proofs.Rooms.{alike_entities}
 use Rattle.archetype_store.proofs.archetypes.Archetypes.clear.Goals as goal
 
 pub own_all-requires-clause-home : goal.own_all-requires-clause-home
@@ -21,6 +23,7 @@ invariant_of-self c =
     record {
       stored = alike_stored T T1 Q c.self.inside.shared c.own_all.new.shared c.own_all.ensures.alike c.self.invariant.stored.whole c.self.invariant.stored.bare c.own_all.ensures.unshared;
       indexed = alike_indexed T T1 c.self.inside.index c.own_all.ensures.alike c.self.invariant.indexed;
+      known = known_kept c.self.inside.tables.items c.own_all.new.tables.items c.self.inside.places.items c.self.inside.row_numbers.items (alike_entities c.self.inside.tables.items c.own_all.new.tables.items c.own_all.ensures.alike) c.self.invariant.known;
     }
 
 pub returns-in_err-own_all-clause-err : goal.returns-in_err-own_all-clause-err
@@ -41,11 +44,10 @@ returns-in_err-own_all-clause-home c =
     alike_all_home T T1 Q c.self.inside.shared c.own_all.new.shared c.own_all.ensures.alike
     (home_tables T c.self.invariant.stored.bare (subst (λ (v : ArchetypesValue). AreAllHome v.layout) (sym c.self.view_is) c.requires.home))
 
-pub clear_in-requires-clause-found : goal.clear_in-requires-clause-found
-clear_in-requires-clause-found c = alike_found c.self.inside.tables.items c.own_all.new.tables.items c.self.inside.index c.own_all.ensures.alike c.self.invariant.indexed.found
-
 pub note_rows-requires : goal.note_rows-requires
-note_rows-requires c = subst (λ ts. IsFound ts c.self.inside.index) (sym c.deref.ensures.value) c.clear_in.ensures.found
+note_rows-requires c = subst (λ ts. IsFound ts c.self.inside.index) (sym c.deref.ensures.value)
+    (found_shapes c.own_all.new.tables.items c.clear_in.new.tables.items c.self.inside.index c.clear_in.ensures.shapes
+    (alike_found c.self.inside.tables.items c.own_all.new.tables.items c.self.inside.index c.own_all.ensures.alike c.self.invariant.indexed.found))
 
 pub clear_in-requires-clause-whole : goal.clear_in-requires-clause-whole
 clear_in-requires-clause-whole c =
@@ -54,11 +56,16 @@ clear_in-requires-clause-whole c =
     let T1 = c.own_all.new.tables.items in
     alike_whole T T1 Q c.self.inside.shared c.own_all.new.shared c.own_all.ensures.alike c.self.invariant.stored.whole
 
+pub clear_in-requires-clause-known : goal.clear_in-requires-clause-known
+clear_in-requires-clause-known c =
+    known_kept c.self.inside.tables.items c.own_all.new.tables.items c.self.inside.places.items c.self.inside.row_numbers.items (alike_entities c.self.inside.tables.items c.own_all.new.tables.items c.own_all.ensures.alike) c.self.invariant.known
+
 pub invariant_of-self-2 : goal.invariant_of-self-2
 invariant_of-self-2 c =
     record {
       stored = owned_stored c.clear_in.new.tables.items c.clear_in.new.places.items c.own_all.new.shared c.clear_in.ensures.whole c.clear_in.ensures.owned;
       indexed = subst (λ ts. IsIndexed ts c.note_rows.new.self) c.deref.ensures.value c.note_rows.ensures;
+      known = c.clear_in.ensures.known;
     }
 
 pub returns-clause-home : goal.returns-clause-home

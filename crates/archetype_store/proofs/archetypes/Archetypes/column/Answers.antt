@@ -30,7 +30,7 @@ returns-clause-cells c =
     let T = c.self.inside.tables.items in
     let P = c.self.inside.places.items in
     let at = c.in-Some.ensures c.self.inside.tables.items c.self.invariant.indexed in
-    let rising = rw c.deref.ensures.value at c.column_at.ensures.rising in
+    let rising = rw c.deref.ensures.value at c.column_at.ensures.apart in
     let seen = column_seen T P c.self.invariant.stored.whole c.args.archetype c.in-Some.table at (kind_number c.args.kind) rising in
     (rw c.deref.ensures.value at c.column_at.ensures.cells) ∙ seen
     ∙ ap (λ (v : ArchetypesValue). row_cells v.rows (archetype_at v.layout c.args.archetype).entities (kind_number c.args.kind)) c.self.view_is

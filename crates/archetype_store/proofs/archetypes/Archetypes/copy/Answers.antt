@@ -16,7 +16,8 @@ invariant_of-result c =
     let home = home_tables c.self.inside.tables.items c.self.invariant.stored.bare (subst (λ (v : ArchetypesValue). AreAllHome v.layout) (sym c.self.view_is) c.requires) in
     let tables = c.in_ok-tables.ensures ∙ ap (map owned) c.deref.ensures.value in
     let places = c.in_ok-places.ensures.items ∙ c.as_slice.ensures.value in
-    copied_whole c.self.inside.tables.items _ c.self.inside.places.items _ tables places home c.self.inside.index _ c.self.inside.shared c.in_ok-index.ensures c.self.invariant
+    let numbers = c.in_ok-row_numbers.ensures.items ∙ c.as_slice-2.ensures.value in
+    copied_whole c.self.inside.tables.items _ c.self.inside.places.items _ tables places home c.self.inside.row_numbers.items _ numbers c.self.inside.index _ c.self.inside.shared c.in_ok-index.ensures c.self.invariant
 
 pub returns : goal.returns
 returns c =

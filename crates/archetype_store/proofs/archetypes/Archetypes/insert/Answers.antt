@@ -10,6 +10,8 @@ use Rattle.archetype_store.proofs.Moves.{alike_trans, reached_alike, on_err_from
 use Rattle.archetype_store.proofs.Standings.{home_tables, alike_value, value_alike, alike_whole, alike_stored, alike_all_home, owned_stored, owned_layout, reached_whole, moved_from}
 use Rattle.archetype_store.specs.TableIndex.{IsFound, IsIndexed}
 use Rattle.archetype_store.proofs.TableIndex.{alike_found, alike_indexed}
+use Rattle.archetype_store.proofs.Known.{known_kept, known_reached}
+use Rattle.archetype_store.proofs.Rooms.{alike_entities}
 use Rattle.archetype_store.proofs.archetypes.Archetypes.insert.Goals as goal
 
 pub returns-in_err-reach-clause-err : goal.returns-in_err-reach-clause-err
@@ -32,6 +34,8 @@ invariant_of-self-in_err-own_all c =
     record {
       stored = alike_stored T T1 Q c.self.inside.shared c.own_all.new.shared c.own_all.ensures.alike (reached_whole T P Q c.reach.ensures.same c.self.invariant.stored.whole) c.self.invariant.stored.bare c.own_all.ensures.unshared;
       indexed = alike_indexed T T1 c.self.inside.index c.own_all.ensures.alike c.self.invariant.indexed;
+      known = known_kept T T1 Q c.reach.new.numbers.items (alike_entities T T1 c.own_all.ensures.alike)
+          (known_reached T P Q c.self.inside.row_numbers.items c.reach.new.numbers.items c.reach.ensures.same c.reach.ensures.numbers c.reach.ensures.as_many c.self.invariant.known);
     }
 
 pub returns-in_err-own_all-clause-err : goal.returns-in_err-own_all-clause-err
@@ -66,11 +70,21 @@ insert_in-inserted-requires-clause-whole c =
     let T1 = c.own_all.new.tables.items in
     alike_whole T T1 Q c.self.inside.shared c.own_all.new.shared c.own_all.ensures.alike (reached_whole T P Q c.reach.ensures.same c.self.invariant.stored.whole)
 
+pub insert_in-inserted-requires-clause-known : goal.insert_in-inserted-requires-clause-known
+insert_in-inserted-requires-clause-known c =
+    let T = c.self.inside.tables.items in
+    let P = c.self.inside.places.items in
+    let Q = c.reach.new.places.items in
+    let T1 = c.own_all.new.tables.items in
+    known_kept T T1 Q c.reach.new.numbers.items (alike_entities T T1 c.own_all.ensures.alike)
+    (known_reached T P Q c.self.inside.row_numbers.items c.reach.new.numbers.items c.reach.ensures.same c.reach.ensures.numbers c.reach.ensures.as_many c.self.invariant.known)
+
 pub invariant_of-self-2 : goal.invariant_of-self-2
 invariant_of-self-2 c =
     record {
       stored = owned_stored c.insert_in-inserted.new.tables.items c.insert_in-inserted.new.places.items c.own_all.new.shared c.insert_in-inserted.ensures.whole c.insert_in-inserted.ensures.owned;
       indexed = subst (λ ts. IsIndexed ts c.note_rows.new.self) c.deref.ensures.value c.note_rows.ensures;
+      known = c.insert_in-inserted.ensures.known;
     }
 
 pub returns-clause-home : goal.returns-clause-home

@@ -4,8 +4,10 @@ use Rattle.column_store.specs.Table.{TableRow, homed}
 use Rattle.archetype_store.specs.Layout.{layout_of, archetype_at, column_home}
 use Rattle.archetype_store.specs.Tables.{table_at}
 use Rattle.archetype_store.specs.Archetypes.{ArchetypesValue, archetypes_of, IsFilled}
-use Rattle.archetype_store.proofs.ArchetypeColumns.{away_there, entities_there, no_column, stored_homed, there_filled, value_homed}
+use Rattle.archetype_store.proofs.ArchetypeColumns.{entities_filled, away_there, entities_there, no_column, stored_homed, there_filled, value_homed}
 use Rattle.archetype_store.proofs.TableIndex.{set_indexed}
+use Rattle.archetype_store.proofs.Known.{known_kept}
+use Rattle.archetype_store.proofs.Rooms.{set_entities}
 use Rattle.archetype_store.proofs.archetypes.Archetypes.put_column.Goals as goal
 
 pub unreachable-requires : goal.unreachable-requires
@@ -41,6 +43,8 @@ invariant_of-self c =
     record {
       stored = rw c.home_at.ensures (stored_homed T P c.self.inside.shared c.args.archetype c.in-Some.table at c.args.column c.self.invariant.stored);
       indexed = rw c.home_at.ensures (set_indexed T c.in-Some.table (homed (table_at T c.in-Some.table) c.args.column) c.self.inside.index refl (there_filled (table_at T c.in-Some.table).kinds c.args.column.kind c.args.column.cells (table_at T c.in-Some.table).rows) c.self.invariant.indexed);
+      known = rw c.home_at.ensures (known_kept T (set T c.in-Some.table (homed (table_at T c.in-Some.table) c.args.column)) P c.self.inside.row_numbers.items
+          (set_entities T c.in-Some.table (homed (table_at T c.in-Some.table) c.args.column) at.within (entities_filled (table_at T c.in-Some.table).kinds c.args.column.kind c.args.column.cells (table_at T c.in-Some.table).rows)) c.self.invariant.known);
     }
 
 pub returns : goal.returns

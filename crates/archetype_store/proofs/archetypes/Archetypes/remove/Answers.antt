@@ -10,6 +10,8 @@ use Rattle.archetype_store.proofs.RowEdits.{absent-removed}
 use Rattle.archetype_store.proofs.Standings.{home_tables, alike_value, value_alike, alike_whole, alike_stored, alike_all_home, owned_stored, owned_layout, moved_from}
 use Rattle.archetype_store.specs.TableIndex.{IsFound, IsIndexed}
 use Rattle.archetype_store.proofs.TableIndex.{alike_found, alike_indexed}
+use Rattle.archetype_store.proofs.Known.{known_kept}
+use Rattle.archetype_store.proofs.Rooms.{alike_entities}
 use Rattle.archetype_store.proofs.archetypes.Archetypes.remove.Goals as goal
 
 -- what isn't there is none
@@ -53,6 +55,7 @@ invariant_of-self c =
     record {
       stored = alike_stored T T1 Q c.self.inside.shared c.own_all.new.shared c.own_all.ensures.alike c.self.invariant.stored.whole c.self.invariant.stored.bare c.own_all.ensures.unshared;
       indexed = alike_indexed T T1 c.self.inside.index c.own_all.ensures.alike c.self.invariant.indexed;
+      known = known_kept c.self.inside.tables.items c.own_all.new.tables.items c.self.inside.places.items c.self.inside.row_numbers.items (alike_entities c.self.inside.tables.items c.own_all.new.tables.items c.own_all.ensures.alike) c.self.invariant.known;
     }
 
 pub returns-in_err-own_all-clause-err : goal.returns-in_err-own_all-clause-err
@@ -86,11 +89,16 @@ remove_in-removed-requires-clause-whole c =
     let T1 = c.own_all.new.tables.items in
     alike_whole T T1 Q c.self.inside.shared c.own_all.new.shared c.own_all.ensures.alike c.self.invariant.stored.whole
 
+pub remove_in-removed-requires-clause-known : goal.remove_in-removed-requires-clause-known
+remove_in-removed-requires-clause-known c =
+    known_kept c.self.inside.tables.items c.own_all.new.tables.items c.self.inside.places.items c.self.inside.row_numbers.items (alike_entities c.self.inside.tables.items c.own_all.new.tables.items c.own_all.ensures.alike) c.self.invariant.known
+
 pub invariant_of-self-2 : goal.invariant_of-self-2
 invariant_of-self-2 c =
     record {
       stored = owned_stored c.remove_in-removed.new.tables.items c.remove_in-removed.new.places.items c.own_all.new.shared c.remove_in-removed.ensures.whole c.remove_in-removed.ensures.owned;
       indexed = subst (λ ts. IsIndexed ts c.note_rows.new.self) c.deref.ensures.value c.note_rows.ensures;
+      known = c.remove_in-removed.ensures.known;
     }
 
 pub returns-clause-home : goal.returns-clause-home

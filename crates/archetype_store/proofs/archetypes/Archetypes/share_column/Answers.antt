@@ -7,6 +7,8 @@ use Rattle.archetype_store.specs.Archetypes.{ArchetypesValue, row_cells}
 use Rattle.archetype_store.proofs.Standings.{alike_value, alike_stored}
 use Rattle.archetype_store.proofs.ArchetypeColumns.{home_there, no_column, column_seen}
 use Rattle.archetype_store.proofs.TableIndex.{alike_indexed}
+use Rattle.archetype_store.proofs.Known.{known_kept}
+use Rattle.archetype_store.proofs.Rooms.{alike_entities}
 use Rattle.archetype_store.proofs.archetypes.Archetypes.share_column.Goals as goal
 
 pub unreachable-requires : goal.unreachable-requires
@@ -32,7 +34,7 @@ returns-clause-cells c =
     let T = c.self.inside.tables.items in
     let P = c.self.inside.places.items in
     let at = c.in-Some.ensures c.self.inside.tables.items c.self.invariant.indexed in
-    let seen = column_seen T P c.self.invariant.stored.whole c.args.archetype c.in-Some.table at (kind_number c.args.kind) c.share_at.ensures.rising in
+    let seen = column_seen T P c.self.invariant.stored.whole c.args.archetype c.in-Some.table at (kind_number c.args.kind) c.share_at.ensures.apart in
     subst (λ (v : ArchetypesValue). IfOk c.share_at.result (λ column. map (λ cell. Some cell) (arc_value column).cells ≡ row_cells v.rows (archetype_at v.layout c.args.archetype).entities (kind_number c.args.kind))) c.self.view_is
     (IfOk-weaker c.share_at.result _ _ (λ column h. h ∙ seen) c.share_at.ensures.cells)
 
@@ -43,6 +45,7 @@ invariant_of-self c =
     record {
       stored = alike_stored T c.share_at.new.tables.items P c.self.inside.shared true c.share_at.ensures.alike c.self.invariant.stored.whole c.self.invariant.stored.bare (λ e. absurd (cc));
       indexed = alike_indexed T c.share_at.new.tables.items c.self.inside.index c.share_at.ensures.alike c.self.invariant.indexed;
+      known = known_kept T c.share_at.new.tables.items P c.self.inside.row_numbers.items (alike_entities T c.share_at.new.tables.items c.share_at.ensures.alike) c.self.invariant.known;
     }
 
 pub returns-clause-same : goal.returns-clause-same

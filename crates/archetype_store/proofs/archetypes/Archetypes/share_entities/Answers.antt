@@ -2,8 +2,9 @@ use Rattle.std.proofs.Common.{◌≡◌, ◌≤◌, ◌<◌, length, IfOk, ap, s
 use Rattle.std.specs.Arc.{arc_value}
 use Rattle.std.proofs.lemmas.Result.{IfOk-weaker}
 use Rattle.archetype_store.specs.Layout.{layout_of, archetype_at}
-use Rattle.archetype_store.specs.Archetypes.{ArchetypesValue, archetypes_of, IsWhole}
+use Rattle.archetype_store.specs.Archetypes.{ArchetypesValue, archetypes_of}
 use Rattle.archetype_store.proofs.ArchetypeColumns.{entities_there}
+use Rattle.archetype_store.specs.Whole.{IsWhole}
 use Rattle.archetype_store.proofs.archetypes.Archetypes.share_entities.Goals as goal
 
 pub unreachable-requires : goal.unreachable-requires
@@ -27,7 +28,7 @@ returns-clause-entities c =
 
 pub invariant_of-self : goal.invariant_of-self
 invariant_of-self c =
-    subst (λ ts. IsWhole ts c.self.inside.index c.self.inside.places.items c.self.inside.shared) (sym c.share_entities_at.ensures.same) c.self.invariant
+    subst (λ ts. IsWhole ts c.self.inside.index c.self.inside.places.items c.self.inside.row_numbers.items c.self.inside.shared) (sym c.share_entities_at.ensures.same) c.self.invariant
 
 pub returns-clause-same : goal.returns-clause-same
 returns-clause-same c = ap (λ ts. archetypes_of ts c.self.inside.places.items) c.share_entities_at.ensures.same ∙ c.self.view_is

@@ -7,6 +7,8 @@ use Rattle.archetype_store.specs.Tables.{table_at}
 use Rattle.archetype_store.proofs.TableIndex.{set_indexed_if}
 use Rattle.archetype_store.specs.Archetypes.{ArchetypesValue, archetypes_of, row_cells}
 use Rattle.archetype_store.proofs.ArchetypeColumns.{home_there, no_column, column_seen, lent_stored, value_lent}
+use Rattle.archetype_store.proofs.Known.{known_kept}
+use Rattle.archetype_store.proofs.Rooms.{set_entities_if}
 use Rattle.archetype_store.proofs.archetypes.Archetypes.take_column.Goals as goal
 
 pub unreachable-requires : goal.unreachable-requires
@@ -32,7 +34,7 @@ returns-clause-cells c =
     let T = c.self.inside.tables.items in
     let P = c.self.inside.places.items in
     let at = c.in-Some.ensures c.self.inside.tables.items c.self.invariant.indexed in
-    let seen = column_seen T P c.self.invariant.stored.whole c.args.archetype c.in-Some.table at (kind_number c.args.kind) c.lend_at.ensures.rising in
+    let seen = column_seen T P c.self.invariant.stored.whole c.args.archetype c.in-Some.table at (kind_number c.args.kind) c.lend_at.ensures.apart in
     subst (λ (v : ArchetypesValue). IfOk c.lend_at.result (λ column. map (λ cell. Some cell) column.cells ≡ row_cells v.rows (archetype_at v.layout c.args.archetype).entities (kind_number c.args.kind))) c.self.view_is
     (IfOk-weaker c.lend_at.result _ _ (λ column h. h ∙ seen) c.lend_at.ensures.cells)
 
@@ -44,6 +46,7 @@ invariant_of-self c =
     record {
       stored = lent_stored c.lend_at.result T c.lend_at.new.tables.items P c.self.inside.shared c.args.archetype c.in-Some.table (kind_number c.args.kind) at c.self.invariant.stored c.lend_at.ensures.away c.lend_at.ensures.err;
       indexed = set_indexed_if c.lend_at.result T c.lend_at.new.tables.items c.in-Some.table (lent (table_at T c.in-Some.table) (kind_number c.args.kind)) c.self.inside.index refl refl c.lend_at.ensures.away c.lend_at.ensures.err c.self.invariant.indexed;
+      known = known_kept T c.lend_at.new.tables.items P c.self.inside.row_numbers.items (set_entities_if c.lend_at.result T c.lend_at.new.tables.items c.in-Some.table (lent (table_at T c.in-Some.table) (kind_number c.args.kind)) at.within refl c.lend_at.ensures.away c.lend_at.ensures.err) c.self.invariant.known;
     }
 
 pub returns-clause-away : goal.returns-clause-away

@@ -1,35 +1,35 @@
-use Rattle.std.proofs.Common.{◌≡◌, true, is_some, length, map, sym, ap, subst, ◌∙◌}
+use Rattle.std.proofs.Common.{◌≡◌, ◌<◌, true, Some, length, map, option_map, sym, ap, subst, ◌∙◌}
 use Rattle.std.specs.List.{list_all, AllByRecursion}
+use Rattle.std.specs.Prelude.{slice_get}
 use Rattle.kinds.specs.Kind.{kind_number}
-use Rattle.column_store.specs.Table.{TableValue, is_home, row_of}
-use Rattle.column_store.specs.Inside.{IsThere, HoldsRow, AreReadAt}
-use Rattle.column_store.proofs.Edited.{there_from_rows, all_home, held_rows}
-use Rattle.column_store.proofs.Made.{read_is_row, read_numbers, if_ok}
+use Rattle.column_store.specs.Cells.{stamped_number, stamped_cell}
+use Rattle.column_store.specs.Table.{TableValue, TableRow, is_home}
+use Rattle.column_store.specs.Inside.{cell_at, kind_in, HoldsRow}
+use Rattle.column_store.proofs.Columns.{length-rows_of}
+use Rattle.column_store.proofs.Edited.{all_home, held_rows, read_row_is, if_ok}
 use Rattle.column_store.proofs.table.Table.components.Goals as goal
 
-pub read_in-requires-clause-there : goal.read_in-requires-clause-there
-read_in-requires-clause-there c =
-    let there = subst (λ (t : TableValue). is_some (row_of c.args.e t.rows) ≡ true) (sym c.self.view_is) c.requires.there in
-    subst (IsThere c.args.e) (sym c.as_slice.ensures) (there_from_rows c.args.e c.self.inside.entities c.self.inside.columns.items there)
-
-pub read_in-requires-clause-home : goal.read_in-requires-clause-home
-read_in-requires-clause-home c =
-    let n = length c.self.inside.entities in
+pub read_row-requires : goal.read_row-requires
+read_row-requires c =
+    let es = c.self.inside.entities.list in
     let ps = c.self.inside.columns.items in
+    let within = subst (λ n. c.args.row < n) (ap (λ (t : TableValue). length t.rows) (sym c.self.view_is) ∙ length-rows_of es ps) c.requires.within in
     let stand = subst (λ (t : TableValue). list_all is_home t.standings ≡ true) (sym c.self.view_is) c.requires.home in
-    λ row within. subst (AllByRecursion (HoldsRow row)) (sym c.deref.ensures.value)
-    (held_rows n row ps (rw c.as_slice.ensures at within) c.self.invariant.of_length (all_home ps stand))
+    subst (AllByRecursion (HoldsRow c.args.row)) (sym c.deref.ensures.value) (held_rows (length es) c.args.row ps within c.self.invariant.table.of_length (all_home ps stand))
 
-pub returns-clause-row : goal.returns-clause-row
-returns-clause-row c =
-    if_ok c.read_in.result (λ ss. AreReadAt c.args.e ss.items c.as_slice.result.now c.deref.result.now) _
-    (λ ss read. sym (ap (λ (t : TableValue). row_of c.args.e t.rows) c.self.view_is)
-    ∙ read_is_row c.args.e ss.items c.self.inside.entities c.self.inside.columns.items (rw (c.as_slice.ensures, c.deref.ensures.value) at read))
-    c.read_in.ensures
+pub returns-clause-cells : goal.returns-clause-cells
+returns-clause-cells c =
+    let ns = map kind_number c.self.inside.kinds.items in
+    let es = c.self.inside.entities.list in
+    let ps = c.self.inside.columns.items in
+    let within = subst (λ n. c.args.row < n) (ap (λ (t : TableValue). length t.rows) (sym c.self.view_is) ∙ length-rows_of es ps) c.requires.within in
+    if_ok c.read_row.result (λ ss. map (λ s. Some (stamped_cell s)) ss.items ≡ map (cell_at c.args.row) c.deref.result.now) _
+    (λ ss read. sym (ap (λ (t : TableValue). option_map (λ (row : TableRow). row.cells) (slice_get t.rows c.args.row)) c.self.view_is)
+    ∙ read_row_is ns es ps c.args.row ss.items within (read ∙ ap (map (cell_at c.args.row)) c.deref.ensures.value))
+    c.read_row.ensures.cells
 
 pub returns-clause-kinds : goal.returns-clause-kinds
 returns-clause-kinds c =
-    if_ok c.read_in.result (λ ss. AreReadAt c.args.e ss.items c.as_slice.result.now c.deref.result.now) _
-    (λ ss read. read_numbers c.args.e (map kind_number c.self.inside.kinds.items) ss.items c.self.inside.entities c.self.inside.columns.items c.self.invariant.of_kinds
-    (rw (c.as_slice.ensures, c.deref.ensures.value) at read) ∙ ap (λ (t : TableValue). t.kinds) c.self.view_is)
-    c.read_in.ensures
+    if_ok c.read_row.result (λ ss. map stamped_number ss.items ≡ map kind_in c.deref.result.now) _
+    (λ ss read. read ∙ ap (map kind_in) c.deref.ensures.value ∙ c.self.invariant.table.of_kinds ∙ ap (λ (t : TableValue). t.kinds) c.self.view_is)
+    c.read_row.ensures.kinds

@@ -1,13 +1,14 @@
-use Rattle.std.proofs.Common.{◌≡◌, true, length, map, sym, ap, subst, ◌∙◌, arith}
+use Rattle.std.proofs.Common.{◌≡◌, true, length, map, sym, subst, arith}
 use Rattle.std.specs.List.{list_all, AllByRecursion}
 use Rattle.std.proofs.lemmas.List.{with_items_is}
 use Rattle.std.proofs.lemmas.Result.{on_ok_weaker}
 use Rattle.kinds.specs.Kind.{kind_number}
 use Rattle.column_store.specs.Table.{TableValue, is_home}
-use Rattle.column_store.specs.Inside.{IsAtHome, table_of}
+use Rattle.column_store.specs.Inside.{IsAtHome}
 use Rattle.column_store.proofs.Edited.{all_home}
-use Rattle.column_store.proofs.Tables.{table-alike, table-owned}
+use Rattle.column_store.proofs.Tables.{table-alike, table-owned, alike_room}
 use Rattle.column_store.proofs.Kept.{kept-columns}
+use Rattle.column_store.proofs.Roomy.{no_room}
 use Rattle.column_store.proofs.table.Table.own.Goals as goal
 
 pub own_each-requires : goal.own_each-requires
@@ -21,21 +22,22 @@ invariant_of-self c =
     let es = c.self.inside.entities in
     let same : length c.own_each.new.columns ≡ c.self.inside.columns.len = (let a = c.own_each.auto.columns in let v = c.self.inside.columns.ok.0 in omega (arith, c.deref_mut.ensures.len)) in
     let alike = rw c.deref_mut.ensures.value at c.own_each.ensures.alike in
-    rw (with_items_is c.self.inside.columns c.own_each.new.columns same) (kept-columns ns es c.self.inside.columns.items c.own_each.new.columns alike.columns c.self.invariant)
+    rw (with_items_is c.self.inside.columns c.own_each.new.columns same)
+    (no_room ns es c.own_each.new.columns (kept-columns ns es.list c.self.inside.columns.items c.own_each.new.columns alike.columns c.self.invariant.table))
 
 pub returns-clause-ok : goal.returns-clause-ok
 returns-clause-ok c =
     let ns = map kind_number c.self.inside.kinds.items in
-    let es = c.self.inside.entities in
+    let es = c.self.inside.entities.list in
     let same : length c.own_each.new.columns ≡ c.self.inside.columns.len = (let a = c.own_each.auto.columns in let v = c.self.inside.columns.ok.0 in omega (arith, c.deref_mut.ensures.len)) in
     let ok = rw c.deref_mut.ensures.value at c.own_each.ensures.ok in
     rw (with_items_is c.self.inside.columns c.own_each.new.columns same, ← c.self.view_is)
-    (on_ok_weaker c.own_each.result (λ h. ap (table_of ns es) h ∙ table-owned ns es c.self.inside.columns.items) ok)
+    (on_ok_weaker c.own_each.result (λ h. table-owned ns es c.self.inside.columns.items c.own_each.new.columns h) ok)
 
 pub returns-clause-alike : goal.returns-clause-alike
 returns-clause-alike c =
     let ns = map kind_number c.self.inside.kinds.items in
-    let es = c.self.inside.entities in
+    let es = c.self.inside.entities.list in
     let same : length c.own_each.new.columns ≡ c.self.inside.columns.len = (let a = c.own_each.auto.columns in let v = c.self.inside.columns.ok.0 in omega (arith, c.deref_mut.ensures.len)) in
     let alike = rw c.deref_mut.ensures.value at c.own_each.ensures.alike in
-    rw (with_items_is c.self.inside.columns c.own_each.new.columns same, ← c.self.view_is) (table-alike ns es c.self.inside.columns.items c.own_each.new.columns alike)
+    rw (with_items_is c.self.inside.columns c.own_each.new.columns same, ← c.self.view_is) (alike_room _ _ c.self.inside.room 0 (table-alike ns es c.self.inside.columns.items c.own_each.new.columns alike))

@@ -1,0 +1,59 @@
+-- Where a row goes that is moved.
+use Rattle.std.proofs.Common.{◌≡◌, ◌≢◌, ℕ, ◌+◌, ◌≤◌, Bool, true, false, cond, ◌==◌, List, [], ◌∷◌, Option, Some, None, refl, sym, ap, ◌∙◌, arith}
+use Rattle.std.proofs.lemmas.Bool.{eqb-true}
+use Rattle.model.specs.Lists.{is_there, with_at}
+use Rattle.column_store.specs.declared.stamped.StampedValue.{StampedValue}
+use Rattle.column_store.specs.Table.{TableValue}
+use Rattle.archetype_store.specs.declared.locations.EntityLocation.{EntityLocation}
+use Rattle.archetype_store.specs.declared.row_moves.RowMove.{RowMove}
+use Rattle.archetype_store.specs.Archetypes.{place_of}
+use Rattle.archetype_store.specs.RowMoves.{other_table, arrives_in, is_table, one_if}
+use Rattle.archetype_store.specs.Tables.{room_at}
+use Rattle.archetype_store.proofs.Laid.{with_at_apart}
+
+pub arrives_none : (P : List (Option EntityLocation)) (m : RowMove) → m.to ≡ None → arrives_in P m ≡ None
+arrives_none P m h = ap (other_table (place_of P m.change.now.entity.index)) h
+
+here_from : (o : Option EntityLocation) (to : ℕ) → other_table o (Some to) ≡ None → (p : EntityLocation) × (o ≡ Some p) × (p.table ≡ to)
+here_from None to h = absurd (cc)
+here_from (Some p) to h = go (to == p.table) refl h
+  where
+    go : (b : Bool) → (to == p.table) ≡ b → cond b None (Some to) ≡ None → (q : EntityLocation) × (Some p ≡ Some q) × (q.table ≡ to)
+    go true same k = (p, refl, sym (eqb-true to p.table same))
+    go false other k = absurd (cc)
+
+-- a row that stays in its table
+pub arrives_here : (P : List (Option EntityLocation)) (m : RowMove) (to : ℕ) → m.to ≡ Some to → arrives_in P m ≡ None →
+    (p : EntityLocation) × (place_of P m.change.now.entity.index ≡ Some p) × (p.table ≡ to)
+arrives_here P m to is none = here_from (place_of P m.change.now.entity.index) to (sym (ap (other_table (place_of P m.change.now.entity.index)) is) ∙ none)
+
+other_from : (o : Option EntityLocation) (to : ℕ) → (other_table o (Some to) ≡ None → ⊥) → other_table o (Some to) ≡ Some to
+other_from None to h = refl
+other_from (Some p) to h = go (to == p.table) h
+  where
+    go : (b : Bool) → (cond b None (Some to) ≡ None → ⊥) → cond b None (Some to) ≡ Some to
+    go true k = absurd (k refl)
+    go false k = refl
+
+-- one that comes into another
+pub arrives_other : (P : List (Option EntityLocation)) (m : RowMove) (to : ℕ) → m.to ≡ Some to → (arrives_in P m ≡ None → ⊥) → arrives_in P m ≡ Some to
+arrives_other P m to is some =
+    ap (other_table (place_of P m.change.now.entity.index)) is
+    ∙ other_from (place_of P m.change.now.entity.index) to (λ h. some (ap (other_table (place_of P m.change.now.entity.index)) is ∙ h))
+
+pub some_there : (ss : List StampedValue) → is_there ss ≡ true → ss ≢ []
+some_there [] h = absurd (cc)
+some_there (s ∷ ss) h = λ e. cc
+
+pub others_kept : (P P' : List (Option EntityLocation)) (n : ℕ) (o : Option EntityLocation) → ((i : ℕ) → place_of P' i ≡ with_at n o (place_of P) i) → (i : ℕ) → (i ≡ n → ⊥) → place_of P' i ≡ place_of P i
+others_kept P P' n o h i apart = h i ∙ with_at_apart n i o (place_of P) apart
+
+-- ---- rooms
+
+pub rooms_same : (T T' : List TableValue) (b : ℕ → Bool) → ((t : ℕ) → room_at T' t ≡ room_at T t) → (t : ℕ) → room_at T t ≤ one_if (b t) + room_at T' t
+rooms_same T T' b h t = let e = h t in omega (arith, e)
+
+pub rooms_joined : (T T' T'' : List TableValue) (P : List (Option EntityLocation)) (m : RowMove) (to : ℕ) → arrives_in P m ≡ Some to → ((t : ℕ) → room_at T' t ≡ room_at T t) →
+    ((t : ℕ) → room_at T' t ≤ one_if (t == to) + room_at T'' t) → (t : ℕ) → room_at T t ≤ one_if (is_table (arrives_in P m) t) + room_at T'' t
+rooms_joined T T' T'' P m to at h k t =
+    let a = h t in let b = k t in let z : one_if (is_table (arrives_in P m) t) ≡ one_if (t == to) = ap (λ o. one_if (is_table o t)) at in omega (arith, a, b, z)

@@ -1,0 +1,78 @@
+-- The room of a table, and what is left of it.
+use Rattle.std.proofs.Common.{◌≡◌, ℕ, ◌+◌, ◌-◌, ◌<◌, ◌≤◌, List, [], ◌∷◌, ◌++◌, length, map, sym, ap, subst, ◌∙◌, arith}
+use Rattle.std.proofs.lemmas.List.{length_push}
+use Rattle.std.specs.List.{AllByRecursion}
+use Rattle.model.specs.state.State.{Cell}
+use Rattle.model.specs.declared.entities.Entity.{Entity}
+use Rattle.column_store.specs.EntityList.{EntityListValue}
+use Rattle.column_store.specs.Swapped.{swap_removed}
+use Rattle.column_store.specs.Table.{ColumnSlotValue}
+use Rattle.column_store.specs.Inside.{room_of, swap_out_in, push_all, replace_all, HasRoom, AreRoomier, IsTable, IsTableWithRoom}
+use Rattle.column_store.proofs.Swapped.{length-swap_removed}
+use Rattle.column_store.proofs.Kept.{fewer_rooms, rooms-push, rooms-swap, rooms-replace, rooms-roomier}
+
+pub no_room : (ns : List ℕ) (es : EntityListValue) (ps : List ColumnSlotValue) → IsTable ns es.list ps → IsTableWithRoom ns es ps 0
+no_room ns es ps h = record { table = h; within = λ some. absurd (omega arith); each = λ some. absurd (omega arith) }
+
+rooms_as : (n : ℕ) (ps qs : List ColumnSlotValue) → map room_of qs ≡ map room_of ps → AllByRecursion (HasRoom n) ps → AllByRecursion (HasRoom n) qs
+rooms_as n ps [] h r = tt
+rooms_as n [] (q ∷ qs) h r = absurd (cc)
+rooms_as n (p ∷ ps) (q ∷ qs) h r =
+    let first : room_of q ≡ room_of p = cc in
+    let rest : map room_of qs ≡ map room_of ps = cc in
+    let old : n ≤ p.column.room = r.0 in
+    (omega arith, rooms_as n ps qs rest r.1)
+
+module _ (ns : List ℕ) (es es' : EntityListValue) (ps ps' : List ColumnSlotValue) (room : ℕ) (h : IsTableWithRoom ns es ps room) (table : IsTable ns es'.list ps') where
+  pub pushed_room : (e : Entity) (cells : List Cell) → 0 < room → es'.list ≡ es.list ++ e ∷ [] → es.room ≤ es'.room → ps' ≡ push_all ps cells → IsTableWithRoom ns es' ps' (room - 1)
+  pushed_room e cells some entities more columns =
+      let within = h.within some in
+      let long : length es'.list ≡ length es.list + 1 = ap length entities ∙ length_push es.list e in
+      record {
+        table = table;
+        within = λ _. omega arith;
+        each = λ _. subst (AllByRecursion (HasRoom (length es'.list + (room - 1)))) (sym columns)
+            (rooms-push (length es'.list + (room - 1)) ps cells (fewer_rooms (length es.list + room) (length es'.list + (room - 1)) ps (omega arith) (h.each some)));
+      }
+
+  pub swapped_room : (i : ℕ) → i < length es.list → es'.list ≡ swap_removed es.list i → es'.room ≡ es.room → ps' ≡ map (swap_out_in i) ps → IsTableWithRoom ns es' ps' room
+  swapped_room i l entities same columns =
+      let long = ap length entities in
+      let shorter = length-swap_removed es.list i l in
+      record {
+        table = table;
+        within = λ some. (let within = h.within some in omega arith);
+        each = λ some. subst (AllByRecursion (HasRoom (length es'.list + room))) (sym columns)
+            (rooms-swap (length es'.list + room) i ps (fewer_rooms (length es.list + room) (length es'.list + room) ps (omega arith) (h.each some)));
+      }
+
+  pub renewed_room : (i : ℕ) (cells : List Cell) → es' ≡ es → ps' ≡ replace_all i ps cells → IsTableWithRoom ns es' ps' room
+  renewed_room i cells entities columns =
+      record {
+        table = table;
+        within = λ some. subst (λ (v : EntityListValue). length v.list + room ≤ v.room) (sym entities) (h.within some);
+        each = λ some. subst (λ (v : EntityListValue). AllByRecursion (HasRoom (length v.list + room)) ps') (sym entities)
+            (subst (AllByRecursion (HasRoom (length es.list + room))) (sym columns) (rooms-replace (length es.list + room) i ps cells (h.each some)));
+      }
+
+  pub written_room : es' ≡ es → map room_of ps' ≡ map room_of ps → IsTableWithRoom ns es' ps' room
+  written_room entities columns =
+      record {
+        table = table;
+        within = λ some. subst (λ (v : EntityListValue). length v.list + room ≤ v.room) (sym entities) (h.within some);
+        each = λ some. subst (λ (v : EntityListValue). AllByRecursion (HasRoom (length v.list + room)) ps') (sym entities)
+            (rooms_as (length es.list + room) ps ps' columns (h.each some));
+      }
+
+  pub roomier_room : es'.list ≡ es.list → es.room ≤ es'.room → AreRoomier ps ps' → IsTableWithRoom ns es' ps' room
+  roomier_room entities more roomier =
+      let long = ap length entities in
+      record {
+        table = table;
+        within = λ some. (let within = h.within some in omega arith);
+        each = λ some. subst (λ n. AllByRecursion (HasRoom (n + room)) ps') (sym long) (rooms-roomier (length es.list + room) ps ps' roomier (h.each some));
+      }
+
+pub reserved_room : (ns : List ℕ) (es : EntityListValue) (ps : List ColumnSlotValue) (room : ℕ) → IsTable ns es.list ps → length es.list + room ≤ es.room → AllByRecursion (HasRoom (length es.list + room)) ps →
+    IsTableWithRoom ns es ps room
+reserved_room ns es ps room table within each = record { table = table; within = λ some. within; each = λ some. each }

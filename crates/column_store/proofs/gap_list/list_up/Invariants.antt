@@ -1,0 +1,7 @@
+use Rattle.std.proofs.Common.{◌≡◌, vec_len}
+use Rattle.std.specs.Prelude.{vec_capacity}
+use Rattle.column_store.specs.RowOrder.{numbers_from}
+use Rattle.column_store.proofs.gap_list.list_up.Given as goal
+
+abbrev pub invariant-loop-row : goal.invariant-loop-row
+invariant-loop-row l = record { numbers : l.numbers.items ≡ numbers_from 0 l.row; many : vec_len l.numbers ≡ l.row; room : vec_capacity l.numbers ≡ vec_capacity l.fn.numbers }
