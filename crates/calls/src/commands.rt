@@ -34,14 +34,14 @@ fn spawning(alloc: Global, spawns: u32) -> Option<TestEngine> {
 }
 
 /// The last id is granted, and the next one is refused.
-pub fn last_id(alloc: Global) -> Option<bool> {
+pub(crate) fn last_id(alloc: Global) -> Option<bool> {
     let mut engine = spawning(alloc, 1)?;
     let calls = [(1, None), (1, Some(RunFault::IdsSpent))];
     Some(runs_are(&mut engine, alloc, &calls))
 }
 
 /// Two ids where one is left are refused, and the engine is spoiled.
-pub fn spent_ids(alloc: Global) -> Option<bool> {
+pub(crate) fn spent_ids(alloc: Global) -> Option<bool> {
     let mut engine = spawning(alloc, 2)?;
     let calls = [(1, Some(RunFault::IdsSpent)), (1, Some(RunFault::Spoiled))];
     Some(runs_are(&mut engine, alloc, &calls))
@@ -67,20 +67,19 @@ fn scoring(alloc: Global) -> Option<TestEngine> {
 }
 
 /// Two starts on two threads, of which one is held until the other has left.
-pub fn schedule_order(alloc: Global, held: u64, awaited: u64) -> Option<Trial> {
+pub(crate) fn schedule_order(alloc: Global, held: u64, awaited: u64) -> Option<Trial> {
     let gate = TestGate::new(alloc, Rule::Hold(held, awaited))?;
     Trial::once(gate, scoring(alloc)?, 2)
-}
-
-/// Whether the score of the second system stayed, and no start was held in vain.
-pub fn has_second_score(trial: Option<Trial>) -> Option<bool> {
-    let trial = trial?;
-    Some(trial.place.faults() == 0 && score(&trial.engine, FIRST) == Some(Score { v: 2 }))
 }
 
 // The score of an entity.
 fn score(engine: &Engine<TestBody>, entity: Entity) -> Option<Score> {
     engine.state().world().get::<Score>(entity)
+}
+
+/// Whether the first entity has this score.
+pub(crate) fn has_score(engine: &Engine<TestBody>, v: i64) -> bool {
+    score(engine, FIRST) == Some(Score { v })
 }
 
 // An engine of two systems of one level, each of which spawns an entity and gives it a score, over a world in which nothing lives.
@@ -94,7 +93,7 @@ fn spawners(alloc: Global) -> Option<TestEngine> {
 }
 
 /// A run that is kept leaves the state as it was where an allocation fails, and once more taken it spawns its entities.
-pub fn kept_again(alloc: Global) -> Option<bool> {
+pub(crate) fn kept_again(alloc: Global) -> Option<bool> {
     let mut engine = spawners(alloc)?;
     let mut is_kept = true;
     let refused = engine.run_kept(alloc, 1, &Single).err();
@@ -110,20 +109,13 @@ fn is_begun(state: &State) -> bool {
     state.world().next_living(0) == None && state.world().now() == 1
 }
 
-// Whether the first system spawned the lesser id and the second the greater.
-fn have_spawned(engine: &Engine<TestBody>) -> bool {
-    let is_first = score(engine, FIRST) == Some(Score { v: 1 });
-    is_first && score(engine, SECOND) == Some(Score { v: 2 })
+/// Whether the first system spawned the lesser id and the second the greater.
+pub(crate) fn have_spawned(engine: &Engine<TestBody>) -> bool {
+    has_score(engine, 1) && score(engine, SECOND) == Some(Score { v: 2 })
 }
 
 /// Two starts that spawn, on two threads, of which one is held until the other has left.
-pub fn ids_of_level(alloc: Global, held: u64, awaited: u64) -> Option<Trial> {
+pub(crate) fn ids_of_level(alloc: Global, held: u64, awaited: u64) -> Option<Trial> {
     let gate = TestGate::new(alloc, Rule::Hold(held, awaited))?;
     Trial::once(gate, spawners(alloc)?, 2)
-}
-
-/// Whether the first system spawned the lesser id and the second the greater, and no start was held in vain.
-pub fn has_ids_in_order(trial: Option<Trial>) -> Option<bool> {
-    let trial = trial?;
-    Some(trial.place.faults() == 0 && have_spawned(&trial.engine))
 }

@@ -16,21 +16,21 @@ use script::{Block, Instruction, Rounds, ScriptBody};
 use std::alloc::Global;
 
 /// The parameters of a system with this query.
-pub fn params(alloc: Global, query: &str) -> Option<Params> {
+pub(crate) fn params(alloc: Global, query: &str) -> Option<Params> {
     let mut params = Params::new(alloc);
     params.add_query(Query::read(alloc, query).ok()?).ok()?;
     Some(params)
 }
 
 /// The parameters of a system with this query that gives commands and is granted so many ids.
-pub fn commanding(alloc: Global, query: &str, spawns: u32) -> Option<Params> {
+pub(crate) fn commanding(alloc: Global, query: &str, spawns: u32) -> Option<Params> {
     let mut params = params(alloc, query)?;
     params.set_spawns(spawns);
     Some(params)
 }
 
 /// The script of these instructions, in one block.
-pub fn script(
+pub(crate) fn script(
     alloc: Global,
     params: &Params,
     rounds: Rounds,
@@ -52,7 +52,7 @@ fn code(alloc: Global, instructions: &[&str]) -> Option<Vec<Instruction>> {
 }
 
 /// The schedule of systems with these parameters, in no order.
-pub fn built_of(alloc: Global, params: Vec<Params>) -> Option<Box<Built>> {
+pub(crate) fn built_of(alloc: Global, params: Vec<Params>) -> Option<Box<Built>> {
     let mut desc = ScheduleDesc::new(alloc);
     let mut number = 0u32;
     for params in params {
@@ -81,7 +81,7 @@ fn begun(alloc: Global, built: &Built, world: Box<World>) -> Option<Box<State>>
 
 /// An engine of systems with these parameters and bodies, over a world, or why there is none. Engines, worlds and what they are made of stand in
 /// boxes in these tests, since each function that holds one by value is dear to prove.
-pub fn made<B: Body>(
+pub(crate) fn made<B: Body>(
     alloc: Global,
     world: Box<World>,
     params: Vec<Params>,
@@ -114,7 +114,7 @@ pub struct Systems {
 
 impl Systems {
     /// No system.
-    pub fn new(alloc: Global) -> Self {
+    pub(crate) fn new(alloc: Global) -> Self {
         Systems {
             params: Vec::new(alloc),
             bodies: Vec::new(alloc),
@@ -122,13 +122,13 @@ impl Systems {
     }
 
     /// Adds a system. None where an allocation fails.
-    pub fn add(&mut self, params: Params, body: TestBody) -> Option<()> {
+    pub(crate) fn add(&mut self, params: Params, body: TestBody) -> Option<()> {
         self.params.push(params).ok()?;
         self.bodies.push(body).ok()
     }
 
     /// Adds a system with this query that follows a script.
-    pub fn follow(
+    pub(crate) fn follow(
         &mut self,
         alloc: Global,
         params: Params,
@@ -140,7 +140,7 @@ impl Systems {
     }
 
     /// The engine of these systems over a world.
-    pub fn engine(self, alloc: Global, world: Box<World>) -> Option<TestEngine>
+    pub(crate) fn engine(self, alloc: Global, world: Box<World>) -> Option<TestEngine>
         requires { AreAllHome world.value.layout }
     {
         made(alloc, world, self.params, self.bodies)?.ok()

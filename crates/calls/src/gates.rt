@@ -37,12 +37,12 @@ pub struct TestGate {
 
 impl TestGate {
     /// A gate that nobody has passed. None where an allocation fails.
-    pub fn new(alloc: Global, rule: Rule) -> Option<Arc<TestGate, Global>> {
+    pub(crate) fn new(alloc: Global, rule: Rule) -> Option<Arc<TestGate, Global>> {
         TestGate::with_patience(alloc, rule, PATIENCE)
     }
 
     /// A gate of which a start that is held looks so often whether it may pass.
-    pub fn with_patience(
+    pub(crate) fn with_patience(
         alloc: Global,
         rule: Rule,
         patience: u64,
@@ -60,23 +60,23 @@ impl TestGate {
     }
 
     /// How many starts were past the gate at once, at most.
-    pub fn most(&self) -> u64 {
+    pub(crate) fn most(&self) -> u64 {
         self.most.load(Ordering::SeqCst)
     }
 
     /// Which starts entered, and which left.
-    pub fn passed(&self) -> (u64, u64) {
+    pub(crate) fn passed(&self) -> (u64, u64) {
         let entered = self.entered.load(Ordering::SeqCst);
         (entered, self.left.load(Ordering::SeqCst))
     }
 
     /// How many starts entered or left twice, left before they entered, ran with nobody inside, or were held until the patience was at an end.
-    pub fn faults(&self) -> u64 {
+    pub(crate) fn faults(&self) -> u64 {
         self.faults.load(Ordering::SeqCst)
     }
 
     /// Notes a fault where nobody is past the gate.
-    pub fn look(&self) {
+    pub(crate) fn look(&self) {
         let left = self.left.load(Ordering::SeqCst);
         let entered = self.entered.load(Ordering::SeqCst);
         self.note(entered == left);

@@ -18,10 +18,7 @@ mod threads;
 mod worlds;
 
 use crate::board::{one_slot, two_hands};
-use crate::commands::{
-    has_ids_in_order, has_second_score, ids_of_level, kept_again, last_id, schedule_order,
-    spent_ids,
-};
+use crate::commands::{ids_of_level, kept_again, last_id, schedule_order, spent_ids};
 use crate::gates::PATIENCE;
 use crate::moving::{
     boxed, boxed_on_threads, kept_at_the_last_tick, kept_state, refused_engines, spent_clock,
@@ -30,8 +27,7 @@ use crate::moving::{
 use crate::resources::{kept_total, three_tallies};
 use crate::store::{buffers, entities, inserted_again, steps, texts, unions};
 use crate::threads::{
-    gather, has_no_fault, has_stood_round_five, has_traces, have_met, hold_first, meet, meet_over,
-    ran, refuse, refuse_on_threads, repeat, watch,
+    Wanted, gather, hold_first, judged, meet, meet_over, refuse, refuse_on_threads, repeat, watch,
 };
 use std::alloc::Global;
 use std::env;
@@ -128,15 +124,19 @@ fn boards<R: Threads>(runtime: &R, alloc: Global) -> [Test; 2] {
 
 // The tests of starts that meet.
 fn starts<R: Threads + Wait + Copy + Send + Sync + 'static>(rt: R, alloc: Global) -> [Test; 4] {
-    let two = ran(rt, alloc, gather(alloc, 2, 2, false));
-    let three = ran(rt, alloc, gather(alloc, 3, 3, false));
-    let many = ran(rt, alloc, gather(alloc, 256, 64, false));
-    let apart = ran(rt, alloc, gather(alloc, 2, 2, true));
+    let two = gather(alloc, 2, 2, false);
+    let two = judged(rt, alloc, two, Wanted::Met(2));
+    let three = gather(alloc, 3, 3, false);
+    let three = judged(rt, alloc, three, Wanted::Met(3));
+    let many = gather(alloc, 256, 64, false);
+    let many = judged(rt, alloc, many, Wanted::Met(64));
+    let apart = gather(alloc, 2, 2, true);
+    let apart = judged(rt, alloc, apart, Wanted::Met(2));
     [
-        ("two starts meet", have_met(two, 2)),
-        ("three starts meet", have_met(three, 3)),
-        ("sixty-four starts of many meet", have_met(many, 64)),
-        ("two starts meet, a thread for each", have_met(apart, 2)),
+        ("two starts meet", two),
+        ("three starts meet", three),
+        ("sixty-four starts of many meet", many),
+        ("two starts meet, a thread for each", apart),
     ]
 }
 
@@ -144,67 +144,60 @@ fn starts<R: Threads + Wait + Copy + Send + Sync + 'static>(rt: R, alloc: Global
 fn bodies_that_meet<R: Threads + Wait + Copy + Send + Sync + 'static>(
     rt: R,
     alloc: Global,
-) -> [Test; 5] {
-    let frozen = "mut Health, with Frozen";
-    let hidden = "mut Health, with Hidden";
-    let two = ran(rt, alloc, meet(alloc, 2, 2, PATIENCE));
-    let three = ran(rt, alloc, meet(alloc, 3, 3, PATIENCE));
-    let alone = ran(rt, alloc, meet(alloc, 2, 1, 200));
-    let apart = ran(rt, alloc, meet_over(alloc, [frozen, hidden], PATIENCE));
-    let shared = ran(rt, alloc, meet_over(alloc, [frozen, "read Health"], 200));
+) -> [Test; 3] {
+    let two = judged(rt, alloc, meet(alloc, 2, 2, PATIENCE), Wanted::Met(2));
+    let three = judged(rt, alloc, meet(alloc, 3, 3, PATIENCE), Wanted::Met(3));
+    let alone = judged(rt, alloc, meet(alloc, 2, 1, 200), Wanted::Met(1));
     [
-        ("two bodies meet", have_met(two, 2)),
-        ("three bodies meet", have_met(three, 3)),
-        ("two bodies do not meet on one thread", have_met(alone, 1)),
-        (
-            "two bodies meet whose queries share no entity",
-            have_met(apart, 2),
-        ),
-        (
-            "two bodies do not meet whose queries share one",
-            have_met(shared, 1),
-        ),
+        ("two bodies meet", two),
+        ("three bodies meet", three),
+        ("two bodies do not meet on one thread", alone),
+    ]
+}
+
+// The tests of bodies that meet by what they query.
+fn queries_that_meet<R: Threads + Wait + Copy + Send + Sync + 'static>(
+    rt: R,
+    alloc: Global,
+) -> [Test; 2] {
+    let frozen = "mut Health, with Frozen";
+    let apart = meet_over(alloc, [frozen, "mut Health, with Hidden"], PATIENCE);
+    let apart = judged(rt, alloc, apart, Wanted::Met(2));
+    let shared = meet_over(alloc, [frozen, "read Health"], 200);
+    let shared = judged(rt, alloc, shared, Wanted::Met(1));
+    [
+        ("two bodies meet whose queries share no entity", apart),
+        ("two bodies do not meet whose queries share one", shared),
     ]
 }
 
 // The tests of gates, and of many runs.
 fn orders<R: Threads + Wait + Copy + Send + Sync + 'static>(rt: R, alloc: Global) -> [Test; 3] {
-    let held = ran(rt, alloc, hold_first(alloc));
-    let watched = ran(rt, alloc, watch(alloc));
-    let repeated = ran(rt, alloc, repeat(alloc));
+    let held = judged(rt, alloc, hold_first(alloc), Wanted::NoFault);
+    let watched = judged(rt, alloc, watch(alloc), Wanted::FivePassed);
+    let repeated = judged(rt, alloc, repeat(alloc), Wanted::Traces(10_000));
     [
-        ("who ends first comes back first", has_no_fault(held)),
-        (
-            "a gate stands round each body",
-            has_stood_round_five(watched),
-        ),
-        ("ten thousand runs on threads", has_traces(repeated)),
+        ("who ends first comes back first", held),
+        ("a gate stands round each body", watched),
+        ("ten thousand runs on threads", repeated),
     ]
 }
 
 // The tests of commands under both ends of two starts.
 fn levels<R: Threads + Wait + Copy + Send + Sync + 'static>(rt: R, alloc: Global) -> [Test; 4] {
-    let first = ran(rt, alloc, schedule_order(alloc, 1, 2));
-    let second = ran(rt, alloc, schedule_order(alloc, 2, 1));
-    let first_ids = ran(rt, alloc, ids_of_level(alloc, 1, 2));
-    let second_ids = ran(rt, alloc, ids_of_level(alloc, 2, 1));
+    let first = schedule_order(alloc, 1, 2);
+    let first = judged(rt, alloc, first, Wanted::Score(2));
+    let second = schedule_order(alloc, 2, 1);
+    let second = judged(rt, alloc, second, Wanted::Score(2));
+    let first_ids = ids_of_level(alloc, 1, 2);
+    let first_ids = judged(rt, alloc, first_ids, Wanted::IdsInOrder);
+    let second_ids = ids_of_level(alloc, 2, 1);
+    let second_ids = judged(rt, alloc, second_ids, Wanted::IdsInOrder);
     [
-        (
-            "commands in schedule order, the first start last",
-            has_second_score(first),
-        ),
-        (
-            "commands in schedule order, the second start last",
-            has_second_score(second),
-        ),
-        (
-            "ids in schedule order, the first start last",
-            has_ids_in_order(first_ids),
-        ),
-        (
-            "ids in schedule order, the second start last",
-            has_ids_in_order(second_ids),
-        ),
+        ("commands in schedule order, the first start last", first),
+        ("commands in schedule order, the second start last", second),
+        ("ids in schedule order, the first start last", first_ids),
+        ("ids in schedule order, the second start last", second_ids),
     ]
 }
 
@@ -234,6 +227,7 @@ fn main(rt: HostRuntime) -> io::Result<()> {
     tell(&mut rt.stdout(), &bodies_on_threads(rt, rt.alloc()))?;
     tell(&mut rt.stdout(), &starts(rt, rt.alloc()))?;
     tell(&mut rt.stdout(), &bodies_that_meet(rt, rt.alloc()))?;
+    tell(&mut rt.stdout(), &queries_that_meet(rt, rt.alloc()))?;
     tell(&mut rt.stdout(), &orders(rt, rt.alloc()))?;
     tell(&mut rt.stdout(), &levels(rt, rt.alloc()))?;
     tell(&mut rt.stdout(), &again(rt.alloc()))

@@ -61,7 +61,7 @@ fn position(state: &State) -> Option<Position> {
 }
 
 /// After three runs from tick 1 the position is 3 and -6 since tick 9, the velocity as it was loaded, and the clock at tick 10.
-pub fn stamps(alloc: Global) -> Option<bool> {
+pub(crate) fn stamps(alloc: Global) -> Option<bool> {
     let mut engine = moving(alloc, Clock::at(1))?;
     let has_run = runs_are(&mut engine, alloc, &[(3, None)]);
     Some(has_run && is_moved(engine.state()))
@@ -76,7 +76,7 @@ fn is_moved(state: &State) -> bool {
 }
 
 /// A run whose clock is spent at its opening, at its start or at its sync point stops, and each one after it finds the engine spoiled.
-pub fn spent_clock(alloc: Global) -> Option<bool> {
+pub(crate) fn spent_clock(alloc: Global) -> Option<bool> {
     let mut is_told = true;
     for ticks_left in 0..3 {
         is_told = is_told && is_spoiled(alloc, Clock::at(LAST_TICK - ticks_left))?;
@@ -96,7 +96,7 @@ fn is_spoiled(alloc: Global, clock: Clock) -> Option<bool> {
 }
 
 /// At a spent clock a run that is kept tells so as often as it is asked: the engine isn't spoiled.
-pub fn kept_at_the_last_tick(alloc: Global) -> Option<bool> {
+pub(crate) fn kept_at_the_last_tick(alloc: Global) -> Option<bool> {
     let mut engine = moving(alloc, Clock::at(LAST_TICK))?;
     let calls = [
         (1, Some(RunFault::ClockSpent)),
@@ -106,7 +106,7 @@ pub fn kept_at_the_last_tick(alloc: Global) -> Option<bool> {
 }
 
 /// Two runs for which the clock has ticks for one leave no trace: position and clock are as they were, and one run may follow.
-pub fn kept_state(alloc: Global) -> Option<bool> {
+pub(crate) fn kept_state(alloc: Global) -> Option<bool> {
     let mut engine = moving(alloc, Clock::at(LAST_TICK - 5))?;
     let is_told = kept_runs_are(&mut engine, alloc, &[(2, Some(RunFault::ClockSpent))]);
     let stays = is_at(engine.state(), 0, 0) && engine.state().world().now() == LAST_TICK - 5;
@@ -162,7 +162,7 @@ fn on_threads<R: Threads + Wait + Copy + Send + Sync + 'static, B: Body + 'stati
 }
 
 /// Bodies of two types in boxes, a script that moves and one that touches nothing, do on this thread what the script does.
-pub fn boxed(alloc: Global) -> Option<bool> {
+pub(crate) fn boxed(alloc: Global) -> Option<bool> {
     let mut bodies: Vec<Box<dyn Body + Send>> = Vec::new(alloc);
     bodies.push(Box::new(alloc, movement(alloc)?).ok()?).ok()?;
     bodies
@@ -172,7 +172,7 @@ pub fn boxed(alloc: Global) -> Option<bool> {
 }
 
 /// And so they do on two threads.
-pub fn boxed_on_threads<R: Threads + Wait + Copy + Send + Sync + 'static>(
+pub(crate) fn boxed_on_threads<R: Threads + Wait + Copy + Send + Sync + 'static>(
     runtime: R,
     alloc: Global,
 ) -> Option<bool> {
@@ -201,7 +201,7 @@ fn turning(alloc: Global) -> Option<Vec<TestBody>> {
 }
 
 /// An engine of the system that moves is refused without a body, and with the body of another system.
-pub fn refused_engines(alloc: Global) -> Option<bool> {
+pub(crate) fn refused_engines(alloc: Global) -> Option<bool> {
     let without = refusal(alloc, Vec::new(alloc))?;
     let other = refusal(alloc, turning(alloc)?)?;
     Some(without == Some(NewFault::Count) && other == Some(NewFault::Misfit(0)))

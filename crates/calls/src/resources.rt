@@ -55,7 +55,7 @@ fn refusing_at_one(alloc: Global) -> Option<TestEngine> {
 }
 
 /// After three runs the total is 15 since tick 9 and the step 5 since tick 1, and register 0 of the one system is 3.
-pub fn three_tallies(alloc: Global) -> Option<bool> {
+pub(crate) fn three_tallies(alloc: Global) -> Option<bool> {
     let mut engine = adding_five(alloc)?;
     let has_run = runs_are(&mut engine, alloc, &[(3, None)]);
     Some(has_run && is_tallied(engine.state()))
@@ -79,7 +79,7 @@ fn total(engine: &Engine<TestBody>) -> i64 {
 }
 
 /// Three runs of which the second is refused leave the total at 0, and one run then adds to it.
-pub fn kept_total(alloc: Global) -> Option<bool> {
+pub(crate) fn kept_total(alloc: Global) -> Option<bool> {
     let mut engine = refusing_at_one(alloc)?;
     let is_refused = kept_runs_are(&mut engine, alloc, &[(3, Some(RunFault::BodyFault(7)))]);
     let before = total(&engine);

@@ -13,7 +13,7 @@ use std::thread::{Scope, Threads};
 use worker_pool::{Single, Workers};
 
 /// Whether runs on this thread, so many at each call, stop by these faults, or by none.
-pub fn runs_are(
+pub(crate) fn runs_are(
     engine: &mut Engine<TestBody>,
     alloc: Global,
     calls: &[(u32, Option<RunFault>)],
@@ -27,7 +27,7 @@ pub fn runs_are(
 }
 
 /// Whether the same is so of runs that leave no trace of a fault.
-pub fn kept_runs_are(
+pub(crate) fn kept_runs_are(
     engine: &mut Engine<TestBody>,
     alloc: Global,
     calls: &[(u32, Option<RunFault>)],
@@ -53,7 +53,7 @@ pub struct Plan {
 
 impl Plan {
     /// One run on so many threads, which stand.
-    pub fn once(workers: u32) -> Self {
+    pub(crate) fn once(workers: u32) -> Self {
         Plan {
             workers: workers as usize,
             times: 1,
@@ -80,7 +80,7 @@ fn run_in_scope<'s, E: 's, R: Threads + Wait + Copy + Send + 's, B: Body + 's>(
 }
 
 /// Runs an engine on threads of a scope of its own. Answers how many traces there are.
-pub fn run_on_threads<R: Threads + Wait + Copy + Send + Sync + 'static, B: Body + 'static>(
+pub(crate) fn run_on_threads<R: Threads + Wait + Copy + Send + Sync + 'static, B: Body + 'static>(
     runtime: R,
     gate: &TestGate,
     alloc: Global,

@@ -20,7 +20,7 @@ use trace_checker::read::read_traces;
 use trace_checker::write::text_of_traces;
 
 /// A component is there until it is removed, and an entity until it is despawned; its index is then granted at the next generation.
-pub fn entities(alloc: Global) -> Option<bool> {
+pub(crate) fn entities(alloc: Global) -> Option<bool> {
     let mut world = world_of_one(alloc, Clock::at(1))?;
     put(&mut world, Health { v: 3 })?;
     Some(
@@ -31,7 +31,7 @@ pub fn entities(alloc: Global) -> Option<bool> {
 }
 
 /// An insert that is refused as an allocation fails leaves the entity as it was, and once more taken it gives the component.
-pub fn inserted_again(alloc: Global) -> Option<bool> {
+pub(crate) fn inserted_again(alloc: Global) -> Option<bool> {
     let mut world = world_of_one(alloc, Clock::at(1))?;
     let mut is_kept = true;
     if world.insert(FIRST, Health { v: 3 }, 1).is_err() {
@@ -76,7 +76,7 @@ fn are(lists: Unread<'_>, older: &[i64], newer: &[i64]) -> bool {
 }
 
 /// Events are kept for two updates, and shown from a cursor on.
-pub fn buffers(alloc: Global) -> Option<bool> {
+pub(crate) fn buffers(alloc: Global) -> Option<bool> {
     let mut events = Events::new(alloc);
     events.send(Event::Hit, 4).ok()?;
     events.send(Event::Hit, 5).ok()?;
@@ -92,7 +92,7 @@ pub fn buffers(alloc: Global) -> Option<bool> {
 }
 
 /// What two systems touch together conflicts with what one of them does.
-pub fn unions(alloc: Global) -> Option<bool> {
+pub(crate) fn unions(alloc: Global) -> Option<bool> {
     let both = params(alloc, "mut Health")?
         .union(params(alloc, "read Score")?)
         .ok()?;
@@ -105,7 +105,7 @@ fn touches(alloc: Global, params: &Params, query: &str) -> Option<bool> {
 }
 
 /// What a core would answer to a step is what it answers.
-pub fn steps(alloc: Global) -> Option<bool> {
+pub(crate) fn steps(alloc: Global) -> Option<bool> {
     let mut all = Vec::new(alloc);
     all.push(params(alloc, "mut Health")?).ok()?;
     all.push(params(alloc, "mut Health")?).ok()?;
@@ -122,7 +122,7 @@ fn conflict(core: &mut Core<'_>) -> bool {
 }
 
 /// A list of runs is written as it is read, where its text is within the limit.
-pub fn texts(alloc: Global) -> Option<bool> {
+pub(crate) fn texts(alloc: Global) -> Option<bool> {
     let text = "R 1\nY 0\n";
     let traces = read_traces(alloc, text.as_bytes()).ok()?;
     if traces.len() != 1 {

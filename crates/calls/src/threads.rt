@@ -3,6 +3,7 @@
 ghost use Rattle.std.specs.Prelude.{};
 
 use crate::bodies::TestBody;
+use crate::commands::{has_score, have_spawned};
 use crate::engines::{Systems, TestEngine, params};
 use crate::gates::{Rule, TestGate};
 use crate::runs::{Plan, run_on_threads, runs_are};
@@ -14,21 +15,41 @@ use std::alloc::Global;
 use std::sync::{Arc, Wait};
 use std::thread::Threads;
 
+/// What is wanted of a trial that has run.
+#[derive(Clone, Copy)]
+pub enum Wanted {
+    /// So many were past the gate at once, at most.
+    Met(u64),
+    /// No start was held in vain.
+    NoFault,
+    /// The gate was entered before each of five bodies and left behind it, once for each start, with the numbers from 1 on.
+    FivePassed,
+    /// So many runs left a trace.
+    Traces(usize),
+    /// The first entity has this score, and no start was held in vain.
+    Score(i64),
+    /// The first system spawned the lesser id and the second the greater, and no start was held in vain.
+    IdsInOrder,
+}
+
 /// An engine that is to run on threads, how, and the gate of its workers.
 #[derive(Drop)]
 pub struct Trial {
-    /// The gate that is looked at afterwards: that of the workers, or one at which bodies meet.
-    pub place: Arc<TestGate, Global>,
+    // The gate that is looked at afterwards: that of the workers, or one at which bodies meet.
+    place: Arc<TestGate, Global>,
     gate: Arc<TestGate, Global>,
-    /// The engine.
-    pub engine: TestEngine,
+    engine: TestEngine,
     plan: Plan,
     traces: usize,
 }
 
 impl Trial {
     /// One run on so many threads, which stand.
-    pub fn once(gate: Arc<TestGate, Global>, engine: TestEngine, workers: u32) -> Option<Self> {
+    pub(crate) fn once(
+        gate: Arc<TestGate, Global>,
+        engine: TestEngine,
+        workers: u32,
+    ) -> Option<Self> {
         let place = Arc::try_clone(&gate).ok()?;
         Some(Trial {
             place,
@@ -53,17 +74,31 @@ impl Trial {
             Err(fault) => Some(fault),
         }
     }
+
+    // Whether what is wanted is so.
+    fn is_so(&self, wanted: Wanted) -> bool {
+        let place = &self.place;
+        match wanted {
+            Wanted::Met(count) => place.most() == count,
+            Wanted::NoFault => place.faults() == 0,
+            Wanted::FivePassed => place.passed() == (62, 62) && place.faults() == 0,
+            Wanted::Traces(count) => self.traces == count,
+            Wanted::Score(v) => place.faults() == 0 && has_score(&self.engine, v),
+            Wanted::IdsInOrder => place.faults() == 0 && have_spawned(&self.engine),
+        }
+    }
 }
 
-/// A trial that has run. None where there is none, or its run stopped.
-pub fn ran<R: Threads + Wait + Copy + Send + Sync + 'static>(
+/// Whether a trial runs, and what is wanted of it is so afterwards. None where there is no trial, or its run stops.
+pub(crate) fn judged<R: Threads + Wait + Copy + Send + Sync + 'static>(
     runtime: R,
     alloc: Global,
     trial: Option<Trial>,
-) -> Option<Trial> {
+    wanted: Wanted,
+) -> Option<bool> {
     let mut trial = trial?;
     match trial.run(runtime, alloc) {
-        None => Some(trial),
+        None => Some(trial.is_so(wanted)),
         Some(_fault) => None,
     }
 }
@@ -115,7 +150,7 @@ fn watching(alloc: Global, count: u32, gate: &Arc<TestGate, Global>) -> Option<T
 }
 
 /// So many bodies on so many threads, which wait for each other at a place, and so often look whether all are there.
-pub fn meet(alloc: Global, systems: u32, workers: u32, patience: u64) -> Option<Trial> {
+pub(crate) fn meet(alloc: Global, systems: u32, workers: u32, patience: u64) -> Option<Trial> {
     let rule = Rule::Gather(u64::from(systems));
     let place = TestGate::with_patience(alloc, rule, patience)?;
     let gate = TestGate::new(alloc, Rule::Open)?;
@@ -127,7 +162,7 @@ pub fn meet(alloc: Global, systems: u32, workers: u32, patience: u64) -> Option<
 }
 
 /// Two bodies on two threads, of systems with these queries, which wait for each other at a place, and so often look whether both are there.
-pub fn meet_over(alloc: Global, queries: [&str; 2], patience: u64) -> Option<Trial> {
+pub(crate) fn meet_over(alloc: Global, queries: [&str; 2], patience: u64) -> Option<Trial> {
     let place = TestGate::with_patience(alloc, Rule::Gather(2), patience)?;
     let gate = TestGate::new(alloc, Rule::Open)?;
     let engine = querying(alloc, queries, &place)?;
@@ -138,44 +173,28 @@ pub fn meet_over(alloc: Global, queries: [&str; 2], patience: u64) -> Option<Tri
 }
 
 /// So many systems on so many threads, of which a gate holds each until as many are past it as there are threads.
-pub fn gather(alloc: Global, systems: u32, workers: u32, in_threads: bool) -> Option<Trial> {
+pub(crate) fn gather(alloc: Global, systems: u32, workers: u32, in_threads: bool) -> Option<Trial> {
     let gate = TestGate::new(alloc, Rule::Gather(u64::from(workers)))?;
     let mut trial = Trial::once(gate, answering(alloc, systems, false)?, workers)?;
     trial.plan.in_threads = in_threads;
     Some(trial)
 }
 
-/// Whether so many were past the gate at once, at most.
-pub fn have_met(trial: Option<Trial>, count: u64) -> Option<bool> {
-    Some(trial?.place.most() == count)
-}
-
 /// Three starts on two threads, of which the first is held until the third has left.
-pub fn hold_first(alloc: Global) -> Option<Trial> {
+pub(crate) fn hold_first(alloc: Global) -> Option<Trial> {
     let gate = TestGate::new(alloc, Rule::Hold(1, 3))?;
     Trial::once(gate, answering(alloc, 3, false)?, 2)
 }
 
-/// Whether no start was held in vain.
-pub fn has_no_fault(trial: Option<Trial>) -> Option<bool> {
-    Some(trial?.place.faults() == 0)
-}
-
 /// Five bodies that look at the gate.
-pub fn watch(alloc: Global) -> Option<Trial> {
+pub(crate) fn watch(alloc: Global) -> Option<Trial> {
     let gate = TestGate::new(alloc, Rule::Open)?;
     let engine = watching(alloc, 5, &gate)?;
     Trial::once(gate, engine, 2)
 }
 
-/// Whether the gate was entered before each of five bodies and left behind it, once for each start, with the numbers from 1 on.
-pub fn has_stood_round_five(trial: Option<Trial>) -> Option<bool> {
-    let trial = trial?;
-    Some(trial.place.passed() == (62, 62) && trial.place.faults() == 0)
-}
-
 /// A body that refuses stops its run, and the next one finds the engine spoiled.
-pub fn refuse(alloc: Global) -> Option<bool> {
+pub(crate) fn refuse(alloc: Global) -> Option<bool> {
     let mut engine = answering(alloc, 1, true)?;
     let calls = [
         (1, Some(RunFault::BodyFault(7))),
@@ -191,7 +210,7 @@ fn refusing(alloc: Global) -> Option<Trial> {
 }
 
 /// And so it does on four threads, while three others run beside it.
-pub fn refuse_on_threads<R: Threads + Wait + Copy + Send + Sync + 'static>(
+pub(crate) fn refuse_on_threads<R: Threads + Wait + Copy + Send + Sync + 'static>(
     runtime: R,
     alloc: Global,
 ) -> Option<bool> {
@@ -202,14 +221,9 @@ pub fn refuse_on_threads<R: Threads + Wait + Copy + Send + Sync + 'static>(
 }
 
 /// Ten thousand runs of eight systems on eight threads.
-pub fn repeat(alloc: Global) -> Option<Trial> {
+pub(crate) fn repeat(alloc: Global) -> Option<Trial> {
     let gate = TestGate::new(alloc, Rule::Open)?;
     let mut trial = Trial::once(gate, answering(alloc, 8, false)?, 8)?;
     trial.plan.times = 10_000;
     Some(trial)
-}
-
-/// Whether ten thousand runs left as many traces.
-pub fn has_traces(trial: Option<Trial>) -> Option<bool> {
-    Some(trial?.traces == 10_000)
 }

@@ -24,7 +24,7 @@ const SECOND: Entity = Entity {
 };
 
 /// A world at a clock in which nothing lives.
-pub fn empty_world(alloc: Global, clock: Clock) -> Option<Box<World>>
+pub(crate) fn empty_world(alloc: Global, clock: Clock) -> Option<Box<World>>
     ensures clock { IfSome result (λ world. 1 ≤ world.value.state.clock) }
     ensures home { IfSome result (λ world. AreAllHome world.value.layout) }
 {
@@ -34,7 +34,7 @@ pub fn empty_world(alloc: Global, clock: Clock) -> Option<Box<World>>
 }
 
 /// A world at a clock in which the first entity lives, without components.
-pub fn world_of_one(alloc: Global, clock: Clock) -> Option<Box<World>>
+pub(crate) fn world_of_one(alloc: Global, clock: Clock) -> Option<Box<World>>
     ensures clock { IfSome result (λ world. 1 ≤ world.value.state.clock) }
     ensures home { IfSome result (λ world. AreAllHome world.value.layout) }
 {
@@ -45,7 +45,7 @@ pub fn world_of_one(alloc: Global, clock: Clock) -> Option<Box<World>>
 }
 
 /// Gives the first entity a component at tick 1. None where it does not live, or an allocation fails.
-pub fn put<C: Component>(world: &mut World, component: C) -> Option<()>
+pub(crate) fn put<C: Component>(world: &mut World, component: C) -> Option<()>
     requires clock { 1 ≤ world.old.state.clock }
     requires home { AreAllHome world.old.layout }
     ensures clock { 1 ≤ world.new.state.clock }
@@ -65,7 +65,7 @@ fn give<C: Component>(world: &mut World, entity: Entity, component: C) -> Option
 }
 
 /// A world of two entities with health, of which the first is frozen and the second hidden.
-pub fn frozen_and_hidden(alloc: Global) -> Option<Box<World>>
+pub(crate) fn frozen_and_hidden(alloc: Global) -> Option<Box<World>>
     ensures home { IfSome result (λ world. AreAllHome world.value.layout) }
 {
     let mut world = world_of_many(alloc, Clock::at(1), 2)?;
@@ -77,7 +77,7 @@ pub fn frozen_and_hidden(alloc: Global) -> Option<Box<World>>
 }
 
 /// Settles all of these granted ids as used.
-pub fn settle_used(world: &mut World, ids: &[Entity])
+pub(crate) fn settle_used(world: &mut World, ids: &[Entity])
     requires granted { All (IsGranted world.old.state.slots) ids.now }
     requires apart { AreApart ids.now }
     ensures clock { world.new.state.clock ≡ world.old.state.clock }
@@ -87,7 +87,7 @@ pub fn settle_used(world: &mut World, ids: &[Entity])
 }
 
 /// A world at a clock in which so many entities live, without components.
-pub fn world_of_many(alloc: Global, clock: Clock, count: u32) -> Option<Box<World>>
+pub(crate) fn world_of_many(alloc: Global, clock: Clock, count: u32) -> Option<Box<World>>
     ensures clock { IfSome result (λ world. 1 ≤ world.value.state.clock) }
     ensures home { IfSome result (λ world. AreAllHome world.value.layout) }
 {
