@@ -5,6 +5,7 @@
 
 ghost use Rattle.std.specs.Prelude.{};
 
+mod again;
 mod board;
 mod bodies;
 mod commands;
@@ -25,7 +26,7 @@ use crate::moving::{
     stamps,
 };
 use crate::resources::{kept_total, three_tallies};
-use crate::store::{buffers, entities, inserted_again, steps, texts, unions};
+use crate::store::{buffers, entities, steps, texts, unions};
 use crate::threads::{
     Wanted, gather, hold_first, judged, meet, meet_over, refuse, refuse_on_threads, repeat, watch,
 };
@@ -173,7 +174,7 @@ fn queries_that_meet<R: Threads + Wait + Copy + Send + Sync + 'static>(
 
 // The tests of gates, and of many runs.
 fn orders<R: Threads + Wait + Copy + Send + Sync + 'static>(rt: R, alloc: Global) -> [Test; 3] {
-    let held = judged(rt, alloc, hold_first(alloc), Wanted::NoFault);
+    let held = judged(rt, alloc, hold_first(alloc), Wanted::Recorded);
     let watched = judged(rt, alloc, watch(alloc), Wanted::FivePassed);
     let repeated = judged(rt, alloc, repeat(alloc), Wanted::Traces(10_000));
     [
@@ -202,11 +203,19 @@ fn levels<R: Threads + Wait + Copy + Send + Sync + 'static>(rt: R, alloc: Global
 }
 
 // The tests of calls that are taken once more where an allocation fails. Each of their allocations is refused in turn by `.ci/allocations`.
-fn again(alloc: Global) -> [Test; 2] {
+fn made_again(alloc: Global) -> [Test; 4] {
     [
         (
             "an insert, once more where it is refused",
-            inserted_again(alloc),
+            again::inserted(alloc),
+        ),
+        (
+            "commands, once more where they are refused",
+            again::applied(alloc),
+        ),
+        (
+            "a column to be written, once more where it is refused",
+            again::taken(alloc),
         ),
         (
             "a run that is kept, once more where it is refused",
@@ -218,7 +227,7 @@ fn again(alloc: Global) -> [Test; 2] {
 // With an argument only the calls that are taken once more are made.
 fn main(rt: HostRuntime) -> io::Result<()> {
     if env::args(&rt)?.skip(1).next().is_some() {
-        return tell(&mut rt.stdout(), &again(rt.alloc()));
+        return tell(&mut rt.stdout(), &made_again(rt.alloc()));
     }
     tell(&mut rt.stdout(), &runs_alone(rt.alloc()))?;
     tell(&mut rt.stdout(), &parts(rt.alloc()))?;
@@ -230,5 +239,5 @@ fn main(rt: HostRuntime) -> io::Result<()> {
     tell(&mut rt.stdout(), &queries_that_meet(rt, rt.alloc()))?;
     tell(&mut rt.stdout(), &orders(rt, rt.alloc()))?;
     tell(&mut rt.stdout(), &levels(rt, rt.alloc()))?;
-    tell(&mut rt.stdout(), &again(rt.alloc()))
+    tell(&mut rt.stdout(), &made_again(rt.alloc()))
 }

@@ -6,6 +6,7 @@ use crate::bodies::TestBody;
 use crate::gates::TestGate;
 use body::Body;
 use engine::{Engine, RunFault};
+use executor_core::{Step, Trace};
 use std::alloc::Global;
 use std::sync::Wait;
 use std::thread;
@@ -49,6 +50,17 @@ pub struct Plan {
     pub times: u32,
     /// Whether each start has a thread of its own.
     pub in_threads: bool,
+    /// The steps that the first run may record.
+    pub records: &'static [[Step; 7]],
+}
+
+/// What runs left.
+#[derive(Clone, Copy)]
+pub struct Ran {
+    /// How many traces there are.
+    pub traces: usize,
+    /// Whether the steps of the first are some that they may be.
+    pub is_recorded: bool,
 }
 
 impl Plan {
@@ -58,11 +70,26 @@ impl Plan {
             workers: workers as usize,
             times: 1,
             in_threads: false,
+            records: &[],
         }
     }
 }
 
-// Runs an engine on threads of a scope. Answers how many traces there are.
+// What these traces are.
+fn seen(traces: &[Trace], records: &[[Step; 7]]) -> Ran {
+    let is_recorded = match traces.first() {
+        Some(trace) => records
+            .iter()
+            .any(|record| record.as_slice() == trace.steps()),
+        None => false,
+    };
+    Ran {
+        traces: traces.len(),
+        is_recorded,
+    }
+}
+
+// Runs an engine on threads of a scope.
 fn run_in_scope<'s, E: 's, R: Threads + Wait + Copy + Send + 's, B: Body + 's>(
     scope: &Scope<'s, E>,
     runtime: R,
@@ -70,27 +97,28 @@ fn run_in_scope<'s, E: 's, R: Threads + Wait + Copy + Send + 's, B: Body + 's>(
     alloc: Global,
     plan: Plan,
     engine: &mut Engine<B>,
-) -> Result<usize, RunFault> {
+) -> Result<Ran, RunFault> {
     let workers = plan.workers.max(1).min(64);
     let mut mode = Workers::new(workers, scope, runtime, gate);
     if plan.in_threads {
         mode = mode.each_in_a_thread();
     }
-    Ok(engine.run(alloc, plan.times, &mode)?.len())
+    let traces = engine.run(alloc, plan.times, &mode)?;
+    Ok(seen(traces.as_slice(), plan.records))
 }
 
-/// Runs an engine on threads of a scope of its own. Answers how many traces there are.
+/// Runs an engine on threads of a scope of its own.
 pub(crate) fn run_on_threads<R: Threads + Wait + Copy + Send + Sync + 'static, B: Body + 'static>(
     runtime: R,
     gate: &TestGate,
     alloc: Global,
     plan: Plan,
     engine: &mut Engine<B>,
-) -> Result<usize, RunFault> {
+) -> Result<Ran, RunFault> {
     thread::scope(
         thread::scope_env(),
         &runtime,
-        |scope| -> Result<usize, RunFault> {
+        |scope| -> Result<Ran, RunFault> {
             run_in_scope(scope, runtime, gate, alloc, plan, engine)
         },
     )

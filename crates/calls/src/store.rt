@@ -30,17 +30,6 @@ pub(crate) fn entities(alloc: Global) -> Option<bool> {
     )
 }
 
-/// An insert that is refused as an allocation fails leaves the entity as it was, and once more taken it gives the component.
-pub(crate) fn inserted_again(alloc: Global) -> Option<bool> {
-    let mut world = world_of_one(alloc, Clock::at(1))?;
-    let mut is_kept = true;
-    if world.insert(FIRST, Health { v: 3 }, 1).is_err() {
-        is_kept = world.lives(FIRST) && world.get::<Health>(FIRST) == None;
-        put(&mut world, Health { v: 3 })?;
-    }
-    Some(is_kept && world.get::<Health>(FIRST) == Some(Health { v: 3 }))
-}
-
 // Whether the first entity has health until it is removed.
 fn is_removed(world: &mut World) -> Option<bool>
     requires { AreAllHome world.old.layout }

@@ -6,11 +6,12 @@ use crate::bodies::TestBody;
 use crate::commands::{has_score, have_spawned};
 use crate::engines::{Systems, TestEngine, params};
 use crate::gates::{Rule, TestGate};
-use crate::runs::{Plan, run_on_threads, runs_are};
+use crate::runs::{Plan, Ran, run_on_threads, runs_are};
 use crate::worlds::{empty_world, frozen_and_hidden};
 use access_set::Params;
 use change_ticks::Clock;
 use engine::RunFault;
+use executor_core::Step;
 use std::alloc::Global;
 use std::sync::{Arc, Wait};
 use std::thread::Threads;
@@ -20,17 +21,40 @@ use std::thread::Threads;
 pub enum Wanted {
     /// So many were past the gate at once, at most.
     Met(u64),
-    /// No start was held in vain.
-    NoFault,
     /// The gate was entered before each of five bodies and left behind it, once for each start, with the numbers from 1 on.
     FivePassed,
     /// So many runs left a trace.
     Traces(usize),
+    /// The run recorded steps that its gate lets it record, and no start was held in vain.
+    Recorded,
     /// The first entity has this score, and no start was held in vain.
     Score(i64),
     /// The first system spawned the lesser id and the second the greater, and no start was held in vain.
     IdsInOrder,
 }
+
+// What three starts on two threads record where the first is held until the third has left: the second comes back before the third starts,
+// and of the other two either may come back first.
+const HELD: [[Step; 7]; 2] = [
+    [
+        Step::Start(0),
+        Step::Start(1),
+        Step::Finish(1),
+        Step::Start(2),
+        Step::Finish(0),
+        Step::Finish(2),
+        Step::Sync(0),
+    ],
+    [
+        Step::Start(0),
+        Step::Start(1),
+        Step::Finish(1),
+        Step::Start(2),
+        Step::Finish(2),
+        Step::Finish(0),
+        Step::Sync(0),
+    ],
+];
 
 /// An engine that is to run on threads, how, and the gate of its workers.
 #[derive(Drop)]
@@ -40,7 +64,7 @@ pub struct Trial {
     gate: Arc<TestGate, Global>,
     engine: TestEngine,
     plan: Plan,
-    traces: usize,
+    ran: Ran,
 }
 
 impl Trial {
@@ -56,19 +80,22 @@ impl Trial {
             gate,
             engine,
             plan: Plan::once(workers),
-            traces: 0,
+            ran: Ran {
+                traces: 0,
+                is_recorded: false,
+            },
         })
     }
 
-    // Runs the engine on threads, and keeps how many traces there were. Answers the fault, none where all ran.
+    // Runs the engine on threads, and keeps what it left. Answers the fault, none where all ran.
     fn run<R: Threads + Wait + Copy + Send + Sync + 'static>(
         &mut self,
         runtime: R,
         alloc: Global,
     ) -> Option<RunFault> {
         match run_on_threads(runtime, &self.gate, alloc, self.plan, &mut self.engine) {
-            Ok(traces) => {
-                self.traces = traces;
+            Ok(ran) => {
+                self.ran = ran;
                 None
             }
             Err(fault) => Some(fault),
@@ -80,9 +107,9 @@ impl Trial {
         let place = &self.place;
         match wanted {
             Wanted::Met(count) => place.most() == count,
-            Wanted::NoFault => place.faults() == 0,
             Wanted::FivePassed => place.passed() == (62, 62) && place.faults() == 0,
-            Wanted::Traces(count) => self.traces == count,
+            Wanted::Traces(count) => self.ran.traces == count,
+            Wanted::Recorded => place.faults() == 0 && self.ran.is_recorded,
             Wanted::Score(v) => place.faults() == 0 && has_score(&self.engine, v),
             Wanted::IdsInOrder => place.faults() == 0 && have_spawned(&self.engine),
         }
@@ -183,7 +210,9 @@ pub(crate) fn gather(alloc: Global, systems: u32, workers: u32, in_threads: bool
 /// Three starts on two threads, of which the first is held until the third has left.
 pub(crate) fn hold_first(alloc: Global) -> Option<Trial> {
     let gate = TestGate::new(alloc, Rule::Hold(1, 3))?;
-    Trial::once(gate, answering(alloc, 3, false)?, 2)
+    let mut trial = Trial::once(gate, answering(alloc, 3, false)?, 2)?;
+    trial.plan.records = &HELD;
+    Some(trial)
 }
 
 /// Five bodies that look at the gate.

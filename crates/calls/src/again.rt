@@ -1,0 +1,97 @@
+// Calls that are made once more where an allocation fails: each leaves the world as it was, and then gives what it gives by itself.
+
+ghost use Rattle.std.specs.Prelude.{◌≡◌, [], IfSome};
+ghost use Rattle.model.specs.shown.Outcome.{spawned_by};
+
+use crate::worlds::{FIRST, put, world_of_one};
+use archetype_store::World;
+use archetype_store::store::{ColumnAt, TakenColumn};
+use change_ticks::Clock;
+use command_queue::CommandBuffer;
+use command_queue::apply::apply;
+use kinds::component::{Health, Score};
+use kinds::{Component, Kind};
+use query::Query;
+use query_plan::plan::plan;
+use query_plan::{Pick, RowBuffers, prove_picks_home};
+use std::alloc::Global;
+
+// The health of the first entity.
+const HEALTH: Health = Health { v: 3 };
+
+// Whether the first entity has its health, and no score.
+fn is_untouched(world: &World) -> bool {
+    world.get::<Health>(FIRST) == Some(HEALTH) && world.get::<Score>(FIRST) == None
+}
+
+// The commands that give the first entity a score and take its health.
+fn trade(alloc: Global) -> Option<CommandBuffer>
+    ensures { IfSome result (λ buffer. spawned_by buffer ≡ []) }
+{
+    let mut buffer = CommandBuffer::new(alloc);
+    buffer.insert(FIRST, Score { v: 4 }).ok()?;
+    buffer.remove(FIRST, Kind::Health).ok()?;
+    Some(buffer)
+}
+
+/// An insert that is refused leaves the entity as it was, and once more made it gives the component.
+pub(crate) fn inserted(alloc: Global) -> Option<bool> {
+    let mut world = world_of_one(alloc, Clock::at(1))?;
+    let mut is_kept = true;
+    if world.insert(FIRST, HEALTH, 1).is_err() {
+        is_kept = world.lives(FIRST) && world.get::<Health>(FIRST) == None;
+        put(&mut world, HEALTH)?;
+    }
+    Some(is_kept && world.get::<Health>(FIRST) == Some(HEALTH))
+}
+
+/// Commands that are refused leave the world as it was, and once more done they change it.
+pub(crate) fn applied(alloc: Global) -> Option<bool> {
+    let mut world = world_of_one(alloc, Clock::at(1))?;
+    put(&mut world, HEALTH)?;
+    let buffers = [trade(alloc)?];
+    let mut is_kept = true;
+    if apply(alloc, &mut world, &buffers, &[0], 1).is_err() {
+        is_kept = is_untouched(&world);
+        apply(alloc, &mut world, &buffers, &[0], 1).ok()?;
+    }
+    let is_traded = world.get::<Health>(FIRST) == None
+        && world.get::<Score>(FIRST) == Some(Score { v: 4 });
+    Some(is_kept && is_traded)
+}
+
+// The column of the only pick.
+fn only(picks: &[Pick]) -> Option<ColumnAt> {
+    let [pick] = picks else {
+        return None;
+    };
+    Some(ColumnAt {
+        archetype: pick.archetype,
+        kind: pick.kind,
+    })
+}
+
+// Whether these are one column, of the health of the first entity alone.
+fn is_health(taken: &[TakenColumn]) -> bool {
+    let [one] = taken else {
+        return false;
+    };
+    one.column.len() == 1 && one.column.at(0).value == HEALTH.into_value()
+}
+
+/// A column that is asked for to be written and refused stays where it is, and once more asked for it comes.
+pub(crate) fn taken(alloc: Global) -> Option<bool> {
+    let mut world = world_of_one(alloc, Clock::at(1))?;
+    put(&mut world, HEALTH)?;
+    let query = Query::read(alloc, "mut Health").ok()?;
+    prove_picks_home();
+    world.prove_laid();
+    let planned = plan(alloc, &query, &world, 0, &mut RowBuffers::new(alloc)).ok()?;
+    let at = only(planned.picks.as_slice())?;
+    if let Ok(taken) = world.take_written(alloc, &[at]) {
+        return Some(is_health(taken.as_slice()));
+    }
+    let is_kept = is_untouched(&world);
+    let taken = world.take_written(alloc, &[at]).ok()?;
+    Some(is_kept && is_health(taken.as_slice()))
+}
