@@ -3,7 +3,7 @@ use Rattle.std.proofs.Common.{◌≡◌, ℕ, zero, suc, ◌+◌, ◌<◌, ◌�
 use Rattle.std.proofs.lemmas.List.{map-append, take_more, drop_more}
 use Rattle.kinds.specs.declared.res.Event.{Event}
 use Rattle.kinds.specs.Res.{event_number}
-use Rattle.model.specs.Lists.{has, update_at}
+use Rattle.model.specs.Lists.{has, map_index, all_index, update_at}
 use Rattle.model.specs.state.State.{EventQueue}
 use Rattle.model.specs.state.Events.{queue_of, unread, can_send, send_all}
 use Rattle.model.specs.shown.Input.{unread_of}
@@ -217,3 +217,25 @@ sent-each events (a ∷ b ∷ []) l = absurd (omega arith)
 sent-each events (a ∷ b ∷ c ∷ []) l = absurd (omega arith)
 sent-each events (a ∷ b ∷ c ∷ d ∷ []) l = refl
 sent-each events (a ∷ b ∷ c ∷ d ∷ e ∷ more) l = absurd (omega arith)
+
+-- ---- no list
+
+each-stays : (queues : List EventQueue) → map_index (λ kind queue. queue) queues ≡ queues
+each-stays [] = refl
+each-stays (q ∷ qs) = ap (λ rest. q ∷ rest) (each-stays qs)
+
+each-can : (queues : List EventQueue) → all_index (λ kind queue. true) queues ≡ true
+each-can [] = refl
+each-can (q ∷ qs) = each-can qs
+
+-- where there is no list nothing is sent
+pub none-sent : (lists : List ListValue) (queues : List EventQueue) → length lists ≡ 0 → queues ≡ queues_after (events_sent (lists_of lists).kinds (lists_of lists).values) queues
+unfolding queues_after
+none-sent [] queues e = sym (each-stays queues)
+none-sent (x ∷ xs) queues e = absurd (omega arith)
+
+-- and nothing needs a number
+pub none-numbered : (lists : List ListValue) (queues : List EventQueue) → length lists ≡ 0 → has_event_numbers (events_sent (lists_of lists).kinds (lists_of lists).values) queues ≡ true
+unfolding has_event_numbers
+none-numbered [] queues e = each-can queues
+none-numbered (x ∷ xs) queues e = absurd (omega arith)

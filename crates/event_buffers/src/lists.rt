@@ -152,6 +152,9 @@ impl EventLists {
         ensures ok { OnOk result (events.new ≡ queues_after (events_sent self.now.kinds self.now.values) events.old) }
         ensures spent { IsErrOf result SendFault.NumbersSpent ↔ (has_event_numbers (events_sent self.now.kinds self.now.values) events.old ≡ false) }
     {
+        if self.lists.is_empty() {
+            return Ok(());
+        }
         if !self.can_send(events) {
             return Err(SendFault::NumbersSpent);
         }

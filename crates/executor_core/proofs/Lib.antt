@@ -3,4 +3,5 @@ pub mod Keeping
 pub mod Telling
 pub mod Counted
 pub mod Rows
+pub mod Known
 mod Lists

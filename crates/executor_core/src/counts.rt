@@ -1,6 +1,6 @@
 // Counts that go down.
 
-ghost use Rattle.std.specs.Prelude.{ℕ, ◌≡◌, ◌≢◌, ◌+◌, ◌<◌, ◌↔◌, true, false, cond, length, get_or, take, IsTrue, IfOk};
+ghost use Rattle.std.specs.Prelude.{ℕ, ◌≡◌, ◌≢◌, ◌+◌, ◌<◌, ◌↔◌, true, false, cond, length, get_or, take, IsTrue, IfOk, OnOk, OnErr};
 ghost use Rattle.model.specs.Lists.{has};
 
 use std::alloc::{AllocError, Global};
@@ -28,6 +28,21 @@ impl Counts {
         Ok(Counts {
             counts: Vec::from_slice(alloc, counts)?,
         })
+    }
+
+    // How many there are.
+    fn len(&self) -> usize
+        ensures { result ≡ length self.now }
+    {
+        self.counts.len()
+    }
+
+    // Takes on these counts, of which there are as many.
+    fn set(&mut self, counts: &[u32])
+        requires { length self.old ≡ length counts.now }
+        ensures { self.new ≡ counts.now }
+    {
+        self.counts.copy_from_slice(counts);
     }
 
     /// Whether nothing is left of the count.
@@ -59,4 +74,27 @@ impl Counts {
             self.lower(*number);
         }
     }
+}
+
+/// Counts begin again with these. Memory is taken only where there were not as many. After an error all are as they were.
+pub(crate) fn begin_again(
+    alloc: Global,
+    waits: &mut Counts,
+    left: &mut Counts,
+    first_waits: &[u32],
+    first_left: &[u32],
+) -> Result<(), AllocError>
+    ensures waits { OnOk result (waits.new ≡ first_waits.now) }
+    ensures left { OnOk result (left.new ≡ first_left.now) }
+    ensures unchanged { OnErr result ((waits.new ≡ waits.old) × (left.new ≡ left.old)) }
+{
+    if waits.len() == first_waits.len() && left.len() == first_left.len() {
+        waits.set(first_waits);
+        left.set(first_left);
+        return Ok(());
+    }
+    let made = Counts::new(alloc, first_waits)?;
+    *left = Counts::new(alloc, first_left)?;
+    *waits = made;
+    Ok(())
 }

@@ -14,7 +14,7 @@ ghost use Rattle.executor_core.specs.Stands.{Stands, AreMeetings, IsCleared, IsP
 ghost use Rattle.executor_core.specs.Judges.{AllOver, NoneMeets, NoneClashes, IsReleased, IsOpen, IsKnown};
 ghost use Rattle.schedule_builder.specs.Conditions.{IsCovering, IsRisingListing};
 
-use crate::counts::Counts;
+use crate::counts::{Counts, begin_again};
 use crate::meetings::{clashes_of, renew_clashed, renew_met, rivals_of};
 use model::{KindSets, Ready, Step, StepFault};
 use number_set::NumberSet;
@@ -136,6 +136,15 @@ impl<'a> Core<'a> {
         }
         self.take(step);
         Ok(())
+    }
+
+    /// Takes a step of which it is known that it may come, as `step` does, and judges nothing again.
+    pub fn accept(&mut self, step: Step)
+        requires { (sets : Option (List (List ℕ))) × (h : List Step) × Stands self.old sets h × May (recording self.old.schedule sets) h step }
+        ensures stands { (sets : Option (List (List ℕ))) (h : List Step) → Stands self.old sets h → May (recording self.old.schedule sets) h step → IsPlainStep sets step → Stands self.new sets (step ∷ h) }
+        ensures schedule { self.new.schedule ≡ self.old.schedule }
+    {
+        self.take(step);
     }
 
     /// Takes a sync point of a run that records kind sets: these after it. Accepted exactly where it may come, else its first fault is told and
@@ -402,16 +411,19 @@ impl<'a> Core<'a> {
         ensures schedule { self.new.schedule ≡ self.old.schedule }
         ensures unchanged { OnErr result (self.new ≡ self.old) }
     {
-        let waits = Counts::new(alloc, self.built.waits())?;
-        let left = Counts::new(alloc, self.built.sizes())?;
+        begin_again(
+            alloc,
+            &mut self.waits,
+            &mut self.left,
+            self.built.waits(),
+            self.built.sizes(),
+        )?;
         self.begun.clear();
         self.over.clear();
         self.asked.clear();
         self.yes.clear();
         self.done = 0;
         self.from = 0;
-        self.waits = waits;
-        self.left = left;
         Ok(())
     }
 

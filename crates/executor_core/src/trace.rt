@@ -2,10 +2,11 @@
 
 ghost use Rattle.std.specs.Prelude.{◌≡◌, ◌∷◌, [], reverse, IfOk, OnErr, OnOk, None, Some, option_map};
 ghost use Rattle.model.specs.declared.steps.Step.TheVariants.{Sync as Synced};
-ghost use Rattle.executor_core.specs.Stands.{AreListed, IsPlainStep};
+ghost use Rattle.executor_core.specs.Stands.{AreListed, IsPlainStep, room};
 ghost use Rattle.executor_core.specs.Traces.{latest_list, with_list};
 
 use model::{KindSets, Step};
+use schedule_builder::Built;
 use std::alloc::{AllocError, Global};
 use std::marker::Model;
 
@@ -50,6 +51,20 @@ impl Trace {
         lists.push(opening)?;
         Ok(Trace {
             steps: Vec::new(alloc),
+            sets: Some(lists),
+        })
+    }
+
+    /// The same for a run of a schedule, with room for what is recorded of it from its opening to its end: whoever pushes no more takes no
+    /// further memory for steps.
+    pub fn of_run(alloc: Global, built: &Built, opening: KindSets) -> Result<Self, AllocError>
+        ensures steps { IfOk result (λ trace. trace.steps ≡ []) }
+        ensures sets { IfOk result (λ trace. trace.sets ≡ Some (opening ∷ [])) }
+    {
+        let mut lists = Vec::with_capacity(alloc, built.syncs() as usize + 1)?;
+        lists.push(opening)?;
+        Ok(Trace {
+            steps: Vec::with_capacity(alloc, most_steps(built))?,
             sets: Some(lists),
         })
     }
@@ -116,4 +131,13 @@ impl Trace {
     {
         let _ = &self.steps;
     }
+}
+
+// How many steps a run of a schedule has at most: each condition is asked once, each system starts and ends, each sync point is done.
+fn most_steps(built: &Built) -> usize
+    ensures { result ≡ room built.now }
+{
+    let systems = built.count() as usize;
+    let conditions = built.condition_count() as usize;
+    conditions + 2 * systems + built.syncs() as usize
 }
