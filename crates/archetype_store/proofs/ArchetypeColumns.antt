@@ -173,6 +173,9 @@ module _ (T : List TableValue) (n t : ℕ) (at : IsTableOf T n t) where
   pub entities_there : (archetype_at (layout_of T) n).entities ≡ map (λ (row : TableRow). row.entity) (table_at T t).rows
   entities_there = ap (λ (a : Archetype). a.entities) (numbered T n t at)
 
+  pub kinds_there : (archetype_at (layout_of T) n).kinds ≡ (table_at T t).kinds
+  kinds_there = ap (λ (a : Archetype). a.kinds) (numbered T n t at)
+
 -- past the end no archetype has a column
 pub no_column : (layout : List Archetype) (n k : ℕ) (b : Bool) → length layout ≤ n → column_home (archetype_at layout n) k ≡ Some b → ⊥
 no_column layout n k b l h =

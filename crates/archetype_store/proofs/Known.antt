@@ -1,9 +1,11 @@
 -- The numbers of rows, as rows come, go and stay.
-use Rattle.std.proofs.Common.{◌≡◌, ℕ, zero, suc, ◌+◌, ◌-◌, ◌<◌, ◌≤◌, true, ◌==◌, ◌⊎◌, inl, inr, List, [], ◌∷◌, ◌++◌, length, set, map, option_map, Option, Some, None, is_some, refl, sym, ap, ap₂, subst, ◌∙◌, arith}
+use Rattle.std.proofs.Common.{◌≡◌, ℕ, zero, suc, ◌+◌, ◌-◌, ◌<◌, ◌≤◌, Bool, true, false, cond, ◌==◌, ◌⊎◌, inl, inr, List, [], ◌∷◌, ◌++◌, length, set, map, option_map, Option, Some, None, is_some, refl, sym, ap, ap₂, subst, ◌∙◌, arith}
 use Rattle.std.specs.Prelude.{slice_get}
+use Rattle.std.specs.List.{AllByRecursion}
 use Rattle.std.proofs.lemmas.Bool.{cases_eq, eqb-true, and_parts}
 use Rattle.std.proofs.lemmas.List.{get_or-set_same, get_or-set_other, length-set}
 use Rattle.model.specs.declared.entities.Entity.{Entity}
+use Rattle.model.specs.Lists.{is_there}
 use Rattle.column_store.specs.Order.{is_same, AreApart}
 use Rattle.column_store.specs.Places.{IsNowhere}
 use Rattle.column_store.specs.Components.{components_of}
@@ -15,6 +17,7 @@ use Rattle.column_store.proofs.Kept.{apart-push, apart-swap}
 use Rattle.column_store.proofs.Lists.{get-map}
 use Rattle.column_store.proofs.Swapped.{get-swap_here, get-swap_other}
 use Rattle.archetype_store.specs.declared.locations.EntityLocation.{EntityLocation}
+use Rattle.archetype_store.specs.Layout.{archetype_of, layout_of}
 use Rattle.archetype_store.specs.Archetypes.{place_of, is_place, AreArchetypes}
 use Rattle.archetype_store.specs.RowNumbers.{number_of_row, AreRowsKnown}
 use Rattle.archetype_store.specs.Tables.{table_at, held_at, entities_at, entity_in_row, IsOneTable}
@@ -241,3 +244,12 @@ module _ (T : List TableValue) (P : List (Option EntityLocation)) (N : List ℕ)
       go t (inl same) = subst AreApart (sym (ap (entities_at T') same ∙ one.here))
           (apart-push e (entities_at T table) (known.apart table) (none_nowhere (table_at T table).rows e (absent_row T table e absent)))
       go t (inr other) = subst AreApart (sym (one.others t other)) (known.apart t)
+
+-- no entity is in an archetype twice
+pub layout_apart : (T : List TableValue) → ((t : ℕ) → AreApart (entities_at T t)) → AllByRecursion (λ a. AreApart a.entities) (layout_of T)
+layout_apart [] h = tt
+layout_apart (t ∷ ts) h = go (is_there t.rows) (layout_apart ts (λ n. h (suc n)))
+  where
+    go : (b : Bool) → AllByRecursion (λ a. AreApart a.entities) (layout_of ts) → AllByRecursion (λ a. AreApart a.entities) (cond b (archetype_of t ∷ layout_of ts) (layout_of ts))
+    go true rest = (h zero, rest)
+    go false rest = rest

@@ -3,6 +3,7 @@ pub mod RowPlaces
 pub mod RowEdits
 pub mod Held
 pub mod KindSets
+pub mod FittingTables
 pub mod TableIndex
 pub mod Laid
 pub mod Laying

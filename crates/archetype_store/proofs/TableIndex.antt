@@ -16,6 +16,9 @@ use Rattle.archetype_store.specs.declared.table_index.TableIndex.{TableIndex}
 use Rattle.archetype_store.specs.Layout.{archetype_of, layout_of}
 use Rattle.archetype_store.specs.Tables.{table_at, kinds_at, shape_of, number_of, AreShaped, AreAllAlike, IsTableOf}
 use Rattle.archetype_store.specs.TableIndex.{has_bit, peopled_from, IsWord, IsFound, IsIndexed}
+use Rattle.archetype_store.specs.LivingSets.{set_number}
+use Rattle.archetype_store.specs.Shapes.{kept_seen, noted, AreListed}
+use Rattle.archetype_store.proofs.FittingTables.{listed_kept, listed_more, alike_numbers, set_numbers}
 use Rattle.archetype_store.proofs.Held.{shape_at}
 use Rattle.archetype_store.proofs.KindSets.{above_has, above_each}
 use Rattle.archetype_store.proofs.Standings.{alike_same}
@@ -109,11 +112,14 @@ found_kept T U index many kinds h = record {
   within = λ t word at. subst (λ n. t < n) (sym many) (h.within t word at);
   theirs = λ t word at k. h.theirs t word at k ∙ ap (has k) (sym (kinds t));
   room = subst (λ n. n ≤ vec_capacity index.peopled) (sym many) h.room;
+  room_numbers = subst (λ n. n ≤ vec_capacity index.numbers) (sym many) h.room_numbers;
+  listed = listed_kept T U (map kept_seen index.shapes.items) many kinds h.listed;
 }
 
 -- a table more
 module _ (T : List TableValue) (index new : TableIndex) (word : ℕ) (made : TableValue) (h : IsFound T index) (none : get nat_eq index.by_word word ≡ None) (is : IsWord word made.kinds)
-    (put : (q : ℕ) → get nat_eq new.by_word q ≡ cond (nat_eq word q) (Some (length T)) (get nat_eq index.by_word q)) (room : suc (length T) ≤ vec_capacity new.peopled) where
+    (put : (q : ℕ) → get nat_eq new.by_word q ≡ cond (nat_eq word q) (Some (length T)) (get nat_eq index.by_word q)) (room : suc (length T) ≤ vec_capacity new.peopled)
+    (room_numbers : suc (length T) ≤ vec_capacity new.numbers) (listed : map kept_seen new.shapes.items ≡ map (noted (set_number made.kinds) (length T)) (map kept_seen index.shapes.items)) where
   more : List TableValue
   more = T ++ made ∷ []
 
@@ -162,15 +168,25 @@ module _ (T : List TableValue) (index new : TableIndex) (word : ℕ) (made : Tab
 
   pub found_added : IsFound (T ++ made ∷ []) new
   unfolding more
-  found_added = record { known = known; within = λ t q at. (told t q at).0; theirs = λ t q at. (told t q at).1; room = subst (λ n. n ≤ vec_capacity new.peopled) (sym many) room }
+  found_added = record {
+    known = known;
+    within = λ t q at. (told t q at).0;
+    theirs = λ t q at. (told t q at).1;
+    room = subst (λ n. n ≤ vec_capacity new.peopled) (sym many) room;
+    room_numbers = subst (λ n. n ≤ vec_capacity new.numbers) (sym many) room_numbers;
+    listed = subst (AreListed (T ++ made ∷ [])) (sym listed) (listed_more T made (set_number made.kinds) (length T) (map kept_seen index.shapes.items) refl refl h.listed);
+  }
 
--- room and words alone are asked
-pub found_other : (T : List TableValue) (index new : TableIndex) → ((word : ℕ) → get nat_eq new.by_word word ≡ get nat_eq index.by_word word) → length T ≤ vec_capacity new.peopled → IsFound T index → IsFound T new
-found_other T index new same room h = record {
+-- room, words and shapes alone are asked
+pub found_other : (T : List TableValue) (index new : TableIndex) → ((word : ℕ) → get nat_eq new.by_word word ≡ get nat_eq index.by_word word) → length T ≤ vec_capacity new.peopled → length T ≤ vec_capacity new.numbers → map kept_seen new.shapes.items ≡ map kept_seen index.shapes.items →
+    IsFound T index → IsFound T new
+found_other T index new same room room_numbers listed h = record {
   known = λ t word l is. same word ∙ h.known t word l is;
   within = λ t word at. h.within t word (sym (same word) ∙ at);
   theirs = λ t word at. h.theirs t word (sym (same word) ∙ at);
   room = room;
+  room_numbers = room_numbers;
+  listed = subst (AreListed T) (sym listed) h.listed;
 }
 
 pub found_shapes : (T U : List TableValue) (index : TableIndex) → map shape_of U ≡ map shape_of T → IsFound T index → IsFound U index
@@ -194,7 +210,7 @@ pub alike_found : (T U : List TableValue) (index : TableIndex) → AreAllAlike T
 alike_found T U index h = found_kept T U index (alike_many T U h) (alike_same T U h).kinds
 
 pub alike_indexed : (T U : List TableValue) (index : TableIndex) → AreAllAlike T U → IsIndexed T index → IsIndexed U index
-alike_indexed T U index h i = record { found = alike_found T U index h i.found; peopled = i.peopled ∙ sym (alike_peopled 0 T U h) }
+alike_indexed T U index h i = record { found = alike_found T U index h i.found; peopled = i.peopled ∙ sym (alike_peopled 0 T U h); numbers = i.numbers ∙ sym (alike_numbers 0 T U h) }
 
 set_many : (T : List TableValue) (t : ℕ) (new : TableValue) → length (set T t new) ≡ length T
 set_many [] zero new = refl
@@ -221,6 +237,7 @@ pub set_indexed : (T : List TableValue) (t : ℕ) (new : TableValue) (index : Ta
 set_indexed T t new index kinds rows i = record {
   found = found_kept T (set T t new) index (set_many T t new) (set_kinds T t new kinds) i.found;
   peopled = i.peopled ∙ sym (set_peopled 0 T t new rows);
+  numbers = i.numbers ∙ sym (set_numbers 0 T t new rows);
 }
 
 -- the same where it may be refused
@@ -231,7 +248,7 @@ set_indexed_if (Err x) T U t new index kinds rows done kept i = subst (λ V. IsI
 
 -- ---- the tables that have rows
 
-peopled_many : (n : ℕ) (T : List TableValue) → length (peopled_from n T) ≡ length (layout_of T)
+pub peopled_many : (n : ℕ) (T : List TableValue) → length (peopled_from n T) ≡ length (layout_of T)
 peopled_many n [] = refl
 peopled_many n (u ∷ us) = go (is_there u.rows) (peopled_many (suc n) us)
   where

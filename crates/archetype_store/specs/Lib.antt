@@ -14,4 +14,5 @@ pub mod Lending
 pub mod Overlays
 pub mod Changes
 pub mod RowMoves
+pub mod Shapes
 pub mod TableIndex

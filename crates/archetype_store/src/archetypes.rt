@@ -14,6 +14,7 @@ ghost use Rattle.column_store.specs.Order.{AreApart};
 ghost use Rattle.column_store.specs.RowOrder.{OrdersRows};
 ghost use Rattle.column_store.specs.Kinds.{AreBelow};
 ghost use Rattle.archetype_store.specs.Changes.{row_left, AreOfOtherIndices};
+ghost use Rattle.archetype_store.specs.Shapes.{shape_number, fitting_from};
 ghost use Rattle.archetype_store.specs.View.{kinds_seen, entities_seen};
 ghost use Rattle.archetype_store.specs.Archetypes.{row_of, holder_of, row_cells, IsHolder, AreAlike, HasRow, HaveRows, IsFilled, IsLaidOut};
 
@@ -23,8 +24,9 @@ use crate::lending::{column_at, home_at, lend_at, share_at, share_entities_at};
 use crate::locations::{EntityLocation, place_at, reach};
 use crate::owning::{copied_tables, own_all};
 use crate::row_moves::change_in;
+use crate::shapes::Shape;
 use crate::table_index::TableIndex;
-use crate::tables::{ArchetypeView, components_at, find_at, has_at, views_of};
+use crate::tables::{ArchetypeView, components_at, find_at, has_at, view_at, views_of};
 use change_ticks::Tick;
 use column_store::{StampedColumn, StampedValue, Table};
 use entity_table::Entity;
@@ -150,11 +152,57 @@ impl Archetypes {
         views_of(alloc, &self.tables)
     }
 
+    /// The archetype of a number.
+    pub fn archetype(&self, archetype: usize) -> ArchetypeView<'_>
+        requires { archetype < length self.now.layout }
+        ensures kinds { kinds_seen result ≡ (archetype_at self.now.layout archetype).kinds }
+        ensures entities { entities_seen result ≡ (archetype_at self.now.layout archetype).entities }
+        ensures apart { AreApart (entities_seen result) }
+        ensures order { OrdersRows (entities_seen result) result.order }
+    {
+        let Some(table) = self.index.table_of(archetype) else {
+            unreachable!();
+        };
+        view_at(&self.tables, table)
+    }
+
+    /// How many archetypes have entities.
+    pub fn archetype_count(&self) -> usize
+        ensures { result ≡ length self.now.layout }
+    {
+        self.index.len()
+    }
+
+    /// Keeps a shape: from now on the archetypes that fit it are found without a walk over the others. It gives the number of the shape,
+    /// the same for an equal shape and another for another one, and nothing that contracts see has changed.
+    pub fn register(&mut self, shape: &Shape) -> Result<usize, AllocError>
+        ensures number { IfOk result (λ number. number ≡ shape_number shape.now) }
+        ensures same { self.new ≡ self.old }
+    {
+        let alloc = *self.tables.allocator();
+        self.index.register(alloc, &self.tables, *shape)
+    }
+
+    /// The archetypes that fit the shape of a number, by their numbers in rising order. None where no shape of this number is kept.
+    pub fn fitting(&self, alloc: Global, shape: usize) -> Result<Option<Vec<usize>>, AllocError>
+        ensures { IfOk result (λ found. IfSome found (λ archetypes. archetypes.items ≡ fitting_from shape 0 self.now.layout)) }
+    {
+        self.index.archetypes_of(alloc, shape)
+    }
+
     /// The layout is that of the rows.
     pub(crate) fn prove_laid(&self)
         ensures { IsLaidOut self.now }
     {
         // Tells how tables and places agree.
+        let _tables = self.tables.len();
+    }
+
+    /// No entity is in an archetype twice.
+    pub(crate) fn prove_apart(&self)
+        ensures { AllByRecursion (λ a. AreApart a.entities) self.now.layout }
+    {
+        // Tells how tables and rows agree.
         let _tables = self.tables.len();
     }
 

@@ -14,7 +14,7 @@ use model::KindSets;
 use std::alloc::{AllocError, Global};
 
 // The number of these kinds.
-fn number_of(kinds: &[Kind]) -> u32
+pub(crate) fn number_of(kinds: &[Kind]) -> u32
     ensures sum { result ≡ set_number (map kind_number kinds.now) }
     ensures below { result < set_limit }
 {

@@ -15,6 +15,7 @@ mod owning;
 mod resources;
 mod row_moves;
 mod settling;
+pub mod shapes;
 pub mod slot;
 mod slots;
 pub mod store;
@@ -23,5 +24,6 @@ mod tables;
 
 pub use change::{EntityChange, Fate};
 pub use fault::StoreFault;
+pub use shapes::Shape;
 pub use slot::{RowView, Slot};
 pub use store::World;

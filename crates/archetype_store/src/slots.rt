@@ -20,12 +20,14 @@ ghost use Rattle.archetype_store.specs.Layout.{archetype_at, column_home, with_h
 ghost use Rattle.std.specs.List.{AllByRecursion};
 ghost use Rattle.column_store.specs.Order.{AreApart as AreRowsApart};
 ghost use Rattle.column_store.specs.RowOrder.{OrdersRows};
+ghost use Rattle.archetype_store.specs.Shapes.{shape_number, fitting_from};
 ghost use Rattle.archetype_store.specs.View.{kinds_seen, entities_seen};
 
 use crate::archetypes::Archetypes;
 use crate::change::EntityChange;
 use crate::fault::StoreFault;
 use crate::settling::settle_all;
+use crate::shapes::Shape;
 use crate::slot::Slot;
 use crate::tables::ArchetypeView;
 use change_ticks::Tick;
@@ -243,11 +245,52 @@ impl Slots {
         self.archetypes.archetypes(alloc)
     }
 
+    /// The archetype of a number.
+    pub fn archetype(&self, archetype: usize) -> ArchetypeView<'_>
+        requires { archetype < length self.now.layout }
+        ensures kinds { kinds_seen result ≡ (archetype_at self.now.layout archetype).kinds }
+        ensures entities { entities_seen result ≡ (archetype_at self.now.layout archetype).entities }
+        ensures apart { AreRowsApart (entities_seen result) }
+        ensures order { OrdersRows (entities_seen result) result.order }
+    {
+        self.archetypes.archetype(archetype)
+    }
+
+    /// How many archetypes have entities.
+    pub fn archetype_count(&self) -> usize
+        ensures { result ≡ length self.now.layout }
+    {
+        self.archetypes.archetype_count()
+    }
+
+    /// Keeps a shape: from now on the archetypes that fit it are found without a walk over the others. It gives the number of the shape,
+    /// the same for an equal shape and another for another one, and nothing that contracts see has changed.
+    pub fn register(&mut self, shape: &Shape) -> Result<usize, AllocError>
+        ensures number { IfOk result (λ number. number ≡ shape_number shape.now) }
+        ensures same { self.new ≡ self.old }
+    {
+        self.archetypes.register(shape)
+    }
+
+    /// The archetypes that fit the shape of a number, by their numbers in rising order. None where no shape of this number is kept.
+    pub fn fitting(&self, alloc: Global, shape: usize) -> Result<Option<Vec<usize>>, AllocError>
+        ensures { IfOk result (λ found. IfSome found (λ archetypes. archetypes.items ≡ fitting_from shape 0 self.now.layout)) }
+    {
+        self.archetypes.fitting(alloc, shape)
+    }
+
     /// The layout is that of the slots.
     pub(crate) fn prove_laid(&self)
         ensures { IsLayoutOf self.now.slots self.now.layout }
     {
         self.archetypes.prove_laid();
+    }
+
+    /// No entity is in an archetype twice.
+    pub(crate) fn prove_apart(&self)
+        ensures { AllByRecursion (λ a. AreRowsApart a.entities) self.now.layout }
+    {
+        self.archetypes.prove_apart();
     }
 
     /// Grants so many ids: the least vacant indices, at their generations. After an error the slots are as they were.

@@ -22,6 +22,7 @@ ghost use Rattle.archetype_store.specs.Layout.{archetype_at, column_home, with_h
 ghost use Rattle.archetype_store.specs.Lending.{CanTake, CanShare, CanComeHome, AreTaken, AreShared, all_away, all_home};
 ghost use Rattle.column_store.specs.Order.{AreApart as AreRowsApart};
 ghost use Rattle.column_store.specs.RowOrder.{OrdersRows};
+ghost use Rattle.archetype_store.specs.Shapes.{shape_number, fitting_from};
 ghost use Rattle.archetype_store.specs.View.{kinds_seen, entities_seen};
 ghost use Rattle.archetype_store.specs.Resources.{changed_of};
 ghost use Rattle.archetype_store.specs.Changes.{changed, AreOfOtherIndices, CanChange};
@@ -32,6 +33,7 @@ pub use crate::columns::{ColumnAt, SharedColumn, TakenColumn};
 use crate::fault::{GrantFault, StoreFault};
 use crate::kind_sets::{entities_in, sets_of};
 use crate::resources::Resources;
+use crate::shapes::Shape;
 use crate::slot::Slot;
 use crate::slots::Slots;
 pub use crate::tables::ArchetypeView;
@@ -127,6 +129,40 @@ impl World {
         ensures order { IfOk result (λ views. AllByRecursion (λ view. OrdersRows (entities_seen view) view.order) views.items) }
     {
         self.slots.archetypes(alloc)
+    }
+
+    /// The archetype of a number.
+    pub fn archetype(&self, archetype: usize) -> ArchetypeView<'_>
+        requires { archetype < length self.now.layout }
+        ensures kinds { kinds_seen result ≡ (archetype_at self.now.layout archetype).kinds }
+        ensures entities { entities_seen result ≡ (archetype_at self.now.layout archetype).entities }
+        ensures apart { AreRowsApart (entities_seen result) }
+        ensures order { OrdersRows (entities_seen result) result.order }
+    {
+        self.slots.archetype(archetype)
+    }
+
+    /// How many archetypes have entities.
+    pub fn archetype_count(&self) -> usize
+        ensures { result ≡ length self.now.layout }
+    {
+        self.slots.archetype_count()
+    }
+
+    /// Keeps a shape: from now on the archetypes that fit it are found without a walk over the others. It gives the number of the shape,
+    /// the same for an equal shape and another for another one, and nothing that contracts see has changed.
+    pub fn register(&mut self, shape: &Shape) -> Result<usize, AllocError>
+        ensures number { IfOk result (λ number. number ≡ shape_number shape.now) }
+        ensures same { self.new ≡ self.old }
+    {
+        self.slots.register(shape)
+    }
+
+    /// The archetypes that fit the shape of a number, by their numbers in rising order. None where no shape of this number is kept.
+    pub fn fitting(&self, alloc: Global, shape: usize) -> Result<Option<Vec<usize>>, AllocError>
+        ensures { IfOk result (λ found. IfSome found (λ archetypes. archetypes.items ≡ fitting_from shape 0 self.now.layout)) }
+    {
+        self.slots.fitting(alloc, shape)
     }
 
     /// The sets of kinds of the living entities. It looks at each table, however many entities there are: somebody lives without components
@@ -277,6 +313,13 @@ impl World {
         ensures { IsLayoutOf self.now.state.slots self.now.layout }
     {
         self.slots.prove_laid();
+    }
+
+    /// No entity is in an archetype twice.
+    pub fn prove_apart(&self)
+        ensures { AllByRecursion (λ a. AreRowsApart a.entities) self.now.layout }
+    {
+        self.slots.prove_apart();
     }
 
     /// Grants so many ids: the least vacant indices, at their generations. After an error nothing has changed.

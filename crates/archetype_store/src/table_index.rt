@@ -1,25 +1,36 @@
 // Where tables are found: by the word of their kinds, and by the number of their archetype.
 
-ghost use Rattle.std.specs.Prelude.{◌≡◌, ◌≤◌, ◌++◌, ◌∷◌, ◌||◌, ◌==◌, ℕ, List, [], length, map, nat_eq, None, vec_capacity, IfOk, MatchOption, OnOk, OnErr};
+ghost use Rattle.std.specs.Prelude.{◌≡◌, ◌≤◌, ◌++◌, ◌∷◌, ◌||◌, ◌==◌, ℕ, List, [], length, map, nat_eq, None, vec_capacity, IfOk, IfSome, MatchOption, OnOk, OnErr};
 ghost use Rattle.std.specs.HashMap.{get};
 ghost use Rattle.kinds.specs.Kind.{kind_number};
 ghost use Rattle.column_store.specs.Cells.{stamped_number};
 ghost use Rattle.column_store.specs.Table.{TableValue};
 ghost use Rattle.archetype_store.specs.Layout.{layout_of};
+ghost use Rattle.archetype_store.specs.Shapes.{shape_number, fitting_from, fitting_tables};
 ghost use Rattle.archetype_store.specs.Tables.{IsTableOf};
 ghost use Rattle.archetype_store.specs.TableIndex.{has_bit, peopled_from, IsWord, IsFound, IsIndexed};
 
+use crate::kind_sets::number_of;
+use crate::shapes::{
+    KeptShape, Shape, copied_shapes, fitting_of, note_all, numbers_at, reserve_all,
+};
 use column_store::{StampedValue, Table};
 use kinds::Kind;
 use kinds::kind::prove_kinds_apart;
 use std::alloc::{AllocError, Global};
 use std::collections::HashMap;
 
-/// The tables by the words of their kinds, and those that have rows, in order: the one at place n is that of archetype n.
+/// The tables by the words of their kinds, and those that have rows, in order: the one at place n is that of archetype n. Beside them the
+/// archetype of each table, and of each shape that is kept the tables that fit it, whether they have rows or not.
 #[derive(Drop)]
 pub(crate) struct TableIndex {
     by_word: HashMap<u32, usize>,
     peopled: Vec<usize>,
+    // By table: the number of its archetype, where it has rows.
+    numbers: Vec<Option<usize>>,
+    shapes: Vec<KeptShape>,
+    // Where a shape is kept, by its number.
+    by_shape: HashMap<usize, usize>,
 }
 
 // The word with the bit of a kind.
@@ -48,6 +59,9 @@ impl TableIndex {
         TableIndex {
             by_word: HashMap::new(alloc),
             peopled: Vec::new(alloc),
+            numbers: Vec::new(alloc),
+            shapes: Vec::new(alloc),
+            by_shape: HashMap::new(alloc),
         }
     }
 
@@ -58,7 +72,17 @@ impl TableIndex {
         let by_word = self.by_word.clone()?;
         let mut peopled = Vec::with_capacity(alloc, self.peopled.capacity())?;
         peopled.extend_from_slice(self.peopled.as_slice())?;
-        Ok(TableIndex { by_word, peopled })
+        let mut numbers = Vec::with_capacity(alloc, self.numbers.capacity())?;
+        numbers.extend_from_slice(self.numbers.as_slice())?;
+        let shapes = copied_shapes(alloc, self.shapes.as_slice())?;
+        let by_shape = self.by_shape.clone()?;
+        Ok(TableIndex {
+            by_word,
+            peopled,
+            numbers,
+            shapes,
+            by_shape,
+        })
     }
 
     /// The table of the kinds of a word.
@@ -86,7 +110,10 @@ impl TableIndex {
         let table = tables.len();
         tables.reserve(1)?;
         self.peopled.reserve(table + 1)?;
+        self.numbers.reserve(table + 1)?;
+        reserve_all(&mut self.shapes)?;
         self.by_word.insert(word, table)?;
+        note_all(&mut self.shapes, number_of(made.kinds()), table);
         tables.push_reserved(made);
         Ok(table)
     }
@@ -97,12 +124,75 @@ impl TableIndex {
         ensures { IsIndexed tables.now self.new }
     {
         self.peopled.clear();
+        self.numbers.clear();
         for (number, table) in tables.iter().enumerate() {
             if table.entities().is_empty() {
+                self.numbers.push_reserved(None);
                 continue;
             }
+            self.numbers.push_reserved(Some(self.peopled.len()));
             self.peopled.push_reserved(number);
         }
+    }
+
+    /// How many archetypes there are: tables with rows.
+    pub(crate) fn len(&self) -> usize
+        ensures { (tables : List TableValue) → IsIndexed tables self.now → result ≡ length (layout_of tables) }
+    {
+        self.peopled.len()
+    }
+
+    /// Keeps a shape with the tables that fit it, and gives its number. Where an allocation fails nothing changes that contracts see.
+    pub(crate) fn register(
+        &mut self,
+        alloc: Global,
+        tables: &[Table],
+        shape: Shape,
+    ) -> Result<usize, AllocError>
+        requires { IsIndexed tables.now self.old }
+        ensures number { IfOk result (λ number. number ≡ shape_number shape) }
+        ensures indexed { IsIndexed tables.now self.new }
+    {
+        let number = shape.number();
+        if self.fitting(number).is_some() {
+            return Ok(number);
+        }
+        let fitting = fitting_of(alloc, tables, number)?;
+        self.shapes.reserve(1)?;
+        self.by_shape.insert(number, self.shapes.len())?;
+        self.shapes.push_reserved(KeptShape {
+            shape: number,
+            tables: fitting,
+        });
+        Ok(number)
+    }
+
+    // The tables that fit the shape of a number, where it is kept.
+    fn fitting(&self, shape: usize) -> Option<&[usize]>
+        ensures { (tables : List TableValue) → IsIndexed tables self.now → IfSome result (λ fitting. fitting.now ≡ fitting_tables shape 0 tables) }
+    {
+        let place = *self.by_shape.get(&shape)?;
+        let kept = self.shapes.get(place)?;
+        if kept.shape == shape {
+            Some(kept.tables.as_slice())
+        } else {
+            None
+        }
+    }
+
+    /// The archetypes that fit the shape of a number, in order, where it is kept.
+    pub(crate) fn archetypes_of(
+        &self,
+        alloc: Global,
+        shape: usize,
+    ) -> Result<Option<Vec<usize>>, AllocError>
+        ensures { IfOk result (λ found. (tables : List TableValue) → IsIndexed tables self.now → IfSome found (λ archetypes. archetypes.items ≡ fitting_from shape 0 (layout_of tables))) }
+    {
+        let Some(tables) = self.fitting(shape) else {
+            return Ok(None);
+        };
+        let archetypes = numbers_at(alloc, self.numbers.as_slice(), tables)?;
+        Ok(Some(archetypes))
     }
 
     /// The table of an archetype: only tables with rows are numbered.

@@ -62,6 +62,22 @@ pub(crate) fn views_of(
     Ok(views)
 }
 
+// The archetype of a table.
+pub(crate) fn view_at(tables: &[Table], table: usize) -> ArchetypeView<'_>
+    requires { table < length tables.now }
+    ensures kinds { kinds_seen result ≡ kinds_at tables.now table }
+    ensures entities { entities_seen result ≡ entities_at tables.now table }
+    ensures apart { AreApart (entities_seen result) }
+    ensures order { OrdersRows (entities_seen result) result.order }
+{
+    let there = &tables[table];
+    ArchetypeView {
+        kinds: there.kinds(),
+        entities: there.entities(),
+        order: there.order(),
+    }
+}
+
 // The kinds of components.
 fn kinds_of(alloc: Global, components: &[StampedValue]) -> Result<Vec<Kind>, AllocError>
     ensures { IfOk result (λ kinds. map kind_number kinds.items ≡ map stamped_number components.now) }

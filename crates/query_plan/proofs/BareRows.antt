@@ -1,6 +1,6 @@
 -- The rows without components, index by index, and what tells that entities are apart.
-use Rattle.std.proofs.Common.{◌≡◌, ℕ, suc, ◌+◌, ◌<◌, ◌≤◌, Bool, true, false, cond, not, ◌&&◌, List, [], ◌∷◌, ◌++◌, length, get_or, map, drop, Some, None, refl, sym, ap, ap₂, ◌∙◌, subst, append_assoc, append-nil, arith}
-use Rattle.std.specs.List.{AllByRecursion, list_all}
+use Rattle.std.proofs.Common.{◌≡◌, ℕ, suc, ◌+◌, ◌<◌, ◌≤◌, Bool, true, false, cond, not, ◌&&◌, List, [], ◌∷◌, ◌++◌, length, get_or, drop, Some, None, refl, sym, ap, ap₂, ◌∙◌, append_assoc, append-nil, arith}
+use Rattle.std.specs.List.{list_all}
 use Rattle.std.proofs.lemmas.Bool.{and_parts, and_from}
 use Rattle.std.proofs.lemmas.List.{drop_more, drop_all}
 use Rattle.std.proofs.lemmas.Option.{cond_some}
@@ -11,11 +11,7 @@ use Rattle.model.specs.state.Rows.{kinds_of}
 use Rattle.model.specs.access.Query.{Term, matches, admits}
 use Rattle.model.specs.access.Query.Term.{Entity, Read, Mut, Opt, With, Without, Added, Changed, AnyOf}
 use Rattle.model.specs.shown.Input.{passes}
-use Rattle.column_store.specs.Order.{AreApart}
-use Rattle.archetype_store.specs.declared.tables.ArchetypeView.{ArchetypeView}
-use Rattle.archetype_store.specs.Layout.{Archetype}
 use Rattle.archetype_store.specs.Slot.{bare_of}
-use Rattle.archetype_store.specs.View.{entities_seen}
 use Rattle.model.proofs.progress.Width.{and_false as and_no}
 use Rattle.query_plan.specs.declared.row.Row.{Row}
 use Rattle.query_plan.specs.Standing.{is_bare_row, bare_from}
@@ -107,14 +103,3 @@ module _ (query : List Term) (n i : ℕ) (slots : List Slot) (rows : List Row) (
 pub bare_done : (query : List Term) (n i : ℕ) (slots : List Slot) (rows : List Row) → length slots ≤ i → ((last : ℕ) → rows ++ bare_from query last n i (drop i slots) ≡ bare_from query last n 0 slots) →
     (last : ℕ) → rows ≡ bare_from query last n 0 slots
 bare_done query n i slots rows l h last = sym (append-nil rows) ∙ ap (λ rs. rows ++ rs) (sym (ap (bare_from query last n i) (drop_all i slots l))) ∙ h last
-
--- ---- entities that are apart
-
-pub layout_apart : (views : List ArchetypeView) (layout : List Archetype) → map entities_seen views ≡ map (λ a. a.entities) layout → AllByRecursion (λ view. AreApart (entities_seen view)) views →
-    AllByRecursion (λ a. AreApart a.entities) layout
-layout_apart views [] same apart = tt
-layout_apart [] (a ∷ others) same apart = absurd (cc)
-layout_apart (v ∷ views) (a ∷ others) same apart =
-    let head : entities_seen v ≡ a.entities = cc in
-    let tail : map entities_seen views ≡ map (λ (b : Archetype). b.entities) others = cc in
-    (subst AreApart head apart.0, layout_apart views others tail apart.1)

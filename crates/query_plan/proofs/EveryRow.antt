@@ -1,5 +1,5 @@
 -- A row for each entity of an archetype.
-use Rattle.std.proofs.Common.{◌≡◌, ℕ, zero, suc, ◌+◌, ◌<◌, ◌≤◌, Bool, true, false, cond, not, ◌==◌, List, [], ◌∷◌, ◌++◌, length, get_or, slice_get, Option, Some, map, drop, refl, sym, ap, ◌∙◌, append_assoc, append-nil, arith}
+use Rattle.std.proofs.Common.{◌≡◌, ℕ, zero, suc, ◌+◌, ◌<◌, ◌≤◌, true, cond, not, ◌==◌, List, [], ◌∷◌, ◌++◌, length, get_or, slice_get, Some, drop, refl, sym, ap, ◌∙◌, append_assoc, append-nil, arith}
 use Rattle.std.proofs.lemmas.List.{drop_more, drop_all, get_or_past}
 use Rattle.std.proofs.lemmas.Bool.{ne_eqb}
 use Rattle.model.specs.declared.entities.Entity.{Entity}

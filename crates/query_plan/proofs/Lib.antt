@@ -7,5 +7,7 @@ pub mod Places
 pub mod PickedHome
 pub mod Stamps
 pub mod Walks
+pub mod Candidates
+pub mod QueryShapes
 pub mod BareRows
 pub mod EveryRow

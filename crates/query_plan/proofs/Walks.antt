@@ -1,8 +1,8 @@
 -- The entities of an archetype gone through by their places, and archetypes by their numbers.
-use Rattle.std.proofs.Common.{◌≡◌, ℕ, suc, ◌+◌, ◌<◌, ◌≤◌, Bool, true, false, cond, ◌&&◌, ◌==◌, List, [], ◌∷◌, ◌++◌, length, get_or, map, drop, slice_get, refl, sym, ap, ap₂, subst, ◌∙◌, append_assoc, append-nil, arith}
+use Rattle.std.proofs.Common.{◌≡◌, ℕ, ◌+◌, ◌<◌, ◌≤◌, Bool, true, false, cond, ◌&&◌, ◌==◌, List, [], ◌∷◌, ◌++◌, length, get_or, map, drop, slice_get, refl, sym, ap, ap₂, subst, ◌∙◌, append_assoc, append-nil, arith}
 use Rattle.std.specs.List.{AllByRecursion, list_all}
 use Rattle.std.proofs.lemmas.Bool.{and_parts}
-use Rattle.std.proofs.lemmas.List.{drop_more, drop_all, length-map, get_or-map}
+use Rattle.std.proofs.lemmas.List.{drop_more, drop_all}
 use Rattle.std.proofs.lemmas.Option.{slice_get-get_or}
 use Rattle.model.specs.declared.entities.Entity.{Entity}
 use Rattle.model.specs.Lists.{has}
@@ -15,7 +15,6 @@ use Rattle.model.proofs.lists.Each.{each-at}
 use Rattle.column_store.specs.RowOrder.{entity_at, IsOrderOf}
 use Rattle.archetype_store.specs.Layout.{Archetype, archetype_at, IsLayoutOf}
 use Rattle.archetype_store.proofs.RowEdits.{kinds-among}
-use Rattle.archetype_store.specs.declared.tables.ArchetypeView.{ArchetypeView}
 use Rattle.query.specs.declared.term.Term.{Term as QueryTerm}
 use Rattle.query.specs.Term.{term_of}
 use Rattle.query_plan.specs.declared.row.Row.{Row}
@@ -117,10 +116,3 @@ place_tested query last slots layout n fs es place d b laid same are l match is 
 pub each_terms : (P : Term → Type 0) (ts : List QueryTerm) → AllByRecursion P (map term_of ts) → AllByRecursion (λ t. P (term_of t)) ts
 each_terms P [] h = tt
 each_terms P (t ∷ ts) h = (h.0, each_terms P ts h.1)
-
--- what a view of an archetype shows is of the archetype of its number
-pub view_at : {X : Type 0} (f : ArchetypeView → X) (g : Archetype → X) (views : List ArchetypeView) (layout : List Archetype) (n : ℕ) (d : ArchetypeView) → map f views ≡ map g layout → n < length views →
-    f (get_or views n d) ≡ g (archetype_at layout n)
-view_at f g views layout n d same l =
-    let lengths : length views ≡ length layout = sym (length-map views f) ∙ ap length same ∙ length-map layout g in
-    sym (get_or-map f views n d (f d) l) ∙ ap (λ xs. get_or xs n (f d)) same ∙ get_or-map g layout n (record { kinds = []; entities = []; homes = [] }) (f d) (omega arith)

@@ -1,5 +1,5 @@
 -- Rows that are kept while the world goes on.
-use Rattle.std.specs.Prelude.{◌≡◌, ℕ, List, length}
+use Rattle.std.specs.Prelude.{◌≡◌, List, length}
 use Rattle.std.specs.Arc.{arc_value}
 use Rattle.query_plan.specs.declared.row.Row.{Row}
 use Rattle.query_plan.specs.declared.kept_rows.KeptRows.{KeptRows}

@@ -1,5 +1,6 @@
 pub mod Picks
 pub mod Standing
+pub mod Candidates
 pub mod Filters
 pub mod Places
 pub mod Kept

@@ -11,6 +11,7 @@ pub mod plan;
 pub mod planned;
 pub mod row;
 pub mod row_buffers;
+pub mod shape;
 
 ghost use Rattle.query_plan.specs.Standing.{HomeTellsPicks};
 
@@ -25,3 +26,4 @@ pub use picks::Pick;
 pub use planned::Plan;
 pub use row::Row;
 pub use row_buffers::RowBuffers;
+pub use shape::shape_of;

@@ -1,15 +1,13 @@
 // Where the rows of a query stand: all those of one archetype, or a list of places.
 
-ghost use Rattle.std.specs.Prelude.{◌≡◌, not, map, IfOk};
+ghost use Rattle.std.specs.Prelude.{◌≡◌, not, IfOk};
 ghost use Rattle.archetype_store.specs.Layout.{archetype_at};
-ghost use Rattle.archetype_store.specs.View.{entities_seen};
 ghost use Rattle.model.specs.Lists.{is_there};
 ghost use Rattle.query_plan.specs.Places.{every_row, rows_of_places, IsCounted};
 
 use crate::row::Row;
 use crate::row_buffers::RowBuffers;
 use archetype_store::World;
-use archetype_store::store::ArchetypeView;
 use entity_table::Entity;
 use std::alloc::{AllocError, Global};
 
@@ -38,24 +36,21 @@ impl MatchedRows {
     pub fn into_list(self, alloc: Global, world: &World) -> Result<Vec<Row>, AllocError>
         ensures { IfOk result (λ rows. rows.items ≡ rows_of_places world.now.layout self) }
     {
-        let views = world.archetypes(alloc)?;
-        listed(alloc, self, world, &views, &mut RowBuffers::new(alloc))
+        listed(alloc, self, world, &mut RowBuffers::new(alloc))
     }
 }
 
-// Rows as a list, by what is seen of the archetypes of a world.
+// Rows as a list.
 pub(crate) fn listed(
     alloc: Global,
     places: MatchedRows,
-    _world: &World,
-    views: &[ArchetypeView<'_>],
+    world: &World,
     room: &mut RowBuffers,
 ) -> Result<Vec<Row>, AllocError>
-    requires { map entities_seen views.now ≡ map (λ a. a.entities) _world.now.layout }
-    ensures { IfOk result (λ rows. rows.items ≡ rows_of_places _world.now.layout places) }
+    ensures { IfOk result (λ rows. rows.items ≡ rows_of_places world.now.layout places) }
 {
     match places {
-        MatchedRows::All(archetype, _count) => all_listed(alloc, archetype, _world, views, room),
+        MatchedRows::All(archetype, _count) => all_listed(alloc, archetype, world, room),
         MatchedRows::Listed(rows) => Ok(rows),
     }
 }
@@ -64,17 +59,15 @@ pub(crate) fn listed(
 fn all_listed(
     alloc: Global,
     archetype: u32,
-    _world: &World,
-    views: &[ArchetypeView<'_>],
+    world: &World,
     room: &mut RowBuffers,
 ) -> Result<Vec<Row>, AllocError>
-    requires { map entities_seen views.now ≡ map (λ a. a.entities) _world.now.layout }
-    ensures { IfOk result (λ rows. rows.items ≡ every_row archetype 0 (archetype_at _world.now.layout archetype).entities) }
+    ensures { IfOk result (λ rows. rows.items ≡ every_row archetype 0 (archetype_at world.now.layout archetype).entities) }
 {
-    if views.len() <= archetype as usize {
+    if world.archetype_count() <= archetype as usize {
         return Ok(Vec::new(alloc));
     }
-    let view = &views[archetype as usize];
+    let view = world.archetype(archetype as usize);
     every_row(alloc, archetype, view.entities, room)
 }
 

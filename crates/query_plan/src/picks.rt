@@ -1,16 +1,16 @@
 // The columns that the rows of a query are in.
 
-ghost use Rattle.std.specs.Prelude.{◌≡◌, ◌==◌, ◌++◌, map, IfOk, OnOk};
-ghost use Rattle.std.specs.List.{list_any, list_all};
+ghost use Rattle.std.specs.Prelude.{◌≡◌, ◌==◌, ◌<◌, ◌++◌, length, map, IfOk, OnOk};
+ghost use Rattle.std.specs.List.{list_any, list_all, AllByRecursion};
 ghost use Rattle.kinds.specs.Kind.{kind_number};
 ghost use Rattle.model.specs.Lists.{has};
 ghost use Rattle.model.specs.access.Query.{matches, holds_in, admits as term_admits};
-ghost use Rattle.archetype_store.specs.View.{kinds_seen};
 ghost use Rattle.query.specs.Alternative.{alternative_of};
 ghost use Rattle.query.specs.Term.{term_of};
-ghost use Rattle.query_plan.specs.Picks.{picked_in, picked_of, picked_from, pick_seen};
+ghost use Rattle.query_plan.specs.Candidates.{picked_at};
+ghost use Rattle.query_plan.specs.Picks.{picked_in, picked_of, pick_seen};
 
-use archetype_store::store::ArchetypeView;
+use archetype_store::World;
 use kinds::Kind;
 use query::{Alternative, Presence, Query, Term};
 use std::alloc::{AllocError, Global};
@@ -31,13 +31,16 @@ pub struct Pick {
 pub(crate) fn picks_in(
     alloc: Global,
     query: &Query,
-    views: &[ArchetypeView<'_>],
+    world: &World,
+    archetypes: &[usize],
 ) -> Result<Vec<Pick>, AllocError>
-    ensures { IfOk result (λ picks. map pick_seen picks.items ≡ picked_from query.now 0 (map kinds_seen views.now)) }
+    requires { AllByRecursion (λ n. n < length world.now.layout) archetypes.now }
+    ensures { IfOk result (λ picks. map pick_seen picks.items ≡ picked_at query.now world.now.layout archetypes.now) }
 {
     let mut picks = Vec::new(alloc);
-    for archetype in 0..views.len() {
-        pick_of(&mut picks, query, archetype, views[archetype].kinds)?;
+    for archetype in archetypes {
+        let view = world.archetype(*archetype);
+        pick_of(&mut picks, query, *archetype, view.kinds)?;
     }
     Ok(picks)
 }

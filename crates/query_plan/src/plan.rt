@@ -1,9 +1,11 @@
 // The plan of a query: its rows, each where it stands, and the columns that they are in.
 
-ghost use Rattle.std.specs.Prelude.{◌≡◌, length, map, IfOk};
+ghost use Rattle.std.specs.Prelude.{◌≡◌, true, length, map, IfOk};
 ghost use Rattle.std.specs.List.{AllByRecursion};
 ghost use Rattle.model.specs.shown.Input as input;
 ghost use Rattle.column_store.specs.Order.{AreApart};
+ghost use Rattle.archetype_store.specs.Shapes.{shape_number};
+ghost use Rattle.query_plan.specs.Candidates.{numbers_where, shape_of, AreCandidates};
 ghost use Rattle.query_plan.specs.Picks.{picks_of, pick_seen};
 ghost use Rattle.query_plan.specs.Places.{rows_of_places, IsCounted};
 ghost use Rattle.query_plan.specs.Standing.{ArePickedHome, IsStanding};
@@ -35,15 +37,77 @@ pub fn plan(
     ensures archetypes { IfOk result (λ plan. plan.archetypes ≡ length world.now.layout) }
     ensures apart { IfOk result (λ plan. AllByRecursion (λ a. AreApart a.entities) world.now.layout) }
 {
-    let views = world.archetypes(alloc)?;
-    let Ok(archetypes) = u32::try_from(views.len()) else {
+    let archetypes = all_archetypes(alloc, world)?;
+    plan_among(alloc, query, world, &archetypes, last_run, room)
+}
+
+/// The same plan, by the number of the shape of the query: where a world keeps the shape, the archetypes that fit it are all that is looked
+/// at.
+pub fn plan_by(
+    alloc: Global,
+    world: &World,
+    shape: usize,
+    query: &Query,
+    last_run: u64,
+    room: &mut RowBuffers,
+) -> Result<Plan, AllocError>
+    requires home { ArePickedHome query.now world.now.layout }
+    requires shape { shape ≡ shape_number (shape_of query.now) }
+    ensures rows { IfOk result (λ plan. map (λ row. row.entity) (rows_of_places world.now.layout plan.rows) ≡ map (λ row. row.entity) (input.rows_of query.now last_run world.now.state.slots)) }
+    ensures places { IfOk result (λ plan. AllByRecursion (IsStanding world.now.state.slots world.now.layout) (rows_of_places world.now.layout plan.rows)) }
+    ensures counted { IfOk result (λ plan. IsCounted world.now.layout plan.rows) }
+    ensures picks { IfOk result (λ plan. map pick_seen plan.picks.items ≡ picks_of query.now world.now.layout) }
+    ensures archetypes { IfOk result (λ plan. plan.archetypes ≡ length world.now.layout) }
+    ensures apart { IfOk result (λ plan. AllByRecursion (λ a. AreApart a.entities) world.now.layout) }
+{
+    // Proves that the kinds of the query have bits.
+    let _terms = query.terms();
+    match world.fitting(alloc, shape)? {
+        Some(archetypes) => plan_among(alloc, query, world, &archetypes, last_run, room),
+        None => plan(alloc, query, world, last_run, room),
+    }
+}
+
+// The numbers of all archetypes.
+fn all_archetypes(alloc: Global, world: &World) -> Result<Vec<usize>, AllocError>
+    ensures { IfOk result (λ archetypes. archetypes.items ≡ numbers_where (λ kinds. true) 0 world.now.layout) }
+{
+    let count = world.archetype_count();
+    let mut archetypes = Vec::with_capacity(alloc, count)?;
+    for archetype in 0..count {
+        archetypes.push(archetype)?;
+    }
+    Ok(archetypes)
+}
+
+// The plan of a query: the archetypes that it matches are among these.
+fn plan_among(
+    alloc: Global,
+    query: &Query,
+    world: &World,
+    archetypes: &[usize],
+    last_run: u64,
+    room: &mut RowBuffers,
+) -> Result<Plan, AllocError>
+    requires among { AreCandidates query.now world.now.layout archetypes.now }
+    requires home { ArePickedHome query.now world.now.layout }
+    ensures rows { IfOk result (λ plan. map (λ row. row.entity) (rows_of_places world.now.layout plan.rows) ≡ map (λ row. row.entity) (input.rows_of query.now last_run world.now.state.slots)) }
+    ensures places { IfOk result (λ plan. AllByRecursion (IsStanding world.now.state.slots world.now.layout) (rows_of_places world.now.layout plan.rows)) }
+    ensures counted { IfOk result (λ plan. IsCounted world.now.layout plan.rows) }
+    ensures picks { IfOk result (λ plan. map pick_seen plan.picks.items ≡ picks_of query.now world.now.layout) }
+    ensures archetypes { IfOk result (λ plan. plan.archetypes ≡ length world.now.layout) }
+    ensures apart { IfOk result (λ plan. AllByRecursion (λ a. AreApart a.entities) world.now.layout) }
+{
+    // Proves that no entity is in an archetype twice.
+    world.prove_apart();
+    let Ok(count) = u32::try_from(world.archetype_count()) else {
         return Err(AllocError);
     };
-    let rows = rows_in(alloc, query, world, &views, last_run, room)?;
-    let picks = picks_in(alloc, query, &views)?;
+    let rows = rows_in(alloc, query, world, archetypes, last_run, room)?;
+    let picks = picks_in(alloc, query, world, archetypes)?;
     Ok(Plan {
         rows,
         picks,
-        archetypes,
+        archetypes: count,
     })
 }

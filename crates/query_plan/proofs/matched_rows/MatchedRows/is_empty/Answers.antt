@@ -1,4 +1,4 @@
-use Rattle.std.proofs.Common.{◌≡◌, ◌==◌, not, length, sym, ap, ◌∙◌, subst}
+use Rattle.std.proofs.Common.{◌≡◌, not, length, sym, ap, ◌∙◌, subst}
 use Rattle.model.specs.Lists.{is_there}
 use Rattle.archetype_store.specs.Layout.{archetype_at}
 use Rattle.query_plan.specs.Places.{rows_of_places, IsCounted}
