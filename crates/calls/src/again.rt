@@ -2,6 +2,7 @@
 
 ghost use Rattle.std.specs.Prelude.{◌≡◌, [], IfSome};
 ghost use Rattle.model.specs.shown.Outcome.{spawned_by};
+ghost use Rattle.archetype_store.specs.Layout.{AreAllHome};
 
 use crate::worlds::{FIRST, put, world_of_one};
 use archetype_store::World;
@@ -20,7 +21,9 @@ use std::alloc::Global;
 const HEALTH: Health = Health { v: 3 };
 
 // Whether the first entity has its health, and no score.
-fn is_untouched(world: &World) -> bool {
+fn is_untouched(world: &World) -> bool
+    requires { AreAllHome world.now.layout }
+{
     world.get::<Health>(FIRST) == Some(HEALTH) && world.get::<Score>(FIRST) == None
 }
 
