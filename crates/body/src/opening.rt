@@ -19,8 +19,8 @@ use crate::view_query::ViewQuery;
 use archetype_store::World;
 use change_ticks::Tick;
 use query::Query;
-use query_plan::plan::plan;
-use query_plan::{RowBuffers, Rows};
+use query_plan::plan::plan_by;
+use query_plan::{RowBuffers, Rows, shape_of};
 use std::alloc::{AllocError, Global};
 
 // A query as it is opened over a world at a tick to come: it shows its rows, and the columns that it writes are away. After an error the
@@ -46,7 +46,8 @@ pub(crate) fn open_query(
     // Tell how the layout is that of the state, and that no stamp is above the clock.
     world.prove_laid();
     let _now = world.now();
-    let plan = plan(alloc, query, world, last_run, room)?;
+    let shape = shape_of(query).number();
+    let plan = plan_by(alloc, world, shape, query, last_run, room)?;
     let Ok(count) = u32::try_from(plan.picks.len()) else {
         return Err(AllocError);
     };

@@ -11,7 +11,8 @@ use crate::open_state::OpenState;
 use archetype_store::World;
 use change_ticks::Clock;
 use event_buffers::Events;
-use query_plan::RowBuffers;
+use query::Query;
+use query_plan::{RowBuffers, shape_of};
 use std::alloc::{AllocError, Global};
 use std::marker::Model;
 
@@ -144,6 +145,14 @@ impl State {
             room,
         } = self;
         OpenState::of_parts(world, events, systems, conditions, passed_over, room)
+    }
+
+    /// Keeps the shape of a query: from now on its plans look at the archetypes that fit it alone. Nothing that contracts see changes.
+    pub fn keep_shape(&mut self, query: &Query) -> Result<(), AllocError>
+        ensures { self.new ≡ self.old }
+    {
+        self.world.register(&shape_of(query))?;
+        Ok(())
     }
 
     /// What holds of every state, whatever the schedule.

@@ -17,8 +17,8 @@ use change_ticks::Tick;
 use event_buffers::Events;
 use kinds::Event;
 use query::Query;
-use query_plan::RowBuffers;
-use query_plan::plan::plan;
+use query_plan::plan::plan_by;
+use query_plan::{RowBuffers, shape_of};
 use run_condition::{Cond, Tree};
 use std::alloc::{AllocError, Global};
 
@@ -78,7 +78,9 @@ fn has_row(alloc: Global, query: &Query, world: &World, last_run: Tick) -> Resul
     requires { ArePickedHome query.now world.now.layout }
     ensures { IfOk result (λ answer. answer ≡ is_there (rows_of query.now last_run world.now.state.slots)) }
 {
-    let plan = plan(alloc, query, world, last_run, &mut RowBuffers::new(alloc))?;
+    let mut room = RowBuffers::new(alloc);
+    let shape = shape_of(query).number();
+    let plan = plan_by(alloc, world, shape, query, last_run, &mut room)?;
     Ok(!plan.rows.is_empty(world))
 }
 
