@@ -8,10 +8,10 @@ ghost use Rattle.body.specs.Steps.{AreInTime, HasShape, counted_state, state_of}
 
 use crate::memory::{Memory, copied_memories};
 use crate::open_state::OpenState;
+use crate::room::Room;
 use archetype_store::World;
 use change_ticks::Clock;
 use event_buffers::Events;
-use query_plan::RowBuffers;
 use std::alloc::{AllocError, Global};
 use std::marker::Model;
 
@@ -33,8 +33,8 @@ pub struct State {
     systems: Vec<Memory>,
     conditions: Vec<Memory>,
     passed_over: u64,
-    // Buffers of rows, for the next starts.
-    room: RowBuffers,
+    // For the next starts.
+    room: Room,
 }
 
 impl Model for State {
@@ -59,7 +59,7 @@ impl State {
             systems: Vec::new(alloc),
             conditions: Vec::new(alloc),
             passed_over: 0,
-            room: RowBuffers::new(alloc),
+            room: Room::new(alloc),
         }
     }
 
@@ -73,7 +73,7 @@ impl State {
             systems,
             conditions,
         } = memories;
-        let room = RowBuffers::new(*systems.allocator());
+        let room = Room::new(*systems.allocator());
         State {
             world,
             events,
@@ -90,7 +90,7 @@ impl State {
         events: Events,
         memories: Memories,
         passed_over: u64,
-        room: RowBuffers,
+        room: Room,
     ) -> Self
         requires last_runs { AreInTime world.state.clock memories.systems.items memories.conditions.items }
         requires home { AreAllHome world.layout }
@@ -126,7 +126,7 @@ impl State {
             systems,
             conditions,
             passed_over: self.passed_over,
-            room: RowBuffers::new(alloc),
+            room: Room::new(alloc),
         })
     }
 
