@@ -40,14 +40,14 @@ fn put_columns(columns: Vec<ViewColumn>, world: &mut World)
     }
 }
 
-// Brings the columns of queries home, with what was written there: all of it is in columns that the world lent.
-// The buffers of their rows go to this room.
-pub(crate) fn put_home(queries: Vec<ViewQuery>, world: &mut World, room: &mut RowBuffers)
-    requires { CanComeHome (lent_after queries.items) world.old }
-    ensures home { world.new ≡ all_home (lent_after queries.items) world.old }
-    ensures reach { AllByRecursion (λ (s : Sheet). WritesReach (words_of_sheet s) s.taken) queries.items }
+// Brings the columns of queries home, with what was written there: all of it is in columns that the world lent. No query is left, and the room of
+// their list stays. The buffers of their rows go to this room.
+pub(crate) fn put_home(queries: &mut Vec<ViewQuery>, world: &mut World, room: &mut RowBuffers)
+    requires { CanComeHome (lent_after queries.old.items) world.old }
+    ensures home { world.new ≡ all_home (lent_after queries.old.items) world.old }
+    ensures reach { AllByRecursion (λ (s : Sheet). WritesReach (words_of_sheet s) s.taken) queries.old.items }
+    ensures none { queries.new.items ≡ [] }
 {
-    let mut queries = queries;
     while let Some(query) = queries.pop() {
         put_columns(query.close(room), world);
     }

@@ -7,6 +7,7 @@ pub mod field_words;
 pub mod memory;
 pub mod open_state;
 mod opening;
+mod room;
 mod slot_table;
 pub mod state;
 pub mod system_body;

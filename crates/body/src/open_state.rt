@@ -26,6 +26,7 @@ ghost use Rattle.body.specs.Out.{IsWrittenBy, AreOut};
 ghost use Rattle.body.specs.Steps.{AreInTime, HasShape, asked_at, at_clock, counted_state, laid, noted, store_of, target_in, with_slots_in, with_target};
 
 use crate::memory::Memory;
+use crate::room::Room;
 use crate::state::{Memories, State};
 use crate::view::View;
 use access_set::Params;
@@ -40,7 +41,6 @@ use entity_table::Entity;
 use event_buffers::{Events, SendFault};
 use kinds::Event;
 use model::KindSets;
-use query_plan::RowBuffers;
 use run_condition::Cond;
 use std::alloc::{AllocError, Global};
 use std::marker::Model;
@@ -58,7 +58,7 @@ pub struct OpenState {
     systems: Vec<Memory>,
     conditions: Vec<Memory>,
     passed_over: u64,
-    room: RowBuffers,
+    room: Room,
 }
 
 impl Model for OpenState {
@@ -79,7 +79,7 @@ impl OpenState {
         systems: Vec<Memory>,
         conditions: Vec<Memory>,
         passed_over: u64,
-        room: RowBuffers,
+        room: Room,
     ) -> Self
         requires in_time { AreInTime world.state.clock systems.items conditions.items }
         requires counted { passed_over ≤ most_passed_over }
@@ -241,35 +241,36 @@ impl OpenState {
         self.world.release(granted);
     }
 
-    /// What a system with these parameters is shown of the state, with these ids granted, and nothing written yet: what it writes will count as changed at a tick to
-    /// come. The columns that it may write leave the state, by move, and those that it reads are shared. After an error the state is as it
-    /// was.
+    /// What a system with these parameters is shown of the state, with these ids granted, and nothing written yet: what it writes will count as
+    /// changed at a tick to come. The columns that it may write leave the state, by move, and those that it reads are shared. It stands in the room
+    /// of a view that was closed, where there is one. After an error the state is as it was.
     pub fn open(
         &mut self,
         alloc: Global,
         params: &Params,
         system: usize,
         tick: Tick,
-        granted: Vec<Entity>,
+        granted: &[Entity],
         commands: CommandBuffer,
-    ) -> Result<View, AllocError>
+    ) -> Result<Box<View>, AllocError>
         requires empty { commands ≡ [] }
         requires known { system < length self.old.state.systems }
         requires home { AllByRecursion (λ query. ArePickedHome query self.old.layout) params.now.queries }
         requires apart { ConflictWithin params.now → ⊥ }
         requires coming { self.old.state.world.clock < tick }
-        ensures params { IfOk result (λ view. view.params ≡ params.now) }
-        ensures shown { IfOk result (λ view. view.shown ≡ input.shown params.now (memory_of_system self.old.state system) self.old.state granted.items) }
-        ensures untouched { IfOk result (λ view. view.outcome ≡ outcome.untouched params.now view.shown) }
-        ensures tick { IfOk result (λ view. view.opening.tick ≡ tick) }
-        ensures written { IfOk result (λ view. AllByRecursion (IsWrittenBy params.now.queries self.old.layout) (lent_in view.opening.taken)) }
-        ensures lent { IfOk result (λ view. AreLent (store_of self.new) view.opening.taken) }
-        ensures out { IfOk result (λ view. (others : List (List Column)) → AreOut (store_of self.old) others → AreOut (store_of self.new) (others ++ view.opening.taken)) }
-        ensures away { IfOk result (λ view. self.new ≡ record { state = self.old.state; layout = with_away (lent_in view.opening.taken) self.old.layout }) }
-        ensures back { IfOk result (λ view. with_back (lent_in view.opening.taken) self.new.layout ≡ self.old.layout) }
+        ensures params { IfOk result (λ view. view.value.params ≡ params.now) }
+        ensures shown { IfOk result (λ view. view.value.shown ≡ input.shown params.now (memory_of_system self.old.state system) self.old.state granted.now) }
+        ensures untouched { IfOk result (λ view. view.value.outcome ≡ outcome.untouched params.now view.value.shown) }
+        ensures tick { IfOk result (λ view. view.value.opening.tick ≡ tick) }
+        ensures written { IfOk result (λ view. AllByRecursion (IsWrittenBy params.now.queries self.old.layout) (lent_in view.value.opening.taken)) }
+        ensures lent { IfOk result (λ view. AreLent (store_of self.new) view.value.opening.taken) }
+        ensures out { IfOk result (λ view. (others : List (List Column)) → AreOut (store_of self.old) others → AreOut (store_of self.new) (others ++ view.value.opening.taken)) }
+        ensures away { IfOk result (λ view. self.new ≡ record { state = self.old.state; layout = with_away (lent_in view.value.opening.taken) self.old.layout }) }
+        ensures back { IfOk result (λ view. with_back (lent_in view.value.opening.taken) self.new.layout ≡ self.old.layout) }
         ensures err { OnErr result (self.new ≡ self.old) }
     {
-        View::open(
+        let mut view = self.room.take_view(alloc, params)?;
+        view.open(
             alloc,
             params,
             &self.systems[system],
@@ -278,8 +279,9 @@ impl OpenState {
             tick,
             granted,
             commands,
-            &mut self.room,
-        )
+            &mut self.room.rows,
+        )?;
+        Ok(view)
     }
 
     /// Notes the run of a system with these parameters at a tick, which isn't above the clock: its last run is then, and its readers have been
@@ -334,21 +336,23 @@ impl OpenState {
     }
 
     /// Brings the columns of a view of a system home, and so lays what was written over the state, at the tick of the view, which isn't above
-    /// the clock: components, resources, events, and the registers of the system. What other views hold stays away. Where an event gets no
-    /// number, or an allocation fails, the state is of no more use. The commands.
-    pub fn close(&mut self, view: View, system: usize) -> Result<CommandBuffer, SendFault>
+    /// the clock: components, resources, events, and the registers of the system. What other views hold stays away, and the view is kept for a
+    /// start to come. Where an event gets no number, or an allocation fails, the state is of no more use. The commands.
+    pub fn close(&mut self, view: Box<View>, system: usize) -> Result<CommandBuffer, SendFault>
         requires known { system < length self.old.state.systems }
-        requires lent { AreLent (store_of self.old) view.opening.taken }
-        requires past { view.opening.tick ≤ self.old.state.world.clock }
-        ensures laid { OnOk result (self.new ≡ record { state = laid system view.opening.tick view self.old.state; layout = with_back (lent_in view.opening.taken) self.old.layout }) }
-        ensures out { OnOk result ((front rest : List (List Column)) → AreOut (store_of self.old) (front ++ (view.opening.taken ++ rest)) → AreOut (store_of self.new) (front ++ rest)) }
-        ensures commands { IfOk result (λ commands. commands ≡ view.outcome.commands) }
-        ensures spent { IsErrOf result SendFault.NumbersSpent ↔ (has_event_numbers (events_sent view.params.writes view.outcome.events) self.old.state.events ≡ false) }
+        requires lent { AreLent (store_of self.old) view.value.opening.taken }
+        requires past { view.value.opening.tick ≤ self.old.state.world.clock }
+        ensures laid { OnOk result (self.new ≡ record { state = laid system view.value.opening.tick view.value self.old.state; layout = with_back (lent_in view.value.opening.taken) self.old.layout }) }
+        ensures out { OnOk result ((front rest : List (List Column)) → AreOut (store_of self.old) (front ++ (view.value.opening.taken ++ rest)) → AreOut (store_of self.new) (front ++ rest)) }
+        ensures commands { IfOk result (λ commands. commands ≡ view.value.outcome.commands) }
+        ensures spent { IsErrOf result SendFault.NumbersSpent ↔ (has_event_numbers (events_sent view.value.params.writes view.value.outcome.events) self.old.state.events ≡ false) }
     {
         self.world.prove_laid();
-        let (registers, sent, commands) = view.close(&mut self.world, &mut self.room);
-        sent.send(&mut self.events)?;
+        let mut view = view;
+        view.send(&mut self.events)?;
+        let (registers, commands) = view.close(&mut self.world, &mut self.room.rows);
         keep_registers(&mut self.systems, system, registers);
+        self.room.keep_view(view);
         Ok(commands)
     }
 }

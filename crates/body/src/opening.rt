@@ -1,6 +1,6 @@
 // The queries of a view as they are opened over a world.
 
-ghost use Rattle.std.specs.Prelude.{◌≡◌, ◌<◌, ℕ, map, IfOk, OnErr};
+ghost use Rattle.std.specs.Prelude.{◌≡◌, ◌<◌, ℕ, [], map, IfOk, OnOk, OnErr};
 ghost use Rattle.std.specs.List.{AllByRecursion};
 ghost use Rattle.model.specs.shown.Input.{rows_of};
 ghost use Rattle.model.specs.access.SelfConflict.{TwoConflictAt};
@@ -58,32 +58,35 @@ pub(crate) fn open_query(
     Ok(ViewQuery::open(tick, query, slots, rows, columns))
 }
 
-// Queries as they are opened over a world at a tick to come. After an error the world is as it was.
+// Queries as they are opened over a world at a tick to come, in the room of a list. After an error the world is as it was, and the list is empty.
 pub(crate) fn open_queries(
     alloc: Global,
+    opened: &mut Vec<ViewQuery>,
     queries: &[Query],
     world: &mut World,
     last_run: Tick,
     tick: Tick,
     room: &mut RowBuffers,
-) -> Result<Vec<ViewQuery>, AllocError>
+) -> Result<(), AllocError>
     requires home { AllByRecursion (λ query. ArePickedHome query world.old.layout) queries.now }
     requires apart { (kind : ℕ) → TwoConflictAt queries.now kind → ⊥ }
     requires coming { world.old.state.clock < tick }
-    ensures terms { IfOk result (λ v. map (λ (q : Sheet). q.terms) v.items ≡ queries.now) }
-    ensures rows { IfOk result (λ v. map (λ (q : Sheet). q.rows) v.items ≡ map (λ query. rows_of query last_run world.old.state.slots) queries.now) }
-    ensures untouched { IfOk result (λ v. map (λ (q : Sheet). q.cells) v.items ≡ untouched_cells (map (λ (q : Sheet). q.terms) v.items) (map (λ (q : Sheet). q.rows) v.items)) }
-    ensures written { IfOk result (λ v. AllByRecursion (IsWrittenBy queries.now world.old.layout) (lent_in (map (λ (q : Sheet). q.taken) v.items))) }
-    ensures together { IfOk result (λ v. AreTogether tick v.items) }
-    ensures lent { IfOk result (λ v. AreLent world.new (map (λ (q : Sheet). q.taken) v.items)) }
-    ensures away { IfOk result (λ v. world.new ≡ record { state = world.old.state; layout = with_away (lent_in (map (λ (q : Sheet). q.taken) v.items)) world.old.layout }) }
-    ensures back { IfOk result (λ v. with_back (lent_in (map (λ (q : Sheet). q.taken) v.items)) world.new.layout ≡ world.old.layout) }
+    ensures terms { OnOk result (map (λ (q : Sheet). q.terms) opened.new.items ≡ queries.now) }
+    ensures rows { OnOk result (map (λ (q : Sheet). q.rows) opened.new.items ≡ map (λ query. rows_of query last_run world.old.state.slots) queries.now) }
+    ensures untouched { OnOk result (map (λ (q : Sheet). q.cells) opened.new.items ≡ untouched_cells (map (λ (q : Sheet). q.terms) opened.new.items) (map (λ (q : Sheet). q.rows) opened.new.items)) }
+    ensures written { OnOk result (AllByRecursion (IsWrittenBy queries.now world.old.layout) (lent_in (map (λ (q : Sheet). q.taken) opened.new.items))) }
+    ensures together { OnOk result (AreTogether tick opened.new.items) }
+    ensures lent { OnOk result (AreLent world.new (map (λ (q : Sheet). q.taken) opened.new.items)) }
+    ensures away { OnOk result (world.new ≡ record { state = world.old.state; layout = with_away (lent_in (map (λ (q : Sheet). q.taken) opened.new.items)) world.old.layout }) }
+    ensures back { OnOk result (with_back (lent_in (map (λ (q : Sheet). q.taken) opened.new.items)) world.new.layout ≡ world.old.layout) }
+    ensures none { OnErr result (opened.new.items ≡ []) }
     ensures err { OnErr result (world.new ≡ world.old) }
 {
     // Tell how the layout is that of the state, and that no stamp is above the clock.
     world.prove_laid();
     let _now = world.now();
-    let mut opened = Vec::with_capacity(alloc, queries.len())?;
+    opened.clear();
+    opened.reserve(queries.len())?;
     for query in queries {
         match open_query(alloc, query, world, last_run, tick, room) {
             Ok(one) => opened.push_reserved(one),
@@ -93,5 +96,5 @@ pub(crate) fn open_queries(
             }
         }
     }
-    Ok(opened)
+    Ok(())
 }

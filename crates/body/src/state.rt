@@ -8,11 +8,12 @@ ghost use Rattle.body.specs.Steps.{AreInTime, HasShape, counted_state, state_of}
 
 use crate::memory::{Memory, copied_memories};
 use crate::open_state::OpenState;
+use crate::room::Room;
 use archetype_store::World;
 use change_ticks::Clock;
 use event_buffers::Events;
 use query::Query;
-use query_plan::{RowBuffers, shape_of};
+use query_plan::shape_of;
 use std::alloc::{AllocError, Global};
 use std::marker::Model;
 
@@ -34,8 +35,8 @@ pub struct State {
     systems: Vec<Memory>,
     conditions: Vec<Memory>,
     passed_over: u64,
-    // Buffers of rows, for the next starts.
-    room: RowBuffers,
+    // For the next starts.
+    room: Room,
 }
 
 impl Model for State {
@@ -60,7 +61,7 @@ impl State {
             systems: Vec::new(alloc),
             conditions: Vec::new(alloc),
             passed_over: 0,
-            room: RowBuffers::new(alloc),
+            room: Room::new(alloc),
         }
     }
 
@@ -74,7 +75,7 @@ impl State {
             systems,
             conditions,
         } = memories;
-        let room = RowBuffers::new(*systems.allocator());
+        let room = Room::new(*systems.allocator());
         State {
             world,
             events,
@@ -91,7 +92,7 @@ impl State {
         events: Events,
         memories: Memories,
         passed_over: u64,
-        room: RowBuffers,
+        room: Room,
     ) -> Self
         requires last_runs { AreInTime world.state.clock memories.systems.items memories.conditions.items }
         requires home { AreAllHome world.layout }
@@ -127,7 +128,7 @@ impl State {
             systems,
             conditions,
             passed_over: self.passed_over,
-            room: RowBuffers::new(alloc),
+            room: Room::new(alloc),
         })
     }
 

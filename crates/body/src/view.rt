@@ -1,6 +1,6 @@
 // A view: what a system is shown at its start, and its outcome so far, where the columns lie.
 
-ghost use Rattle.std.specs.Prelude.{◌≡◌, ◌+◌, ◌<◌, ◌≤◌, ℕ, true, false, [], length, get_or, pos, option_map, is_some, unwrap_or, IfOk, IsTrue, OnOk, OnErr};
+ghost use Rattle.std.specs.Prelude.{◌≡◌, ◌↔◌, ◌+◌, ◌<◌, ◌≤◌, ℕ, true, false, [], length, get_or, pos, option_map, is_some, unwrap_or, IsErrOf, IsTrue, OnOk, OnErr};
 ghost use Rattle.std.specs.List.{AllByRecursion};
 ghost use Rattle.kinds.specs.Kind.{kind_number};
 ghost use Rattle.kinds.specs.Res.{res_number, event_number};
@@ -12,7 +12,8 @@ ghost use Rattle.model.specs.access.Access.{names_resource};
 ghost use Rattle.model.specs.access.Query.{writes};
 ghost use Rattle.model.specs.access.SelfConflict.{ConflictWithin};
 ghost use Rattle.model.specs.shown.Input.{shown};
-ghost use Rattle.model.specs.shown.Outcome.{spawned_by, untouched, words_written};
+ghost use Rattle.model.specs.shown.Outcome.{events_sent, spawned_by, untouched, words_written};
+ghost use Rattle.model.specs.shown.Overlay.{has_event_numbers, queues_after};
 ghost use Rattle.model.specs.shown.Outcome.Command.{Spawn, Insert, Remove, Despawn};
 ghost use Rattle.query_plan.specs.Standing.{ArePickedHome};
 ghost use Rattle.archetype_store.specs.Overlays.{AreReached};
@@ -33,7 +34,7 @@ use archetype_store::World;
 use change_ticks::Tick;
 use command_queue::CommandBuffer;
 use entity_table::Entity;
-use event_buffers::{EventLists, Events};
+use event_buffers::{EventLists, Events, SendFault};
 use kinds::{Component, Event, Fields, Kind, Res, Value};
 use query_plan::RowBuffers;
 use std::alloc::{AllocError, Global};
@@ -64,54 +65,65 @@ impl Model for View {
 }
 
 impl View {
+    // A view that is to be opened, which has no queries.
+    pub(crate) fn blank(alloc: Global, params: &Params) -> Result<Self, AllocError> {
+        Ok(View {
+            tick: 0,
+            queries: Vec::new(alloc),
+            values: ViewValues::blank(params),
+            unread: EventLists::empty(alloc, &[])?,
+            sent: EventLists::empty(alloc, &[])?,
+            issued: ViewCommands::blank(alloc),
+        })
+    }
+
     /// What a system with these parameters and this memory is shown of a world and its events, with these ids granted, and nothing written: what
-    /// it writes will count as changed at a tick to come. Its commands go into a buffer that has none. The columns that it may write leave the world, by move, and those that it reads are shared. After an error the
-    /// world is as it was.
+    /// it writes will count as changed at a tick to come. Its commands go into a buffer that has none. The columns that it may write leave the
+    /// world, by move, and those that it reads are shared. What the view was before is forgotten, and its room is used again. After an error the
+    /// world is as it was, and the view is of no more use.
     pub fn open(
+        &mut self,
         alloc: Global,
         params: &Params,
         memory: &Memory,
         events: &Events,
         world: &mut World,
         tick: Tick,
-        granted: Vec<Entity>,
+        granted: &[Entity],
         commands: CommandBuffer,
         room: &mut RowBuffers,
-    ) -> Result<Self, AllocError>
+    ) -> Result<(), AllocError>
         requires empty { commands ≡ [] }
         requires home { AllByRecursion (λ query. ArePickedHome query world.old.layout) params.now.queries }
         requires apart { ConflictWithin params.now → ⊥ }
         requires coming { world.old.state.clock < tick }
-        ensures params { IfOk result (λ v. v.params ≡ params.now) }
-        ensures shown { IfOk result (λ v. (state : State) → state.world ≡ world.old.state → state.events ≡ events.now → v.shown ≡ shown params.now memory.now state granted.items) }
-        ensures untouched { IfOk result (λ v. v.outcome ≡ untouched v.params v.shown) }
-        ensures tick { IfOk result (λ v. v.opening.tick ≡ tick) }
-        ensures written { IfOk result (λ v. AllByRecursion (IsWrittenBy params.now.queries world.old.layout) (lent_in v.opening.taken)) }
-        ensures lent { IfOk result (λ v. AreLent world.new v.opening.taken) }
-        ensures away { IfOk result (λ v. world.new ≡ record { state = world.old.state; layout = with_away (lent_in v.opening.taken) world.old.layout }) }
-        ensures back { IfOk result (λ v. with_back (lent_in v.opening.taken) world.new.layout ≡ world.old.layout) }
+        ensures params { OnOk result (self.new.params ≡ params.now) }
+        ensures shown { OnOk result ((state : State) → state.world ≡ world.old.state → state.events ≡ events.now → self.new.shown ≡ shown params.now memory.now state granted.now) }
+        ensures untouched { OnOk result (self.new.outcome ≡ untouched self.new.params self.new.shown) }
+        ensures tick { OnOk result (self.new.opening.tick ≡ tick) }
+        ensures written { OnOk result (AllByRecursion (IsWrittenBy params.now.queries world.old.layout) (lent_in self.new.opening.taken)) }
+        ensures lent { OnOk result (AreLent world.new self.new.opening.taken) }
+        ensures away { OnOk result (world.new ≡ record { state = world.old.state; layout = with_away (lent_in self.new.opening.taken) world.old.layout }) }
+        ensures back { OnOk result (with_back (lent_in self.new.opening.taken) world.new.layout ≡ world.old.layout) }
         ensures err { OnErr result (world.new ≡ world.old) }
     {
-        let values = ViewValues::open(params, memory, world);
         let unread = EventLists::unread(alloc, params.reads(), memory.cursors(), events)?;
         let sent = EventLists::empty(alloc, params.writes())?;
-        let issued = ViewCommands::open(params, granted, commands);
-        let queries = open_queries(
+        self.issued.open(params, granted, commands)?;
+        self.values.open(params, memory, world);
+        open_queries(
             alloc,
+            &mut self.queries,
             params.queries(),
             world,
             memory.last_run(),
             tick,
             room,
         )?;
-        Ok(View {
-            tick,
-            queries,
-            values,
-            unread,
-            sent,
-            issued,
-        })
+        self.unread = unread;
+        self.sent = sent;
+        self.tick = tick;
+        Ok(())
     }
 
     /// What holds of every view: it shows rows for each query, and has commands only where its system has Commands.
@@ -129,36 +141,31 @@ impl View {
         self.tick
     }
 
+    /// Sends the events that were emitted. Where one gets no number none is sent; where an allocation fails those of some kinds may have been.
+    pub fn send(&self, events: &mut Events) -> Result<(), SendFault>
+        ensures ok { OnOk result (events.new ≡ queues_after (events_sent self.now.params.writes self.now.outcome.events) events.old) }
+        ensures spent { IsErrOf result SendFault.NumbersSpent ↔ (has_event_numbers (events_sent self.now.params.writes self.now.outcome.events) events.old ≡ false) }
+    {
+        self.sent.send(events)
+    }
+
     /// Brings the columns home, and so lays what was written over the world, and writes its resources. All else of the world stays. All that
-    /// was written is written in columns that the world lent. The registers, as they are in the end, the events that were emitted, and the
-    /// commands. The buffers of its rows go to this room.
-    pub fn close(
-        self,
-        world: &mut World,
-        room: &mut RowBuffers,
-    ) -> ([i64; 8], EventLists, CommandBuffer)
-        requires lent { AreLent world.old self.opening.taken }
-        requires past { self.opening.tick ≤ world.old.state.clock }
-        ensures home { world.new ≡ record { state = world_after self.opening.tick self world.old.state; layout = with_back (lent_in self.opening.taken) world.old.layout } }
-        ensures reach { AreReached world.old.layout (lent_in self.opening.taken) (words_written self.params.queries self.shown.rows self.outcome.cells) }
-        ensures registers { result.0 ≡ self.outcome.registers }
-        ensures sent { result.1 ≡ record { kinds = self.params.writes; values = self.outcome.events } }
-        ensures commands { result.2 ≡ self.outcome.commands }
+    /// was written is written in columns that the world lent. The registers, as they are in the end, and the commands. The buffers of its rows go
+    /// to this room, and the view is of use to be opened again alone.
+    pub fn close(&mut self, world: &mut World, room: &mut RowBuffers) -> ([i64; 8], CommandBuffer)
+        requires lent { AreLent world.old self.old.opening.taken }
+        requires past { self.old.opening.tick ≤ world.old.state.clock }
+        ensures home { world.new ≡ record { state = world_after self.old.opening.tick self.old world.old.state; layout = with_back (lent_in self.old.opening.taken) world.old.layout } }
+        ensures reach { AreReached world.old.layout (lent_in self.old.opening.taken) (words_written self.old.params.queries self.old.shown.rows self.old.outcome.cells) }
+        ensures registers { result.0 ≡ self.old.outcome.registers }
+        ensures commands { result.1 ≡ self.old.outcome.commands }
     {
         // Tell how the layout is that of the state, and that no stamp is above the clock.
         world.prove_laid();
         let _now = world.now();
-        let View {
-            tick,
-            queries,
-            values,
-            unread: _unread,
-            sent,
-            issued,
-        } = self;
-        put_home(queries, world, room);
-        values.lay(tick, world);
-        (values.registers(), sent, issued.into_commands())
+        put_home(&mut self.queries, world, room);
+        self.values.lay(self.tick, world);
+        (self.values.registers(), self.issued.take_commands())
     }
 
     /// How many rows a query has.

@@ -10,8 +10,9 @@ use access_set::Params;
 use command_queue::CommandBuffer;
 use entity_table::Entity;
 use kinds::{Kind, Value};
-use std::alloc::AllocError;
+use std::alloc::{AllocError, Global};
 use std::marker::Model;
+use std::mem;
 
 /// How many ids a system is granted at each start where it has Commands, those of this start, and the commands so far.
 #[derive(Drop)]
@@ -33,16 +34,30 @@ impl Model for ViewCommands {
 }
 
 impl ViewCommands {
-    // The ids of a start, and no command.
-    pub(crate) fn open(params: &Params, granted: Vec<Entity>, commands: CommandBuffer) -> Self
-        requires { commands ≡ [] }
-        ensures { result ≡ record { spawns = params.now.spawns; granted = granted.items; commands = [] } }
-    {
+    // No ids, and no command.
+    pub(crate) fn blank(alloc: Global) -> Self {
         ViewCommands {
-            spawns: params.spawns(),
-            granted,
-            commands,
+            spawns: None,
+            granted: Vec::new(alloc),
+            commands: CommandBuffer::new(alloc),
         }
+    }
+
+    // The ids of a start, in the room of those of the start before, and no command.
+    pub(crate) fn open(
+        &mut self,
+        params: &Params,
+        granted: &[Entity],
+        commands: CommandBuffer,
+    ) -> Result<(), AllocError>
+        requires { commands ≡ [] }
+        ensures { OnOk result (self.new ≡ record { spawns = params.now.spawns; granted = granted.now; commands = [] }) }
+    {
+        self.granted.clear();
+        self.granted.extend_from_slice(granted)?;
+        self.spawns = params.spawns();
+        self.commands = commands;
+        Ok(())
     }
 
     // What holds of all.
@@ -105,10 +120,11 @@ impl ViewCommands {
         self.commands.despawn(e)
     }
 
-    // The commands, in order of issue.
-    pub(crate) fn into_commands(self) -> CommandBuffer
-        ensures { result ≡ self.commands }
+    // Takes the commands, in order of issue.
+    pub(crate) fn take_commands(&mut self) -> CommandBuffer
+        ensures { result ≡ self.old.commands }
     {
-        self.commands
+        let none = CommandBuffer::new(*self.granted.allocator());
+        mem::replace(&mut self.commands, none)
     }
 }

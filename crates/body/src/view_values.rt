@@ -41,18 +41,27 @@ impl Model for ViewValues {
 }
 
 impl ViewValues {
-    // What is shown to a system with these parameters and this memory, and nothing written.
-    pub(crate) fn open(params: &Params, memory: &Memory, world: &World) -> Self
-        ensures { result ≡ first_values params.now world.now.state.resources memory.now.registers }
-    {
-        let registers = memory.registers();
+    // Values that are to be opened, with these parameters: all 0, and nothing written.
+    pub(crate) fn blank(params: &Params) -> Self {
+        let registers = [0; 8];
         ViewValues {
             params: Snapshot::of(params),
-            resources: values_of(world),
+            resources: [0; Res::COUNT],
             written: [None; Res::COUNT],
             registers_shown: Snapshot::of(&registers),
             registers,
         }
+    }
+
+    // What is shown to a system with these parameters and this memory, and nothing written.
+    pub(crate) fn open(&mut self, params: &Params, memory: &Memory, world: &World)
+        ensures { self.new ≡ first_values params.now world.now.state.resources memory.now.registers }
+    {
+        self.params = Snapshot::of(params);
+        self.registers = memory.registers();
+        self.registers_shown = Snapshot::of(&self.registers);
+        self.written = [None; Res::COUNT];
+        fill_values(&mut self.resources, world);
     }
 
     // The value of a resource that is named: what was written, else what is shown.
@@ -112,15 +121,13 @@ impl ViewValues {
     }
 }
 
-// The value of each resource of a world.
-fn values_of(world: &World) -> [i64; Res::COUNT]
-    ensures { (number : ℕ) → value_at result number ≡ value_of world.now.state.resources number }
+// Puts the value of each resource of a world in its place.
+fn fill_values(values: &mut [i64; Res::COUNT], world: &World)
+    ensures { (number : ℕ) → value_at values.new number ≡ value_of world.now.state.resources number }
 {
     // Tells how many resources there are.
     let _now = world.now();
-    let mut values = [0; Res::COUNT];
     for number in 0..Res::COUNT {
         values[number] = world.res(Res::ALL[number]);
     }
-    values
 }

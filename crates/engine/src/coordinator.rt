@@ -97,7 +97,7 @@ fn run_turns<'s, M: Mode<'s>, B: Body + 's>(
     jobs.started = 0;
     run.deferred.clear();
     run.open(built)?;
-    let mut trace = begin(run.alloc, core, latest_of(before), &run.state)?;
+    let mut trace = begin(built, run.alloc, core, latest_of(before), &run.state)?;
     while let Some(turn) = next_turn(core, jobs.pool.count(), width) {
         let done = do_turn(built, run, jobs, mode, turn)?;
         take(run.alloc, core, &mut trace, &run.state, done)?;
@@ -109,6 +109,7 @@ fn run_turns<'s, M: Mode<'s>, B: Body + 's>(
 // Begins the core again for a run that opens on this state, and what is recorded of it. The kind sets that the run before recorded last are
 // those at the opening, so the core keeps who meets whom; the world is asked only where no run was before.
 fn begin(
+    built: &Built,
     alloc: Global,
     core: &mut Core<'_>,
     latest: Option<&KindSets>,
@@ -124,11 +125,11 @@ fn begin(
     let Some(sets) = latest else {
         let opening = state.kind_sets(alloc)?;
         core.begin_in(alloc, &opening)?;
-        return Trace::new_in(alloc, opening);
+        return Trace::of_run(alloc, built, opening);
     };
     let opening = sets.copy(alloc)?;
     core.begin_same(alloc)?;
-    Trace::new_in(alloc, opening)
+    Trace::of_run(alloc, built, opening)
 }
 
 // Does what is next, and gives the step that it is.
@@ -196,9 +197,7 @@ fn take(
 {
     let Step::Sync(point) = done.step else {
         trace.push(done.step)?;
-        let Ok(()) = core.step(done.step) else {
-            unreachable!()
-        };
+        core.accept(done.step);
         return Ok(());
     };
     let sets = sets_now(alloc, trace, state, done.commanded)?;

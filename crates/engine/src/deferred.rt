@@ -129,13 +129,13 @@ impl Deferred {
         mem::replace(&mut self.commands[system], CommandBuffer::new(alloc))
     }
 
-    /// The ids granted to a system, copied.
-    pub fn granted(&self, alloc: Global, system: usize) -> Result<Vec<Entity>, AllocError>
+    /// The ids granted to a system.
+    pub fn granted(&self, system: usize) -> &[Entity]
         requires known { system < length self.now.grants }
-        ensures { IfOk result (λ ids. ids.items ≡ grants_at self.now system) }
+        ensures { result.now ≡ grants_at self.now system }
     {
         let granted = &self.grants[system];
-        Vec::from_slice(alloc, &granted.ids)
+        granted.ids.as_slice()
     }
 
     /// The grant for a level: its systems with commands, in schedule order, each take the least vacant indices at their generations. Where there

@@ -51,8 +51,7 @@ pub(crate) fn start<'s, M: Mode<'s>, B: Body + 's>(
     ensures kept { IfErr result (λ told. (told ≡ stop.NoWorker → IsTrue (M.stands mode.now)) → (jobs.new.bodies ≡ jobs.old.bodies) × (jobs.new.pool ≡ jobs.old.pool)) }
 {
     run.state.prove_law();
-    let shown = run.show(built, system)?;
-    let view = Box::new(run.alloc, shown)?;
+    let view = run.show(built, system)?;
     let number = jobs.started.saturating_add(1);
     jobs.started = number;
     let body = jobs.bodies.take(system as usize);
@@ -110,7 +109,7 @@ pub(crate) fn finish<'s, M: Mode<'s>, B: Body + 's>(
         answer,
     } = done;
     jobs.bodies.put(system as usize, body);
-    run.close(system, answer, Box::into_inner(view))?;
+    run.close(system, answer, view)?;
     Ok(system)
 }
 

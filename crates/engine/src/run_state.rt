@@ -82,21 +82,21 @@ impl RunState {
 
     /// What a system is shown as it starts, with the ids that it was granted, and a buffer for its commands: its run is noted at the tick to come,
     /// which becomes the clock.
-    pub fn show(&mut self, built: &Built, system: u32) -> Result<View, Stop>
+    pub fn show(&mut self, built: &Built, system: u32) -> Result<Box<View>, Stop>
         requires known { system < length built.now.systems }
         requires memories { HasMemories built.now self.old.state.state }
         requires home { AllByRecursion (λ query. ArePickedHome query self.old.state.layout) (params_of built.now system).queries }
         requires suits { IsDeferredFor built.now self.old.deferred }
         requires fresh { commands_at self.old.deferred system ≡ [] }
         requires given { AreIdsFor built.now system (grants_at self.old.deferred system) }
-        ensures params { IfOk result (λ view. view.params ≡ params_of built.now system) }
-        ensures shown { IfOk result (λ view. view.shown ≡ shown (params_of built.now system) (memory_of_system self.old.state.state system) self.old.state.state (grants_at self.old.deferred system)) }
-        ensures showing { IfOk result (λ view. CanBeShown view.params view.shown) }
-        ensures untouched { IfOk result (λ view. view.outcome ≡ untouched view.params view.shown) }
-        ensures tick { IfOk result (λ view. view.opening.tick ≡ next_tick self.old.state.state) }
-        ensures written { IfOk result (λ view. AllByRecursion (IsWrittenBy (params_of built.now system).queries self.old.state.layout) (lent_in view.opening.taken)) }
-        ensures held { IfOk result (λ view. (others : List (List Column)) → AreOut (store_of self.old.state) others → AreOut (store_of self.new.state) (others ++ view.opening.taken)) }
-        ensures noted { IfOk result (λ view. self.new.state ≡ record { state = noted system (params_of built.now system).reads (next_tick self.old.state.state) (ticked self.old.state.state); layout = with_away (lent_in view.opening.taken) self.old.state.layout }) }
+        ensures params { IfOk result (λ view. view.value.params ≡ params_of built.now system) }
+        ensures shown { IfOk result (λ view. view.value.shown ≡ shown (params_of built.now system) (memory_of_system self.old.state.state system) self.old.state.state (grants_at self.old.deferred system)) }
+        ensures showing { IfOk result (λ view. CanBeShown view.value.params view.value.shown) }
+        ensures untouched { IfOk result (λ view. view.value.outcome ≡ untouched view.value.params view.value.shown) }
+        ensures tick { IfOk result (λ view. view.value.opening.tick ≡ next_tick self.old.state.state) }
+        ensures written { IfOk result (λ view. AllByRecursion (IsWrittenBy (params_of built.now system).queries self.old.state.layout) (lent_in view.value.opening.taken)) }
+        ensures held { IfOk result (λ view. (others : List (List Column)) → AreOut (store_of self.old.state) others → AreOut (store_of self.new.state) (others ++ view.value.opening.taken)) }
+        ensures noted { IfOk result (λ view. self.new.state ≡ record { state = noted system (params_of built.now system).reads (next_tick self.old.state.state) (ticked self.old.state.state); layout = with_away (lent_in view.value.opening.taken) self.old.state.layout }) }
         ensures deferred { self.new.deferred ≡ self.old.deferred }
         ensures has { OnOk result (has_tick self.old.state.state ≡ true) }
         ensures stopped { IfErr result (StopsBy false (LacksTick self.old.state.state)) }
@@ -105,8 +105,8 @@ impl RunState {
         built.prove_apart();
         self.state.prove_law();
         let tick = self.state.coming()?;
-        let granted = self.deferred.granted(self.alloc, system as usize)?;
         let commands = self.deferred.take_buffer(self.alloc, system as usize);
+        let granted = self.deferred.granted(system as usize);
         let view = self.state.open(self.alloc, params, system as usize, tick, granted, commands)?;
         let Ok(_) = self.state.next() else {
             unreachable!();
@@ -120,18 +120,18 @@ impl RunState {
         &mut self,
         system: u32,
         answer: Result<(), BodyFault>,
-        view: View,
+        view: Box<View>,
     ) -> Result<(), Stop>
         requires memory { system < length self.old.state.state.systems }
         requires place { system < length self.old.deferred.commands }
-        requires lent { AreLent (store_of self.old.state) view.opening.taken }
-        requires past { view.opening.tick ≤ self.old.state.state.world.clock }
+        requires lent { AreLent (store_of self.old.state) view.value.opening.taken }
+        requires past { view.value.opening.tick ≤ self.old.state.state.world.clock }
         ensures answer { OnOk result (answer ≡ Ok tt) }
-        ensures numbers { OnOk result (has_event_numbers (events_sent view.params.writes view.outcome.events) self.old.state.state.events ≡ true) }
-        ensures laid { OnOk result (self.new.state ≡ record { state = laid system view.opening.tick view self.old.state.state; layout = with_back (lent_in view.opening.taken) self.old.state.layout }) }
-        ensures held { OnOk result ((front rest : List (List Column)) → AreOut (store_of self.old.state) (front ++ (view.opening.taken ++ rest)) → AreOut (store_of self.new.state) (front ++ rest)) }
-        ensures deferred { OnOk result (self.new.deferred ≡ with_commands system view.outcome.commands self.old.deferred) }
-        ensures stopped { IfErr result (StopsBy false (IsNotLaid answer view self.old.state.state)) }
+        ensures numbers { OnOk result (has_event_numbers (events_sent view.value.params.writes view.value.outcome.events) self.old.state.state.events ≡ true) }
+        ensures laid { OnOk result (self.new.state ≡ record { state = laid system view.value.opening.tick view.value self.old.state.state; layout = with_back (lent_in view.value.opening.taken) self.old.state.layout }) }
+        ensures held { OnOk result ((front rest : List (List Column)) → AreOut (store_of self.old.state) (front ++ (view.value.opening.taken ++ rest)) → AreOut (store_of self.new.state) (front ++ rest)) }
+        ensures deferred { OnOk result (self.new.deferred ≡ with_commands system view.value.outcome.commands self.old.deferred) }
+        ensures stopped { IfErr result (StopsBy false (IsNotLaid answer view.value self.old.state.state)) }
     {
         answer?;
         let commands = self.state.close(view, system as usize)?;

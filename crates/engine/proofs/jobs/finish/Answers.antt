@@ -29,9 +29,8 @@ close-requires-clause-memory g c =
     let w = c.args.run.now.state in
     let rest = c.bring_back.new.self in
     let ran = c.in-Some.ensures.ran in
-    let seen = c.into_inner.result in
-    let ran_seen = subst (λ (v : Seen). IsSomeAnd (slice_get out ran.0) (λ job. Ran meaning fits job.number job.system job.body job.view done.number done.system done.body v done.answer)) (sym c.into_inner.ensures) ran.1 in
-    let back = back_from meaning fits out rest done.number done.system done.body seen done.answer ran.0 ran_seen ran.2 in
+    let seen = done.view.value in
+    let back = back_from meaning fits out rest done.number done.system done.body seen done.answer ran.0 ran.1 ran.2 in
     let placed = c.requires.placed in
     back_memory meaning fits out rest done.number done.system done.body seen done.answer there s placed.0 slots w back placed.1
 
@@ -47,9 +46,8 @@ close-requires-clause-place g c =
     let w = c.args.run.now.state in
     let rest = c.bring_back.new.self in
     let ran = c.in-Some.ensures.ran in
-    let seen = c.into_inner.result in
-    let ran_seen = subst (λ (v : Seen). IsSomeAnd (slice_get out ran.0) (λ job. Ran meaning fits job.number job.system job.body job.view done.number done.system done.body v done.answer)) (sym c.into_inner.ensures) ran.1 in
-    let back = back_from meaning fits out rest done.number done.system done.body seen done.answer ran.0 ran_seen ran.2 in
+    let seen = done.view.value in
+    let back = back_from meaning fits out rest done.number done.system done.body seen done.answer ran.0 ran.1 ran.2 in
     let placed = c.requires.placed in
     let k = back_known meaning fits out rest done.number done.system done.body seen done.answer there s placed.0 slots w back placed.1 in
     let e = c.requires.suits.command_count in
@@ -67,9 +65,8 @@ close-requires-clause-lent g c =
     let w = c.args.run.now.state in
     let rest = c.bring_back.new.self in
     let ran = c.in-Some.ensures.ran in
-    let seen = c.into_inner.result in
-    let ran_seen = subst (λ (v : Seen). IsSomeAnd (slice_get out ran.0) (λ job. Ran meaning fits job.number job.system job.body job.view done.number done.system done.body v done.answer)) (sym c.into_inner.ensures) ran.1 in
-    let back = back_from meaning fits out rest done.number done.system done.body seen done.answer ran.0 ran_seen ran.2 in
+    let seen = done.view.value in
+    let back = back_from meaning fits out rest done.number done.system done.body seen done.answer ran.0 ran.1 ran.2 in
     let placed = c.requires.placed in
     back_lent meaning fits out rest done.number done.system done.body seen done.answer there s placed.0 slots w back placed.1
 
@@ -85,9 +82,8 @@ close-requires-clause-past g c =
     let w = c.args.run.now.state in
     let rest = c.bring_back.new.self in
     let ran = c.in-Some.ensures.ran in
-    let seen = c.into_inner.result in
-    let ran_seen = subst (λ (v : Seen). IsSomeAnd (slice_get out ran.0) (λ job. Ran meaning fits job.number job.system job.body job.view done.number done.system done.body v done.answer)) (sym c.into_inner.ensures) ran.1 in
-    let back = back_from meaning fits out rest done.number done.system done.body seen done.answer ran.0 ran_seen ran.2 in
+    let seen = done.view.value in
+    let back = back_from meaning fits out rest done.number done.system done.body seen done.answer ran.0 ran.1 ran.2 in
     let placed = c.requires.placed in
     back_past meaning fits out rest done.number done.system done.body seen done.answer there s placed.0 slots w back placed.1
 
@@ -126,9 +122,8 @@ returns-clause-running g c =
     let w = c.args.run.now.state in
     let rest = c.bring_back.new.self in
     let ran = c.in-Some.ensures.ran in
-    let seen = c.into_inner.result in
-    let ran_seen = subst (λ (v : Seen). IsSomeAnd (slice_get out ran.0) (λ job. Ran meaning fits job.number job.system job.body job.view done.number done.system done.body v done.answer)) (sym c.into_inner.ensures) ran.1 in
-    let back = back_from meaning fits out rest done.number done.system done.body seen done.answer ran.0 ran_seen ran.2 in
+    let seen = done.view.value in
+    let back = back_from meaning fits out rest done.number done.system done.body seen done.answer ran.0 ran.1 ran.2 in
     (back.job, back_in meaning fits out rest done.number done.system done.body seen done.answer there s c.requires.placed.0 slots w back c.requires.placed.1, sym back.ran.same_system)
 
 pub returns-clause-finished : goal.returns-clause-finished
@@ -143,9 +138,8 @@ returns-clause-finished g c = λ bodies placed.
     let w = c.args.run.now.state in
     let rest = c.bring_back.new.self in
     let ran = c.in-Some.ensures.ran in
-    let seen = c.into_inner.result in
-    let ran_seen = subst (λ (v : Seen). IsSomeAnd (slice_get out ran.0) (λ job. Ran meaning fits job.number job.system job.body job.view done.number done.system done.body v done.answer)) (sym c.into_inner.ensures) ran.1 in
-    let back = back_from meaning fits out rest done.number done.system done.body seen done.answer ran.0 ran_seen ran.2 in
+    let seen = done.view.value in
+    let back = back_from meaning fits out rest done.number done.system done.body seen done.answer ran.0 ran.1 ran.2 in
     let ok = c.in_ok-close.ensures in
     let deferred = c.args.run.now.deferred in
     let place : done.system < length deferred.commands = let k = back_known meaning fits out rest done.number done.system done.body seen done.answer there s bodies slots w back placed in let e = c.requires.suits.command_count in omega (arith, k, e) in
@@ -164,9 +158,8 @@ returns-clause-placed g c = λ bodies placed.
     let w = c.args.run.now.state in
     let rest = c.bring_back.new.self in
     let ran = c.in-Some.ensures.ran in
-    let seen = c.into_inner.result in
-    let ran_seen = subst (λ (v : Seen). IsSomeAnd (slice_get out ran.0) (λ job. Ran meaning fits job.number job.system job.body job.view done.number done.system done.body v done.answer)) (sym c.into_inner.ensures) ran.1 in
-    let back = back_from meaning fits out rest done.number done.system done.body seen done.answer ran.0 ran_seen ran.2 in
+    let seen = done.view.value in
+    let back = back_from meaning fits out rest done.number done.system done.body seen done.answer ran.0 ran.1 ran.2 in
     let ok = c.in_ok-close.ensures in
     subst (λ xs. Placed meaning fits there s bodies xs rest c.close.new.self.state) (sym c.put.ensures)
     (back_placed meaning fits out rest done.number done.system done.body seen done.answer there s bodies slots w back placed c.close.new.self.state ok.answer ok.numbers ok.laid ok.held)
@@ -183,9 +176,8 @@ returns-clause-hand g c = λ bodies placed keep hand.
     let w = c.args.run.now.state in
     let rest = c.bring_back.new.self in
     let ran = c.in-Some.ensures.ran in
-    let seen = c.into_inner.result in
-    let ran_seen = subst (λ (v : Seen). IsSomeAnd (slice_get out ran.0) (λ job. Ran meaning fits job.number job.system job.body job.view done.number done.system done.body v done.answer)) (sym c.into_inner.ensures) ran.1 in
-    let back = back_from meaning fits out rest done.number done.system done.body seen done.answer ran.0 ran_seen ran.2 in
+    let seen = done.view.value in
+    let back = back_from meaning fits out rest done.number done.system done.body seen done.answer ran.0 ran.1 ran.2 in
     let ok = c.in_ok-close.ensures in
     subst (λ (x : DeferredValue). InHand s x rest c.close.new.self.state) (sym ok.deferred)
     (back_in_hand meaning fits out rest done.number done.system done.body seen done.answer there s bodies slots w back placed c.close.new.self.state ok.answer ok.numbers ok.laid ok.held c.args.run.now.deferred keep hand)
@@ -202,9 +194,8 @@ returns-in_err-close-clause-stopped g c =
     let w = c.args.run.now.state in
     let rest = c.bring_back.new.self in
     let ran = c.in-Some.ensures.ran in
-    let seen = c.into_inner.result in
-    let ran_seen = subst (λ (v : Seen). IsSomeAnd (slice_get out ran.0) (λ job. Ran meaning fits job.number job.system job.body job.view done.number done.system done.body v done.answer)) (sym c.into_inner.ensures) ran.1 in
-    let back = back_from meaning fits out rest done.number done.system done.body seen done.answer ran.0 ran_seen ran.2 in
+    let seen = done.view.value in
+    let back = back_from meaning fits out rest done.number done.system done.body seen done.answer ran.0 ran.1 ran.2 in
     let deferred = c.args.run.now.deferred in
     let told = c.in_err-close.field-0.0 in
     handed_on (λ x. (bodies : List BodyMeaning) → Placed meaning fits there s bodies slots out w
@@ -224,9 +215,8 @@ returns-in_err-close-clause-kept g c =
     let w = c.args.run.now.state in
     let rest = c.bring_back.new.self in
     let ran = c.in-Some.ensures.ran in
-    let seen = c.into_inner.result in
-    let ran_seen = subst (λ (v : Seen). IsSomeAnd (slice_get out ran.0) (λ job. Ran meaning fits job.number job.system job.body job.view done.number done.system done.body v done.answer)) (sym c.into_inner.ensures) ran.1 in
-    let back = back_from meaning fits out rest done.number done.system done.body seen done.answer ran.0 ran_seen ran.2 in
+    let seen = done.view.value in
+    let back = back_from meaning fits out rest done.number done.system done.body seen done.answer ran.0 ran.1 ran.2 in
     let told = c.in_err-close.field-0.0 in
     handed_on (λ x. (bodies : List BodyMeaning) → Placed meaning fits there s bodies slots out w → AreKept meaning fits there s bodies c.put.new.self rest) c.from_residual.result told c.from_residual.ensures.1
     (λ bodies placed. subst (λ xs. AreKept meaning fits there s bodies xs rest) (sym c.put.ensures)

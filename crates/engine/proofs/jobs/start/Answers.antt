@@ -47,18 +47,18 @@ pub hand_out-requires : goal.hand_out-requires
 hand_out-requires g c = λ lifetimes.
     (search sendable depth 40, (search sendable depth 40, (search sendable depth 40, (search sendable depth 40, (refl, tt)))))
 
-pub returns-in_err-shown-clause-stopped : goal.returns-in_err-shown-clause-stopped
-returns-in_err-shown-clause-stopped g c =
+pub returns-in_err-view-clause-stopped : goal.returns-in_err-view-clause-stopped
+returns-in_err-view-clause-stopped g c =
     let s = c.args.built.now in
     let n = c.args.system in
     let there = g.M.Hosts.has_scope c.args.mode.now in
     let w = c.args.run.now.state in
     let deferred = c.args.run.now.deferred in
     let out = c.args.jobs.now.pool in
-    let told = c.in_err-shown.field-0.0 in
+    let told = c.in_err-view.field-0.0 in
     handed_on (StopsBy there (λ met. (bodies : List BodyMeaning) → interleaved_cause_of s bodies (Begin n) (woven w.state deferred out) ≡ Some met)) c.from_residual.result told c.from_residual.ensures.1
     (stops_among there (LacksTick w.state) (λ met. (bodies : List BodyMeaning) → interleaved_cause_of s bodies (Begin n) (woven w.state deferred out) ≡ Some met) told
-    (λ met e bodies. e) c.in_err-shown.ensures.stopped)
+    (λ met e bodies. e) c.in_err-view.ensures.stopped)
 
 -- a fault that gives a job back gives back the one that was handed out, and is no other fault
 same_back : {T F B : Type 0} (fault told given : F) (mine yours : B) → fault ≡ told → ◌≡◌ {A = Result T F} (Err fault) (Err given) → (back : F → Option B) → back told ≡ Some mine → back given ≡ Some yours → mine ≡ yours
@@ -146,8 +146,8 @@ returns-in-Ok-clause-started g c = λ bodies.
     let later = c.show.new.self.state in
     let job_of = λ (v : Seen). (let x : JobOut g.row.B.Denot = record { number = c.saturating_add-number.result; system = n; body = c.take-body.result; view = v; there = there } in x) in
     let job = job_of c.in_ok-view.view.value in
-    let ok = c.in_ok-shown.ensures in
-    let handed : IsHanded s n (grants_at deferred n) w later job = subst (λ (v : Seen). IsHanded s n (grants_at deferred n) w later (job_of v)) (sym c.in_ok-view.ensures.ok) (record { system = refl; params = ok.params; shown_there = ok.shown; tick = ok.tick; written = ok.written; held = ok.held; is_later = ok.noted }) in
+    let ok = c.in_ok-view.ensures in
+    let handed : IsHanded s n (grants_at deferred n) w later job = record { system = refl; params = ok.params; shown_there = ok.shown; tick = ok.tick; written = ok.written; held = ok.held; is_later = ok.noted } in
     subst (λ (x : DeferredValue). interleaved_step s bodies (Begin n) (woven w.state deferred out) ≡ Some (woven later.state x c.hand_out.new.self)) (sym c.show.ensures.deferred)
     (subst (λ (xs : List (JobOut g.row.B.Denot)). interleaved_step s bodies (Begin n) (woven w.state deferred out) ≡ Some (woven later.state deferred xs)) (sym c.in-Ok.ensures.ok)
     (start_there meaning fits job.there s bodies n w later deferred out job ok.has handed))
@@ -166,8 +166,8 @@ returns-in-Ok-clause-placed g c = λ bodies placed.
     let later = c.show.new.self.state in
     let job_of = λ (v : Seen). (let x : JobOut g.row.B.Denot = record { number = c.saturating_add-number.result; system = n; body = c.take-body.result; view = v; there = there } in x) in
     let job = job_of c.in_ok-view.view.value in
-    let ok = c.in_ok-shown.ensures in
-    let handed : IsHanded s n (grants_at deferred n) w later job = subst (λ (v : Seen). IsHanded s n (grants_at deferred n) w later (job_of v)) (sym c.in_ok-view.ensures.ok) (record { system = refl; params = ok.params; shown_there = ok.shown; tick = ok.tick; written = ok.written; held = ok.held; is_later = ok.noted }) in
+    let ok = c.in_ok-view.ensures in
+    let handed : IsHanded s n (grants_at deferred n) w later job = record { system = refl; params = ok.params; shown_there = ok.shown; tick = ok.tick; written = ok.written; held = ok.held; is_later = ok.noted } in
     subst (λ (xs : List (JobOut g.row.B.Denot)). Placed meaning fits there s bodies c.take-body.new.self xs later) (sym c.in-Ok.ensures.ok)
     (subst (λ xs. Placed meaning fits there s bodies xs (out ++ job ∷ []) later) (sym c.take-body.ensures.taken)
     (placed_start meaning fits there s bodies slots out w placed n later job c.requires.allowed.known c.requires.allowed.home c.take-body.ensures.body (grants_at deferred n) handed refl))
@@ -183,8 +183,8 @@ returns-in-Ok-clause-hand g c =
     let later = c.show.new.self.state in
     let job_of = λ (v : Seen). (let x : JobOut g.row.B.Denot = record { number = c.saturating_add-number.result; system = n; body = c.take-body.result; view = v; there = there } in x) in
     let job = job_of c.in_ok-view.view.value in
-    let ok = c.in_ok-shown.ensures in
-    let handed : IsHanded s n (grants_at deferred n) w later job = subst (λ (v : Seen). IsHanded s n (grants_at deferred n) w later (job_of v)) (sym c.in_ok-view.ensures.ok) (record { system = refl; params = ok.params; shown_there = ok.shown; tick = ok.tick; written = ok.written; held = ok.held; is_later = ok.noted }) in
+    let ok = c.in_ok-view.ensures in
+    let handed : IsHanded s n (grants_at deferred n) w later job = record { system = refl; params = ok.params; shown_there = ok.shown; tick = ok.tick; written = ok.written; held = ok.held; is_later = ok.noted } in
     subst (λ (x : DeferredValue). InHand s x c.hand_out.new.self later) (sym c.show.ensures.deferred)
     (subst (λ (xs : List (JobOut g.row.B.Denot)). InHand s deferred xs later) (sym c.in-Ok.ensures.ok)
     (in_hand_start s n w later deferred out job c.requires.allowed.known c.requires.placed.1.memories c.prove_law.ensures.memories c.requires.hand c.requires.allowed.given handed))

@@ -3,7 +3,7 @@ use Rattle.model.specs.declared.steps.Step.TheVariants.{Start as Begin}
 use Rattle.model.specs.runs.RunState.{next_tick}
 use Rattle.body.specs.Lent.{AreLent}
 use Rattle.body.specs.Out.{AreOut}
-use Rattle.body.specs.Seen.{Opening}
+use Rattle.body.specs.Seen.{Opening, Seen}
 use Rattle.body.specs.Steps.{StateValue, laid, store_of}
 use Rattle.body.proofs.Outs.{home-apart}
 use Rattle.model.specs.steps.Schedule.{params_of}
@@ -14,6 +14,7 @@ use Rattle.model.specs.runs.Replays.{IsStepTaken}
 use Rattle.engine.specs.Stops.{IsNotLaid, LacksTick, StopsBy}
 use Rattle.engine.proofs.Stops.{handed_on, stops_up}
 use Rattle.model.specs.runs.Causes.{Cause, serial_cause_of}
+use Rattle.trace_checker.specs.ReplayFaults.{HasRun}
 use Rattle.trace_checker.proofs.WholeStarts.{body_fit, in_hand_kept, is_answered, is_refused, deferred_for_start, meanings_after, suits_after, memories_after, noted_known, close_stops, start_cause, start_taken}
 use Rattle.trace_checker.proofs.replay.start.Goals as goal
 
@@ -24,7 +25,7 @@ show-requires-clause-home g c =
 pub run_body-answer-requires-clause-fits : goal.run_body-answer-requires-clause-fits
 run_body-answer-requires-clause-fits g c κs within = λ body there.
     let fit = body_fit g.B.Body.meaning g.B.Body.fits c.args.built.now c.args.bodies.now c.args.system body there c.args.run.now.state.state c.requires.suits c.requires.known in
-    ap (g.B.Body.fits body) c.in_ok-view.ensures.params ∙ fit
+    ap (λ (v : Seen). g.B.Body.fits body v.params) c.deref_mut.ensures.value ∙ ap (g.B.Body.fits body) c.in_ok-view.ensures.params ∙ fit
 
 pub returns-in_err-view-clause-stopped : goal.returns-in_err-view-clause-stopped
 returns-in_err-view-clause-stopped g c =
@@ -45,7 +46,7 @@ close-requires-clause-memory g c =
 
 pub close-requires-clause-lent : goal.close-requires-clause-lent
 close-requires-clause-lent g c =
-    subst (λ (o : Opening). AreLent (store_of c.show.new.self.state) o.taken) (sym c.run_body-answer.ensures.opening) (c.in_ok-view.ensures.held [] c.requires.out).lent
+    subst (λ (o : Opening). AreLent (store_of c.show.new.self.state) o.taken) (sym (subst (λ (v : Seen). HasRun g.B.Body.meaning g.B.Body.fits c.args.bodies.now c.args.system v c.run_body-answer.new.bodies c.run_body-answer.new.view c.run_body-answer.result) c.deref_mut.ensures.value c.run_body-answer.ensures).opening) (c.in_ok-view.ensures.held [] c.requires.out).lent
 
 pub close-requires-clause-place : goal.close-requires-clause-place
 close-requires-clause-place g c =
@@ -64,7 +65,7 @@ returns-in_err-close-clause-stopped g c =
     let deferred = c.args.run.now.deferred in
     let ms = meanings g.B.Body.meaning s (map Some c.args.bodies.now) in
     let shown = c.in_ok-view.ensures in
-    let ran = c.run_body-answer.ensures in
+    let ran = (subst (λ (v : Seen). HasRun g.B.Body.meaning g.B.Body.fits c.args.bodies.now c.args.system v c.run_body-answer.new.bodies c.run_body-answer.new.view c.run_body-answer.result) c.deref_mut.ensures.value c.run_body-answer.ensures) in
     let seen = c.run_body-answer.new.view in
     let answer = c.run_body-answer.result in
     let told = c.in_err-close.field-0.0 in
@@ -73,13 +74,13 @@ returns-in_err-close-clause-stopped g c =
     handed_on (StopsBy false Meets) c.from_residual-in_err-close.result told c.from_residual-in_err-close.ensures.1
     (stops_up false (IsNotLaid answer seen _) Meets told
     (close_stops s ms n w deferred shown.has seen answer (ran.shown ∙ shown.shown)
-    (is_answered g.B.Body.meaning g.B.Body.fits s c.args.bodies.now n c.in_ok-view.view seen c.run_body-answer.new.bodies answer ran w c.requires.suits c.requires.known shown.params)
-    (is_refused g.B.Body.meaning g.B.Body.fits s c.args.bodies.now n c.in_ok-view.view seen c.run_body-answer.new.bodies answer ran w c.requires.suits c.requires.known shown.params))
+    (is_answered g.B.Body.meaning g.B.Body.fits s c.args.bodies.now n c.in_ok-view.view.value seen c.run_body-answer.new.bodies answer ran w c.requires.suits c.requires.known shown.params)
+    (is_refused g.B.Body.meaning g.B.Body.fits s c.args.bodies.now n c.in_ok-view.view.value seen c.run_body-answer.new.bodies answer ran w c.requires.suits c.requires.known shown.params))
     not_laid)
 
 pub returns-in_err-close-clause-meanings : goal.returns-in_err-close-clause-meanings
 returns-in_err-close-clause-meanings g c =
-    meanings_after g.B.Body.meaning g.B.Body.fits c.args.built.now c.args.bodies.now c.args.system c.in_ok-view.view c.run_body-answer.new.view c.run_body-answer.new.bodies c.run_body-answer.result c.run_body-answer.ensures
+    meanings_after g.B.Body.meaning g.B.Body.fits c.args.built.now c.args.bodies.now c.args.system c.in_ok-view.view.value c.run_body-answer.new.view c.run_body-answer.new.bodies c.run_body-answer.result (subst (λ (v : Seen). HasRun g.B.Body.meaning g.B.Body.fits c.args.bodies.now c.args.system v c.run_body-answer.new.bodies c.run_body-answer.new.view c.run_body-answer.result) c.deref_mut.ensures.value c.run_body-answer.ensures)
 
 pub returns-clause-taken : goal.returns-clause-taken
 returns-clause-taken g c =
@@ -89,10 +90,10 @@ returns-clause-taken g c =
     let deferred = c.args.run.now.deferred in
     let ms = meanings g.B.Body.meaning s (map Some c.args.bodies.now) in
     let shown = c.in_ok-view.ensures in
-    let ran = c.run_body-answer.ensures in
+    let ran = (subst (λ (v : Seen). HasRun g.B.Body.meaning g.B.Body.fits c.args.bodies.now c.args.system v c.run_body-answer.new.bodies c.run_body-answer.new.view c.run_body-answer.result) c.deref_mut.ensures.value c.run_body-answer.ensures) in
     let seen = c.run_body-answer.new.view in
     let room : n < length deferred.commands = let k = c.requires.known in let e = c.requires.deferred.command_count in omega (arith, k, e) in
-    let answered = is_answered g.B.Body.meaning g.B.Body.fits s c.args.bodies.now n c.in_ok-view.view seen c.run_body-answer.new.bodies c.run_body-answer.result ran w c.requires.suits c.requires.known shown.params c.in_ok-close.ensures.answer in
+    let answered = is_answered g.B.Body.meaning g.B.Body.fits s c.args.bodies.now n c.in_ok-view.view.value seen c.run_body-answer.new.bodies c.run_body-answer.result ran w c.requires.suits c.requires.known shown.params c.in_ok-close.ensures.answer in
     let tick : seen.opening.tick ≡ next_tick w = ap (λ (o : Opening). o.tick) ran.opening ∙ shown.tick in
     let numbers = c.in_ok-close.ensures.numbers in
     let kept = c.in_ok-close.ensures.deferred ∙ ap (with_commands n seen.outcome.commands) c.show.ensures.deferred in
@@ -109,13 +110,13 @@ returns-clause-suits g c =
     let shown = c.in_ok-view.ensures in
     let seen = c.run_body-answer.new.view in
     let memories = memories_after s w n seen.opening.tick (next_tick w) seen c.requires.suits.memories in
-    suits_after g.B.Body.meaning g.B.Body.fits s c.args.bodies.now n c.in_ok-view.view seen c.run_body-answer.new.bodies c.run_body-answer.result c.run_body-answer.ensures w c.close.new.self.state.state c.requires.suits
+    suits_after g.B.Body.meaning g.B.Body.fits s c.args.bodies.now n c.in_ok-view.view.value seen c.run_body-answer.new.bodies c.run_body-answer.result (subst (λ (v : Seen). HasRun g.B.Body.meaning g.B.Body.fits c.args.bodies.now c.args.system v c.run_body-answer.new.bodies c.run_body-answer.new.view c.run_body-answer.result) c.deref_mut.ensures.value c.run_body-answer.ensures) w c.close.new.self.state.state c.requires.suits
     (subst (HasMemories s) (sym (ap (λ (x : StateValue). x.state) c.in_ok-close.ensures.laid ∙ ap (λ (x : StateValue). laid n seen.opening.tick seen x.state) shown.noted)) memories)
 
 pub returns-clause-out : goal.returns-clause-out
 returns-clause-out g c =
     let seen = c.run_body-answer.new.view in
-    let same = ap (λ (o : Opening). o.taken) c.run_body-answer.ensures.opening in
+    let same = ap (λ (o : Opening). o.taken) (subst (λ (v : Seen). HasRun g.B.Body.meaning g.B.Body.fits c.args.bodies.now c.args.system v c.run_body-answer.new.bodies c.run_body-answer.new.view c.run_body-answer.result) c.deref_mut.ensures.value c.run_body-answer.ensures).opening in
     let held = subst (AreOut (store_of c.show.new.self.state)) (sym same ∙ sym (append-nil seen.opening.taken)) (c.in_ok-view.ensures.held [] c.requires.out) in
     c.in_ok-close.ensures.held [] [] held
 
@@ -135,10 +136,10 @@ returns-clause-hand g c =
     let deferred = c.args.run.now.deferred in
     let ms = meanings g.B.Body.meaning s (map Some c.args.bodies.now) in
     let shown = c.in_ok-view.ensures in
-    let ran = c.run_body-answer.ensures in
+    let ran = (subst (λ (v : Seen). HasRun g.B.Body.meaning g.B.Body.fits c.args.bodies.now c.args.system v c.run_body-answer.new.bodies c.run_body-answer.new.view c.run_body-answer.result) c.deref_mut.ensures.value c.run_body-answer.ensures) in
     let seen = c.run_body-answer.new.view in
     let room : n < length deferred.commands = let k = c.requires.known in let e = c.requires.deferred.command_count in omega (arith, k, e) in
-    let answered = is_answered g.B.Body.meaning g.B.Body.fits s c.args.bodies.now n c.in_ok-view.view seen c.run_body-answer.new.bodies c.run_body-answer.result ran w c.requires.suits c.requires.known shown.params c.in_ok-close.ensures.answer in
+    let answered = is_answered g.B.Body.meaning g.B.Body.fits s c.args.bodies.now n c.in_ok-view.view.value seen c.run_body-answer.new.bodies c.run_body-answer.result ran w c.requires.suits c.requires.known shown.params c.in_ok-close.ensures.answer in
     let kept = c.in_ok-close.ensures.deferred ∙ ap (with_commands n seen.outcome.commands) c.show.ensures.deferred in
     subst (AreInHand c.close.new.self.state.state.world.slots) (sym kept)
     (in_hand_kept s ms n w deferred shown.has seen (ran.shown ∙ shown.shown) answered c.close.new.self.state.state seen.opening.tick c.requires.known room c.requires.given c.requires.keep c.requires.suits.memories c.prove_shape.ensures c.requires.hand
@@ -146,4 +147,4 @@ returns-clause-hand g c =
 
 pub returns-clause-meanings : goal.returns-clause-meanings
 returns-clause-meanings g c =
-    meanings_after g.B.Body.meaning g.B.Body.fits c.args.built.now c.args.bodies.now c.args.system c.in_ok-view.view c.run_body-answer.new.view c.run_body-answer.new.bodies c.run_body-answer.result c.run_body-answer.ensures
+    meanings_after g.B.Body.meaning g.B.Body.fits c.args.built.now c.args.bodies.now c.args.system c.in_ok-view.view.value c.run_body-answer.new.view c.run_body-answer.new.bodies c.run_body-answer.result (subst (λ (v : Seen). HasRun g.B.Body.meaning g.B.Body.fits c.args.bodies.now c.args.system v c.run_body-answer.new.bodies c.run_body-answer.new.view c.run_body-answer.result) c.deref_mut.ensures.value c.run_body-answer.ensures)

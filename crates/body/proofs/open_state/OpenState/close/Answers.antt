@@ -10,6 +10,7 @@ use Rattle.archetype_store.specs.Store.{StoreValue}
 use Rattle.body.specs.Laid.{with_slots}
 use Rattle.body.specs.Lent.{lent_in, with_back}
 use Rattle.body.specs.Out.{AreOut}
+use Rattle.body.specs.Seen.{Seen}
 use Rattle.body.specs.Steps.{StateValue, IsInTime, store_of}
 use Rattle.body.proofs.Outs.{out-closed, out-same}
 use Rattle.body.proofs.Times.{kept_in_time}
@@ -18,13 +19,13 @@ use Rattle.body.proofs.open_state.OpenState.close.Goals as goal
 pub invariant_of-self-2 : goal.invariant_of-self-2
 invariant_of-self-2 c =
     let n = c.args.system in
-    let registers = c.close-sent.result.0 in
+    let registers = c.close-commands.result.0 in
     let before = c.self.inside.systems in
     let after : c.keep_registers.new.memories ≡ update_at n (with_registers registers) before.items
-    = c.keep_registers.ensures.memories ∙ ap (λ (ms : List Memory). update_at n (with_registers registers) ms) c.deref_mut.ensures.value in
+    = c.keep_registers.ensures.memories ∙ ap (λ (ms : List Memory). update_at n (with_registers registers) ms) c.deref_mut-2.ensures.value in
     let whole = with_items_is before c.keep_registers.new.memories (ap length after ∙ length-update_at n (with_registers registers) before.items ∙ sym before.ok.0) ∙ after in
-    let now = c.close-sent.new.world.state.clock in
-    let clock_is = ap (λ (x : StoreValue). x.state.clock) c.close-sent.ensures.home in
+    let now = c.close-commands.new.world.state.clock in
+    let clock_is = ap (λ (x : StoreValue). x.state.clock) c.close-commands.ensures.home in
     record {
       in_time = record {
         systems_in = subst (λ (ms : List Memory). IsInTime now ms) (sym whole)
@@ -37,21 +38,11 @@ invariant_of-self-2 c =
 
 pub returns-clause-out : goal.returns-clause-out
 returns-clause-out c = λ front rest held.
-    let view = c.args.view in
+    let view = c.deref_mut.result.now in
+    let here = subst (λ (v : Seen). AreOut (store_of c.args.self.now) (front ++ (v.opening.taken ++ rest))) (sym c.deref_mut.ensures.value) held in
     let w = c.self.inside.world in
     let words = words_written view.params.queries view.shown.rows view.outcome.cells in
     let closed : StoreValue = record { state = with_slots w.state (slots_after view.opening.tick words w.state.slots); layout = with_back (lent_in view.opening.taken) w.layout } in
-    out-same closed c.close-sent.new.world (front ++ rest) (ap (λ (x : StoreValue). x.state.slots) c.close-sent.ensures.home) (ap (λ (x : StoreValue). x.layout) c.close-sent.ensures.home)
-    (out-closed w view.opening.tick words front view.opening.taken rest c.prove_laid.ensures c.close-sent.ensures.reach
-    (subst (λ (s : StateValue). AreOut (store_of s) (front ++ (view.opening.taken ++ rest))) (sym c.self.view_is) held))
-
-pub invariant_of-self : goal.invariant_of-self
-invariant_of-self c =
-    let clock_is = ap (λ (x : StoreValue). x.state.clock) c.close-sent.ensures.home in
-    record {
-      in_time = record {
-        systems_in = subst (λ clock. IsInTime clock c.self.inside.systems.items) (sym clock_is) c.self.invariant.in_time.systems_in;
-        conditions_in = subst (λ clock. IsInTime clock c.self.inside.conditions.items) (sym clock_is) c.self.invariant.in_time.conditions_in;
-      };
-      counted = c.self.invariant.counted;
-    }
+    out-same closed c.close-commands.new.world (front ++ rest) (ap (λ (x : StoreValue). x.state.slots) c.close-commands.ensures.home) (ap (λ (x : StoreValue). x.layout) c.close-commands.ensures.home)
+    (out-closed w view.opening.tick words front view.opening.taken rest c.prove_laid.ensures c.close-commands.ensures.reach
+    (subst (λ (s : StateValue). AreOut (store_of s) (front ++ (view.opening.taken ++ rest))) (sym c.self.view_is) here))

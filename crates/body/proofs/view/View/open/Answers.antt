@@ -19,17 +19,17 @@ returns-clause-shown c = λ state w es.
     let memory = c.args.memory.now in
     let world = c.args.world.now.state in
     let unread = ap (λ (x : ListsValue). x.values) c.in_ok-unread.ensures ∙ ap₂ (λ ks cs. unread_of c.args.events.now ks cs) c.reads.ensures c.cursors.ensures in
-    seen_over-shown params memory c.args.events.now world c.args.tick c.in_ok-queries.queries.items c.open-values.result c.in_ok-unread.unread c.in_ok-sent.sent c.open-issued.result
-    (subst (λ (qs : List (List Term)). map (λ (s : Sheet). s.rows) c.in_ok-queries.queries.items ≡ map (λ query. rows_of query memory.last_run world.slots) qs) c.queries.ensures.queries (rw c.last_run.ensures at c.in_ok-queries.ensures.rows))
-    c.open-values.ensures unread state w es
-    ∙ ap (λ (x : IssuedSeen). shown params memory state x.granted) c.open-issued.ensures
+    seen_over-shown params memory c.args.events.now world c.args.tick c.open_queries.new.opened.items c.open-2.new.self c.in_ok-unread.unread c.in_ok-sent.sent c.«open».new.self
+    (subst (λ (qs : List (List Term)). map (λ (s : Sheet). s.rows) c.open_queries.new.opened.items ≡ map (λ query. rows_of query memory.last_run world.slots) qs) c.queries.ensures.queries (rw c.last_run.ensures at c.in_ok-open_queries.ensures.rows))
+    c.open-2.ensures unread state w es
+    ∙ ap (λ (x : IssuedSeen). shown params memory state x.granted) c.in_ok-open.ensures
 
 pub returns-clause-params : goal.returns-clause-params
 returns-clause-params c = λ i. record {
-  queries = (c.in_ok-queries.ensures.terms ∙ c.queries.ensures.queries) i;
-  res = ap (λ (x : ValuesSeen). x.res) c.open-values.ensures i;
-  res_mut = ap (λ (x : ValuesSeen). x.res_mut) c.open-values.ensures i;
+  queries = (c.in_ok-open_queries.ensures.terms ∙ c.queries.ensures.queries) i;
+  res = ap (λ (x : ValuesSeen). x.res) c.open-2.ensures i;
+  res_mut = ap (λ (x : ValuesSeen). x.res_mut) c.open-2.ensures i;
   reads = (ap (λ (x : ListsValue). x.kinds) c.in_ok-unread.ensures ∙ c.reads.ensures) i;
   writes = (ap (λ (x : ListsValue). x.kinds) c.in_ok-sent.ensures ∙ c.writes.ensures) i;
-  spawns = ap (λ (x : IssuedSeen). x.spawns) c.open-issued.ensures i;
+  spawns = ap (λ (x : IssuedSeen). x.spawns) c.in_ok-open.ensures i;
 }

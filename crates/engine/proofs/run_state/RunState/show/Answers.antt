@@ -22,12 +22,12 @@ returns-clause-shown c =
     let w = c.args.self.now.state in
     let p = c.params-params.result.now in
     c.in_ok-view.ensures.shown
-    ∙ ap (shown p (memory_of_system w.state n) w.state) c.in_ok-granted.ensures
+    ∙ ap (shown p (memory_of_system w.state n) w.state) (c.granted-granted.ensures ∙ ap (λ d. grants_at d n) c.take_buffer-commands.ensures.same)
     ∙ ap (λ (q : Params). shown q (memory_of_system w.state n) w.state (grants_at c.args.self.now.deferred n)) c.params-params.ensures
 
 pub returns-clause-held : goal.returns-clause-held
 returns-clause-held c = λ others held.
-    out-same (store_of c.open.new.self) (store_of c.note.new.self) (others ++ c.in_ok-view.view.opening.taken)
+    out-same (store_of c.open.new.self) (store_of c.note.new.self) (others ++ c.in_ok-view.view.value.opening.taken)
     (ap (λ (s : StateValue). s.state.world.slots) (c.note.ensures) ∙ ap (λ (s : StateValue). s.state.world.slots) c.in-Ok.ensures.moved)
     (ap (λ (s : StateValue). s.layout) (c.note.ensures) ∙ ap (λ (s : StateValue). s.layout) c.in-Ok.ensures.moved)
     (c.in_ok-view.ensures.out others held)
@@ -38,7 +38,7 @@ returns-clause-showing c =
     let n = c.args.system in
     let w = c.args.self.now.state.state in
     let shows = returns-clause-shown c in
-    let with_params = λ (p : Params). CanBeShown p c.in_ok-view.view.shown in
+    let with_params = λ (p : Params). CanBeShown p c.in_ok-view.view.value.shown in
     subst with_params (sym (c.in_ok-view.ensures.params ∙ c.params-params.ensures))
     (subst (CanBeShown (params_of s n)) (sym shows)
     (can_be_shown s n (memory_of_system w n) w (grants_at c.args.self.now.deferred n)

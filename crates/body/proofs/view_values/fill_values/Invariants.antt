@@ -1,7 +1,7 @@
 use Rattle.std.proofs.Common.{◌≡◌, ℕ, ◌<◌, length}
 use Rattle.model.specs.shown.Input.{value_of}
 use Rattle.body.specs.Values.{value_at}
-use Rattle.body.proofs.view_values.values_of.Given as goal
+use Rattle.body.proofs.view_values.fill_values.Given as goal
 
 abbrev pub invariant-loop-number : goal.invariant-loop-number
 invariant-loop-number l = record {
