@@ -14,6 +14,7 @@ use crate::faults::{NewFault, RunFault};
 use crate::fitting::check_parts;
 use crate::jobs::Jobs;
 use crate::run_state::RunState;
+use crate::shapes::keep_shapes;
 use body::{Body, State};
 use executor_core::Trace;
 use model::{runs_are_sound, single_runs_are_one, wide_of_one_is_single};
@@ -62,6 +63,8 @@ impl<B: Body> Engine<B> {
         }
         let bodies = Bodies::all(alloc, bodies)?;
         let deferred = Deferred::new(alloc, &built)?;
+        let mut state = state;
+        keep_shapes(&built, &mut state)?;
         Ok(Engine {
             built,
             bodies,

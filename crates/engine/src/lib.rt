@@ -11,6 +11,7 @@ pub mod fitting;
 mod granting;
 mod jobs;
 pub mod run_state;
+mod shapes;
 pub mod stop;
 pub mod turn;
 

@@ -1,5 +1,6 @@
 use Rattle.std.proofs.Common.{◌≡◌, map, Some, Err, sym, ap, ◌∙◌, subst}
 use Rattle.std.specs.Result.{IsErrOf}
+use Rattle.model.specs.state.State.{State as ModelState}
 use Rattle.engine.specs.declared.faults.NewFault.{NewFault}
 use Rattle.engine.specs.declared.faults.NewFault.TheVariants.{Count, Misfit}
 use Rattle.engine.specs.Meanings.{meanings, AllKeepWithin, IsFirstMisfit, Miscounts, Suits}
@@ -54,10 +55,29 @@ returns-in_err-deferred-clause-misfit g c = λ n.
       (λ h. absurd (suits_fits fits c.args.built slots c.args.state n suits h)),
     )
 
+pub returns-in_err-keep_shapes-clause-count : goal.returns-in_err-keep_shapes-clause-count
+returns-in_err-keep_shapes-clause-count g c =
+    let fits = g.B.Body.fits in
+    let slots = map (λ x. Some x) c.args.bodies.items in
+    let suits = subst (λ xs. Suits fits c.args.built (map (λ x. Some x) xs) c.args.state) c.deref.ensures.value c.in_default.ensures.suits in (
+      (λ e. absurd (let q = c.from_residual-in_err-keep_shapes.ensures in let p = rw e at q.1 in cc)),
+      (λ h. absurd (suits_counts fits c.args.built slots c.args.state suits h)),
+    )
+
+pub returns-in_err-keep_shapes-clause-misfit : goal.returns-in_err-keep_shapes-clause-misfit
+returns-in_err-keep_shapes-clause-misfit g c = λ n.
+    let fits = g.B.Body.fits in
+    let slots = map (λ x. Some x) c.args.bodies.items in
+    let suits = subst (λ xs. Suits fits c.args.built (map (λ x. Some x) xs) c.args.state) c.deref.ensures.value c.in_default.ensures.suits in (
+      (λ e. absurd (let q = c.from_residual-in_err-keep_shapes.ensures in let p = rw e at q.1 in cc)),
+      (λ h. absurd (suits_fits fits c.args.built slots c.args.state n suits h)),
+    )
+
 pub invariant_of-result : goal.invariant_of-result
 invariant_of-result g c = λ e.
     let placed = ap (map (λ x. Some x)) c.deref.ensures.value ∙ sym c.in_ok-bodies.ensures in (
-      subst (λ xs. Suits g.B.Body.fits c.args.built xs c.args.state) placed c.in_default.ensures.suits,
+      subst (λ (state : ModelState). Suits g.B.Body.fits c.args.built c.in_ok-bodies.bodies state) (sym c.keep_shapes.ensures)
+          (subst (λ xs. Suits g.B.Body.fits c.args.built xs c.args.state) placed c.in_default.ensures.suits),
       subst (λ xs. AllKeepWithin c.args.built (meanings g.B.Body.meaning c.args.built xs)) placed c.in_default.ensures.keep,
       c.in_ok-deferred.ensures.suits,
     )
