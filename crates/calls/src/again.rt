@@ -1,8 +1,11 @@
 // Calls that are made once more where an allocation fails: each leaves the world as it was, and then gives what it gives by itself.
 
-ghost use Rattle.std.specs.Prelude.{◌≡◌, [], IfSome};
+ghost use Rattle.std.specs.Prelude.{◌≡◌, [], true, map, Some, IfSome};
+ghost use Rattle.std.specs.List.{AllByRecursion};
 ghost use Rattle.model.specs.shown.Outcome.{spawned_by};
-ghost use Rattle.archetype_store.specs.Layout.{AreAllHome};
+ghost use Rattle.kinds.specs.Kind.{kind_number};
+ghost use Rattle.archetype_store.specs.Layout.{archetype_at, column_home, AreAllHome};
+ghost use Rattle.query_plan.specs.Picks.{pick_seen};
 
 use crate::worlds::{FIRST, put, world_of_one};
 use archetype_store::World;
@@ -64,7 +67,11 @@ pub(crate) fn applied(alloc: Global) -> Option<bool> {
 }
 
 // The column of the only pick.
-fn only(picks: &[Pick]) -> Option<ColumnAt> {
+fn only(world: &World, picks: &[Pick]) -> Option<ColumnAt>
+    requires { AllByRecursion (λ p. column_home (archetype_at world.now.layout p.archetype) p.kind ≡ Some true) (map pick_seen picks.now) }
+    ensures { IfSome result (λ at. column_home (archetype_at world.now.layout at.archetype) (kind_number at.kind) ≡ Some true) }
+{
+    let _world = world;
     let [pick] = picks else {
         return None;
     };
@@ -72,6 +79,20 @@ fn only(picks: &[Pick]) -> Option<ColumnAt> {
         archetype: pick.archetype,
         kind: pick.kind,
     })
+}
+
+// The column that a query of health writes.
+fn health_column(alloc: Global, world: &World) -> Option<ColumnAt>
+    requires { AreAllHome world.now.layout }
+    ensures { IfSome result (λ at. column_home (archetype_at world.now.layout at.archetype) (kind_number at.kind) ≡ Some true) }
+{
+    let query = Query::read(alloc, "mut Health").ok()?;
+    prove_picks_home();
+    world.prove_laid();
+    let Ok(planned) = plan(alloc, &query, world, 0, &mut RowBuffers::new(alloc)) else {
+        return None;
+    };
+    only(world, planned.picks.as_slice())
 }
 
 // Whether these are one column, of the health of the first entity alone.
@@ -86,11 +107,7 @@ fn is_health(taken: &[TakenColumn]) -> bool {
 pub(crate) fn taken(alloc: Global) -> Option<bool> {
     let mut world = world_of_one(alloc, Clock::at(1))?;
     put(&mut world, HEALTH)?;
-    let query = Query::read(alloc, "mut Health").ok()?;
-    prove_picks_home();
-    world.prove_laid();
-    let planned = plan(alloc, &query, &world, 0, &mut RowBuffers::new(alloc)).ok()?;
-    let at = only(planned.picks.as_slice())?;
+    let at = health_column(alloc, &world)?;
     if let Ok(taken) = world.take_written(alloc, &[at]) {
         return Some(is_health(taken.as_slice()));
     }

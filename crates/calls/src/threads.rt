@@ -210,9 +210,12 @@ pub(crate) fn gather(alloc: Global, systems: u32, workers: u32, in_threads: bool
 /// Three starts on two threads, of which the first is held until the third has left.
 pub(crate) fn hold_first(alloc: Global) -> Option<Trial> {
     let gate = TestGate::new(alloc, Rule::Hold(1, 3))?;
-    let mut trial = Trial::once(gate, answering(alloc, 3, false)?, 2)?;
-    trial.plan.records = &HELD;
-    Some(trial)
+    let trial = Trial::once(gate, answering(alloc, 3, false)?, 2)?;
+    let plan = Plan {
+        records: &HELD,
+        ..trial.plan
+    };
+    Some(Trial { plan, ..trial })
 }
 
 /// Five bodies that look at the gate.
