@@ -50,7 +50,7 @@ pub(crate) fn run_times<'s, M: Mode<'s>, B: Body + 's>(
     ensures fit { (result ≡ Err stop.NoWorker → IsTrue (M.stands mode.now)) → AreFit B.fits built.now jobs.new.bodies }
 {
     let mut traces = Vec::new(run.alloc);
-    let mut core = Core::new(run.alloc, built)?;
+    let mut core = boxed_core(run.alloc, built)?;
     for _run in 0..times {
         match run_turns(built, run, jobs, &mut core, &traces, mode) {
             Ok(trace) => traces.push(trace)?,
@@ -61,6 +61,14 @@ pub(crate) fn run_times<'s, M: Mode<'s>, B: Body + 's>(
         }
     }
     Ok(traces)
+}
+
+// A core that has accepted nothing, in a box: a loop that holds it by itself is dear to check.
+fn boxed_core<'a>(alloc: Global, built: &'a Built) -> Result<Box<Core<'a>>, AllocError>
+    ensures { IfOk result (λ core. core.value.schedule ≡ built.now) }
+{
+    let core = Core::new(alloc, built)?;
+    Ok(Box::new(alloc, core)?)
 }
 
 // The kind sets recorded last by the last of these traces.

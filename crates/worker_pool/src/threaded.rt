@@ -1,6 +1,6 @@
 // Jobs that are out where no worker stands: each is kept to be run here, or has a thread of its own.
 
-ghost use Rattle.std.specs.Prelude.{◌≡◌, ℕ, ◌+◌, ◌<◌, true, Err, [], ◌∷◌, ◌++◌, ◌⊎◌, length, is_some, slice_get, remove, IfOk, IfSome, IfNone, IsSome, IsTrue, IsSomeAnd, OnOk, OnErr};
+ghost use Rattle.std.specs.Prelude.{◌≡◌, ℕ, ◌+◌, ◌<◌, true, Err, [], ◌∷◌, ◌++◌, ◌⊎◌, length, is_some, slice_get, slice_index_or, remove, IfOk, IfSome, IfNone, IsSome, IsTrue, IsSomeAnd, OnOk, OnErr};
 ghost use Rattle.worker_pool.specs.Ran.{Ran};
 
 use crate::fault::HandFault;
@@ -60,6 +60,19 @@ impl<B: Body> PendingJob<B> {
             Work::There(child) => mode.join(child),
         }
     }
+}
+
+// Takes what is at a place out of a list. The last one, as the only one is, leaves nothing to shift.
+fn take_out<T>(list: &mut Vec<T>, at: usize) -> T
+    requires { at < length list.old.items }
+    ensures value { result ≡ slice_index_or list.old.items at result }
+    ensures items { list.new.items ≡ remove list.old.items at }
+    ensures len { length list.new.items + 1 ≡ length list.old.items }
+{
+    if at + 1 == list.len() {
+        return list.take_last();
+    }
+    list.remove(at)
 }
 
 // Where threads tell that they are done.
@@ -189,6 +202,6 @@ impl<B: Body> Threaded<B> {
         ensures shorter { length self.new + 1 ≡ length self.old }
     {
         let at = self.place_of_done(line);
-        self.out.remove(at).finish(mode)
+        take_out(&mut self.out, at).finish(mode)
     }
 }

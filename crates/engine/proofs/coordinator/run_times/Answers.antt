@@ -10,13 +10,15 @@ use Rattle.engine.proofs.Placing.{kept_last, kept_fits, meanings_count}
 use Rattle.engine.proofs.Staging.{records_more, runs_more, stopped}
 use Rattle.engine.specs.Stops.{StopsBy}
 use Rattle.engine.proofs.Stops.{either_way, handed_on, lost_or_kept, one_stop, stops_up}
+use Rattle.executor_core.specs.Stands.{Stand}
 use Rattle.engine.specs.Latest.{IsFollowing}
 use Rattle.engine.proofs.coordinator.run_times.Goals as goal
 
 pub run_turns-requires : goal.run_turns-requires
 run_turns-requires g c = λ lifetimes.
     let inv = c.loop-run.invariant in
-    let following = subst (λ (rs : List Recorded). IsFollowing c.loop-run.core c.args.built.now rs c.loop-run.run.state.state.world.slots) (sym c.deref.ensures.value) inv.following in
+    let now = subst (λ (core : Stand). IsFollowing core c.args.built.now c.loop-run.traces.items c.loop-run.run.state.state.world.slots) (sym c.deref_mut.ensures.value) inv.following in
+    let following = subst (λ (rs : List Recorded). IsFollowing c.deref_mut.result.now c.args.built.now rs c.loop-run.run.state.state.world.slots) (sym c.deref.ensures.value) now in
     (c.type_bounds.send-B, (c.type_bounds.send-M-Line, (c.type_bounds.send-M-Gate, (c.type_bounds.sync-M-Gate, ((refl, tt), (inv.rest, (inv.empty, following)))))))
 
 pub loop-run-preserved : goal.loop-run-preserved
