@@ -10,8 +10,7 @@ use std::alloc::{AllocError, Global};
 pub const OPENER: &str = "<svg xmlns='http://www.w3.org/2000/svg'";
 
 /// How each class of shapes looks.
-pub const RULES: &str =
-    "<style>text{font:11px sans-serif;stroke:none;fill:#222}path,line{fill:none;stroke:#555}rect{fill:#fff;stroke:#222}rect.system{fill:#eef4fb}rect.running{fill:#cfe6cf}rect.skipped{fill:#eee;stroke-dasharray:2 2}line.set{stroke:#8a6db1}text.set{fill:#6b4f94}.deferring{stroke-dasharray:5 3}line.sync{stroke:#bbb;stroke-width:5}text.sync{fill:#888}polygon{fill:#ffe9a8;stroke:#8a6d00}polygon.refused{fill:#fff}path.race{stroke:#c00}path.silenced{stroke:#c00;stroke-dasharray:2 3}text.race,text.silenced{fill:#c00}text.skipped{fill:#888}line.axis{stroke:#ccc}</style>\n";
+pub const RULES: &str = "<style>svg{background:#fff}text{font:11px sans-serif;fill:#222;stroke:#fff;stroke-width:3px;paint-order:stroke}path,line{fill:none;stroke:#555}rect{fill:#fff;stroke:#222}rect.system{fill:#eef4fb}rect.running{fill:#cfe6cf}rect.skipped{fill:#eee;stroke-dasharray:2 2}line.set{stroke:#8a6db1}text.set{fill:#6b4f94}text.system,text.running{stroke:none}path.edge,path.deferring{marker-end:url(#tip)}.deferring{stroke-dasharray:5 3}line.sync{stroke:#bbb;stroke-width:5}text.sync{fill:#888}polygon{fill:#ffe9a8;stroke:#8a6d00}polygon.refused{fill:#fff}path.race{stroke:#c00}path.silenced{stroke:#c00;stroke-dasharray:2 3}text.race,text.silenced{fill:#c00}text.skipped{fill:#888}line.axis{stroke:#ccc}</style>\n<defs><marker id='tip' viewBox='0 0 8 8' refX='8' refY='4' markerWidth='7' markerHeight='7' orient='auto'><path d='M 0 0 L 8 4 L 0 8'/></marker></defs>\n";
 
 /// The text of a drawing of this width and height, of systems and sets with these names by number: its shapes in order.
 pub fn text_of_drawing(

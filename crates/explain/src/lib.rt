@@ -1,13 +1,13 @@
-// A library with one function.
+// What is found in a schedule and in traces: the sets of a file and their members, witnesses of races, where two traces part, and the worlds of a run.
 #![tactic(auto)]
 
-ghost use Rattle.std.specs.Prelude.{◌≡◌};
-ghost use Rattle.explain.specs.Echo.{echo_of};
+pub mod diverging;
+pub mod listing;
+pub mod loading;
+pub mod sets;
+pub mod story;
+pub mod telling;
+pub mod witness;
 
-// The `ensures` clause is the contract: what `echo` returns is `echo_of` of its argument, a definition
-// in `specs/Echo.antt`, which a caller's clause can cite too.
-pub fn echo(x: usize) -> usize
-    ensures { result ≡ echo_of x }
-{
-    x
-}
+pub use loading::Loaded;
+pub use sets::Sets;

@@ -93,7 +93,7 @@ end_shapes ends left right y = cond ends (Line left y right y style.Set ∷ []) 
 
 -- the name of the set, where the frame begins
 abbrev pub name_shapes : Bool → ℕ → ℕ → ℕ → List Shape
-name_shapes opens k left top = cond opens (Text (left + 8 + 48 * (k % 4)) (capped (top + 4)) (label.Set k) style.Set ∷ []) []
+name_shapes opens k left top = cond opens (Text (left + 96 + 30 * (k % 4)) (capped (top + 4)) (label.Set k) style.Set ∷ []) []
 
 -- a frame round a row of a level
 abbrev pub frame_at : ℕ → ℕ → ℕ → Bool → Bool → List Shape

@@ -296,7 +296,7 @@ fn add_set_name(
 {
     if opens {
         shapes.push(Shape::Text {
-            x: left + 8 + 48 * u64::from(set % 4),
+            x: left + 96 + 30 * u64::from(set % 4),
             y: top.saturating_add(4),
             label: Label::Set(set),
             style: Style::Set,
