@@ -124,14 +124,18 @@ fn trace<'a>(alloc: Global) -> Arg<'a> {
 // What `schedule` takes.
 fn schedule<'a>(alloc: Global) -> Result<Command<'a>, AllocError> {
     Command::new(alloc, "schedule")
-        .about("draws the schedule of a program file, as SVG: ecsview schedule arena.toml > arena.svg")
+        .about(
+            "draws the schedule of a program file, as SVG: ecsview schedule arena.toml > arena.svg",
+        )
         .arg(file(alloc))
 }
 
 // What `lanes` takes.
 fn lanes<'a>(alloc: Global) -> Result<Command<'a>, AllocError> {
     Command::new(alloc, "lanes")
-        .about("draws recorded runs, what ran beside what, as SVG: ecsview lanes arena.toml arena.trace > lanes.svg")
+        .about(
+            "draws recorded runs, what ran beside what, as SVG: ecsview lanes arena.toml arena.trace > lanes.svg",
+        )
         .arg(file(alloc))?
         .arg(trace(alloc))
 }
@@ -139,7 +143,9 @@ fn lanes<'a>(alloc: Global) -> Result<Command<'a>, AllocError> {
 // What `races` takes.
 fn races<'a>(alloc: Global) -> Result<Command<'a>, AllocError> {
     Command::new(alloc, "races")
-        .about("prints two lists of a run for each pair that races, and the worlds that they leave: ecsview races arena.toml")
+        .about(
+            "prints two lists of a run for each pair that races, and the worlds that they leave: ecsview races arena.toml",
+        )
         .arg(file(alloc))
 }
 
@@ -164,7 +170,9 @@ fn run<'a>(alloc: Global) -> Arg<'a> {
 // What `steps` takes.
 fn steps<'a>(alloc: Global) -> Result<Command<'a>, AllocError> {
     Command::new(alloc, "steps")
-        .about("prints the world after each sync point of recorded runs: ecsview steps arena.toml arena.trace --run 2")
+        .about(
+            "prints the world after each sync point of recorded runs: ecsview steps arena.toml arena.trace --run 2",
+        )
         .arg(file(alloc))?
         .arg(trace(alloc))?
         .arg(run(alloc))

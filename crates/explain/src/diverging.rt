@@ -1,6 +1,10 @@
 // Where two traces of one file part: the first run after which the worlds that they leave differ.
 
-ghost use Rattle.std.specs.Prelude.{◌≡◌, IfOk, string_bytes};
+ghost use Rattle.std.specs.Prelude.{◌≡◌, ◌<◌, ◌^◌, length, map, Some, IfOk, string_bytes};
+ghost use Rattle.engine.specs.Meanings.{Suits};
+ghost use Rattle.explain.specs.Parting.{IsParting};
+ghost use Rattle.printing.specs.WorldText.{world_text};
+ghost use Rattle.program.specs.Setup.{meanings_of_scripts, script_suits};
 
 use body::State;
 use executor_core::{Step, Trace};
@@ -45,7 +49,12 @@ pub fn parting_of(
     second: State,
     one: &[Trace],
     other: &[Trace],
-) -> Result<Parting, Fault> {
+) -> Result<Parting, Fault>
+    requires suits { Suits script_suits built.now (map Some bodies.old) first }
+    requires same { second ≡ first }
+    requires few { length one.now < 2 ^ 32 }
+    ensures { IfOk result (IsParting built.now (meanings_of_scripts built.now bodies.old) first one.now other.now) }
+{
     let mut state = first;
     let mut beside = second;
     let mut number = 0;
@@ -56,8 +65,8 @@ pub fn parting_of(
         number += 1;
         state = replay_run(alloc, built, bodies, state, trace, number)?;
         beside = replay_run(alloc, built, bodies, beside, counterpart, number)?;
-        let text = text_of(alloc, number, &state)?;
-        let text_beside = text_of(alloc, number, &beside)?;
+        let text = text_of(alloc, number as u32, &state)?;
+        let text_beside = text_of(alloc, number as u32, &beside)?;
         if text.as_str() != text_beside.as_str() {
             return Ok(Parting::After(number, text, text_beside));
         }
@@ -69,8 +78,9 @@ pub fn parting_of(
 }
 
 // The text of a state after so many runs.
-fn text_of(alloc: Global, runs: usize, state: &State) -> Result<String, Fault> {
-    let runs = u32::try_from(runs).unwrap_or(u32::MAX);
+fn text_of(alloc: Global, runs: u32, state: &State) -> Result<String, Fault>
+    ensures { IfOk result (λ text. string_bytes text ≡ world_text runs state.now) }
+{
     Ok(text_of_world(alloc, runs, state.world(), state.passed_over())?)
 }
 

@@ -1,5 +1,8 @@
 // Lists of one run in which one of two things comes before the other: all else that can come before both does, so that the two stand side by side.
 
+ghost use Rattle.std.specs.Prelude.{◌≡◌, None, OnOk, IfOk};
+ghost use Rattle.explain.specs.Witness.{asks as asks_in, begins as begins_in, is_in_turn as is_in_turn_of, is_of_racer as is_step_of};
+
 use ambiguity_report::report::Racer;
 use executor_core::{Core, Step, Trace};
 use model::KindSets;
@@ -23,7 +26,9 @@ pub fn list_of(
     built: &Built,
     turn: Turn,
     answers: &[bool],
-) -> Result<Trace, AllocError> {
+) -> Result<Trace, AllocError>
+    ensures { IfOk result (λ trace. trace.sets ≡ None) }
+{
     let mut core = Core::new(alloc, built)?;
     let mut trace = Trace::new(alloc);
     let mut point = 0u32;
@@ -53,12 +58,10 @@ fn most_steps(built: &Built) -> u64 {
 }
 
 // Takes a step, and behind a start its finish.
-fn take(
-    alloc: Global,
-    core: &mut Core<'_>,
-    trace: &mut Trace,
-    step: Step,
-) -> Result<(), AllocError> {
+fn take(alloc: Global, core: &mut Core<'_>, trace: &mut Trace, step: Step) -> Result<(), AllocError>
+    requires { trace.old.sets ≡ None }
+    ensures { OnOk result (trace.new.sets ≡ None) }
+{
     note(alloc, core, trace, step)?;
     if let Step::Start(system) = step {
         note(alloc, core, trace, Step::Finish(system))?;
@@ -67,16 +70,14 @@ fn take(
 }
 
 // Takes a step by itself.
-fn note(
-    alloc: Global,
-    core: &mut Core<'_>,
-    trace: &mut Trace,
-    step: Step,
-) -> Result<(), AllocError> {
+fn note(alloc: Global, core: &mut Core<'_>, trace: &mut Trace, step: Step) -> Result<(), AllocError>
+    requires { trace.old.sets ≡ None }
+    ensures { OnOk result (trace.new.sets ≡ None) }
+{
     let _ = core.step(step);
     match step {
         Step::Sync(point) => trace.push_sync(point, KindSets::none(alloc)),
-        _ => trace.push(step),
+        Step::Cond(_, _) | Step::Start(_) | Step::Skip(_) | Step::Finish(_) => trace.push(step),
     }
 }
 
@@ -193,7 +194,9 @@ fn race(core: &Core<'_>, racer: Racer, answers: &[bool]) -> Option<Step> {
 }
 
 /// Whether of the two that comes first which is to, in these steps.
-pub fn is_in_turn(steps: &[Step], turn: Turn) -> bool {
+pub fn is_in_turn(steps: &[Step], turn: Turn) -> bool
+    ensures { result ≡ is_in_turn_of turn.racer turn.system turn.swapped steps.now }
+{
     for step in steps {
         if is_of_racer(*step, turn.racer) {
             return !turn.swapped;
@@ -206,7 +209,9 @@ pub fn is_in_turn(steps: &[Step], turn: Turn) -> bool {
 }
 
 // Whether a step is that of what races: a start or a skip, or a condition that is asked.
-fn is_of_racer(step: Step, racer: Racer) -> bool {
+fn is_of_racer(step: Step, racer: Racer) -> bool
+    ensures { result ≡ is_step_of racer step }
+{
     match racer {
         Racer::System(system) => begins(step, system),
         Racer::Condition(condition) => asks(step, condition),
@@ -214,7 +219,9 @@ fn is_of_racer(step: Step, racer: Racer) -> bool {
 }
 
 // Whether a system starts or is skipped by a step.
-fn begins(step: Step, system: u32) -> bool {
+fn begins(step: Step, system: u32) -> bool
+    ensures { result ≡ begins_in system step }
+{
     match step {
         Step::Start(number) | Step::Skip(number) => number == system,
         Step::Cond(_, _) | Step::Finish(_) | Step::Sync(_) => false,
@@ -222,9 +229,11 @@ fn begins(step: Step, system: u32) -> bool {
 }
 
 // Whether a condition is asked by a step.
-fn asks(step: Step, condition: u32) -> bool {
+fn asks(step: Step, condition: u32) -> bool
+    ensures { result ≡ asks_in condition step }
+{
     match step {
         Step::Cond(number, _) => number == condition,
-        _ => false,
+        Step::Start(_) | Step::Skip(_) | Step::Finish(_) | Step::Sync(_) => false,
     }
 }

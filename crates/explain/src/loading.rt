@@ -1,6 +1,11 @@
 // A program file that is accepted: its schedule, its scripts, and the world with which it begins.
 
-ghost use Rattle.std.specs.Prelude.{◌≡◌, map, length, IfOk};
+ghost use Rattle.std.specs.Prelude.{◌≡◌, ℕ, List, Option, Some, map, IfOk, IfSome};
+ghost use Rattle.explain.specs.Loaded.{IsLoaded};
+ghost use Rattle.model.specs.state.Loaded.{loaded as loaded_state};
+ghost use Rattle.program.specs.Load.{entity_given};
+ghost use Rattle.toml.specs.Parse.{parse_document};
+ghost use Rattle.toml.specs.View.{table_view};
 
 use crate::sets::{Sets, sets_of};
 use body::State;
@@ -34,7 +39,9 @@ pub struct Loaded<'a> {
 }
 
 /// What a document declares.
-pub fn load<'a>(alloc: Global, document: &'a Table) -> Result<Loaded<'a>, Fault> {
+pub fn load<'a>(alloc: Global, document: &'a Table) -> Result<Loaded<'a>, Fault>
+    ensures { IfOk result (λ found. (bytes : Option (List ℕ)) → IfSome bytes (λ text. parse_document text ≡ Some (table_view document.now)) → IsLoaded bytes found) }
+{
     let ProgramFile {
         resources,
         entities,
@@ -63,7 +70,9 @@ pub fn opening(
     built: &Built,
     entities: &[Vec<Value>],
     resources: &[i64; 8],
-) -> Result<State, Fault> {
+) -> Result<State, Fault>
+    ensures { IfOk result (λ state. state ≡ loaded_state built.now (map entity_given entities.now) resources.now) }
+{
     let world = world_of(alloc, entities, resources)?;
     Ok(first_state(alloc, built, world)?)
 }

@@ -9,7 +9,6 @@ ghost use Rattle.body.specs.Out.{AreOut};
 ghost use Rattle.body.specs.Steps.{store_of};
 ghost use Rattle.engine.specs.Deferred.{IsDeferredFor, IsNothingDeferred, run_with};
 ghost use Rattle.engine.specs.Meanings.{meanings, AllKeepWithin, Suits};
-ghost use Rattle.explain.specs.Story.{AreTold, told_with};
 ghost use Rattle.printing.specs.WorldText.{world_text};
 ghost use Rattle.program.specs.Setup.{meanings_of_scripts, script_means, script_suits};
 

@@ -37,7 +37,12 @@ pub fn push_witness(
     let name = name_of(names, pair.second);
     writeln!(text, "-- {name} first")?;
     push_told(text, &witness.behind)?;
-    push_difference(alloc, text, witness.before.world.as_str(), witness.behind.world.as_str())
+    push_difference(
+        alloc,
+        text,
+        witness.before.world.as_str(),
+        witness.behind.world.as_str(),
+    )
 }
 
 // Adds a list and the world that it leaves.
@@ -128,7 +133,10 @@ pub fn text_of_parting(
         Parting::None(count) => writeln!(text, "worlds agree after each of {count} runs")?,
         Parting::Longer(count) => {
             let (one, other) = runs;
-            writeln!(text, "worlds agree after each of {count} runs, of {one} and {other}")?;
+            writeln!(
+                text,
+                "worlds agree after each of {count} runs, of {one} and {other}"
+            )?;
         }
         Parting::After(run, _, _) => writeln!(text, "worlds differ after run {run}")?,
     }

@@ -1,10 +1,17 @@
 // Witnesses: two lists of one run in which two that race come in either order, and the worlds that they leave.
 
-ghost use Rattle.std.specs.Prelude.{◌≡◌, IfOk, string_bytes};
+ghost use Rattle.std.specs.Prelude.{◌≡◌, ◌<◌, length, IfOk, IfSome, IsTrue, string_bytes, map, Some};
+ghost use Rattle.engine.specs.Meanings.{HasMemories, Suits};
+ghost use Rattle.model.specs.runs.Replays.{IsReplayed};
+ghost use Rattle.model.specs.state.State.{State as Now};
+ghost use Rattle.model.specs.steps.Schedule.{recording};
+ghost use Rattle.printing.specs.WorldText.{world_text};
+ghost use Rattle.program.specs.Setup.{AreScriptsOf, fits_at, meanings_of_scripts, script_suits};
+ghost use Rattle.explain.specs.Witness.{IsTold, IsWitness};
 
 use crate::listing::{Turn, is_in_turn, list_of};
 use ambiguity_report::Pair;
-use body::{Body, State};
+use body::State;
 use executor_core::{Step, Trace};
 use printing::world::text_of_world;
 use program::Fault;
@@ -38,7 +45,11 @@ pub fn witness_of(
     bodies: &mut [ScriptBody],
     first: &State,
     pair: Pair,
-) -> Result<Option<Witness>, Fault> {
+) -> Result<Option<Witness>, Fault>
+    requires { HasMemories built.now first.now }
+    ensures witness { IfOk result (λ found. IfSome found (IsWitness built.now (meanings_of_scripts built.now bodies.old) first.now pair)) }
+    ensures meanings { meanings_of_scripts built.now bodies.new ≡ meanings_of_scripts built.now bodies.old }
+{
     let Some(before) = told_in(alloc, built, bodies, first, turn_of(pair, false))? else {
         return Ok(None);
     };
@@ -49,7 +60,11 @@ pub fn witness_of(
 }
 
 // The order of a pair.
-fn turn_of(pair: Pair, swapped: bool) -> Turn {
+fn turn_of(pair: Pair, swapped: bool) -> Turn
+    ensures racer { result.racer ≡ pair.first }
+    ensures system { result.system ≡ pair.second }
+    ensures swapped { result.swapped ≡ swapped }
+{
     Turn {
         racer: pair.first,
         system: pair.second,
@@ -65,7 +80,11 @@ fn told_in(
     bodies: &mut [ScriptBody],
     first: &State,
     turn: Turn,
-) -> Result<Option<Told>, Fault> {
+) -> Result<Option<Told>, Fault>
+    requires { HasMemories built.now first.now }
+    ensures told { IfOk result (λ found. IfSome found (IsTold built.now (meanings_of_scripts built.now bodies.old) first.now turn.racer turn.system turn.swapped)) }
+    ensures meanings { meanings_of_scripts built.now bodies.new ≡ meanings_of_scripts built.now bodies.old }
+{
     let mut answers = vec![in alloc; true; built.condition_count() as usize]?;
     for _ in 0..u64::from(built.condition_count()) + 1 {
         let list = list_of(alloc, built, turn, answers.as_slice())?;
@@ -88,21 +107,38 @@ fn left_by(
     bodies: &mut [ScriptBody],
     first: &State,
     list: &Trace,
-) -> Result<String, Fault> {
+) -> Result<String, Fault>
+    requires { Suits script_suits built.now (map Some bodies.old) first.now }
+    ensures left { IfOk result (λ text. (final : Now) × IsReplayed (recording built.now list.now.sets) (meanings_of_scripts built.now bodies.old) first.now list.now.steps final × (string_bytes text ≡ world_text 1 final)) }
+    ensures meanings { meanings_of_scripts built.now bodies.new ≡ meanings_of_scripts built.now bodies.old }
+{
     let start = first.copy(alloc)?;
     let left = replay_run(alloc, built, bodies, start, list, 1)?;
     Ok(text_of_world(alloc, 1, left.world(), left.passed_over())?)
 }
 
 // Whether each script fits its system.
-fn are_fitting(built: &Built, bodies: &[ScriptBody]) -> bool {
+fn are_fitting(built: &Built, bodies: &[ScriptBody]) -> bool
+    ensures { IsTrue result → AreScriptsOf built.now bodies.now }
+{
+    if bodies.len() != built.count() as usize {
+        return false;
+    }
     for system in 0..built.count() {
-        match bodies.get(system as usize) {
-            Some(body) if body.fits(built.params(system)) => {}
-            _ => return false,
+        if !is_fitting(built, bodies, system) {
+            return false;
         }
     }
     true
+}
+
+// Whether the script of a system fits it.
+fn is_fitting(built: &Built, bodies: &[ScriptBody], system: u32) -> bool
+    requires count { length bodies.now ≡ length built.now.systems }
+    requires known { system < length built.now.systems }
+    ensures { result ≡ fits_at built.now bodies.now system }
+{
+    bodies[system as usize].fits(built.params(system))
 }
 
 // Turns the answer of the condition that the step of this number asks, counted from 1.

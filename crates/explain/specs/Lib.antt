@@ -1,0 +1,4 @@
+pub mod Loaded
+pub mod Parting
+pub mod Story
+pub mod Witness

@@ -1,0 +1,55 @@
+-- Witnesses of races: two complete lawful lists of one run, in which two that race come in either order, and what they leave.
+use Rattle.std.specs.Prelude.{ℕ, ◌≡◌, ◌==◌, Bool, true, false, cond, not, List, [], ◌∷◌, reverse, string_bytes}
+use Rattle.ambiguity_report.specs.declared.races.Racer.{Racer}
+use Rattle.ambiguity_report.specs.declared.races.Racer.TheVariants.{System, Condition}
+use Rattle.ambiguity_report.specs.declared.report.Pair.{Pair}
+use Rattle.model.specs.declared.steps.Step.{Step}
+use Rattle.model.specs.declared.steps.Step.TheVariants.{Cond, Start, Skip, Finish, Sync}
+use Rattle.model.specs.runs.Replays.{IsReplayed}
+use Rattle.model.specs.shown.Outcome.{BodyMeaning}
+use Rattle.model.specs.state.State.{State}
+use Rattle.model.specs.steps.Schedule.{Schedule, Recorded, recording}
+use Rattle.printing.specs.WorldText.{world_text}
+use Rattle.explain.specs.declared.witness.Told.{Told}
+use Rattle.explain.specs.declared.witness.Witness.{Witness}
+
+-- whether a system starts or is skipped by a step
+abbrev pub begins : ℕ → Step → Bool
+begins n (Start m) = m == n
+begins n (Skip m) = m == n
+begins n (Cond c answer) = false
+begins n (Finish m) = false
+begins n (Sync k) = false
+
+-- whether a condition is asked by a step
+abbrev pub asks : ℕ → Step → Bool
+asks c (Cond d answer) = d == c
+asks c (Start n) = false
+asks c (Skip n) = false
+asks c (Finish n) = false
+asks c (Sync k) = false
+
+-- whether a step is that of what races with a system
+abbrev pub is_of_racer : Racer → Step → Bool
+is_of_racer (System m) step = begins m step
+is_of_racer (Condition c) step = asks c step
+
+-- whether of what races and a system that comes first which is to: the system where they are swapped
+abbrev pub is_in_turn : Racer → ℕ → Bool → List Step → Bool
+is_in_turn r n swapped [] = false
+is_in_turn r n swapped (step ∷ steps) = cond (is_of_racer r step) (not swapped) (cond (begins n step) swapped (is_in_turn r n swapped steps))
+
+-- a list of one run from a state, complete and lawful with true answers, in which of a pair the first, or where they are swapped the system, comes
+-- first; and the text is that of the world that it leaves, which is its meaning, interleaved and serial
+pub record IsTold (s : Schedule) (bodies : List BodyMeaning) (start : State) (r : Racer) (n : ℕ) (swapped : Bool) (t : Told) : Type 0 where
+  pub steps : List Step
+  pub listed : t.list.steps ≡ reverse steps
+  pub order : is_in_turn r n swapped steps ≡ true
+  pub final : State
+  pub replayed : IsReplayed (recording s t.list.sets) bodies start t.list.steps final
+  pub world : string_bytes t.world ≡ world_text 1 final
+
+-- both lists of a pair
+pub record IsWitness (s : Schedule) (bodies : List BodyMeaning) (start : State) (p : Pair) (w : Witness) : Type 0 where
+  pub before : IsTold s bodies start p.first p.second false w.before
+  pub behind : IsTold s bodies start p.first p.second true w.behind
