@@ -1,6 +1,6 @@
 // Where two traces of one file part: the first run after which the worlds that they leave differ.
 
-ghost use Rattle.std.specs.Prelude.{◌≡◌, ◌<◌, ◌^◌, length, map, Some, IfOk, string_bytes};
+ghost use Rattle.std.specs.Prelude.{◌≡◌, ◌<◌, ◌↔◌, ◌^◌, IsTrue, length, map, Some, IfOk, string_bytes};
 ghost use Rattle.engine.specs.Meanings.{Suits};
 ghost use Rattle.explain.specs.Parting.{IsParting};
 ghost use Rattle.printing.specs.WorldText.{world_text};
@@ -67,7 +67,7 @@ pub fn parting_of(
         beside = replay_run(alloc, built, bodies, beside, counterpart, number)?;
         let text = text_of(alloc, number as u32, &state)?;
         let text_beside = text_of(alloc, number as u32, &beside)?;
-        if text.as_str() != text_beside.as_str() {
+        if !are_alike(text.as_str(), text_beside.as_str()) {
             return Ok(Parting::After(number, text, text_beside));
         }
     }
@@ -75,6 +75,13 @@ pub fn parting_of(
         return Ok(Parting::Longer(number));
     }
     Ok(Parting::None(number))
+}
+
+// Whether two texts are one.
+fn are_alike(text: &str, beside: &str) -> bool
+    ensures { IsTrue result ↔ (text.now ≡ beside.now) }
+{
+    text == beside
 }
 
 // The text of a state after so many runs.
