@@ -1,8 +1,8 @@
 // The command line.
 
-use clap::{Arg, ArgMatches, Command, value_parser};
+use clap::{Arg, ArgMatches, Command};
 use command_line::LineFault;
-use command_line::args::{asks_for_help, has_plus};
+use command_line::args::asks_for_help;
 use std::alloc::{AllocError, Global};
 
 /// What is asked for.
@@ -12,12 +12,6 @@ pub enum Work {
     Schedule,
     /// A drawing of the runs of a trace.
     Lanes,
-    /// A witness for each pair that races.
-    Races,
-    /// Where two traces part.
-    Diverge,
-    /// The worlds after the sync points of a run of a trace, counted from 1, or of all where it is 0.
-    Steps(u32),
 }
 
 /// What a command line asks for: some work on the schedule that a file declares.
@@ -27,13 +21,11 @@ pub struct Args<'a> {
     pub file: &'a str,
     /// The path of the trace; empty where none is read.
     pub trace: &'a str,
-    /// The path of the second trace; empty where none is read.
-    pub other: &'a str,
     /// The work.
     pub work: Work,
 }
 
-const COMMANDS: [&str; 5] = ["schedule", "lanes", "races", "diverge", "steps"];
+const COMMANDS: [&str; 2] = ["schedule", "lanes"];
 
 impl<'a> Args<'a> {
     /// Reads the words of a command line, of which the first is the program's own name.
@@ -55,25 +47,7 @@ impl<'a> Args<'a> {
         if let Some(found) = matches.subcommand_matches("lanes") {
             return Ok(Args::of(found, Work::Lanes));
         }
-        if let Some(found) = matches.subcommand_matches("races") {
-            return Ok(Args::of(found, Work::Races));
-        }
-        if let Some(found) = matches.subcommand_matches("diverge") {
-            return Ok(Args::of(found, Work::Diverge));
-        }
-        if let Some(found) = matches.subcommand_matches("steps") {
-            return Args::of_steps(alloc, found);
-        }
         Err(LineFault::usage(alloc, "error: no command is named\n"))
-    }
-
-    // The worlds that the matches of `steps` ask for.
-    fn of_steps(alloc: Global, found: &ArgMatches<'a>) -> Result<Args<'a>, LineFault> {
-        if has_plus(found, "run") {
-            return Err(LineFault::usage(alloc, "error: a number has no plus\n"));
-        }
-        let run = found.get_one::<u32>("run").unwrap_or(0);
-        Ok(Args::of(found, Work::Steps(run)))
     }
 
     // The work, on the files that the matches name.
@@ -81,7 +55,6 @@ impl<'a> Args<'a> {
         Args {
             file: matches.get_str("file").unwrap_or(""),
             trace: matches.get_str("trace").unwrap_or(""),
-            other: matches.get_str("other").unwrap_or(""),
             work,
         }
     }
@@ -140,44 +113,6 @@ fn lanes<'a>(alloc: Global) -> Result<Command<'a>, AllocError> {
         .arg(trace(alloc))
 }
 
-// What `races` takes.
-fn races<'a>(alloc: Global) -> Result<Command<'a>, AllocError> {
-    Command::new(alloc, "races")
-        .about(
-            "prints two lists of a run for each pair that races, and the worlds that they leave: ecsview races arena.toml",
-        )
-        .arg(file(alloc))
-}
-
-// What `diverge` takes.
-fn diverge<'a>(alloc: Global) -> Result<Command<'a>, AllocError> {
-    Command::new(alloc, "diverge")
-        .about("prints where two traces part: ecsview diverge arena.toml here.trace there.trace")
-        .arg(file(alloc))?
-        .arg(trace(alloc))?
-        .arg(path(alloc, "other", "OTHER", "the file of other recorded runs"))
-}
-
-// The run that is told.
-fn run<'a>(alloc: Global) -> Arg<'a> {
-    Arg::new(alloc, "run")
-        .long("run")
-        .value_name("N")
-        .value_parser(value_parser!(u32).range(1..))
-        .help("the run that is told, from 1; all if left out")
-}
-
-// What `steps` takes.
-fn steps<'a>(alloc: Global) -> Result<Command<'a>, AllocError> {
-    Command::new(alloc, "steps")
-        .about(
-            "prints the world after each sync point of recorded runs: ecsview steps arena.toml arena.trace --run 2",
-        )
-        .arg(file(alloc))?
-        .arg(trace(alloc))?
-        .arg(run(alloc))
-}
-
 // The program with one command more.
 fn with_command<'a>(
     program: Command<'a>,
@@ -192,8 +127,5 @@ fn command<'a>(alloc: Global) -> Result<Command<'a>, AllocError> {
         .bin_name("ecsview")?
         .subcommand_required(true);
     let program = with_command(program, schedule(alloc))?;
-    let program = with_command(program, lanes(alloc))?;
-    let program = with_command(program, races(alloc))?;
-    let program = with_command(program, diverge(alloc))?;
-    with_command(program, steps(alloc))
+    with_command(program, lanes(alloc))
 }

@@ -1,4 +1,1 @@
 pub mod Loaded
-pub mod Parting
-pub mod Story
-pub mod Witness

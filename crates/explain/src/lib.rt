@@ -1,13 +1,8 @@
-// What is found in a schedule and in traces: the sets of a file and their members, witnesses of races, where two traces part, and the worlds of a run.
+// What is found in a program file: its schedule, its scripts and its world, and its sets with their members.
 #![tactic(auto)]
 
-pub mod diverging;
-pub mod listing;
 pub mod loading;
 pub mod sets;
-pub mod story;
-pub mod telling;
-pub mod witness;
 
 pub use loading::Loaded;
 pub use sets::Sets;
