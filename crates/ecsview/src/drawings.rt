@@ -1,8 +1,11 @@
 // The drawings of a schedule, and of the runs of a trace.
 
+ghost use Rattle.std.specs.Prelude.{IfOk, string_bytes};
+ghost use Rattle.ecsview.specs.Drawings.{IsScheduleText};
+
 use ambiguity_report::report::report;
 use drawing::lanes::add_run;
-use drawing::svg::text_of_drawing;
+use drawing::svg::{OPENER, RULES, text_of_drawing};
 use explain::Loaded;
 use program::Fault;
 use program::checking::traces_of;
@@ -13,7 +16,9 @@ use trace_checker::Verdict;
 use trace_checker::check::check;
 
 /// The drawing of a schedule, as SVG.
-pub fn schedule_text(alloc: Global, loaded: &Loaded<'_>) -> Result<String, Fault> {
+pub fn schedule_text(alloc: Global, loaded: &Loaded<'_>) -> Result<String, Fault>
+    ensures { IfOk result (λ text. IsScheduleText OPENER.now RULES.now loaded.now (string_bytes text)) }
+{
     let pairs = report(alloc, &loaded.built)?;
     let members = loaded.sets.members.as_slice();
     let drawn = draw_schedule(alloc, &loaded.built, members, pairs.as_slice())?;
