@@ -136,8 +136,8 @@ fn take(core: &mut Core, step: Step, trace: &Trace, place: usize) -> Result<(), 
     core.sync_in(point, &lists[place])
 }
 
-/// How many sync points a step is: one or none.
-pub fn syncs_of(step: Step) -> usize
+// How many sync points a step is: one or none.
+pub(crate) fn syncs_of(step: Step) -> usize
     ensures counted { (h : List AStep) → syncs_in (step ∷ h) ≡ syncs_in h + result }
     ensures one { result ≤ 1 }
 {

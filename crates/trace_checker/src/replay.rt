@@ -143,8 +143,8 @@ fn take_steps<B: Body>(
     Ok(())
 }
 
-/// Compares the kind sets that are recorded at a place, if they are, with those of the living entities, after the step of this number.
-pub fn compare_sets(
+// Compares the kind sets that are recorded at a place, if they are, with those of the living entities, after the step of this number.
+fn compare_sets(
     run: &RunState,
     trace: &Trace,
     place: usize,
@@ -164,8 +164,8 @@ pub fn compare_sets(
     Ok(())
 }
 
-/// The same right after a step, up to which there are so many sync points: where it is one of them.
-pub fn compare_after(
+// The same right after a step, up to which there are so many sync points: where it is one of them.
+fn compare_after(
     run: &RunState,
     trace: &Trace,
     step: Step,
@@ -182,9 +182,9 @@ pub fn compare_after(
     compare_sets(run, trace, place, number)
 }
 
-/// Takes the step of this number. A system that starts has deferred nothing and was granted what it can be given, and so have those of the level
-/// above a sync point deferred nothing.
-pub fn take<B: Body>(
+// Takes the step of this number. A system that starts has deferred nothing and was granted what it can be given, and so have those of the level
+// above a sync point deferred nothing.
+fn take<B: Body>(
     built: &Built,
     bodies: &mut [B],
     run: &mut RunState,
