@@ -159,16 +159,16 @@ impl LineFault {
         }
     }
 
-    // A line outside what the program takes, told by this text.
-    pub(crate) fn usage(alloc: Global, text: &str) -> LineFault {
+    /// A line outside what the program takes, told by this text.
+    pub fn usage(alloc: Global, text: &str) -> LineFault {
         match String::from_str(alloc, text) {
             Ok(text) => LineFault::Usage(text),
             Err(_) => LineFault::Memory,
         }
     }
 
-    // What an answer of the parser without matches is here.
-    fn of(alloc: Global, error: &Error) -> LineFault {
+    /// What an answer of the parser without matches is here.
+    pub fn of(alloc: Global, error: &Error) -> LineFault {
         if error.kind() == ErrorKind::OutOfMemory {
             return LineFault::Memory;
         }
@@ -186,8 +186,8 @@ impl From<AllocError> for LineFault {
     }
 }
 
-// Whether `--help` stands among some words, before the word that ends the options.
-fn asks_for_help(words: &[String]) -> bool {
+/// Whether `--help` stands among some words, before the word that ends the options.
+pub fn asks_for_help(words: &[String]) -> bool {
     words
         .iter()
         .skip(1)
@@ -211,8 +211,8 @@ fn help_for(alloc: Global, words: &[String]) -> Result<LineFault, AllocError> {
     }
 }
 
-// Whether the value of an argument begins with a plus.
-fn has_plus(matches: &ArgMatches<'_>, name: &str) -> bool {
+/// Whether the value of an argument begins with a plus.
+pub fn has_plus(matches: &ArgMatches<'_>, name: &str) -> bool {
     match matches.get_str(name) {
         Some(value) => value.starts_with('+'),
         None => false,

@@ -1,15 +1,13 @@
 // The program: its command line and its streams.
 #![tactic(auto)]
 
-mod stand_ins;
-
 use command_line::words::words_of;
 use command_line::{Args, LineFault, Work};
 use program::opened::open;
 use program::serve::{serve, tell};
+use program::stand_ins::open_stand_ins;
 use program::workers::serve_in_scope;
 use program::{Created, Fault};
-use stand_ins::open_stand_ins;
 use std::alloc::Global;
 use std::io::Write;
 use std::process::ExitCode;

@@ -3,17 +3,18 @@
 #![tactic(auto)]
 
 mod answer;
-mod checking;
+pub mod checking;
 pub mod created;
 pub mod fault;
-mod file;
+pub mod file;
 pub mod opened;
 pub mod recording;
-mod replaying;
-mod schedule;
+pub mod replaying;
+pub mod schedule;
 pub mod serve;
+pub mod stand_ins;
 pub mod workers;
-mod world;
+pub mod world;
 
 pub use created::Created;
 pub use fault::Fault;

@@ -80,8 +80,8 @@ fn replay_runs(
     Ok(state)
 }
 
-// Takes the recorded run of this number again.
-fn replay_run(
+/// Takes the recorded run of this number again.
+pub fn replay_run(
     alloc: Global,
     built: &Built,
     bodies: &mut [ScriptBody],

@@ -113,8 +113,8 @@ fn answer<'s, M: Mode<'s>, F: Read, T: Read>(
     run(alloc, times, recorded, mode, built, bodies, world)
 }
 
-// The document that a file is.
-fn document_in<F: Read>(alloc: Global, file: &mut F) -> Result<Table, Fault>
+/// The document that a file is.
+pub fn document_in<F: Read>(alloc: Global, file: &mut F) -> Result<Table, Fault>
     ensures read { IfOk result (λ table. IfSome (F.remaining file.old) (λ text. parse_document text ≡ Some (table_view table))) }
     ensures refused { IfErr result (IsUnread (F.remaining file.old)) }
 {

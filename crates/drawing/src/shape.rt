@@ -1,0 +1,137 @@
+// The shapes of a drawing. They are plain data: a shape names what it stands for by number, and the text of a drawing looks the name up.
+
+ghost use Rattle.std.specs.Prelude.{◌≡◌};
+ghost use Rattle.drawing.specs.ShapeText.{style_name};
+
+use access_set::Datum;
+use std::fmt;
+
+/// What a shape stands for, as its class in the text of a drawing.
+#[derive(Clone, Copy)]
+pub enum Style {
+    /// A system.
+    System,
+    /// A set of systems.
+    Set,
+    /// An edge.
+    Edge,
+    /// An edge that waits for commands.
+    Deferring,
+    /// A sync point.
+    Sync,
+    /// A condition; of a run, one that answered yes.
+    Condition,
+    /// A condition that answered no.
+    Refused,
+    /// What races.
+    Race,
+    /// What races, and is declared to.
+    Silenced,
+    /// A system that runs.
+    Running,
+    /// A system that is skipped.
+    Skipped,
+    /// The axis of a run's steps.
+    Axis,
+}
+
+impl Style {
+    /// Its name.
+    pub fn name(self) -> &'static str
+        ensures { result.now ≡ style_name self }
+    {
+        match self {
+            Style::System => "system",
+            Style::Set => "set",
+            Style::Edge => "edge",
+            Style::Deferring => "deferring",
+            Style::Sync => "sync",
+            Style::Condition => "condition",
+            Style::Refused => "refused",
+            Style::Race => "race",
+            Style::Silenced => "silenced",
+            Style::Running => "running",
+            Style::Skipped => "skipped",
+            Style::Axis => "axis",
+        }
+    }
+}
+
+impl fmt::Display for Style {
+    ghost use Rattle.std.specs.Prelude.{Some};
+
+    ghost output = { λ style. Some (style_name style) };
+
+    fn fmt<W: fmt::Write>(&self, f: &mut fmt::Formatter<W>) -> fmt::Result {
+        f.write_str(self.name())
+    }
+}
+
+/// What is written at a place.
+#[derive(Clone, Copy)]
+pub enum Label {
+    /// The name of a system.
+    System(u32),
+    /// The name of a set.
+    Set(u32),
+    /// How many systems of a set stand there, and the name of the set.
+    Members(u32, u32),
+    /// The number of a condition.
+    Condition(u32),
+    /// The number of a sync point.
+    Sync(u32),
+    /// What two accesses meet on.
+    Datum(Datum),
+    /// The number of a run.
+    Run(u32),
+    /// How many systems ran at once at most, and in the mean: whole ones and hundredths.
+    AtOnce {
+        most: u64,
+        whole: u64,
+        hundredths: u64,
+    },
+}
+
+/// A shape: places are counted from the left and from above.
+#[derive(Clone, Copy)]
+pub enum Shape {
+    /// A box, by its left upper corner.
+    Rect {
+        x: u64,
+        y: u64,
+        width: u64,
+        height: u64,
+        style: Style,
+    },
+    /// A straight line.
+    Line {
+        x: u64,
+        y: u64,
+        to_x: u64,
+        to_y: u64,
+        style: Style,
+    },
+    /// A line that leaves towards one place across, and comes from another.
+    Curve {
+        x: u64,
+        y: u64,
+        near: u64,
+        far: u64,
+        to_x: u64,
+        to_y: u64,
+        style: Style,
+    },
+    /// A diamond, by its middle.
+    Diamond {
+        x: u64,
+        y: u64,
+        style: Style,
+    },
+    /// Something written, from a place on.
+    Text {
+        x: u64,
+        y: u64,
+        label: Label,
+        style: Style,
+    },
+}

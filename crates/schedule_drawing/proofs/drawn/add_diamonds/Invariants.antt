@@ -1,0 +1,7 @@
+use Rattle.std.proofs.Common.{◌≡◌, ◌++◌, take, flat_map}
+use Rattle.schedule_drawing.specs.Marks.{diamond_shapes}
+use Rattle.schedule_drawing.proofs.drawn.add_diamonds.Given as goal
+
+-- those so far are drawn
+abbrev pub invariant-loop-system : goal.invariant-loop-system
+invariant-loop-system l = l.shapes.items ≡ l.fn.shapes.items ++ flat_map (diamond_shapes l.built l.leaders l.condition) (take l.system-index l.covers)

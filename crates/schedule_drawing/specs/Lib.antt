@@ -1,0 +1,4 @@
+pub mod Drawn
+pub mod Folding
+pub mod Marks
+pub mod Places
