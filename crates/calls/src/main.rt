@@ -12,6 +12,7 @@ mod commands;
 mod engines;
 mod gates;
 mod moving;
+mod plans;
 mod resources;
 mod runs;
 mod store;
@@ -25,6 +26,7 @@ use crate::moving::{
     boxed, boxed_on_threads, kept_at_the_last_tick, kept_state, refused_engines, spent_clock,
     stamps,
 };
+use crate::plans::{made_later, put_back};
 use crate::resources::{kept_total, three_tallies};
 use crate::store::{buffers, entities, steps, texts, unions};
 use crate::threads::{
@@ -70,9 +72,11 @@ fn runs_alone(alloc: Global) -> [Test; 8] {
 }
 
 // The tests of what stands below engines.
-fn parts(alloc: Global) -> [Test; 5] {
+fn parts(alloc: Global) -> [Test; 7] {
     [
         ("entities of a store", entities(alloc)),
+        ("two plans of a row that is put back", put_back(alloc)),
+        ("two plans of a table that is made later", made_later(alloc)),
         ("events in two buffers", buffers(alloc)),
         ("what two systems touch together", unions(alloc)),
         ("steps of a core", steps(alloc)),
