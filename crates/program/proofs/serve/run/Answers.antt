@@ -1,4 +1,4 @@
-use Rattle.std.proofs.Common.{◌≡◌, Some, Err, inl, inr, refl, sym, subst, ◌∙◌, ap, rules}
+use Rattle.std.proofs.Common.{◌≡◌, Some, Err, inl, inr, refl, sym, subst, ◌∙◌, ap, ap₂, rules, string_bytes}
 use Rattle.std.proofs.lemmas.List.{length-map}
 use denote.Param.Send.{sendable}
 use Rattle.engine.proofs.Beginning.{no_first_lacks}
@@ -7,6 +7,8 @@ use Rattle.engine.specs.FirstState.{first_state}
 use Rattle.engine.specs.Meanings.{meanings}
 use Rattle.model.specs.state.State.{State}
 use Rattle.script.specs.declared.script_body.ScriptBody.{ScriptBody}
+use Rattle.printing.specs.WorldText.{printed}
+use Rattle.program.specs.Recorded.{HaveNoted}
 use Rattle.program.specs.Refused.{IsUnrun}
 use Rattle.program.specs.Setup.{meanings_of_scripts, script_means}
 use Rattle.program.specs.declared.fault.Fault.{Fault}
@@ -32,6 +34,21 @@ unreachable-requires-in-Err-Misfit g c =
 pub run_times-requires : goal.run_times-requires
 run_times-requires g c = λ lifetimes.
     (search sendable depth 40, (search sendable depth 40, (search sendable depth 40, ((refl, tt), search rules))))
+
+-- the text of the state that the runs leave, and their record
+pub returns-clause-runs : goal.returns-clause-runs
+returns-clause-runs g c =
+    let width = g.M.Mode.width c.args.mode.now in
+    let s = c.args.built in
+    let final = c.run_times.new.engine.state in
+    let noted = string_bytes c.in_ok-traces.traces in
+    let P = λ (v : EngineValue ScriptBody). HaveNoted width v.schedule (meanings script_means v.schedule v.bodies) v.state c.args.times c.args.recorded final noted in
+    record {
+      final = final;
+      runs = subst (λ (state : State). HaveNoted width s (meanings_of_scripts s c.args.bodies.items) state c.args.times c.args.recorded final noted) c.in_ok-state.ensures (subst P c.in-Ok.ensures.ok c.in_ok-traces.ensures.noted);
+      same = c.in_ok-text_of_world.ensures
+          ∙ ap₂ (printed c.args.times) (c.world.ensures.world ∙ ap (λ (state : State). state.world) c.state-state.ensures) (c.passed_over.ensures ∙ ap (λ (state : State). state.passed_over) c.state-state.ensures);
+    }
 
 -- what stops the runs
 pub returns-in_err-traces-clause-stopped : goal.returns-in_err-traces-clause-stopped
