@@ -1,0 +1,143 @@
+// Where two traces of one file part: the first run after which the worlds that they leave differ.
+
+ghost use Rattle.std.specs.Prelude.{◌≡◌, map, Some, IfOk, string_bytes};
+ghost use Rattle.engine.specs.Meanings.{HasMemories, Suits};
+ghost use Rattle.printing.specs.WorldText.{world_text};
+ghost use Rattle.program.specs.Setup.{AreScriptsOf, script_suits};
+
+use body::State;
+use executor_core::{Step, Trace};
+use printing::world::text_of_world;
+use program::Fault;
+use program::replaying::replay_run;
+use schedule_builder::Built;
+use script::ScriptBody;
+use std::alloc::Global;
+
+/// What two traces come to.
+#[derive(Drop)]
+pub enum Parting {
+    /// The worlds are the same after each of so many runs, which is all of both.
+    None(usize),
+    /// So are those of the first runs, and one trace has more.
+    Longer(usize),
+    /// After this run, counted from 1, the worlds differ for the first time: their texts.
+    After(usize, String, String),
+}
+
+/// Where the first steps differ.
+#[derive(Clone, Copy)]
+pub struct Place {
+    /// The run, counted from 1.
+    pub run: usize,
+    /// The step, counted from 1.
+    pub step: usize,
+    /// The step of the first trace, where it has one.
+    pub one: Option<Step>,
+    /// The step of the second, where it has one.
+    pub other: Option<Step>,
+}
+
+/// Where two traces part, whose runs are taken again one after the other, each trace from a state of its own: the first run after which the texts of
+/// the worlds differ.
+pub fn parting_of(
+    alloc: Global,
+    built: &Built,
+    bodies: &mut [ScriptBody],
+    first: State,
+    second: State,
+    one: &[Trace],
+    other: &[Trace],
+) -> Result<Parting, Fault>
+    requires memories { HasMemories built.now first }
+    requires beside { HasMemories built.now second }
+    requires fitting { AreScriptsOf built.now bodies.old }
+{
+    let mut states = (first, second);
+    let mut number = 0u32;
+    for trace in one {
+        let Some(counterpart) = other.get(number as usize) else {
+            return Ok(Parting::Longer(number as usize));
+        };
+        number = number.saturating_add(1);
+        states = taken_both(alloc, built, bodies, states, (trace, counterpart), number)?;
+        let text = text_of(alloc, number, &states.0)?;
+        let text_beside = text_of(alloc, number, &states.1)?;
+        if text.as_str() != text_beside.as_str() {
+            return Ok(Parting::After(number as usize, text, text_beside));
+        }
+    }
+    Ok(if one.len() < other.len() {
+        Parting::Longer(one.len())
+    } else {
+        Parting::None(one.len())
+    })
+}
+
+// Takes a run of each trace again, each from its own state.
+fn taken_both(
+    alloc: Global,
+    built: &Built,
+    bodies: &mut [ScriptBody],
+    states: (State, State),
+    runs: (&Trace, &Trace),
+    number: u32,
+) -> Result<(State, State), Fault>
+    requires suits { Suits script_suits built.now (map Some bodies.old) states.0 }
+    requires beside { HasMemories built.now states.1 }
+    ensures suits { IfOk result (λ left. Suits script_suits built.now (map Some bodies.new) left.0) }
+    ensures beside { IfOk result (λ left. HasMemories built.now left.1) }
+{
+    let (state, beside) = states;
+    let (trace, counterpart) = runs;
+    let left = replay_run(alloc, built, bodies, state, trace, number as usize)?;
+    let left_beside = replay_run(alloc, built, bodies, beside, counterpart, number as usize)?;
+    Ok((left, left_beside))
+}
+
+// The text of a state after so many runs.
+fn text_of(alloc: Global, runs: u32, state: &State) -> Result<String, Fault>
+    ensures { IfOk result (λ text. string_bytes text ≡ world_text runs state.now) }
+{
+    Ok(text_of_world(alloc, runs, state.world(), state.passed_over())?)
+}
+
+/// The first step in which two traces differ.
+pub fn first_difference(one: &[Trace], other: &[Trace]) -> Option<Place> {
+    let runs = one.len().max(other.len());
+    for run in 0..runs {
+        let steps = steps_at(one, run);
+        let beside = steps_at(other, run);
+        if let Some(step) = first_step(steps, beside) {
+            return Some(Place {
+                run: run.saturating_add(1),
+                step: step.saturating_add(1),
+                one: steps.get(step).copied(),
+                other: beside.get(step).copied(),
+            });
+        }
+    }
+    None
+}
+
+// The steps of a run, none where there is no such run.
+fn steps_at(traces: &[Trace], run: usize) -> &[Step] {
+    match traces.get(run) {
+        Some(trace) => trace.steps(),
+        None => &[],
+    }
+}
+
+// The first place at which two lists of steps differ.
+fn first_step(one: &[Step], other: &[Step]) -> Option<usize> {
+    for (place, step) in one.iter().enumerate() {
+        match other.get(place) {
+            Some(beside) if beside == step => {}
+            _ => return Some(place),
+        }
+    }
+    if one.len() < other.len() {
+        return Some(one.len());
+    }
+    None
+}

@@ -1,0 +1,7 @@
+// What is found in a schedule and in traces: a witness of each race, where two traces part, and their texts.
+#![tactic(auto)]
+
+pub mod diverging;
+pub mod listing;
+pub mod telling;
+pub mod witness;
