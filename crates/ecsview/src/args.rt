@@ -12,6 +12,10 @@ pub enum Work {
     Schedule,
     /// A drawing of the runs of a trace.
     Lanes,
+    /// A witness for each pair that races.
+    Races,
+    /// Where two traces part.
+    Diverge,
 }
 
 /// What a command line asks for: some work on the schedule that a file declares.
@@ -21,11 +25,13 @@ pub struct Args<'a> {
     pub file: &'a str,
     /// The path of the trace; empty where none is read.
     pub trace: &'a str,
+    /// The path of the second trace; empty where none is read.
+    pub other: &'a str,
     /// The work.
     pub work: Work,
 }
 
-const COMMANDS: [&str; 2] = ["schedule", "lanes"];
+const COMMANDS: [&str; 4] = ["schedule", "lanes", "races", "diverge"];
 
 impl<'a> Args<'a> {
     /// Reads the words of a command line, of which the first is the program's own name.
@@ -47,6 +53,12 @@ impl<'a> Args<'a> {
         if let Some(found) = matches.subcommand_matches("lanes") {
             return Ok(Args::of(found, Work::Lanes));
         }
+        if let Some(found) = matches.subcommand_matches("races") {
+            return Ok(Args::of(found, Work::Races));
+        }
+        if let Some(found) = matches.subcommand_matches("diverge") {
+            return Ok(Args::of(found, Work::Diverge));
+        }
         Err(LineFault::usage(alloc, "error: no command is named\n"))
     }
 
@@ -55,6 +67,7 @@ impl<'a> Args<'a> {
         Args {
             file: matches.get_str("file").unwrap_or(""),
             trace: matches.get_str("trace").unwrap_or(""),
+            other: matches.get_str("other").unwrap_or(""),
             work,
         }
     }
@@ -113,6 +126,24 @@ fn lanes<'a>(alloc: Global) -> Result<Command<'a>, AllocError> {
         .arg(trace(alloc))
 }
 
+// What `races` takes.
+fn races<'a>(alloc: Global) -> Result<Command<'a>, AllocError> {
+    Command::new(alloc, "races")
+        .about(
+            "prints two lists of a run for each pair that races, and the worlds that they leave: ecsview races arena.toml",
+        )
+        .arg(file(alloc))
+}
+
+// What `diverge` takes.
+fn diverge<'a>(alloc: Global) -> Result<Command<'a>, AllocError> {
+    Command::new(alloc, "diverge")
+        .about("prints where two traces part: ecsview diverge arena.toml here.trace there.trace")
+        .arg(file(alloc))?
+        .arg(trace(alloc))?
+        .arg(path(alloc, "other", "OTHER", "the file of other recorded runs"))
+}
+
 // The program with one command more.
 fn with_command<'a>(
     program: Command<'a>,
@@ -127,5 +158,7 @@ fn command<'a>(alloc: Global) -> Result<Command<'a>, AllocError> {
         .bin_name("ecsview")?
         .subcommand_required(true);
     let program = with_command(program, schedule(alloc))?;
-    with_command(program, lanes(alloc))
+    let program = with_command(program, lanes(alloc))?;
+    let program = with_command(program, races(alloc))?;
+    with_command(program, diverge(alloc))
 }

@@ -1,7 +1,11 @@
 // The work of a command line, on readers and writers.
 
+ghost use Rattle.program.specs.Setup.{AreScriptsOf};
+
 use crate::args::{Args, Work};
 use crate::drawings::{lanes_text, schedule_text};
+use crate::found::{diverge_text, races_text};
+use explain::Loaded;
 use explain::loading::load;
 use program::Fault;
 use program::serve::{document_in, tell};
@@ -9,37 +13,71 @@ use std::alloc::Global;
 use std::io::{Read, Write};
 use streams::writing::write_whole;
 
+/// What is answered to a command: the text that is printed, and the exit status.
+#[derive(Drop)]
+pub struct Shown {
+    /// What is printed.
+    pub text: String,
+    /// The exit status.
+    pub status: u8,
+}
+
 /// Does the work of a command line. What it prints goes to `out`, whole; what goes wrong is told to `faults` in one line, and nothing else is. Gives
 /// the exit status.
-pub fn view<F: Read, T: Read, O: Write, E: Write>(
+pub fn view<F: Read, T: Read, U: Read, O: Write, E: Write>(
     alloc: Global,
     args: &Args<'_>,
     file: &mut F,
     trace: &mut T,
+    other: &mut U,
     out: &mut O,
     faults: &mut E,
 ) -> u8 {
-    let text = match view_of(alloc, args.work, file, trace) {
-        Ok(text) => text,
+    let view = match view_of(alloc, args.work, file, trace, other) {
+        Ok(view) => view,
         Err(fault) => return tell(alloc, faults, &fault),
     };
-    match write_whole(out, text.as_str()) {
-        Ok(()) => 0,
+    match write_whole(out, view.text.as_str()) {
+        Ok(()) => view.status,
         Err(error) => tell(alloc, faults, &Fault::from(error)),
     }
 }
 
 // What is answered to some work on a program file.
-fn view_of<F: Read, T: Read>(
+fn view_of<F: Read, T: Read, U: Read>(
     alloc: Global,
     work: Work,
     file: &mut F,
     trace: &mut T,
-) -> Result<String, Fault> {
+    other: &mut U,
+) -> Result<Shown, Fault> {
     let document = document_in(alloc, file)?;
     let loaded = load(alloc, &document)?;
+    answer(alloc, work, loaded, trace, other)
+}
+
+// The same on what a file declares.
+fn answer<T: Read, U: Read>(
+    alloc: Global,
+    work: Work,
+    loaded: Loaded<'_>,
+    trace: &mut T,
+    other: &mut U,
+) -> Result<Shown, Fault>
+    requires { AreScriptsOf loaded.built loaded.bodies.items }
+{
     match work {
-        Work::Schedule => schedule_text(alloc, &loaded),
-        Work::Lanes => lanes_text(alloc, &loaded, trace),
+        Work::Schedule => Ok(done(schedule_text(alloc, &loaded)?)),
+        Work::Lanes => Ok(done(lanes_text(alloc, &loaded, trace)?)),
+        Work::Races => Ok(done(races_text(alloc, loaded)?)),
+        Work::Diverge => {
+            let (text, status) = diverge_text(alloc, loaded, trace, other)?;
+            Ok(Shown { text, status })
+        }
     }
+}
+
+// A text that is printed, with status 0.
+fn done(text: String) -> Shown {
+    Shown { text, status: 0 }
 }

@@ -1,0 +1,8 @@
+use Rattle.std.proofs.Common.{subst, sym}
+use Rattle.engine.specs.Meanings.{HasMemories}
+use Rattle.engine.proofs.Beginning.{has_first}
+use Rattle.ecsview.proofs.found.begun.Goals as goal
+
+-- it has the memories of the schedule
+pub returns : goal.returns
+returns c = subst (HasMemories c.args.built.now) (sym c.in_ok-state.ensures) (has_first c.args.built.now _)
