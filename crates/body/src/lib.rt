@@ -10,6 +10,7 @@ mod opening;
 mod slot_table;
 pub mod state;
 pub mod system_body;
+mod turns;
 pub mod view;
 pub mod view_column;
 mod view_commands;
