@@ -1,5 +1,6 @@
 -- What a command leaves, from what its parts leave.
-use Rattle.std.proofs.Common.{◌≡◌, inl, inr, ℕ, zero, suc, ℤ, Bool, true, false, List, [], ◌∷◌, length, map, slice_get, Option, None, Some, Result, Ok, Err, IfOk, IfErr, IfSome, is_some, refl, ap, sym, ◌∙◌, subst, string_bytes}
+use Rattle.std.proofs.Common.{◌≡◌, inl, inr, ℕ, zero, suc, ◌-◌, ◌≤◌, ℤ, Bool, true, false, List, [], ◌∷◌, length, map, replicate, slice_get, Option, None, Some, Result, Ok, Err, IfOk, IfErr, IfSome, is_some, refl, ap, sym, ◌∙◌, subst, string_bytes, arith, le_trans}
+use Rattle.std.proofs.lemmas.Bool.{le-leb, true≢false}
 use Rattle.std.specs.Prelude.{Vec}
 use Rattle.std.specs.declared.alloc.Global.{Global}
 use Rattle.std.specs.Io.KnownBytes.{Keeps}
@@ -10,10 +11,11 @@ use Rattle.model.specs.declarations.Declarations.{Declared}
 use Rattle.model.specs.declarations.Refusals.{IsBuildable}
 use Rattle.model.specs.declarations.ScheduleOrder.{HasDeclaredSystems, HasDeclaredEdges, HasLevels, HasDeclaredConditions, HasDeclaredSilences, IsScheduleOrder}
 use Rattle.model.specs.steps.Schedule.{Schedule, params_of}
-use Rattle.model.specs.state.State.{State, World}
+use Rattle.model.specs.state.Ids.{has_ids, with_room}
+use Rattle.model.specs.state.State.{State, World, fresh_slot}
 use Rattle.script.specs.declared.script_body.ScriptBody.{ScriptBody}
 use Rattle.script.specs.Faults.{fits}
-use Rattle.std.proofs.lemmas.List.{length-map}
+use Rattle.std.proofs.lemmas.List.{length-map, length-replicate}
 use Rattle.engine.specs.Meanings.{body_at, HasMemories, IsFirstMisfit, Suits}
 use Rattle.engine.proofs.Beginning.{has_first}
 use Rattle.engine.specs.Meanings as engine
@@ -32,7 +34,7 @@ use Rattle.program.specs.declared.fault.Fault.{Fault}
 use Rattle.program.specs.declared.fault.Fault.TheVariants.{TooLong, Content, Script, TraceTooLong, TraceLine, TraceOrder, TraceLists, BadStep, UnfinishedRun, WrongAnswer, WrongSets, ClockSpent, IdsSpent, BodyRefused, File, Write, Memory, NoWorker}
 use Rattle.program.specs.Fault.{fault_of_build, fault_of_file}
 use Rattle.program.specs.Accepted.{Accepted, meant_by, start_of}
-use Rattle.program.specs.Refused.{HasNoTables, IsRefusedBy, IsReplayRefused, IsRunRefused, IsTextRefused, IsTraceUnread, IsUngiven, IsUnread, IsUnreplayed, IsUnrun, IsUnscripted, LoadsWorld, ReadsTrace}
+use Rattle.program.specs.Refused.{HasNoTables, IsRefusedBy, IsReplayRefused, IsRunRefused, IsTextRefused, IsTraceUnread, IsUngiven, IsUnread, IsUnreplayed, IsUnrun, IsUnscripted, ReadsTrace}
 use Rattle.program.specs.Replayed.{IsRefusedReplay}
 use Rattle.program.specs.Served.{IsAnswerTo, IsRecordKept, IsServed, HasGained, HasGainedFront, Tells, WritesRecord}
 use Rattle.program_file.specs.declared.program_file.ProgramFile.{ProgramFile}
@@ -42,10 +44,11 @@ use Rattle.program.specs.declared.schedule.Code.{Code}
 use Rattle.program_file.specs.Keys.{HasOnly}
 use Rattle.program_file.specs.Tables.{keys_of_document, AreResourcesIn, AreEntitiesIn, AreSetsIn, AreSystemsIn, AreChainsIn, IsFileIn}
 use Rattle.toml.specs.Data.{Members}
-use Rattle.program.specs.Said.{IsFileOf, declared_by, script_said, scripts_by}
+use Rattle.program.specs.Said.{IsFileOf, IsOfShortText, declared_by, most_bytes, script_said, scripts_by}
 use Rattle.program_file.specs.declared.fault.FileFault.TheVariants as file
 use Rattle.program_file.specs.Faults.{IsFaultOf}
 use Rattle.program_file.specs.PlaceFault.{IsOfBytes}
+use Rattle.program_file.proofs.EntityCounts.{count-entities}
 use Rattle.program_file.proofs.FaultyFiles.{fault-none}
 use Rattle.std.specs.Result.{IsErrAnd}
 use Rattle.std.specs.Str.{IsUtf8}
@@ -286,11 +289,11 @@ module _ (there : Bool) (width : ℕ) (bytes trace : Option (List ℕ)) where
     trace-refused w Memory reads h = tt
     trace-refused w fault reads h = absurd h
 
-    -- the entities of a world
-    pub given-refused : (w : Work) (fault : Fault) → LoadsWorld w → IsUngiven (length file.tables.entities.items) fault → IsRefusedBy there width bytes trace w fault
-    given-refused w IdsSpent loads h = inl (loads, record { file = file; wanting = h })
-    given-refused w Memory loads h = tt
-    given-refused w fault loads h = absurd h
+    -- the entities of a world, for which there are ids
+    pub given-refused : (w : Work) (fault : Fault) → has_ids (length file.tables.entities.items) [] ≡ true → IsUngiven (length file.tables.entities.items) fault → IsRefusedBy there width bytes trace w fault
+    given-refused w IdsSpent enough h = absurd (true≢false (sym enough ∙ h))
+    given-refused w Memory enough h = tt
+    given-refused w fault enough h = absurd h
 
     -- new runs
     stopped-run : (times : ℕ) (recorded : Bool) (fault : Fault) → IsUnrun there width file.schedule (meant_by file) times (start_of file) recorded fault → IsRunRefused there width bytes times recorded fault
@@ -300,7 +303,7 @@ module _ (there : Bool) (width : ℕ) (bytes trace : Option (List ℕ)) where
         → IsRefusedBy there width bytes trace (work.Run times workers recorded) fault
     run-refused times workers recorded TraceTooLong h = inr (stopped-run times recorded TraceTooLong h)
     run-refused times workers recorded ClockSpent h = stopped-run times recorded ClockSpent h
-    run-refused times workers recorded IdsSpent h = inr (stopped-run times recorded IdsSpent h)
+    run-refused times workers recorded IdsSpent h = stopped-run times recorded IdsSpent h
     run-refused times workers recorded BodyRefused h = stopped-run times recorded BodyRefused h
     run-refused times workers recorded NoWorker h = stopped-run times recorded NoWorker h
     run-refused times workers recorded Memory h = tt
@@ -316,15 +319,23 @@ module _ (there : Bool) (width : ℕ) (bytes trace : Option (List ℕ)) where
     replay-refused (WrongAnswer run step) h = stopped-replay (WrongAnswer run step) h
     replay-refused (WrongSets run step) h = stopped-replay (WrongSets run step) h
     replay-refused ClockSpent h = stopped-replay ClockSpent h
-    replay-refused IdsSpent h = inr (stopped-replay IdsSpent h)
+    replay-refused IdsSpent h = stopped-replay IdsSpent h
     replay-refused BodyRefused h = stopped-replay BodyRefused h
     replay-refused Memory h = tt
     replay-refused fault h = absurd h.refused.refused
 
-    pub unreplayed-refused : (fault : Fault) → IsUnreplayed file.schedule (meant_by file) (start_of file) (length file.tables.entities.items) trace fault → IsRefusedBy there width bytes trace work.Replay fault
-    unreplayed-refused fault (inl unread) = trace-refused work.Replay fault tt unread
-    unreplayed-refused fault (inr (inl ungiven)) = given-refused work.Replay fault tt ungiven
-    unreplayed-refused fault (inr (inr refused)) = replay-refused fault refused
+    pub unreplayed-refused : (fault : Fault) → has_ids (length file.tables.entities.items) [] ≡ true → IsUnreplayed file.schedule (meant_by file) (start_of file) (length file.tables.entities.items) trace fault → IsRefusedBy there width bytes trace work.Replay fault
+    unreplayed-refused fault enough (inl unread) = trace-refused work.Replay fault tt unread
+    unreplayed-refused fault enough (inr (inl ungiven)) = given-refused work.Replay fault enough ungiven
+    unreplayed-refused fault enough (inr (inr refused)) = replay-refused fault refused
+
+-- there are ids for all entities of a document within the limit of files
+enough-at : (n : ℕ) → n ≤ most_bytes → has_ids n [] ≡ true
+unfolding has_ids, with_room
+enough-at n h = let count : length (replicate (n - 0) fresh_slot) ≡ n = length-replicate _ _ ∙ (omega arith) in rw count (le-leb n most_bytes h)
+
+pub enough : (document : Members) (entities : List (Vec Value Global)) → IsOfShortText document → AreEntitiesIn document entities → has_ids (length entities) [] ≡ true
+enough document entities of h = enough-at (length entities) (le_trans (count-entities of.text document entities of.parsed h) of.short)
 
 -- and of one that a conversion gave
 pub of-given : {T E : Type 0} (P Q : E → Type 0) (r : Result T E) → IsErrAnd r P → ((e : E) → P e → Q e) → IfErr r Q

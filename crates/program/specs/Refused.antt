@@ -99,13 +99,6 @@ IsUnreplayed s bodies start count trace fault = IsTraceUnread trace fault ⊎ (I
 
 -- ---- the work
 
--- the work is one on the world of the file
-abbrev pub LoadsWorld : Work → Type 0
-LoadsWorld (work.Run times workers recorded) = Unit {0}
-LoadsWorld work.Ambiguities = ⊥
-LoadsWorld work.Check = ⊥
-LoadsWorld work.Replay = Unit {0}
-
 -- the work is one on a trace
 abbrev pub ReadsTrace : Work → Type 0
 ReadsTrace (work.Run times workers recorded) = ⊥
@@ -114,11 +107,6 @@ ReadsTrace work.Check = Unit {0}
 ReadsTrace work.Replay = Unit {0}
 
 -- ---- on an accepted file
-
--- there are no ids for its entities
-pub record AreTooMany (bytes : Option (List ℕ)) : Type 0 where
-  pub file : Accepted bytes
-  pub wanting : has_ids (length file.tables.entities.items) [] ≡ false
 
 -- a trace that the work is on is not read
 pub record IsTraceRefused (bytes trace : Option (List ℕ)) (work : Work) (fault : Fault) : Type 0 where
@@ -144,7 +132,7 @@ IsStopped there width bytes trace work.Check fault = ⊥
 IsStopped there width bytes trace work.Replay fault = IsReplayRefused bytes trace fault
 
 -- why some work, done with room for so many running systems, on workers or on none, on a file and a trace is refused: the file as bytes, the
--- document, its tables and texts, the schedule that its tables declare, a script of theirs, the entities, the trace or the runs
+-- document, its tables and texts, the schedule that its tables declare, a script of theirs, the trace or the runs
 abbrev pub IsRefusedBy : Bool → ℕ → Option (List ℕ) → Option (List ℕ) → Work → Fault → Type 0
 IsRefusedBy there width bytes trace w TooLong = IfSome bytes (λ text. 1048576 < length text)
 IsRefusedBy there width bytes trace w (Content fault) = IsFileRefused bytes fault
@@ -155,7 +143,6 @@ IsRefusedBy there width bytes trace w TraceTooLong = IsTraceRefused bytes trace 
 IsRefusedBy there width bytes trace w (TraceLine line) = IsTraceRefused bytes trace w (TraceLine line)
 IsRefusedBy there width bytes trace w (TraceOrder line) = IsTraceRefused bytes trace w (TraceOrder line)
 IsRefusedBy there width bytes trace w (TraceLists line) = IsTraceRefused bytes trace w (TraceLists line)
-IsRefusedBy there width bytes trace w IdsSpent = (LoadsWorld w × AreTooMany bytes) ⊎ IsStopped there width bytes trace w IdsSpent
 IsRefusedBy there width bytes trace w File = Unit {0}
 IsRefusedBy there width bytes trace w Memory = Unit {0}
 IsRefusedBy there width bytes trace w Write = ⊥

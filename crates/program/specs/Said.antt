@@ -1,5 +1,5 @@
 -- What the tables of a program file say: what is declared, and what the systems do.
-use Rattle.std.specs.Prelude.{ℕ, ◌≡◌, List, map, Some, Vec}
+use Rattle.std.specs.Prelude.{ℕ, ◌≡◌, ◌≤◌, List, length, map, Some, Vec}
 use Rattle.std.specs.Borrow.{Bor}
 use Rattle.std.specs.declared.alloc.Global.{Global}
 use Rattle.toml.specs.Data.{Members}
@@ -68,6 +68,16 @@ declared_by file = declared_said file.sets.items file.systems.items file.chains.
 -- the scripts of its systems
 abbrev pub scripts_by : ProgramFile → List ScriptBody
 scripts_by file = map (λ (t : SystemTable). script_said t.blocks) file.systems.items
+
+-- the longest program file
+abbrev pub most_bytes : ℕ
+most_bytes = 1048576
+
+-- some text, no longer than a program file may be, is this document
+pub record IsOfShortText (document : Members) : Type 0 where
+  pub text : List ℕ
+  pub short : length text ≤ most_bytes
+  pub parsed : parse_document text ≡ Some document
 
 -- a text is a document that has these tables, its resources, its entities, its sets, its systems and its chains, and no other key
 pub record IsFileOf (tables : ProgramFile) (text : List ℕ) : Type 0 where

@@ -6,6 +6,7 @@ ghost use Rattle.engine.specs.Meanings.{meanings};
 ghost use Rattle.program.specs.Fault.{fault_text};
 ghost use Rattle.program.specs.Recorded.{HaveNoted, HaveRun, IsTextOfRuns};
 ghost use Rattle.program.specs.Refused.{IsRefusedBy, IsStoppedRun, IsUnread, IsUnrun};
+ghost use Rattle.program.specs.Said.{IsOfShortText};
 ghost use Rattle.program.specs.Served.{HasGainedFront, IsAnswerTo, IsServed, IsTextOfReport, Tells, WritesRecord};
 ghost use Rattle.toml.specs.Parse.{parse_document};
 ghost use Rattle.toml.specs.View.{table_view};
@@ -116,6 +117,7 @@ fn answer<'s, M: Mode<'s>, F: Read, T: Read>(
 /// The document that a file is.
 pub fn document_in<F: Read>(alloc: Global, file: &mut F) -> Result<Table, Fault>
     ensures read { IfOk result (λ table. IfSome (F.remaining file.old) (λ text. parse_document text ≡ Some (table_view table))) }
+    ensures short { IfOk result (λ table. IsOfShortText (table_view table)) }
     ensures refused { IfErr result (IsUnread (F.remaining file.old)) }
 {
     let bytes = bytes_of(alloc, file)?;

@@ -7,4 +7,7 @@ pub mod Refusals
 pub mod Spelled
 pub mod Unread
 pub mod Wrong
+mod Rests
+mod Counts
+pub mod EntityCounts
 pub mod FaultyFiles

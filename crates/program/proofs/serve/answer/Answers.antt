@@ -22,7 +22,7 @@ use Rattle.program.proofs.Fitting.{count-declared}
 use Rattle.program.specs.Fault.{fault_of_build, fault_of_file}
 use Rattle.program.specs.declared.schedule.Code.{Code}
 use Rattle.schedule_builder.specs.Answers.{IsAnswered}
-use Rattle.program.proofs.Serving.{accepted, build-refused, given-refused, is-file, of-given, of-ok-two, place-refused, replay-loaded, run-refused, runs-loaded, schedule-of, script-refused, scripts-same, trace-refused, unread-refused, unreplayed-refused, unrun-loaded}
+use Rattle.program.proofs.Serving.{accepted, build-refused, enough, given-refused, is-file, of-given, of-ok-two, place-refused, replay-loaded, run-refused, runs-loaded, schedule-of, script-refused, scripts-same, trace-refused, unread-refused, unreplayed-refused, unrun-loaded}
 use Rattle.program.proofs.serve.answer.Goals as goal
 use Rattle.program_file.proofs.Mapped.{of-ok}
 
@@ -247,7 +247,7 @@ returns-in-Replay-clause-refused g c =
     let whole = accepted file tables d s codes scripts read same built c.in_ok-desc.ensures.blocks c.in_ok-bodies.ensures.said c.in_ok-bodies.ensures.fitting in
     let scripts-are : scripts ≡ scripts_by tables = c.in_ok-bodies.ensures.said ∙ scripts-same codes tables.systems.items c.in_ok-desc.ensures.blocks in
     of-err (IsUnreplayed s (meanings_of_scripts s scripts) (loaded s (map entity_given c.deref.result.now) tables.resources) (length c.deref.result.now) trace) (IsRefusedBy there width file trace c.args.work) c.replay_trace.result
-    (λ fault h. subst (λ (w : Work). IsRefusedBy there width file trace w fault) (sym c.in-Replay.is) (unreplayed-refused there width file trace whole fault
+    (λ fault h. subst (λ (w : Work). IsRefusedBy there width file trace w fault) (sym c.in-Replay.is) (unreplayed-refused there width file trace whole fault (enough _ tables.entities.items c.in_ok-document.ensures.short of.entities)
     (replay-loaded s scripts (scripts_by tables) c.deref.result.now tables.entities.items tables.resources (λ (bodies : List BodyMeaning) (start : State) (count : ℕ). IsUnreplayed s bodies start count trace fault) scripts-are c.deref.ensures.value h))) c.replay_trace.ensures.stopped
 
 pub returns-in_err-world-clause-refused : goal.returns-in_err-world-clause-refused
@@ -270,7 +270,7 @@ returns-in_err-world-clause-refused g c =
     let error = c.in_err-world.field-0.0 in
     of-given (λ fault. fault ≡ error) (IsRefusedBy there width file trace c.args.work) c.from_residual-in_err-world.result c.from_residual-in_err-world.ensures.1
     (λ fault is. subst (IsRefusedBy there width file trace c.args.work) (sym is)
-    (subst (λ (w : Work). IsRefusedBy there width file trace w error) (sym c.in-Run.is) (given-refused there width file trace whole (Run c.in-Run.times c.in-Run.workers c.in-Run.recorded) error tt
+    (subst (λ (w : Work). IsRefusedBy there width file trace w error) (sym c.in-Run.is) (given-refused there width file trace whole (Run c.in-Run.times c.in-Run.workers c.in-Run.recorded) error (enough _ tables.entities.items c.in_ok-document.ensures.short of.entities)
     (subst (λ es. IsUngiven (length es) error) c.as_slice-3.ensures.value c.in_err-world.ensures.refused))))
 
 pub returns-clause-refused : goal.returns-clause-refused
