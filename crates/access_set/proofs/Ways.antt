@@ -14,6 +14,7 @@ use Rattle.access_set.specs.declared.footprint.Words.{Words}
 use Rattle.access_set.specs.declared.footprint.Way.{Way}
 use Rattle.access_set.specs.Footprints.{has_bit, kind_of, AreLow, IsWords, way_of_both, way_with, kinds_met, met_in}
 use Rattle.access_set.proofs.Bits.{bit_of_both, bit_of_either, bit_of_rest, no_bit, no_bits, bit_set}
+use Rattle.model.proofs.lists.Bools.{or_assoc}
 
 -- ---- alternatives that agree
 
@@ -62,14 +63,9 @@ plain_bars (With j ∷ q) k = plain_bars q k
 plain_bars (Added j ∷ q) k = plain_bars q k
 plain_bars (Changed j ∷ q) k = plain_bars q k
 
--- a test of some of two lists
-or_grouped : (a b c : Bool) → (a || (b || c)) ≡ ((a || b) || c)
-or_grouped true b c = refl
-or_grouped false b c = refl
-
 any_both : {A : Type 0} (test : A → Bool) (xs ys : List A) → list_any test (xs ++ ys) ≡ (list_any test xs || list_any test ys)
 any_both test [] ys = refl
-any_both test (x ∷ xs) ys = ap (λ b. test x || b) (any_both test xs ys) ∙ or_grouped (test x) (list_any test xs) (list_any test ys)
+any_both test (x ∷ xs) ys = ap (λ b. test x || b) (any_both test xs ys) ∙ or_assoc (test x) (list_any test xs) (list_any test ys)
 
 -- ---- the words of a way
 

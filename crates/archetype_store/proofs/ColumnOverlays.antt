@@ -23,6 +23,7 @@ use Rattle.archetype_store.specs.Store.{StoreValue, with_slots, slots_with}
 use Rattle.archetype_store.specs.Lending.{all_home}
 use Rattle.archetype_store.specs.Overlays.{also_written, written_by, is_reached, IsAfter, AreReached, ColumnsAreOverlays, TakenAreOverlays, TakenClose}
 use Rattle.archetype_store.proofs.RowEdits.{above_absent}
+use Rattle.model.proofs.serial.Laying.{slots_after-none}
 
 -- ---- one row
 
@@ -152,18 +153,6 @@ columns_are_overlays slots layout n kind tick words before cells laid rise are =
 
 -- ---- no writes
 
-row_none : (tick : ℕ) (row : List Component) → row_after tick (λ _. None) row ≡ row
-row_none tick [] = refl
-row_none tick (c ∷ cs) = ap (λ rest. c ∷ rest) (row_none tick cs)
-
-slots_none : (tick : ℕ) (slots : List Slot) → slots_after tick (λ _ _. None) slots ≡ slots
-unfolding slots_after
-slots_none tick slots = none slots
-  where
-    none : (ss : List Slot) → map_index (λ index. slot_after tick (λ _. None)) ss ≡ ss
-    none [] = refl
-    none (s ∷ ss) = ap₂ ◌∷◌ (ap (λ row. let t : Slot = record { generation = s.generation; status = s.status; row = row } in t) (row_none tick s.row)) (none ss)
-
 slots_after-same : (tick : ℕ) (f g : ℕ → ℕ → Option (List ℤ)) (slots : List Slot) → ((i m : ℕ) → f i m ≡ g i m) → slots_after tick f slots ≡ slots_after tick g slots
 unfolding slots_after
 slots_after-same tick f g slots h = map_index-same (λ index. slot_after tick (f index)) (λ index. slot_after tick (g index)) fresh_slot slots
@@ -188,7 +177,7 @@ module _ (w : StoreValue) (tick : ℕ) (words : ℕ → ℕ → Option (List ℤ
   rise = each-weaker (IsSlot widths w.state.clock) (λ slot. IsRising slot.row) (λ s h. h.rising) w.state.slots world.slots
 
   taken_overlays : (cs : List TakenColumn) → AllByRecursion (IsAfter w tick words) cs → (all_home cs w).state ≡ with_slots (slots_after tick (written_by w.layout words cs)) w.state
-  taken_overlays [] h = ap (λ slots. with_slots (λ _. slots) w.state) (sym (slots_none tick w.state.slots))
+  taken_overlays [] h = ap (λ slots. with_slots (λ _. slots) w.state) (sym (slots_after-none tick w.state.slots))
   taken_overlays (c ∷ cs) h =
       ap (with_slots (slots_with (archetype_at (all_home cs w).layout c.archetype).entities c.column.kind c.column.cells)) (taken_overlays cs h.1)
       ∙ ap (λ es. with_slots (slots_with es c.column.kind c.column.cells) (with_slots (slots_after tick (written_by w.layout words cs)) w.state)) (entities_all_home w cs c.archetype)
@@ -241,7 +230,7 @@ none_either false = refl
 pub same_again : (slots : List Slot) (layout : List Archetype) (n k : ℕ) (cells : List Cell) → IsLayoutOf slots layout → AllByRecursion (λ slot. IsRising slot.row) slots →
     map (λ cell. Some cell) cells ≡ map (λ e. cell_of slots e k) (archetype_at layout n).entities → slots_with (archetype_at layout n).entities k cells slots ≡ slots
 same_again slots layout n k cells laid rise are =
-    ap (slots_with (archetype_at layout n).entities k cells) (sym (slots_none 0 slots))
+    ap (slots_with (archetype_at layout n).entities k cells) (sym (slots_after-none 0 slots))
     ∙ column_overlay slots layout n k 0 (λ _ _. None) (λ _ _. None) cells laid rise (are ∙ same_cells slots k (archetype_at layout n).entities)
     ∙ slots_after-same 0 (also_written (archetype_at layout n).entities k (λ _ _. None) (λ _ _. None)) (λ _ _. None) slots (λ i m. none_either (has_index i (archetype_at layout n).entities && (m == k)))
-    ∙ slots_none 0 slots
+    ∙ slots_after-none 0 slots

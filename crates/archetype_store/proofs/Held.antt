@@ -21,13 +21,14 @@ use Rattle.column_store.specs.Table.{TableRow, TableValue, is_owned, row_of, new
 use Rattle.column_store.proofs.Apart.{same_self, same_entity, get_within, apart-place}
 use Rattle.column_store.proofs.Edited.{head_none}
 use Rattle.column_store.proofs.Kept.{apart-swap}
-use Rattle.column_store.proofs.Lists.{get-map, get-there, map-update_at_same}
+use Rattle.column_store.proofs.Lists.{get-map, map-update_at_same}
 use Rattle.column_store.proofs.Rows.{row_of-place}
 use Rattle.column_store.proofs.Swapped.{length-swap_removed, map-swap_removed, get-swap_here, get-swap_other}
 use Rattle.column_store.proofs.TheirComponents.{cells_are_theirs, writes_are_theirs}
 use Rattle.archetype_store.specs.Row.{component_of, only}
 use Rattle.archetype_store.specs.Layout.{IsShape, archetype_of, layout_of}
 use Rattle.archetype_store.specs.Tables.{table_at, kinds_at, held_in, held_at, room_at, entities_at, entity_in_row, row_or_none, shape_of, AreShaped, AreUnlike, AreOwned, IsHeldNow, IsGrown, IsOneTable}
+use Rattle.model.proofs.lists.Places.{get-there, each-push}
 
 -- ---- rows of one table
 
@@ -270,13 +271,9 @@ owned_more : (tables : List TableValue) (kinds : List ℕ) → AreOwned tables �
 owned_more [] kinds h = (owned_new kinds, tt)
 owned_more (u ∷ us) kinds h = (h.0, owned_more us kinds h.1)
 
-pub each_more : {A : Type 0} (P : A → Type 0) (xs : List A) (x : A) → AllByRecursion P xs → P x → AllByRecursion P (xs ++ x ∷ [])
-each_more P [] x h p = (p, tt)
-each_more P (y ∷ ys) x h p = (h.0, each_more P ys x h.1 p)
-
 unlike_more : (tables : List TableValue) (kinds : List ℕ) → AllByRecursion (λ t. t.kinds ≢ kinds) tables → AreUnlike tables → AreUnlike (tables ++ empty_table kinds ∷ [])
 unlike_more [] kinds new h = (tt, tt)
-unlike_more (u ∷ us) kinds new h = (each_more (λ t. u.kinds ≢ t.kinds) us (empty_table kinds) h.0 new.0, unlike_more us kinds new.1 h.1)
+unlike_more (u ∷ us) kinds new h = (each-push (λ t. u.kinds ≢ t.kinds) us (empty_table kinds) h.0 new.0, unlike_more us kinds new.1 h.1)
 
 layout_more : (tables : List TableValue) (kinds : List ℕ) → layout_of (tables ++ empty_table kinds ∷ []) ≡ layout_of tables
 layout_more [] kinds = refl

@@ -72,7 +72,7 @@ held_none t (Some r) h = absurd (cc)
 pub absent_row : (T : List TableValue) (t : ℕ) (e : Entity) → held_at T t e ≡ None → row_of e (table_at T t).rows ≡ None
 absent_row T t e h = held_none (table_at T t) (row_of e (table_at T t).rows) h
 
-same_pair : (x y : Entity) → x.index ≡ y.index → x.generation ≡ y.generation → x ≡ y
+pub same_pair : (x y : Entity) → x.index ≡ y.index → x.generation ≡ y.generation → x ≡ y
 same_pair x y i g = ap₂ (λ a b. let z : Entity = record { index = a; generation = b } in z) i g
 
 -- ---- rows that stay

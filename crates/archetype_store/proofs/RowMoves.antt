@@ -15,6 +15,7 @@ use Rattle.archetype_store.specs.Changes.{components_left}
 use Rattle.archetype_store.specs.RowMoves.{change_of, other_table, arrives_in, is_table, one_if, coming_count, HaveRoom, IsPlanned}
 use Rattle.archetype_store.specs.Tables.{table_at, room_at, with_room, shape_of, is_in}
 use Rattle.archetype_store.proofs.Laid.{kinds_kept}
+use Rattle.model.proofs.lists.Bools.{apart_number}
 
 pub index_flipped : (i j : ℕ) → (i == j) ≡ false → (j == i) ≡ false
 index_flipped i j h = grind (arith, nat_tests)
@@ -85,22 +86,19 @@ planned_rest T T' P P' m shapes many plan same = record {
   none = plan.none;
 }
 
-pub apart_index : (i j : ℕ) → (i == j) ≡ false → i ≡ j → ⊥
-apart_index i j h e = (let t : true ≡ false = sym (eq-eqb i j e) ∙ h in cc)
-
 module _ (T T' : List TableValue) (P P' : List (Option EntityLocation)) (m : RowMove) (shapes : map shape_of T' ≡ map shape_of T) (many : length P' ≡ length P)
     (others : (i : ℕ) → (i ≡ m.change.now.entity.index → ⊥) → place_of P' i ≡ place_of P i) where
   pub planned_all_rest : (ms : List RowMove) → AllByRecursion (λ (d : EntityChange). (d.entity.index == m.change.now.entity.index) ≡ false) (map change_of ms) → AllByRecursion (IsPlanned T P) ms → AllByRecursion (IsPlanned T' P') ms
   planned_all_rest [] h plans = tt
   planned_all_rest (x ∷ ms) h plans = (
-    planned_rest T T' P P' x shapes many plans.0 (others x.change.now.entity.index (apart_index x.change.now.entity.index m.change.now.entity.index h.0)),
+    planned_rest T T' P P' x shapes many plans.0 (others x.change.now.entity.index (apart_number x.change.now.entity.index m.change.now.entity.index h.0)),
     planned_all_rest ms h.1 plans.1,
   )
 
   counts_rest : (ms : List RowMove) (t : ℕ) → AllByRecursion (λ (d : EntityChange). (d.entity.index == m.change.now.entity.index) ≡ false) (map change_of ms) → coming_count P' ms t ≡ coming_count P ms t
   counts_rest [] t h = refl
   counts_rest (x ∷ ms) t h = ap₂ (λ o n. one_if (is_table (other_table o x.to) t) + n)
-      (others x.change.now.entity.index (apart_index x.change.now.entity.index m.change.now.entity.index h.0)) (counts_rest ms t h.1)
+      (others x.change.now.entity.index (apart_number x.change.now.entity.index m.change.now.entity.index h.0)) (counts_rest ms t h.1)
 
   pub room_rest : (ms : List RowMove) → AllByRecursion (λ (d : EntityChange). (d.entity.index == m.change.now.entity.index) ≡ false) (map change_of ms) →
       ((t : ℕ) → room_at T t ≤ one_if (is_table (arrives_in P m) t) + room_at T' t) → HaveRoom T P (m ∷ ms) → HaveRoom T' P' ms
@@ -121,7 +119,7 @@ both false true x y z h = refl
 both false false x y z h = refl
 
 not_both : (i x c : ℕ) → (x == c) ≡ false → (i == x) ≡ true → (i == c) ≡ true → ⊥
-not_both i x c h a b = apart_index x c h (sym (eqb-true i x a) ∙ eqb-true i c b)
+not_both i x c h a b = apart_number x c h (sym (eqb-true i x a) ∙ eqb-true i c b)
 
 row_last : (xs : List EntityChange) (c : EntityChange) (i : ℕ) (row : List Component) → AllByRecursion (λ (d : EntityChange). (d.entity.index == c.entity.index) ≡ false) xs →
     row_changed (xs ++ c ∷ []) i row ≡ cond (i == c.entity.index) (components_left c.fate) (row_changed xs i row)

@@ -24,6 +24,7 @@ use Rattle.archetype_store.proofs.KindSets.{above_has, above_each}
 use Rattle.archetype_store.proofs.Standings.{alike_same}
 use Rattle.archetype_store.proofs.Laid.{kinds_kept as shapes_kinds}
 use Rattle.archetype_store.proofs.RowMoves.{as_many_tables as shapes_many}
+use Rattle.model.proofs.lists.Bools.{false_is}
 
 -- ---- words and kinds
 
@@ -53,9 +54,6 @@ same_word word other kinds h k = same_from_bits word other (λ i. bit_is (bit_at
 
 first_there : (n : ℕ) (ns : List ℕ) → has n (n ∷ ns) ≡ true
 first_there n ns = ap (λ b. b || has n ns) (eq-eqb n n refl)
-
-false_is : {P : Type 0} (b : Bool) → b ≡ false → b ≡ true → P
-false_is b h k = let e : false ≡ true = sym h ∙ k in absurd (cc)
 
 lesser_absent : (n m : ℕ) (ms : List ℕ) → n < m → AreBelow (m ∷ ms) → has n (m ∷ ms) ≡ false
 lesser_absent n m ms l b = above_has n (m ∷ ms) (l, above_each m n (omega arith) ms b.0)

@@ -69,10 +69,6 @@ each-in P [] h x i = absurd i
 each-in P (y ∷ ys) h x (inl same) = subst P (sym same) h.0
 each-in P (y ∷ ys) h x (inr i) = each-in P ys h.1 x i
 
-pub each-from : {A : Type 0} (P : A → Type 0) (xs : List A) → ((x : A) → IsIn x xs → P x) → AllByRecursion P xs
-each-from P [] h = tt
-each-from P (y ∷ ys) h = (h y (inl refl), each-from P ys (λ x i. h x (inr i)))
-
 pub in-get : {A : Type 0} (xs : List A) (i : ℕ) (x : A) → slice_get xs i ≡ Some x → IsIn x xs
 in-get [] i x e = absurd (cc)
 in-get (y ∷ ys) zero x e = inl (sym (same-some y x e))

@@ -37,12 +37,13 @@ use Rattle.body.specs.Columns.{Column}
 use Rattle.body.specs.Laid.{with_slots}
 use Rattle.body.specs.Lent.{lent_in, with_away, with_back, AreOfOtherPlaces, IsLent, IsOfEntities, AreLent}
 use Rattle.body.specs.Out.{IsWrittenBy, IsPlaceOf, AreOut, IsApartFrom}
-use Rattle.body.proofs.Gets.{each-in, each-from, each-split}
+use Rattle.body.proofs.Gets.{each-in, each-split}
 use Rattle.body.proofs.Lendings.{IsAt, IsOther, home_other, entities_away, away_later, lent_in-append, apart-append, not_both}
 use Rattle.body.proofs.Pickings.{IsPickIn, picks-are}
 use Rattle.body.proofs.Plannings.{archetype-fact, same-archetype}
 use Rattle.body.proofs.QueryOpens.{kinds-at-away}
 use Rattle.body.proofs.Openings.{kinds-within as has-within}
+use Rattle.model.proofs.lists.Places.{each-where}
 
 -- ---- flags
 
@@ -196,7 +197,7 @@ apart-split (z ∷ xs) ys h =
     go x y others cross j (inr i) = cross x y i j
 
 apart-join : (xs ys : List TakenColumn) → AreOfOtherPlaces xs → AreOfOtherPlaces ys → ((x y : TakenColumn) → IsIn x xs → IsIn y ys → IsOther x y) → AreOfOtherPlaces (xs ++ ys)
-apart-join xs ys h k cross = apart-append xs ys h k (each-from (λ (x : TakenColumn). AllByRecursion (IsOther x) ys) xs (λ x i. each-from (IsOther x) ys (λ y j. cross x y i j)))
+apart-join xs ys h k cross = apart-append xs ys h k (each-where (λ (x : TakenColumn). AllByRecursion (IsOther x) ys) xs (λ x i. each-where (IsOther x) ys (λ y j. cross x y i j)))
 
 archetype-of : (layout : List Archetype) (n : ℕ) (e : Entity) → IsIn e (archetype_at layout n).entities → n < length layout
 archetype-of [] n e h = absurd h
@@ -248,7 +249,7 @@ module _ (w : StoreValue) (tick : ℕ) (words : ℕ → ℕ → Option (List ℤ
 
   still-away : (c : TakenColumn) → ((d : TakenColumn) → IsIn d (lent_in taken) → IsOther d c) → IsLent w c → IsLent once-more c
   still-away c other h = record {
-    away = back-other (lent_in taken) w.layout c.archetype c.column.kind (each-from (λ (d : TakenColumn). d.archetype ≡ c.archetype → d.column.kind ≡ c.column.kind → ⊥) (lent_in taken) other) ∙ h.away;
+    away = back-other (lent_in taken) w.layout c.archetype c.column.kind (each-where (λ (d : TakenColumn). d.archetype ≡ c.archetype → d.column.kind ≡ c.column.kind → ⊥) (lent_in taken) other) ∙ h.away;
     cells_are = h.cells_are
         ∙ sym (map-same (λ e. cell_of (slots_after tick words w.state.slots) e c.column.kind) (λ e. cell_of w.state.slots e c.column.kind) (archetype_at w.layout c.archetype).entities
         (λ e i. cell-unwritten tick words w.state.slots e c.column.kind (unwritten-at c e other i)))
@@ -305,7 +306,7 @@ module _ (w : StoreValue) (tick : ℕ) (words : ℕ → ℕ → Option (List ℤ
       record {
         lent = record {
           each = subst (AllByRecursion (IsLent once-more)) (sym (lent_in-append front rest))
-              (each-append (IsLent once-more) (lent_in front) (lent_in rest) (each-from (IsLent once-more) (lent_in front) still-front) (each-from (IsLent once-more) (lent_in rest) still-rest));
+              (each-append (IsLent once-more) (lent_in front) (lent_in rest) (each-where (IsLent once-more) (lent_in front) still-front) (each-where (IsLent once-more) (lent_in rest) still-rest));
           once = subst AreOfOtherPlaces (sym (lent_in-append front rest))
               (apart-join (lent_in front) (lent_in rest) outer.first inner.second (λ x y i j. outer.cross x y i (IsIn_right y (lent_in taken) (lent_in rest) j)));
           entities_are = each-append (λ (cs : List Column). AllByRecursion (IsOfEntities once-more) cs) front rest (entities-still front entities.0) (entities-still rest later.1);
@@ -351,7 +352,7 @@ laid-among there slots layout n laid within among = go (archetype_at layout n).e
 pub home-apart : (there : Option (List ℕ)) (w : StoreValue) (held : List (List Column)) (params : Params) → IsLayoutOf w.state.slots w.layout → AllAmong there w.state.slots → AreOut w held →
     AllByRecursion (IsApartFrom there params w.layout) (lent_in held) → AllByRecursion (λ query. ArePickedHome query w.layout) params.queries
 home-apart there w held params laid among are apart =
-    each-from (λ query. ArePickedHome query w.layout) params.queries (λ query i.
+    each-where (λ query. ArePickedHome query w.layout) params.queries (λ query i.
     each-weaker (IsPickIn query w.layout) (λ (p : Picked). column_home (archetype_at w.layout p.archetype) p.kind ≡ Some true) (λ p here. one query i p here) (picks_of query w.layout) (picks-are query w.layout))
   where
     one : (query : List Term) → IsIn query params.queries → (p : Picked) → IsPickIn query w.layout p → column_home (archetype_at w.layout p.archetype) p.kind ≡ Some true

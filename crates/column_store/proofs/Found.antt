@@ -12,10 +12,11 @@ use Rattle.column_store.specs.Places.{IsPlace}
 use Rattle.column_store.specs.Inside.{standing_at, seen_column, seen_slot, room_of, write_in, table_of, IsOfLength, IsTable, IsKindPlace, IsKindPlaced, IsNoKind}
 use Rattle.column_store.specs.Table.{Standing, ColumnSlotValue, is_home, is_owned, is_not_away, is_own_if, lent, IsHome, IsAlike}
 use Rattle.column_store.specs.Table.Standing.{Away}
-use Rattle.column_store.proofs.Lists.{get-there, map-update_at_same, set-changed, set-same}
+use Rattle.column_store.proofs.Lists.{map-update_at_same, set-changed, set-same}
 use Rattle.column_store.proofs.Rows.{place_from_position, nowhere_from_position}
 use Rattle.column_store.proofs.Tables.{place-within, length-of_kinds, cell_in-place, cell_in-no_kind, table-write, table-seen, standing-place, standing-nowhere, kind_cells-place, table-move, table-home, table-alike}
 use Rattle.column_store.proofs.Kept.{kind-place, kept-write, kept-move, kept-home, kept-columns}
+use Rattle.model.proofs.lists.Places.{get-there}
 
 -- ---- a column
 

@@ -5,6 +5,7 @@ use Rattle.std.specs.Prelude.{slice_get}
 use Rattle.std.proofs.lemmas.List.{map-set, map-append, take-map, drop-map}
 use Rattle.model.specs.Lists.{update_at}
 use Rattle.column_store.proofs.Swapped.{map-swap_out}
+use Rattle.model.proofs.lists.Places.{get-there}
 
 -- an insertion
 pub map-insert : {A B : Type 0} (f : A → B) (xs : List A) (i : ℕ) (y : A) → map f (insert xs i y) ≡ insert (map f xs) i (f y)
@@ -77,11 +78,6 @@ remove-insert (x ∷ xs) zero y l = refl
 remove-insert (x ∷ xs) (suc i) y l = ap (λ zs. x ∷ zs) (remove-insert xs i y (omega arith))
 
 -- ---- an element that was read by its index
-
-pub get-there : {A : Type 0} (xs : List A) (i : ℕ) (d : A) → i < length xs → slice_get xs i ≡ Some (get_or xs i d)
-get-there [] i d l = absurd (omega arith)
-get-there (x ∷ xs) zero d l = refl
-get-there (x ∷ xs) (suc i) d l = get-there xs i d (omega arith)
 
 -- a write of what a function makes of it
 pub set-changed : {A : Type 0} (f : A → A) (xs : List A) (i : ℕ) (d y : A) → i < length xs → y ≡ f (get_or xs i d) → set xs i y ≡ update_at i f xs

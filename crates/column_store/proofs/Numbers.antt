@@ -12,10 +12,11 @@ use Rattle.column_store.specs.Order.{is_before, is_same, AreRising}
 use Rattle.column_store.specs.Places.{IsNowhere, IsGap}
 use Rattle.column_store.specs.RowOrder.{entity_at, numbers_from, IsOrderOf}
 use Rattle.column_store.specs.Swapped.{swap_removed}
-use Rattle.column_store.proofs.Lists.{get-map, get-there, map-insert, map-remove, each-insert}
+use Rattle.column_store.proofs.Lists.{get-map, map-insert, map-remove, each-insert}
 use Rattle.column_store.proofs.Ordered.{rising-apart}
 use Rattle.column_store.proofs.Rising.{parted_before, rising-insert, rising-remove}
 use Rattle.column_store.proofs.Swapped.{length-swap_removed, get_or-swap_here, get_or-swap_other}
+use Rattle.model.proofs.lists.Places.{get-there}
 
 -- ---- elements
 

@@ -9,6 +9,7 @@ use Rattle.model.proofs.lists.Each.{each-at, each-weaker}
 use Rattle.column_store.specs.Order.{is_before, is_same, AreRising}
 use Rattle.column_store.specs.Places.{IsPlace, IsNowhere, IsGap}
 use Rattle.column_store.proofs.Lists.{each-insert, each-remove}
+use Rattle.model.proofs.lists.Places.{each-push}
 
 -- ---- two pairs of numbers, the first ones deciding
 
@@ -113,10 +114,6 @@ rising-remove [] (suc i) r = tt
 rising-remove (x ∷ es) zero r = r.1
 rising-remove (x ∷ es) (suc i) r = (each-remove (λ y. is_before x y ≡ true) es i r.0, rising-remove es i r.1)
 
-each_append : {A : Type 0} (P : A → Type 0) (xs : List A) (y : A) → AllByRecursion P xs → P y → AllByRecursion P (xs ++ y ∷ [])
-each_append P [] y h p = (p, tt)
-each_append P (x ∷ xs) y h p = (h.0, each_append P xs y h.1 p)
-
 -- one that comes behind the last
 pub rising-behind : (e : Entity) (xs : List Entity) (d : Entity) → AreRising xs → is_before (get_or xs (length xs - 1) d) e ≡ true → 0 < length xs → AreRising (xs ++ e ∷ [])
 rising-behind e [] d r h some = absurd (omega arith)
@@ -124,7 +121,7 @@ rising-behind e (x ∷ []) d r h some = ((h, tt), (tt, tt))
 rising-behind e (x ∷ y ∷ ys) d r h some =
     let last : is_before x (get_or (y ∷ ys) (length (y ∷ ys) - 1) d) ≡ true = each-at (λ z. is_before x z ≡ true) (y ∷ ys) (length (y ∷ ys) - 1) d (omega arith) r.0 in
     let there : is_before (get_or (y ∷ ys) (length (y ∷ ys) - 1) d) e ≡ true = ap (λ n. is_before (get_or (x ∷ y ∷ ys) n d) e) (before_last (length ys)) ∙ h in
-    (each_append (λ z. is_before x z ≡ true) (y ∷ ys) e r.0 (before_trans x (get_or (y ∷ ys) (length (y ∷ ys) - 1) d) e last there), rising-behind e (y ∷ ys) d r.1 there (omega arith))
+    (each-push (λ z. is_before x z ≡ true) (y ∷ ys) e r.0 (before_trans x (get_or (y ∷ ys) (length (y ∷ ys) - 1) d) e last there), rising-behind e (y ∷ ys) d r.1 there (omega arith))
   where
     before_last : (n : ℕ) → suc (suc n - 1) ≡ suc (suc n) - 1
     before_last n = omega arith

@@ -4,6 +4,7 @@ use Rattle.std.specs.Prelude.{slice_get}
 use Rattle.std.specs.List.{swap_remove}
 use Rattle.std.proofs.lemmas.List.{map-set, take-map, length-map, length-set, length-take, get_or-take, get_or-set_same, get_or-set_other, get_or_default}
 use Rattle.column_store.specs.Swapped.{swap_removed}
+use Rattle.model.proofs.lists.Places.{get-there}
 
 -- the word of std, whatever its default
 pub swap_removed-is : {A : Type 0} (xs : List A) (i : ℕ) (d : A) → i < length xs → swap_remove xs i d ≡ swap_removed xs i
@@ -56,11 +57,6 @@ get_or-swap_other (x ∷ xs) i k d l other =
     let n = length (x ∷ xs) - 1 in
     get_or-take n (set (x ∷ xs) i (get_or (x ∷ xs) n x)) k d (omega arith)
     ∙ get_or-set_other (x ∷ xs) i k (get_or (x ∷ xs) n x) d other
-
-get-there : {A : Type 0} (xs : List A) (i : ℕ) (d : A) → i < length xs → slice_get xs i ≡ Some (get_or xs i d)
-get-there [] i d l = absurd (omega arith)
-get-there (x ∷ xs) zero d l = refl
-get-there (x ∷ xs) (suc i) d l = get-there xs i d (omega arith)
 
 pub get-swap_here : {A : Type 0} (xs : List A) (i : ℕ) → i + 1 < length xs → slice_get (swap_removed xs i) i ≡ slice_get xs (length xs - 1)
 get-swap_here [] i l = absurd (omega arith)

@@ -14,9 +14,10 @@ use Rattle.column_store.specs.Swapped.{swap_removed}
 use Rattle.column_store.specs.Table.{Standing, ColumnSlotValue, TableRow, TableValue, is_home, with_cell_at, cell_of_kind, filled_rows, cell_in_row, standing_of, kind_cells, write_cell, moved_to, owned, homed, IsAlike}
 use Rattle.column_store.specs.Table.Standing.{Owned}
 use Rattle.column_store.specs.Inside.{standing_in, kind_in, standing_at, owned_slot, seen_column, seen_slot, cell_at, tail_in, write_in, swap_out_in, push_all, replace_all, rows_of, table_of, IsOfLength, AreAlike}
-use Rattle.column_store.proofs.Lists.{map-update_at, map-update_at_same, update_at-same, get-map, get-there}
+use Rattle.column_store.proofs.Lists.{map-update_at, map-update_at_same, update_at-same, get-map}
 use Rattle.column_store.proofs.Rows.{at_kind-place, at_kind-nowhere, update_kind-place}
 use Rattle.column_store.proofs.Columns.{with_cell, cell_of_column, filled, get_or-rows_of, length-rows_of, rows_of-write, rows_of-columns, cells-rows_of, rows_of-home, rows_of-push, rows_of-swap, rows_of-replace}
+use Rattle.model.proofs.lists.Places.{get-there}
 
 pub place-within : {A : Type 0} (test : A → Bool) (xs : List A) (i : ℕ) → IsPlace test xs i → i < length xs
 place-within test [] i p = absurd p

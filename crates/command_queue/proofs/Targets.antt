@@ -24,6 +24,7 @@ use Rattle.archetype_store.specs.declared.change.EntityChange.{EntityChange}
 use Rattle.archetype_store.specs.Changes.{components_left, slot_left, change_at, changed, CanChange}
 use Rattle.command_queue.specs.Pending.{is_left_alive, place_of, put_change, AreChanges, IsKept}
 use Rattle.command_queue.proofs.Puts.{at_place, put_first, put_again, place_first, place_again, each_put, apart_put, change_put, change_none, change_some}
+use Rattle.archetype_store.proofs.Known.{same_pair}
 
 -- ---- lists
 
@@ -171,9 +172,6 @@ module _ (w : World) (e : Entity) (alive : is_alive w.slots e ≡ true) where
 
 -- ---- the change of an entity that lives
 
-pub same_entity : (a b : Entity) → a.index ≡ b.index → a.generation ≡ b.generation → a ≡ b
-same_entity a b i g = ap₂ (λ index generation. let e : Entity = record { index = index; generation = generation } in e) i g
-
 -- what stands at the place of an index and leaves the entity alive is its change
 pub is_kept : (cs : List EntityChange) (e : Entity) (p : ℕ) (x : EntityChange) → place_of e.index cs ≡ Some p → x ≡ get_or cs p x → (is_left_alive x.fate && (x.entity.generation == e.generation)) ≡ true → IsKept cs e p
 is_kept cs e p x h is alive =
@@ -182,7 +180,7 @@ is_kept cs e p x h is alive =
     let any : (d : EntityChange) → get_or cs p d ≡ x = λ d. get_or_default cs p d x at.within ∙ sym is in
     record {
       place_is = h;
-      entity = λ d. same_entity (get_or cs p d).entity e (at.index_is d) (ap (λ (y : EntityChange). y.entity.generation) (any d) ∙ eqb-true x.entity.generation e.generation both.1);
+      entity = λ d. same_pair (get_or cs p d).entity e (at.index_is d) (ap (λ (y : EntityChange). y.entity.generation) (any d) ∙ eqb-true x.entity.generation e.generation both.1);
       lasts = λ d. ap (λ (y : EntityChange). is_left_alive y.fate) (any d) ∙ both.0;
     }
 

@@ -11,20 +11,10 @@ use Rattle.model.specs.declarations.Walks.{IsOnceEach, IsWalk}
 use Rattle.cycle_search.specs.declared.order.Order.{Order}
 use Rattle.cycle_search.specs.Orders.{IsBetween}
 use Rattle.cycle_search.specs.Cycles.{IsStep, IsRankable, height_of, IsAbove, IsRanked, PointsOn, IsStuck, GoesOn, IsRound, BeginsLeast}
+use Rattle.model.proofs.lists.Bools.{or_assoc, or_false}
+use Rattle.model.proofs.lists.Places.{has-append}
 
 -- ---- what a list has
-
-or_assoc : (a b c : Bool) → (a || (b || c)) ≡ ((a || b) || c)
-or_assoc true b c = refl
-or_assoc false b c = refl
-
-or_false : (b : Bool) → (b || false) ≡ b
-or_false true = refl
-or_false false = refl
-
-pub has-append : (n : ℕ) (xs ys : List ℕ) → has n (xs ++ ys) ≡ (has n xs || has n ys)
-has-append n [] ys = refl
-has-append n (x ∷ xs) ys = ap (λ b. eqb x n || b) (has-append n xs ys) ∙ or_assoc (eqb x n) (has n xs) (has n ys)
 
 -- where it stands
 pub has_at : (n : ℕ) (xs : List ℕ) → has n xs ≡ true → (k : ℕ) × (k < length xs) × (get_or xs k 0 ≡ n)

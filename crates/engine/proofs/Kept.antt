@@ -8,9 +8,7 @@ use Rattle.engine.specs.Meanings.{meanings, AllKeepWithin, AreFit, HasMemories, 
 use Rattle.engine.specs.Stops.{StopsAs}
 use Rattle.engine.specs.declared.faults.RunFault.{RunFault}
 use Rattle.engine.specs.declared.faults.RunFault.TheVariants as fault
-
-one-fault : {T : Type 0} {a b : RunFault} → ◌≡◌ {A = Result T RunFault} (Err a) (Err b) → a ≡ b
-one-fault {T} {a} {b} e = let whole : ◌≡◌ {A = Result T RunFault} (Err a) (Err b) = e in cc
+use Rattle.engine.proofs.Stops.{one-fault}
 
 -- a worker is wanting only where there are threads
 pub worker_there : {T : Type 0} (there : Bool) (width : ℕ) (s : Schedule) (bodies : List BodyMeaning) (times : ℕ) (w : State) (told : RunFault) → StopsAs there width s bodies times w told →

@@ -22,11 +22,7 @@ use Rattle.model.proofs.serial.Engine.{after_grant-form}
 use Rattle.body.specs.Steps.{with_slots_in}
 use Rattle.engine.specs.Deferred.{DeferredValue, SpawnersValue, AreInHand, IsDeferredFor, commands_at, no_spawners, noted_each, run_with, spawners_among, with_each_grant}
 use Rattle.engine.proofs.InHand.{in_hand_each, run_with_each}
-
--- what is true of each element that is in a list is true of each
-pub each-where : {A : Type 0} (P : A → Type 0) (xs : List A) → ((x : A) → IsIn x xs → P x) → AllByRecursion P xs
-each-where P [] h = tt
-each-where P (x ∷ xs) h = (h x (inl refl), each-where P xs (λ y i. h y (inr i)))
+use Rattle.model.proofs.lists.Places.{each-where}
 
 -- a list without elements
 pub no_elements : {A : Type 0} (xs : List A) → length xs ≡ 0 → xs ≡ []

@@ -32,13 +32,14 @@ use Rattle.body.specs.Seen.{Opening, Seen}
 use Rattle.body.specs.Steps.{StateValue, laid, noted, store_of, ticked}
 use Rattle.body.proofs.Lendings.{lent_in-append}
 use Rattle.body.proofs.Outs.{written-away, written-back, lent-part, none-out}
-use Rattle.body.proofs.Gets.{same-by-get, each-in, each-from}
+use Rattle.body.proofs.Gets.{same-by-get, each-in}
 use Rattle.worker_pool.specs.JobOut.{JobOut}
 use Rattle.engine.specs.Deferred.{DeferredValue, grants_at, run_with, with_commands}
 use Rattle.engine.specs.Meanings.{meaning_of, meanings_of, meanings, body_at, body_fits, AreFit, HasMemories, Suits}
 use Rattle.engine.specs.Jobs.{running_of, systems_of, held_by, woven, AreDistinct, AreKept, HasBody, IsJob, IsPlaced, Placed}
 use Rattle.engine.proofs.Remembering.{memories_at, memories_noted, memories_laid}
 use Rattle.engine.proofs.Weaving.{IsAnswered, numbers_of, start_woven, finish_woven, unsent_woven}
+use Rattle.model.proofs.lists.Places.{has-append, each-where}
 
 -- ---- one of a list
 
@@ -55,14 +56,6 @@ around (y ∷ ys) zero x h = record { front = []; rest = ys; whole = ap (λ z. z
 around (y ∷ ys) (suc i) x h =
     let more = around ys i x h in
     record { front = y ∷ more.front; rest = more.rest; whole = ap (λ zs. y ∷ zs) more.whole; remaining = ap (λ zs. y ∷ zs) more.remaining }
-
-has-append : (n : ℕ) (xs ys : List ℕ) → has n (xs ++ ys) ≡ (has n xs || has n ys)
-has-append n [] ys = refl
-has-append n (x ∷ xs) ys = ap (λ b. (x == n) || b) (has-append n xs ys) ∙ three (x == n) (has n xs) (has n ys)
-  where
-    three : (a b c : Bool) → (a || (b || c)) ≡ ((a || b) || c)
-    three true b c = refl
-    three false b c = refl
 
 -- of distinct numbers one stands neither before nor after itself
 pub record IsOnceIn (xs ys : List ℕ) (n : ℕ) : Type 0 where
@@ -259,7 +252,7 @@ module _ {B : Type 0} (meaning : B → Params → BodyMeaning) (fits : B → Par
 
   -- where no running system meets an access, none that is out and holds columns meets it
   pub apart-held : (access : Params) → (MeetsRunning (recording s sets) h access → ⊥) → AllByRecursion (IsApartFrom (sets_at (recording s sets) h) access w.layout) (lent_in (held_by out))
-  apart-held access apart = each-from (IsApartFrom (sets_at (recording s sets) h) access w.layout) (lent_in (held_by out)) (λ c i. one out (λ j k. k) c i)
+  apart-held access apart = each-where (IsApartFrom (sets_at (recording s sets) h) access w.layout) (lent_in (held_by out)) (λ c i. one out (λ j k. k) c i)
     where
       one : (jobs : List (JobOut B)) → ((j : JobOut B) → IsIn j jobs → IsIn j out) → (c : TakenColumn) → IsIn c (lent_in (held_by jobs)) → IsApartFrom (sets_at (recording s sets) h) access w.layout c
       one [] within c i = absurd i

@@ -17,11 +17,6 @@ use Rattle.engine.specs.declared.faults.RunFault.TheVariants as fault
 use Rattle.engine.specs.declared.stop.Stop.{Stop}
 use Rattle.engine.specs.declared.stop.Stop.TheVariants as stop
 
--- an error that is handed on
-pub handed_on : {T F : Type 0} (P : F → Type 0) (r : Result T F) (fault : F) → IsErrAnd r (λ told. told ≡ fault) → P fault → IfErr r P
-handed_on P (Ok x) fault told is = tt
-handed_on P (Err other) fault told is = subst P (sym told) is
-
 -- which error that is
 pub told_of : {T F : Type 0} (r : Result T F) (fault other : F) → IsErrAnd r (λ told. told ≡ fault) → r ≡ Err other → fault ≡ other
 told_of (Ok x) fault other told is = absurd told
@@ -86,7 +81,7 @@ unspoiled stop.NoIds e = absurd (cc)
 unspoiled stop.NoEventNumber e = absurd (cc)
 unspoiled (stop.Refused n) e = absurd (cc)
 
-one-fault : {T : Type 0} {a b : RunFault} → ◌≡◌ {A = Result T RunFault} (Err a) (Err b) → a ≡ b
+pub one-fault : {T : Type 0} {a b : RunFault} → ◌≡◌ {A = Result T RunFault} (Err a) (Err b) → a ≡ b
 one-fault {T} {a} {b} e = let whole : ◌≡◌ {A = Result T RunFault} (Err a) (Err b) = e in cc
 
 pub told_unspoiled : {T : Type 0} (r : Result T RunFault) (told : Stop) → IsErrAnd r (λ f. f ≡ fault_of told) → r ≡ Err fault.Spoiled → ⊥

@@ -7,12 +7,7 @@ use Rattle.model.specs.state.State.{Slot, fresh_slot, is_vacant}
 use Rattle.model.specs.state.Ids.{vacant_from}
 use Rattle.entity_table.specs.Rising.{insert_rising}
 use Rattle.entity_table.proofs.Ascending.{insert_least}
-
--- the vacant indices are not below the first
-above : (b c : ℕ) (xs : List Slot) → b ≤ c → AllByRecursion (λ n. b ≤ n) (vacant_from c xs)
-above b c [] l = tt
-above b c (x ∷ xs) l = cond_both (is_vacant x.status) (c ∷ vacant_from (suc c) xs) (vacant_from (suc c) xs) (AllByRecursion (λ n. b ≤ n))
-    (λ e. (l, above b (suc c) xs (omega arith))) (λ e. above b (suc c) xs (omega arith))
+use Rattle.model.proofs.shape.GivenIds.{vacant-above}
 
 -- no more are vacant than there are
 pub length-vacant_from : (b : ℕ) (xs : List Slot) → length (vacant_from b xs) ≤ length xs
@@ -34,7 +29,7 @@ pub vacant_from-more : (f : Slot → Slot) (b i : ℕ) (xs : List Slot) → i < 
 vacant_from-more f b i [] l h k = absurd (omega arith)
 vacant_from-more f b zero (x ∷ xs) l h k =
     cond-true (is_vacant (f x).status) (b ∷ vacant_from (suc b) xs) (vacant_from (suc b) xs) k
-    ∙ sym (insert_least b (vacant_from (suc b) xs) (above b (suc b) xs (omega arith)))
+    ∙ sym (insert_least b (vacant_from (suc b) xs) (vacant-above b (suc b) xs (omega arith)))
     ∙ ap (λ n. insert_rising n (vacant_from (suc b) xs)) (let e : b ≡ b + 0 = omega arith in e)
     ∙ ap (insert_rising (b + 0)) (sym (cond-false (is_vacant x.status) (b ∷ vacant_from (suc b) xs) (vacant_from (suc b) xs) h))
 vacant_from-more f b (suc i) (x ∷ xs) l h k = go (is_vacant x.status)

@@ -13,6 +13,7 @@ use Rattle.model.proofs.lists.Lists.{get_or-map_index, length-update_at, get_or-
 use Rattle.model.proofs.shape.Slots.{length-release}
 use Rattle.entity_table.specs.Ids.{slot_at, lives_at, IsGranted, AreApart, spawned_all}
 use Rattle.entity_table.proofs.Edits.{get_or-update_at, update_at-same, update_at-id}
+use Rattle.model.proofs.lists.Bools.{or_false}
 
 -- ---- one id after the other
 
@@ -44,10 +45,6 @@ released_here slot named more e = go (is_granted slot.status) named refl ∙ ap 
     go true true f = ap (λ m. cond m (freed slot) slot) e ∙ sym (ap (λ b. cond b (freed (freed slot)) (freed slot)) (freed-granted slot))
     go true false f = ap (λ m. cond m (freed slot) slot) e ∙ sym (ap (λ b. cond b (freed slot) slot) f)
     go false n f = sym (ap (λ b. cond b (freed slot) slot) f)
-
-or_false : (b : Bool) → (b || false) ≡ b
-or_false true = refl
-or_false false = refl
 
 -- the release of one id more
 pub release-push : (ids : List Entity) (e : Entity) (xs : List Slot) → release (ids ++ e ∷ []) xs ≡ update_at e.index freed_if_granted (release ids xs)

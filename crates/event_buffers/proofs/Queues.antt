@@ -7,8 +7,3 @@ pub update_at-set : {A : Type 0} (f : A → A) (d : A) (xs : List A) (i : ℕ) �
 update_at-set f d [] i = refl
 update_at-set f d (x ∷ xs) zero = refl
 update_at-set f d (x ∷ xs) (suc i) = ap (◌∷◌ x) (update_at-set f d xs i)
-
--- what follows of what holds of a success
-pub on-ok : {T F : Type 0} (P Q : Type 0) (r : Result T F) → (P → Q) → OnOk r P → OnOk r Q
-on-ok P Q (Ok x) f h = f h
-on-ok P Q (Err e) f h = h

@@ -10,6 +10,7 @@ use Rattle.model.specs.steps.Lawful.{started, skipped, finished, answered, syncs
 use Rattle.model.proofs.order.Extending.{may_extended, lawful_extended}
 use Rattle.executor_core.specs.Stands.{Stand, MeetsAmong, ClashesAmong, MeetsBy, ClashesBy, AreListed, Stands, IsPassed}
 use Rattle.executor_core.proofs.Judging.{done_below, next_fresh}
+use Rattle.model.proofs.lists.Places.{get_or-last}
 
 -- the sync point that may come is the next one
 next_is : (core : Stand) (sets : Option (List (List ℕ))) (h : List Step) (k : ℕ) → Stands core sets h → May (recording core.schedule sets) h (Sync k) → k ≡ core.done
@@ -77,13 +78,6 @@ stands_sync core new None h k plain stands may rest = stands_synced core new Non
   listed = tt;
 })
 
--- the last of a list with one more
-get_or-last : (xs : List (List ℕ)) (x : List ℕ) (i : ℕ) → length xs ≡ i → get_or (xs ++ x ∷ []) i [] ≡ x
-get_or-last [] x zero e = refl
-get_or-last [] x (suc i) e = absurd (omega (arith, e))
-get_or-last (y ∷ ys) x zero e = absurd (omega (arith, e))
-get_or-last (y ∷ ys) x (suc i) e = get_or-last ys x i (omega (arith, e))
-
 -- and one more list is recorded
 more_listed : (lists : List (List ℕ)) (more : List ℕ) (n : ℕ) → length lists ≡ n → length (lists ++ more ∷ []) ≡ suc n
 more_listed lists more n e = length-append lists (more ∷ []) ∙ (add-one (length lists) ∙ ap suc e)
@@ -91,7 +85,7 @@ more_listed lists more n e = length-append lists (more ∷ []) ∙ (add-one (len
 -- the kind sets recorded last after a sync point that records these
 pub recorded_last : (s : Schedule) (lists : List (List ℕ)) (more : List ℕ) (h : List Step) (k : ℕ) → length lists ≡ suc (syncs_in h) →
     sets_at (recording s (Some (lists ++ more ∷ []))) (Sync k ∷ h) ≡ Some more
-recorded_last s lists more h k e = ap Some (get_or-last lists more (suc (syncs_in h)) e)
+recorded_last s lists more h k e = ap Some (get_or-last lists more (suc (syncs_in h)) [] e)
 
 -- the core stands for the history with a sync point, with its rows made anew
 pub stands_renewed : (core new : Stand) (lists : List (List ℕ)) (more : List ℕ) (h : List Step) (k : ℕ) → Stands core (Some lists) h → May (recording core.schedule (Some lists)) h (Sync k) →

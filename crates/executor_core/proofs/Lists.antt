@@ -4,7 +4,7 @@ use Rattle.std.proofs.lemmas.Bool.{false≢true, or_cases, or_left, or_right, eq
 use Rattle.std.proofs.lemmas.List.{take_more, take_all}
 use Rattle.model.specs.Lists.{has}
 use Rattle.model.specs.declarations.Hierarchy.{IsRising}
-use Rattle.cycle_search.proofs.Walks.{has-append}
+use Rattle.model.proofs.lists.Places.{has-append}
 
 -- one more
 pub all_more : (Q : ℕ → Type 0) (xs : List ℕ) (i : ℕ) → i < length xs → ((n : ℕ) → has n (take i xs) ≡ true → Q n) → Q (get_or xs i 0) → (n : ℕ) → has n (take (i + 1) xs) ≡ true → Q n

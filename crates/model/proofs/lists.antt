@@ -4,3 +4,6 @@ pub mod Searches
 pub mod Each
 pub mod Firsts
 pub mod Bits
+pub mod Bools
+pub mod Places
+pub mod Results

@@ -12,7 +12,7 @@ use Rattle.toml_parser.specs.Numbers.{unquoted}
 use Rattle.toml.specs.Data.{Data, string, integer, float, boolean, datetime, array, table, Items, no_items, item, push_item, Members, no_members, member, get_member, same_key}
 use Rattle.toml.specs.Tables.{Node, Nodes, no_nodes, node, value, open_table, open_array, Origin, implicit, dotted, header, close, close_node, Edit, header_node, dot_node, by_header, by_dot, along_header, along_dots, get_node, insert, replace, Definition, key_value, std_table, array_table, new_node, redefine, at_found, at_key, put, Expression, Document, define, define_as}
 use Rattle.toml.specs.Parse.{read_map, after_byte, after_element, key_equals, keyval, items, members, scalar_data, atom, val, header_key, expression, line, lines, ends_line, skip_bom, parse_document}
-use Rattle.program_file.proofs.Rests.{Leaves, rest-skip_from, dropped, leaves-key_equals, leaves-line}
+use Rattle.program_file.proofs.Rests.{Leaves, rest-skip_from, dropped, leaves-key_equals, leaves-line, shorter-cond}
 
 abbrev pub item_count : Items → ℕ
 item_count no_items = 0
@@ -347,13 +347,9 @@ short-get n k (member l d ms) h =
     let rest = short-get n k ms h.1 in
     short-ordering n (slice_cmp nat_cmp k l) (get_member k ms) (Some d) (get_member k ms) rest h.0 rest
 
-text-cond : (n : ℕ) (c : Bool) (a b : List ℕ) → length a ≤ n → length b ≤ n → length (cond c a b) ≤ n
-text-cond n true a b ha hb = ha
-text-cond n false a b ha hb = hb
-
 rest-skip_bom : (text : List ℕ) → length (skip_bom text) ≤ length text
 unfolding skip_bom
-rest-skip_bom text = text-cond (length text) ((first text == 0xEF && slice_index text 1 == 0xBB) && slice_index text 2 == 0xBF) (drop 3 text) text (dropped 3 text) (le_refl _)
+rest-skip_bom text = shorter-cond (length text) ((first text == 0xEF && slice_index text 1 == 0xBB) && slice_index text 2 == 0xBF) (drop 3 text) text (dropped 3 text) (le_refl _)
 
 short-closed : (n : ℕ) (r : Option Document) → IsNarrowDocument n n r → IfSome (option_map (λ doc. close doc.0) r) (AreShort n)
 short-closed n None h = tt

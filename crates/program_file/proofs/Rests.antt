@@ -34,7 +34,7 @@ pub rests-cond : (n : ℕ) (c : Bool) (a b : Option (List ℕ)) → Rests n a �
 rests-cond n true a b ha hb = ha
 rests-cond n false a b ha hb = hb
 
-shorter-cond : (n : ℕ) (c : Bool) (a b : List ℕ) → length a ≤ n → length b ≤ n → length (cond c a b) ≤ n
+pub shorter-cond : (n : ℕ) (c : Bool) (a b : List ℕ) → length a ≤ n → length b ≤ n → length (cond c a b) ≤ n
 shorter-cond n true a b ha hb = ha
 shorter-cond n false a b ha hb = hb
 

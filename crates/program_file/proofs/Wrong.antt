@@ -14,16 +14,6 @@ use Rattle.program_file.specs.declared.place_fault.PlaceFault.TheVariants.{Value
 
 -- ---- results
 
--- the exit of a `?` with a fault
-pub exit : {T E : Type 0} (P : E → Type 0) (r : Result T E) (fault : E) → IsErrAnd r (λ told. told ≡ fault) → P fault → IfErr r P
-exit P (Ok x) fault told h = absurd told
-exit P (Err e) fault told h = subst P (sym told) h
-
--- what is known of an error, where a result is handed on
-pub err-in : {T E : Type 0} (P Q : E → Type 0) (r : Result T E) → ((e : E) → P e → Q e) → IfErr r P → IfErr r Q
-err-in P Q (Ok x) f h = tt
-err-in P Q (Err e) f h = f e h
-
 -- two things that are known of an error
 pub err-both : {T E : Type 0} (P Q : E → Type 0) (r : Result T E) → IfErr r P → IfErr r Q → IfErr r (λ e. P e × Q e)
 err-both P Q (Ok x) h k = tt

@@ -16,9 +16,7 @@ use Rattle.query_plan.specs.Standing.{is_row_at, is_row_among, chosen, archetype
 use Rattle.query_plan.specs.Candidates.{numbers_where, picked_at, AreCandidates}
 use Rattle.query_plan.proofs.Chosen.{chosen_same}
 use Rattle.query_plan.proofs.Walks.{all_matched}
-
-false_true : {P : Type 0} (b : Bool) → b ≡ false → b ≡ true → P
-false_true b h k = let e : false ≡ true = sym h ∙ k in absurd (cc)
+use Rattle.model.proofs.lists.Bools.{false_is}
 
 -- ---- numbers of archetypes
 
@@ -71,7 +69,7 @@ module _ (test : List ℕ → Bool) where
   any_passing p (a ∷ others) h = go (test a.kinds) refl (any_passing p others (λ n l is. h (suc n) (omega arith) is))
     where
       none : (b : Bool) → p a ≡ b → test a.kinds ≡ false → list_any p others ≡ (b || list_any p others)
-      none true is fails = false_true (test a.kinds) fails (h zero (omega arith) is)
+      none true is fails = false_is (test a.kinds) fails (h zero (omega arith) is)
       none false is fails = refl
 
       go : (b : Bool) → test a.kinds ≡ b → list_any p (passing test others) ≡ list_any p others → list_any p (cond b (a ∷ passing test others) (passing test others)) ≡ (p a || list_any p others)
@@ -85,7 +83,7 @@ module _ (test : List ℕ → Bool) where
     no_picks n kinds fails = go (matches query (λ kind. has kind kinds)) refl
       where
         go : (b : Bool) → matches query (λ kind. has kind kinds) ≡ b → [] ≡ cond b (picked_in query n kinds) []
-        go true is = false_true (test kinds) fails (passed kinds is)
+        go true is = false_is (test kinds) fails (passed kinds is)
         go false is = refl
 
     picks_from : (before layout : List Archetype) → picked_at query (before ++ layout) (numbers_where test (length before) layout) ≡ picked_from query (length before) (map (λ a. a.kinds) layout)

@@ -31,11 +31,11 @@ use Rattle.schedule_builder.specs.ScheduleOrder.{schedule_with}
 use Rattle.schedule_builder.specs.declared.desc_parts.Parts.{Parts}
 use Rattle.schedule_builder.specs.Queries.{AreGoodBelow}
 use Rattle.schedule_builder.specs.Asked.{asked_of, owners_of, asked_query, AreGoodConditionsBelow, AreReadingBelow, TellsBadCondition, HasWriting, TellsWriting, scheduled_condition, AreScheduledConditions, other_in, AreSilences, AreDeclaredSilences}
-use Rattle.cycle_search.proofs.Walks.{has-append}
 use Rattle.schedule_builder.proofs.Lookups.{flat_map-one_more, from_each-next, from_each-all}
 use Rattle.schedule_builder.proofs.Assembly.{items_count}
 use Rattle.schedule_builder.proofs.Orderings.{pair_in}
 use Rattle.schedule_builder.proofs.Faults.{good_at}
+use Rattle.model.proofs.lists.Places.{has-append}
 
 -- ---- the conditions of all items, one after the other
 

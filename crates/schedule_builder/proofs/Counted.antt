@@ -11,7 +11,7 @@ use Rattle.schedule_builder.specs.Rows.{system_in, IsBefore, AreRows}
 use Rattle.model.specs.Counts.{count_below}
 use Rattle.schedule_builder.specs.Counts.{waits_for, is_at, IsListing, IsAfter, HasCounts}
 use Rattle.schedule_builder.proofs.Counting.{count_same, count_none}
-use Rattle.cycle_search.proofs.Walks.{has-append}
+use Rattle.model.proofs.lists.Places.{has-append}
 
 -- ---- lists of systems
 

@@ -10,7 +10,7 @@ use Rattle.model.specs.access.Conflict.{Conflict}
 use Rattle.model.specs.steps.Schedule.{ScheduledSystem, ScheduledCondition}
 use Rattle.schedule_builder.specs.Rows.{system_in, IsRow, AreRows}
 use Rattle.schedule_builder.specs.Conditions.{condition_in, IsCovering, IsClash, IsRisingListing, HasConditionRows}
-use Rattle.cycle_search.proofs.Walks.{has-append}
+use Rattle.model.proofs.lists.Places.{has-append}
 
 -- the numbers with a property below a bound, listed, with one more that has it
 pub named_more : (P : ℕ → Type 0) (xs : List ℕ) (n : ℕ) → P n → ((m : ℕ) → (has m xs ≡ true) ↔ ((m < n) × P m)) →

@@ -346,14 +346,6 @@ known_six d s k i p q r t u v =
     (known_both d (bounded k i.before_ignore_deferred) (bounded k i.after_ignore_deferred ++ bounded k i.ambiguous_with) t
     (known_both d (bounded k i.after_ignore_deferred) (bounded k i.ambiguous_with) u v))))
 
-pub err_as : {T E : Type 0} (P Q : E → Type 0) (r : Result T E) → ((e : E) → P e → Q e) → IfErr r P → IfErr r Q
-err_as P Q (Ok x) f h = h
-err_as P Q (Err e) f h = f e h
-
-pub ok_as : {T E : Type 0} (P Q : Type 0) (r : Result T E) → (P → Q) → OnOk r P → OnOk r Q
-ok_as P Q (Ok x) f h = f h
-ok_as P Q (Err e) f h = h
-
 -- ---- orders, one after the other
 
 -- the order of an item before one of a name, and after it; and the number of a name

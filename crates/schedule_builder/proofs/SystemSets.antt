@@ -8,7 +8,7 @@ use Rattle.model.specs.access.Access.{Params, no_params}
 use Rattle.model.specs.access.Conflict.{Conflict}
 use Rattle.model.specs.steps.Schedule.{ScheduledSystem}
 use Rattle.schedule_builder.specs.Rows.{system_in, IsRow, IsBefore, AreRows}
-use Rattle.cycle_search.proofs.Walks.{has-append}
+use Rattle.model.proofs.lists.Places.{has-append}
 
 or_turned : (a b : Bool) → (a || b) ≡ (b || (a || false))
 or_turned true true = refl

@@ -4,11 +4,11 @@ use Rattle.std.proofs.lemmas.List.{get_or_push, get_or_append_left, length_push}
 use Rattle.std.proofs.lemmas.Bool.{false≢true, both_ways, or_left, or_right, cases_lt}
 use Rattle.model.specs.Lists.{has}
 use Rattle.model.specs.declarations.Hierarchy.{Hierarchy}
-use Rattle.cycle_search.proofs.Walks.{has-append}
 use Rattle.system_set.specs.Edges.{AreRows, has_member}
 use Rattle.system_set.specs.Coverage.{AreNumbersTo, AreNumbers}
 use Rattle.system_set.proofs.EdgeLists.{HasSets, member_told, member_test, member_known}
 use Rattle.system_set.proofs.Reaching.{has_push, rising_push}
+use Rattle.model.proofs.lists.Places.{has-append}
 
 -- ---- the members of an item
 

@@ -10,8 +10,8 @@ use Rattle.model.specs.declarations.Walks.{IsWalk}
 use Rattle.model.specs.declarations.Hierarchy.{IsHeld, Reaches, AreMembers, IsRising}
 use Rattle.cycle_search.specs.declared.order.Order.{Order}
 use Rattle.cycle_search.specs.Cycles.{IsStep}
-use Rattle.cycle_search.proofs.Walks.{has-append}
 use Rattle.system_set.specs.Pairs.{pair_of, pairs_of, hierarchy_of, is_marked, AreSound, IsSpread, AreMarked}
+use Rattle.model.proofs.lists.Places.{has-append}
 
 -- ---- pairs
 

@@ -15,6 +15,8 @@ use Rattle.trace_checker.specs.declared.read.Due.{Due}
 use Rattle.trace_checker.specs.declared.read.Due.TheVariants.{Nothing, Opening, After}
 use Rattle.trace_checker.specs.Grammar.{sets_line, step_lines, history_lines, run_lines, lines_from, IsListedRun, records}
 use Rattle.trace_checker.specs.TextFaults.{lines_so_far, IsDue, AreBegun}
+use Rattle.model.proofs.lists.Each.{each-at}
+use Rattle.model.proofs.lists.Places.{get_or-last}
 
 -- ---- runs behind others
 
@@ -90,12 +92,6 @@ get-before [] x i below = absurd (omega (arith, below))
 get-before (y ∷ ys) x zero below = refl
 get-before (y ∷ ys) x (suc i) below = get-before ys x i (omega (arith, below))
 
-get-last : (xs : List (List ℕ)) (x : List ℕ) (i : ℕ) → length xs ≡ i → get_or (xs ++ x ∷ []) i [] ≡ x
-get-last [] x zero e = refl
-get-last [] x (suc i) e = absurd (omega (arith, e))
-get-last (y ∷ ys) x zero e = absurd (omega (arith, e))
-get-last (y ∷ ys) x (suc i) e = get-last ys x i (omega (arith, e))
-
 same-step : (lists : List (List ℕ)) (ns : List ℕ) (h : List Step) (step : Step) → syncs_in (step ∷ h) < length lists → step_lines (Some (lists ++ ns ∷ [])) h step ≡ step_lines (Some lists) h step
 same-step lists ns h (Cond c answer) below = refl
 same-step lists ns h (Start n) below = refl
@@ -121,12 +117,7 @@ sync-lines : (sets : Option (List (List ℕ))) (h : List Step) (k : ℕ) (ns : L
 sync-lines None h k ns some listed = absurd (false≢true some)
 sync-lines (Some lists) h k ns some listed =
     ap (λ l. l ++ Take (Sync k) ∷ There (get_or (lists ++ ns ∷ []) (suc (syncs_in h)) []) ∷ []) (same-history lists ns h (omega (arith, listed)))
-    ∙ ap (λ l. history_lines (Some lists) h ++ Take (Sync k) ∷ There l ∷ []) (get-last lists ns (suc (syncs_in h)) listed)
-
-all-at : {A : Type 0} (P : A → Type 0) (xs : List A) (i : ℕ) (d : A) → AllByRecursion P xs → i < length xs → P (get_or xs i d)
-all-at P [] i d all below = absurd (omega (arith, below))
-all-at P (x ∷ xs) zero d all below = all.0
-all-at P (x ∷ xs) (suc i) d all below = all-at P xs i d all.1 (omega (arith, below))
+    ∙ ap (λ l. history_lines (Some lists) h ++ Take (Sync k) ∷ There l ∷ []) (get_or-last lists ns (suc (syncs_in h)) [] listed)
 
 -- a sync point of the last run, and the kind sets after it
 pub sync_added : (items : List Recorded) (len : ℕ) (d run last : Recorded) (k : ℕ) (ns : List ℕ) (due : Due) → due ≡ After k → AreBegun true items due → len ≡ length items → last ≡ get_or items (len - 1) d
@@ -134,21 +125,13 @@ pub sync_added : (items : List Recorded) (len : ℕ) (d run last : Recorded) (k 
 sync_added items len d run last k ns due is begun size there steps sets =
     let filled : 0 < length items = (subst (λ x. IsDue true items x) is begun.waits).1 in
     let below : len - 1 < length items = omega (arith, size, filled) in
-    let some : is_some last.sets ≡ true = subst (λ (r : Recorded). records r ≡ true) (sym there) (all-at (λ r. records r ≡ true) items (len - 1) d begun.alike below) in
-    let listed : IsListedRun last = subst IsListedRun (sym there) (all-at IsListedRun items (len - 1) d begun.listed below) in
+    let some : is_some last.sets ≡ true = subst (λ (r : Recorded). records r ≡ true) (sym there) (each-at (λ r. records r ≡ true) items (len - 1) d below begun.alike) in
+    let listed : IsListedRun last = subst IsListedRun (sym there) (each-at IsListedRun items (len - 1) d below begun.listed) in
     written-longer items len d run last (Take (Sync k) ∷ There ns ∷ []) size filled there
     (ap (λ s. history_lines s run.steps) sets ∙ (ap (history_lines (with_list ns last.sets)) steps ∙ sync-lines last.sets last.steps k ns some listed))
     ∙ (sym (append_assoc (lines_from 1 items) (Take (Sync k) ∷ []) (There ns ∷ [])) ∙ ap (λ x. lines_so_far items x ++ There ns ∷ []) (sym is))
 
 -- ---- plain steps
-
--- any step but a sync point is plain
-pub plain_other : (sets : Option (List (List ℕ))) (step : Step) → ((k : ℕ) → step ≡ Sync k → ⊥) → IsPlainStep sets step
-plain_other sets (Cond c answer) other = tt
-plain_other sets (Start n) other = tt
-plain_other sets (Skip n) other = tt
-plain_other sets (Finish n) other = tt
-plain_other sets (Sync k) other = absurd (other k refl)
 
 bare : (sets : Option (List (List ℕ))) → is_some sets ≡ false → sets ≡ None
 bare None e = refl
@@ -159,7 +142,7 @@ pub plain_bare : (lists : Bool) (items : List Recorded) (len : ℕ) (d last : Re
     → last ≡ get_or items (len - 1) d → IsPlainStep last.sets step
 plain_bare lists items len d last step none begun size filled there = plain step where
   known : is_some last.sets ≡ false
-  known = subst (λ (r : Recorded). records r ≡ lists) (sym there) (all-at (λ r. records r ≡ lists) items (len - 1) d begun.alike (omega (arith, size, filled))) ∙ none
+  known = subst (λ (r : Recorded). records r ≡ lists) (sym there) (each-at (λ r. records r ≡ lists) items (len - 1) d (omega (arith, size, filled)) begun.alike) ∙ none
 
   plain : (s : Step) → IsPlainStep last.sets s
   plain (Cond c answer) = tt

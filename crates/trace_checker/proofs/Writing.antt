@@ -12,16 +12,13 @@ use Rattle.trace_checker.specs.declared.line.Line.TheVariants.{Begin, Take}
 use Rattle.trace_checker.specs.Grammar.{AreWithin, sets_line, step_lines, history_lines, line_text, lines_text, run_lines, lines_from, trace_text}
 use Rattle.trace_checker.proofs.Lines.{lines_append}
 use Rattle.trace_checker.proofs.Adding.{lines_from_append, lines_from_pushed}
+use Rattle.model.proofs.lists.Places.{take-next}
 
 -- ---- the steps so far
 
--- one more
-take-more : {A : Type 0} (l : List A) (i : ℕ) (d : A) → i < length l → take (i + 1) l ≡ take i l ++ get_or l i d ∷ []
-take-more l i d below = let next : i + 1 ≡ suc i = omega arith in ap (λ k. take k l) next ∙ take-suc l i d below
-
 -- the latest of them first
 pub turned_more : (steps : List Step) (i : ℕ) (d : Step) → i < length steps → reverse (take (i + 1) steps) ≡ get_or steps i d ∷ reverse (take i steps)
-turned_more steps i d below = ap reverse (take-more steps i d below) ∙ reverse-append (take i steps) (get_or steps i d ∷ [])
+turned_more steps i d below = ap reverse (take-next steps i d below) ∙ reverse-append (take i steps) (get_or steps i d ∷ [])
 
 -- no more sync points than steps
 syncs-le : (h : List Step) → syncs_in h ≤ length h
@@ -109,7 +106,7 @@ trace-text-more i traces d below =
     let runs = take i traces in
     let run = get_or traces i d in
     let count : 1 + length runs ≡ i + 1 = omega (arith, length-take-le i traces (omega (arith, below))) in
-    ap trace_text (take-more traces i d below) ∙ (ap lines_text (lines_from_pushed 1 runs run ∙ ap (λ k. lines_from 1 runs ++ run_lines k run) count) ∙ lines_append (lines_from 1 runs) (run_lines (i + 1) run))
+    ap trace_text (take-next traces i d below) ∙ (ap lines_text (lines_from_pushed 1 runs run ∙ ap (λ k. lines_from 1 runs ++ run_lines k run) count) ∙ lines_append (lines_from 1 runs) (run_lines (i + 1) run))
 
 -- a text that is written so far
 pub text_more : (traces : List Recorded) (i : ℕ) (d t : Recorded) (number : ℕ) (now next : List ℕ) → t ≡ get_or traces i d → i < length traces → number ≡ i → now ≡ trace_text (take i traces)

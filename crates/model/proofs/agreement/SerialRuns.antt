@@ -31,13 +31,14 @@ use Rattle.model.proofs.shape.Runs.{interleaved-keeps, serial-keeps}
 use Rattle.model.proofs.agreement.Ends.{Way, further}
 use Rattle.model.proofs.agreement.Ends.Way.{Here}
 use Rattle.model.proofs.agreement.Marks.{Marks, mark, IsOpen, Can, CanStart, CanSkip, CanAsk, CanSync, IsOver, no_marks, orderly_at_start}
-use Rattle.model.proofs.agreement.Visits.{Effect, come, update_at-update_at, slots_after-nothing, resources_after-nothing, queues_after-nothing}
+use Rattle.model.proofs.agreement.Visits.{Effect, come, update_at-update_at}
 use Rattle.model.proofs.agreement.ShownAlike.{shown_at, asked_at}
 use Rattle.model.proofs.agreement.SerialSteps.{commands_left, effect_of, turn, after, Tells}
 use Rattle.model.proofs.agreement.Places.{Place, Move, IsAlike, next_place, next_move, places_end_alike}
 use Rattle.model.proofs.agreement.Levels.{alike-open, timed-open, quiet-open}
 use Rattle.model.proofs.agreement.Timed.{timed_from_shape}
 use Rattle.model.proofs.serial.Soundness.{serial_of as serial_from}
+use Rattle.model.proofs.serial.Laying.{slots_after-none, resources_after-none, queues_after-none}
 
 -- ---- the marks of a history
 
@@ -147,11 +148,11 @@ unfolding after_condition
 condition-turn s bodies c run = λ i. record {
   state = record {
     world = record {
-      slots = sym (slots_after-nothing (next_tick run.state) run.state.world.slots) i;
-      resources = sym (resources_after-nothing (next_tick run.state) run.state.world.resources) i;
+      slots = sym (slots_after-none (next_tick run.state) run.state.world.slots) i;
+      resources = sym (resources_after-none (next_tick run.state) run.state.world.resources) i;
       clock = next_tick run.state;
     };
-    events = sym (queues_after-nothing run.state.events) i;
+    events = sym (queues_after-none run.state.events) i;
     systems = run.state.systems;
     conditions = (after_condition s c run).state.conditions;
     passed_over = run.state.passed_over;

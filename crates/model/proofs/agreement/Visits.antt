@@ -1,9 +1,9 @@
 -- A visit: what an observer does to a state when it runs whole at a tick. A visit but for stamps, and two visits that touch
 -- nothing in common, in either order.
-use Rattle.std.proofs.Common.{ℕ, zero, suc, ℤ, ◌≡◌, List, [], ◌∷◌, map, get_or, Option, Some, None, refl, sym, ap, ap₂, ◌∙◌}
+use Rattle.std.proofs.Common.{ℕ, zero, suc, ℤ, ◌≡◌, List, [], ◌∷◌, map, Option, Some, None, refl, sym, ap, ap₂, ◌∙◌}
 use Rattle.std.proofs.lemmas.Bool.{or_left}
 use Rattle.model.specs.Lists.{map_index, update_at}
-use Rattle.model.specs.state.State.{Slot, Component, Cell, Resource, EventQueue, Memory, State, fresh_slot, no_resource, empty_queue}
+use Rattle.model.specs.state.State.{Slot, Component, Cell, Resource, EventQueue, Memory, State}
 use Rattle.model.specs.shown.Input.{end_cursors}
 use Rattle.model.specs.shown.Outcome.{Command, value_written, events_sent}
 use Rattle.model.specs.shown.Overlay.{cell_after, row_after, slot_after, slots_after, resource_after, resources_after, queues_after}
@@ -11,7 +11,7 @@ use Rattle.model.specs.steps.Schedule.{Schedule, params_of, access_of}
 use Rattle.model.specs.runs.RunState.{memory_after_run, with_registers}
 use Rattle.model.specs.state.Agreement.{Observer, access_of_observer, without_stamps, component_without_stamps, slot_without_stamps, resource_without_stamp, memory_without_last_run, cell_without_stamps}
 use Rattle.model.specs.state.Agreement.Observer.{OfSystem, OfCondition}
-use Rattle.model.proofs.lists.Lists.{map_index-id, update_at-comm, has-IsIn}
+use Rattle.model.proofs.lists.Lists.{update_at-comm, has-IsIn}
 use Rattle.model.proofs.serial.Conflicts.{WritesWithin, one_writer, one_setter, one_sender, unread_event}
 use Rattle.model.proofs.serial.Writes.{slots_after-comm}
 use Rattle.model.proofs.serial.Uses.{resources_after-comm, queues_after-comm, queue_of-queues_after, end_cursors-same}
@@ -85,32 +85,6 @@ pub update_at-update_at : {A : Type 0} (n : ℕ) (f g : A → A) (xs : List A) �
 update_at-update_at n f g [] = refl
 update_at-update_at zero f g (x ∷ xs) = refl
 update_at-update_at (suc n) f g (x ∷ xs) = ap (λ ys. x ∷ ys) (update_at-update_at n f g xs)
-
--- ---- what writes nothing
-
--- a row without writes stays
-row_after-nothing : (t : ℕ) (row : List Component) → row_after t (λ k. None) row ≡ row
-row_after-nothing t [] = refl
-row_after-nothing t (c ∷ cs) = ap (λ row. c ∷ row) (row_after-nothing t cs)
-
--- so do slots
-pub slots_after-nothing : (t : ℕ) (slots : List Slot) → slots_after t (λ e k. None) slots ≡ slots
-unfolding slots_after
-slots_after-nothing t slots = map_index-id (λ e. slot_after t (λ k. None)) fresh_slot slots
-    (λ e. slot-nothing (get_or slots e fresh_slot))
-  where
-    slot-nothing : (slot : Slot) → slot_after t (λ k. None) slot ≡ slot
-    slot-nothing slot = λ i. record { generation = slot.generation; status = slot.status; row = row_after-nothing t slot.row i }
-
--- resources
-pub resources_after-nothing : (t : ℕ) (rs : List Resource) → resources_after t (λ n. None) rs ≡ rs
-unfolding resources_after
-resources_after-nothing t rs = map_index-id (λ n. resource_after t None) no_resource rs (λ n. refl)
-
--- event queues
-pub queues_after-nothing : (queues : List EventQueue) → queues_after (λ k. []) queues ≡ queues
-unfolding queues_after
-queues_after-nothing queues = map_index-id (λ k queue. queue) empty_queue queues (λ k. refl)
 
 -- ---- but for stamps
 

@@ -145,7 +145,7 @@ rows_from-once query last first (slot ∷ slots) = go (is_row query last slot) (
 -- ---- resources and events
 
 -- a resource without a write
-resources_after-none : (tick : ℕ) (rs : List Resource) → resources_after tick (λ number. None) rs ≡ rs
+pub resources_after-none : (tick : ℕ) (rs : List Resource) → resources_after tick (λ number. None) rs ≡ rs
 unfolding resources_after
 resources_after-none tick rs = map_index-id (λ number. resource_after tick None) no_resource rs (λ i. refl)
 
@@ -180,7 +180,7 @@ resources_after-laid tick (n ∷ ns) [] rs = resources_after-none tick rs
 resources_after-laid tick (n ∷ ns) (v ∷ vs) rs = resources_after-one tick n v (value_written ns vs) rs ∙ ap (update_at n (resource_after tick v)) (resources_after-laid tick ns vs rs)
 
 -- the overlay of no events
-queues_after-none : (queues : List EventQueue) → queues_after (λ kind. []) queues ≡ queues
+pub queues_after-none : (queues : List EventQueue) → queues_after (λ kind. []) queues ≡ queues
 unfolding queues_after
 queues_after-none queues = map_index-id (λ kind. send_all []) empty_queue queues (λ i. refl)
 

@@ -41,7 +41,7 @@ Rise [] = Unit {0}
 Rise (n ∷ ns) = AllByRecursion (λ m. suc n ≤ m) ns × Rise ns
 
 -- the vacant indices are at least the first
-vacant-above : (low first : ℕ) (slots : List Slot) → low ≤ first → AllByRecursion (λ i. low ≤ i) (vacant_from first slots)
+pub vacant-above : (low first : ℕ) (slots : List Slot) → low ≤ first → AllByRecursion (λ i. low ≤ i) (vacant_from first slots)
 vacant-above low first [] le = tt
 vacant-above low first (slot ∷ slots) le = cond_both (is_vacant slot.status) (first ∷ vacant_from (suc first) slots) (vacant_from (suc first) slots)
     (AllByRecursion (λ i. low ≤ i)) (λ e. (le, vacant-above low (suc first) slots (omega arith))) (λ e. vacant-above low (suc first) slots (omega arith))

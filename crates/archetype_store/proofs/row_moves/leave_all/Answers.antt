@@ -3,8 +3,9 @@ use Rattle.archetype_store.specs.Archetypes.{archetypes_of}
 use Rattle.archetype_store.specs.RowMoves.{change_of, other_table, arrives_in, IsPlanned}
 use Rattle.archetype_store.proofs.Departures.{all_stepped, room_after, arrives_first, alike_first, alike_next}
 use Rattle.archetype_store.proofs.MovedRows.{change_is, within}
-use Rattle.archetype_store.proofs.RowMoves.{planned_rest, apart_index}
+use Rattle.archetype_store.proofs.RowMoves.{planned_rest}
 use Rattle.archetype_store.proofs.row_moves.leave_all.Goals as goal
+use Rattle.model.proofs.lists.Bools.{apart_number}
 
 pub loop-left-init : goal.loop-left-init
 loop-left-init c =
@@ -46,10 +47,10 @@ loop-left-preserved c =
       owned = e.owned;
       shapes = e.shapes ∙ i.shapes;
       planned = all_stepped m (IsPlanned T P) (IsPlanned T' P')
-          (λ x other plan. planned_rest T T' P P' x e.shapes e.as_many plan (e.others x.change.now.entity.index (apart_index x.change.now.entity.index m.change.now.entity.index other)))
+          (λ x other plan. planned_rest T T' P P' x e.shapes e.as_many plan (e.others x.change.now.entity.index (apart_number x.change.now.entity.index m.change.now.entity.index other)))
           (λ plan. e.planned) rows n l is c.requires.apart i.planned;
       arrives = all_stepped m (λ x. arrives_in P x ≡ arrives_in P0 x) (λ x. arrives_in P' x ≡ arrives_in P0 x)
-          (λ x other same. ap (λ o. other_table o x.to) (e.others x.change.now.entity.index (apart_index x.change.now.entity.index m.change.now.entity.index other)) ∙ same)
+          (λ x other same. ap (λ o. other_table o x.to) (e.others x.change.now.entity.index (apart_number x.change.now.entity.index m.change.now.entity.index other)) ∙ same)
           (λ same. e.arrives ∙ same) rows n l is c.requires.apart i.arrives;
       rooms = λ t. e.rooms t ∙ i.rooms t;
       alike = alike_next (archetypes_of T0 P0) (archetypes_of T P) (archetypes_of T' P') (map change_of rows) n (change_of m) among at i.alike e.alike;

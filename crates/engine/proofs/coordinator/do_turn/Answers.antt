@@ -21,9 +21,10 @@ use Rattle.engine.proofs.Placing.{placed_kept}
 use Rattle.engine.proofs.Staging.{stage_start, stage_ask, stage_skip, stage_finish, running_there, none_out, stops_start, stops_ask, stops_sync, stops_finish, stops_plain}
 use Rattle.engine.proofs.Recorded.{listed_synced, stage_synced}
 use Rattle.engine.proofs.Remembering.{memories_synced}
-use Rattle.engine.proofs.Stops.{handed_on, stops_among, stops_up}
+use Rattle.engine.proofs.Stops.{stops_among, stops_up}
 use Rattle.engine.proofs.Turns.{start_allowed, ask_allowed, sync_fresh, placed_asked, placed_synced, in_hand_none, in_hand_asked, home_end}
 use Rattle.engine.proofs.coordinator.do_turn.Goals as goal
+use Rattle.model.proofs.lists.Results.{handed_on}
 
 pub start-requires : goal.start-requires
 start-requires g c = λ lifetimes.

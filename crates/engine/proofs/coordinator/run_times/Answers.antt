@@ -9,10 +9,11 @@ use Rattle.engine.specs.Meanings.{meanings}
 use Rattle.engine.proofs.Placing.{kept_last, kept_fits, meanings_count}
 use Rattle.engine.proofs.Staging.{records_more, runs_more, stopped}
 use Rattle.engine.specs.Stops.{StopsBy}
-use Rattle.engine.proofs.Stops.{either_way, handed_on, lost_or_kept, one_stop, stops_up}
+use Rattle.engine.proofs.Stops.{either_way, lost_or_kept, one_stop, stops_up}
 use Rattle.executor_core.specs.Stands.{Stand}
 use Rattle.engine.specs.Latest.{IsFollowing}
 use Rattle.engine.proofs.coordinator.run_times.Goals as goal
+use Rattle.model.proofs.lists.Results.{handed_on}
 
 pub run_turns-requires : goal.run_turns-requires
 run_turns-requires g c = λ lifetimes.

@@ -12,7 +12,7 @@ use Rattle.engine.specs.Next.{IsBetween, IsNext}
 use Rattle.engine.specs.Stops.{CannotOpen, StopsBy}
 use Rattle.engine.proofs.Placing.{meanings_count, placed_first, placed_kept}
 use Rattle.engine.proofs.Staging.{stage_open, stage_end, stops_open, none_there, falls}
-use Rattle.engine.proofs.Stops.{handed_on, lost_or_kept, stops_among}
+use Rattle.engine.proofs.Stops.{lost_or_kept, stops_among}
 use Rattle.engine.proofs.LevelGrants.{no_elements}
 use Rattle.engine.proofs.Turns.{turn_next, placed_open, in_hand_none, rest_end}
 use Rattle.std.proofs.Common.{Bor, IfSome}
@@ -22,6 +22,7 @@ use Rattle.model.specs.state.KindSets.{kind_sets_of}
 use Rattle.engine.specs.Latest.{latest_in}
 use Rattle.engine.proofs.Ended.{following_more, latest_there, of-mapped}
 use Rattle.engine.proofs.coordinator.run_turns.Goals as goal
+use Rattle.model.proofs.lists.Results.{handed_on}
 
 pub returns-in_err-open-clause-kept : goal.returns-in_err-open-clause-kept
 returns-in_err-open-clause-kept g c = λ lost.

@@ -11,8 +11,9 @@ use Rattle.engine.specs.Meanings.{meanings, AllKeepWithin, AreFit, Suits}
 use Rattle.engine.specs.Stops.{AreStopped, StopsAs, fault_of}
 use Rattle.engine.specs.Next.{IsAtRest}
 use Rattle.engine.proofs.Agreeing.{engine_agrees}
-use Rattle.engine.proofs.Stops.{handed_on, lost_told, one_stop, stops_told, stops_up, told_unspoiled}
+use Rattle.engine.proofs.Stops.{lost_told, one_stop, stops_told, stops_up, told_unspoiled}
 use Rattle.engine.proofs.engine.run_engine.Goals as goal
+use Rattle.model.proofs.lists.Results.{handed_on}
 
 pub run_times-traces-requires : goal.run_times-traces-requires
 run_times-traces-requires g c = λ lifetimes.

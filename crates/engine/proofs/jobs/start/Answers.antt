@@ -15,9 +15,10 @@ use Rattle.engine.specs.Stops.{LacksTick, StopsBy}
 use Rattle.worker_pool.specs.declared.fault.HandFault.TheVariants as hand
 use Rattle.engine.proofs.Placing.{IsHanded, body-there, put_again, start_there, placed_start}
 use Rattle.engine.proofs.Starting.{in_hand_start}
-use Rattle.engine.proofs.Stops.{handed_on, stops_among}
+use Rattle.engine.proofs.Stops.{stops_among}
 use denote.Param.Send.{sendable}
 use Rattle.engine.proofs.jobs.start.Goals as goal
+use Rattle.model.proofs.lists.Results.{handed_on}
 
 one-body : {B : Type 0} {a b : B} → Some a ≡ Some b → a ≡ b
 one-body e = cc

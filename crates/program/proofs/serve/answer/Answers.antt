@@ -6,7 +6,7 @@ use Rattle.command_line.specs.declared.args.Work.TheVariants.{Run, Check}
 use Rattle.model.specs.shown.Outcome.{BodyMeaning}
 use Rattle.model.specs.state.Loaded.{loaded}
 use Rattle.model.specs.state.State.{State}
-use Rattle.schedule_builder.proofs.Lookups.{err_as as of-err}
+use Rattle.model.proofs.lists.Results.{err_as as of-err}
 use Rattle.program.specs.declared.fault.Fault.TheVariants.{Memory}
 use Rattle.program.specs.Load.{entity_given, loaded_world}
 use Rattle.engine.specs.FirstState.{first_state}

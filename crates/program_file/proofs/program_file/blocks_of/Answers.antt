@@ -8,8 +8,9 @@ use Rattle.program_file.specs.Keys.{HasTables}
 use Rattle.program_file.specs.Tables.{IsBlockTextsIn}
 use Rattle.program_file.proofs.Blocks.{zip-take, zip-map}
 use Rattle.program_file.proofs.Refusals.{one-tables}
-use Rattle.program_file.proofs.Wrong.{exit, seen-each, unkeyed, unkeyed-part}
+use Rattle.program_file.proofs.Wrong.{seen-each, unkeyed, unkeyed-part}
 use Rattle.program_file.proofs.program_file.blocks_of.Goals as goal
+use Rattle.model.proofs.lists.Results.{handed_on}
 
 -- the keys of the next block are read
 pub loop-block-preserved : goal.loop-block-preserved
@@ -36,7 +37,7 @@ pub returns-in_err-tables-clause-unkeyed : goal.returns-in_err-tables-clause-unk
 returns-in_err-tables-clause-unkeyed c =
     let table = table_view c.args.table.now in
     let fault = c.in_err-tables.field-0.0 in
-    exit (IsUnkeyed (HasBlocks table)) c.from_residual.result fault c.from_residual.ensures.1
+    handed_on (IsUnkeyed (HasBlocks table)) c.from_residual.result fault c.from_residual.ensures.1
     (unkeyed (λ (blocks : List Members). HasTables (codes "do") blocks table) (HasBlocks table) fault (λ blocks. (blocks.0, blocks.1)) c.in_err-tables.ensures.refused c.in_err-tables.ensures.err)
 
 -- or one of them has not the keys of a block
@@ -47,7 +48,7 @@ returns-in_err-read-clause-unkeyed c =
     let inners = c.deref-block-items.result.now in
     let all : inners ≡ c.in_ok-tables.tables.items = search rules in
     let there : HasTables (codes "do") (map (λ inner. table_view inner.now) inners) table = rw all c.in_ok-tables.ensures.ok in
-    exit (IsUnkeyed (HasBlocks table)) c.from_residual-in_err-read.result fault c.from_residual-in_err-read.ensures.1
+    handed_on (IsUnkeyed (HasBlocks table)) c.from_residual-in_err-read.result fault c.from_residual-in_err-read.ensures.1
     (unkeyed-part (HasBlockKeys (table_view c.block-item.result.now)) (HasBlocks table) fault
     (λ blocks. subst (λ inner. HasBlockKeys (table_view inner.now)) (sym c.block-item.is)
     (seen-each HasBlockKeys (λ inner. table_view inner.now) inners c.loop-block.block-index c.block-item.result c.loop-block-test.true

@@ -6,9 +6,10 @@ use Rattle.program_file.specs.Faults.{HasChain, IsListFault}
 use Rattle.program_file.specs.PlaceFault.{IsNoText, NoneIs}
 use Rattle.program_file.proofs.Blocks.{zip-take}
 use Rattle.program_file.proofs.Mapped.{of-mapped}
-use Rattle.program_file.proofs.Wrong.{exit, err-both, told-at, wrong-whole, next-wrong}
+use Rattle.program_file.proofs.Wrong.{err-both, told-at, wrong-whole, next-wrong}
 use Rattle.program_file.specs.declared.place.Place.TheVariants.{Chain}
 use Rattle.program_file.proofs.program_file.chains_of.Goals as goal
+use Rattle.model.proofs.lists.Results.{handed_on}
 
 -- the next chain is read
 pub loop-number-preserved : goal.loop-number-preserved
@@ -23,7 +24,7 @@ pub returns-in_err-chain-clause-fault : goal.returns-in_err-chain-clause-fault
 returns-in_err-chain-clause-fault c =
     let table = table_view c.index-tables-number.result.now in
     let Told = IsListFault (λ number. Chain number) HasChain IsChainIn (map (λ inner. table_view inner.now) c.args.tables.now) in
-    exit Told c.from_residual.result c.in_err-chain.field-0.0 c.from_residual.ensures.1
+    handed_on Told c.from_residual.result c.in_err-chain.field-0.0 c.from_residual.ensures.1
     (told-at (λ e. NoneIs (IsChainIn table) e × IsNoText e) Told (Chain c.loop-number.number-counter) c.read.result c.map_err.result c.in_err-chain.field-0.0 _ c.map_err.ensures.cases c.in_err-chain.was
     (err-both (NoneIs (IsChainIn table)) IsNoText c.read.result c.read.ensures.refused c.read.ensures.only) (λ e f q. search rules)
     (λ e wrong. next-wrong HasChain IsChainIn (λ inner. table_view inner.now) (λ x. x) (λ number. Chain number) c.loop-number.number-counter c.args.tables.now c.loop-number.chains.items

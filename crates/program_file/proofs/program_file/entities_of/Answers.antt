@@ -6,9 +6,10 @@ use Rattle.program_file.specs.Faults.{HasEntity, IsListFault}
 use Rattle.program_file.specs.PlaceFault.{IsNoText, NoneIs}
 use Rattle.program_file.proofs.Blocks.{zip-take}
 use Rattle.program_file.proofs.Mapped.{of-mapped}
-use Rattle.program_file.proofs.Wrong.{exit, err-both, told-at, wrong-whole, next-wrong}
+use Rattle.program_file.proofs.Wrong.{err-both, told-at, wrong-whole, next-wrong}
 use Rattle.program_file.specs.declared.place.Place.TheVariants.{Entity}
 use Rattle.program_file.proofs.program_file.entities_of.Goals as goal
+use Rattle.model.proofs.lists.Results.{handed_on}
 
 -- the next entity is read
 pub loop-number-preserved : goal.loop-number-preserved
@@ -23,7 +24,7 @@ pub returns-in_err-entity-clause-fault : goal.returns-in_err-entity-clause-fault
 returns-in_err-entity-clause-fault c =
     let table = table_view c.index-tables-number.result.now in
     let Told = IsListFault (λ number. Entity number) HasEntity IsEntityIn (map (λ inner. table_view inner.now) c.args.tables.now) in
-    exit Told c.from_residual.result c.in_err-entity.field-0.0 c.from_residual.ensures.1
+    handed_on Told c.from_residual.result c.in_err-entity.field-0.0 c.from_residual.ensures.1
     (told-at (λ e. NoneIs (IsEntityIn table) e × IsNoText e) Told (Entity c.loop-number.number-counter) c.components_of.result c.map_err.result c.in_err-entity.field-0.0 _ c.map_err.ensures.cases c.in_err-entity.was
     (err-both (NoneIs (IsEntityIn table)) IsNoText c.components_of.result c.components_of.ensures.refused c.components_of.ensures.only) (λ e f q. search rules)
     (λ e wrong. next-wrong HasEntity IsEntityIn (λ inner. table_view inner.now) (λ components. components.items) (λ number. Entity number) c.loop-number.number-counter c.args.tables.now c.loop-number.entities.items

@@ -5,9 +5,10 @@ use Rattle.program_file.specs.Tables.{IsSetIn}
 use Rattle.program_file.specs.Faults.{HasSetKeys, HasSet, IsListFault, IsWrong}
 use Rattle.program_file.proofs.Blocks.{zip-take}
 use Rattle.program_file.proofs.Mapped.{of-mapped}
-use Rattle.program_file.proofs.Wrong.{exit, told-at, next-wrong}
+use Rattle.program_file.proofs.Wrong.{told-at, next-wrong}
 use Rattle.program_file.specs.declared.place.Place.TheVariants.{Set}
 use Rattle.program_file.proofs.program_file.sets_of.Goals as goal
+use Rattle.model.proofs.lists.Results.{handed_on}
 
 -- the next set is read
 pub loop-number-preserved : goal.loop-number-preserved
@@ -22,7 +23,7 @@ pub returns-in_err-set-clause-fault : goal.returns-in_err-set-clause-fault
 returns-in_err-set-clause-fault c =
     let table = table_view c.index-tables-number.result.now in
     let Told = IsListFault (λ number. Set number) HasSetKeys IsSetIn (map (λ inner. table_view inner.now) c.args.tables.now) in
-    exit Told c.from_residual.result c.in_err-set.field-0.0 c.from_residual.ensures.1
+    handed_on Told c.from_residual.result c.in_err-set.field-0.0 c.from_residual.ensures.1
     (told-at (IsWrong (HasSetKeys table) (HasSet table)) Told (Set c.loop-number.number-counter) c.set_of.result c.map_err.result c.in_err-set.field-0.0 _ c.map_err.ensures.cases c.in_err-set.was
     c.set_of.ensures.wrong (λ e f q. search rules)
     (λ e wrong. next-wrong HasSetKeys IsSetIn (λ inner. table_view inner.now) (λ x. x) (λ number. Set number) c.loop-number.number-counter c.args.tables.now c.loop-number.sets.items

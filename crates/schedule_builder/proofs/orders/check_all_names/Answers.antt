@@ -1,8 +1,9 @@
 use Rattle.std.proofs.Common.{flat_map, length}
 use Rattle.std.proofs.lemmas.Result.{err_from_is_err_and}
 use Rattle.model.specs.declarations.Declarations.{items_of, names_in, names_along}
-use Rattle.schedule_builder.proofs.Lookups.{lacking_front, lacking_rest, known_both, err_as, ok_as}
+use Rattle.schedule_builder.proofs.Lookups.{lacking_front, lacking_rest, known_both}
 use Rattle.schedule_builder.proofs.orders.check_all_names.Goals as goal
+use Rattle.model.proofs.lists.Results.{ok_as, err_as}
 
 pub returns-in_err-check_items-clause-lacking : goal.returns-in_err-check_items-clause-lacking
 returns-in_err-check_items-clause-lacking c =

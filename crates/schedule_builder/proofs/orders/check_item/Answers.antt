@@ -1,8 +1,9 @@
 use Rattle.std.proofs.Common.{◌++◌, ℕ}
 use Rattle.std.proofs.lemmas.Result.{err_from_is_err_and}
 use Rattle.model.specs.declarations.Declarations.{DeclaredItem, bounded}
-use Rattle.schedule_builder.proofs.Lookups.{lacks_as, knows_as, lacking_front, lacking_rest, known_six, err_as, ok_as}
+use Rattle.schedule_builder.proofs.Lookups.{lacks_as, knows_as, lacking_front, lacking_rest, known_six}
 use Rattle.schedule_builder.proofs.orders.check_item.Goals as goal
+use Rattle.model.proofs.lists.Results.{ok_as, err_as}
 
 pub returns-in_err-check_names-clause-lacking : goal.returns-in_err-check_names-clause-lacking
 returns-in_err-check_names-clause-lacking c =

@@ -12,11 +12,12 @@ use Rattle.engine.specs.Meanings.{HasMemories, meanings}
 use Rattle.engine.proofs.Weaving.{numbers_of}
 use Rattle.model.specs.runs.Replays.{IsStepTaken}
 use Rattle.engine.specs.Stops.{IsNotLaid, LacksTick, StopsBy}
-use Rattle.engine.proofs.Stops.{handed_on, stops_up}
+use Rattle.engine.proofs.Stops.{stops_up}
 use Rattle.model.specs.runs.Causes.{Cause, serial_cause_of}
 use Rattle.trace_checker.specs.ReplayFaults.{HasRun}
 use Rattle.trace_checker.proofs.WholeStarts.{body_fit, in_hand_kept, is_answered, is_refused, deferred_for_start, meanings_after, suits_after, memories_after, noted_known, close_stops, start_cause, start_taken}
 use Rattle.trace_checker.proofs.replay.start.Goals as goal
+use Rattle.model.proofs.lists.Results.{handed_on}
 
 pub show-requires-clause-home : goal.show-requires-clause-home
 show-requires-clause-home g c =

@@ -4,7 +4,6 @@ use Rattle.model.specs.declared.steps.Step.TheVariants.{Cond, Start, Sync}
 use Rattle.model.specs.runs.Causes.{serial_cause_of}
 use Rattle.engine.specs.Deferred.{DeferredValue, run_with}
 use Rattle.engine.specs.Stops.{CannotSync, LacksTick, fault_of}
-use Rattle.engine.proofs.Stops.{handed_on}
 use Rattle.engine.specs.Meanings.{meanings}
 use Rattle.body.specs.Steps.{StateValue, store_of}
 use Rattle.body.proofs.Outs.{all-home, home-apart, none-out}
@@ -15,6 +14,7 @@ use Rattle.trace_checker.specs.ReplayFaults.{IsStepFault, IsStoppedHere}
 use Rattle.trace_checker.proofs.Taking.{step_told}
 use Rattle.trace_checker.proofs.WholeStarts.{ask_taken, same_bool, suits_asked, suits_synced}
 use Rattle.trace_checker.proofs.replay.take.Goals as goal
+use Rattle.model.proofs.lists.Results.{handed_on}
 
 pub returns-in_err-answer-in-Cond-clause-stopped : goal.returns-in_err-answer-in-Cond-clause-stopped
 returns-in_err-answer-in-Cond-clause-stopped g c =

@@ -15,13 +15,14 @@ use Rattle.engine.specs.Meanings.{meanings}
 use Rattle.engine.proofs.Remembering.{memories_opened}
 use Rattle.trace_checker.specs.ReplayFaults.{IsFaultOf, IsReplayFault, IsStepFault}
 use Rattle.engine.specs.Stops.{CannotOpen, fault_of}
-use Rattle.engine.proofs.Stops.{handed_on, stops_up}
+use Rattle.engine.proofs.Stops.{stops_up}
 use Rattle.trace_checker.specs.declared.replay.ReplayFault.TheVariants as replay
 use Rattle.trace_checker.proofs.Recording.{listed_at}
 use Rattle.trace_checker.proofs.StepsRecording.{known_by, opened_right, opened_wrong, right_after, step_fault_by, taken_by}
 use Rattle.trace_checker.proofs.Taking.{compared_wrong, fault_at, fresh_at, given_at, known_at, opening_told, reached_all, reached_next, waits_at}
 use Rattle.trace_checker.proofs.Verdicts.{history_next, listed_step}
 use Rattle.trace_checker.proofs.replay.take_steps.Goals as goal
+use Rattle.model.proofs.lists.Results.{handed_on}
 
 pub returns-in_err-open-clause-stopped : goal.returns-in_err-open-clause-stopped
 returns-in_err-open-clause-stopped g c =

@@ -14,8 +14,9 @@ use Rattle.program_file.specs.declared.place_fault.PlaceFault.{PlaceFault}
 use Rattle.program_file.specs.declared.program_file.Top.{Top}
 use Rattle.program_file.proofs.Blocks.{zip-map}
 use Rattle.program_file.proofs.Mapped.{of-mapped}
-use Rattle.program_file.proofs.Wrong.{exit, err-both, told-at, top-told, resources-told, entities-told, sets-told, systems-told, chains-told, fine-all}
+use Rattle.program_file.proofs.Wrong.{err-both, told-at, top-told, resources-told, entities-told, sets-told, systems-told, chains-told, fine-all}
 use Rattle.program_file.proofs.program_file.ProgramFile.read.Goals as goal
+use Rattle.model.proofs.lists.Results.{handed_on}
 
 -- the resources have their table, if there is one
 pub returns-clause-resources : goal.returns-clause-resources
@@ -98,7 +99,7 @@ fine Is g slice tables ys same read =
 pub returns-in_err-top-clause-fault : goal.returns-in_err-top-clause-fault
 returns-in_err-top-clause-fault c =
     let document = table_view c.args.document.now in
-    exit (IsFaultOf document) c.from_residual.result c.in_err-top.field-0.0 c.from_residual.ensures.1
+    handed_on (IsFaultOf document) c.from_residual.result c.in_err-top.field-0.0 c.from_residual.ensures.1
     (told-at (IsUnkeyed (HasTop document)) (IsFaultOf document) AtTop c.read.result c.map_err.result c.in_err-top.field-0.0 _ c.map_err.ensures.cases c.in_err-top.was c.read.ensures.unkeyed (λ e f q. search rules) (top-told document))
 
 -- or the resources
@@ -108,7 +109,7 @@ returns-in_err-resources-clause-fault c =
     let top = c.in_ok-top.top in
     let there = top-read document c.read.result c.map_err.result top _ c.map_err.ensures.cases c.map_err.ensures.variant c.in_ok-top.was c.read.ensures.keys c.read.ensures.resources c.read.ensures.entities c.read.ensures.sets c.read.ensures.systems c.read.ensures.chains in
     let table = lent_members top.resources in
-    exit (IsFaultOf document) c.from_residual-in_err-resources.result c.in_err-resources.field-0.0 c.from_residual-in_err-resources.ensures.1
+    handed_on (IsFaultOf document) c.from_residual-in_err-resources.result c.in_err-resources.field-0.0 c.from_residual-in_err-resources.ensures.1
     (told-at (λ e. NoneIs (AreValuesIn table) e × IsNoText e) (IsFaultOf document) Resources c.resources_of.result c.map_err-2.result c.in_err-resources.field-0.0 _ c.map_err-2.ensures.cases c.in_err-resources.was
     (err-both (NoneIs (AreValuesIn table)) IsNoText c.resources_of.result c.resources_of.ensures.refused c.resources_of.ensures.only) (λ e f q. search rules) (resources-told document (tables_of top) there))
 
@@ -120,7 +121,7 @@ returns-in_err-entities-clause-fault c =
     let there = top-read document c.read.result c.map_err.result top _ c.map_err.ensures.cases c.map_err.ensures.variant c.in_ok-top.was c.read.ensures.keys c.read.ensures.resources c.read.ensures.entities c.read.ensures.sets c.read.ensures.systems c.read.ensures.chains in
     let values = values-read (lent_members top.resources) c.resources_of.result c.map_err-2.result c.in_ok-resources.resources _ c.map_err-2.ensures.cases c.map_err-2.ensures.variant c.in_ok-resources.was c.resources_of.ensures.ok in
     let fault = c.in_err-entities.field-0.0 in
-    exit (IsFaultOf document) c.from_residual-in_err-entities.result fault c.from_residual-in_err-entities.ensures.1
+    handed_on (IsFaultOf document) c.from_residual-in_err-entities.result fault c.from_residual-in_err-entities.ensures.1
     (entities-told document (tables_of top) there fault values (shown (λ number. Entity number) HasEntity IsEntityIn c.as_slice.result.now top.entities.items fault c.as_slice.ensures.value c.in_err-entities.ensures.fault))
 
 -- or a set, and what is before it is fine
@@ -132,7 +133,7 @@ returns-in_err-sets-clause-fault c =
     let values = values-read (lent_members top.resources) c.resources_of.result c.map_err-2.result c.in_ok-resources.resources _ c.map_err-2.ensures.cases c.map_err-2.ensures.variant c.in_ok-resources.was c.resources_of.ensures.ok in
     let entities = fine IsEntityIn (λ components. components.items) c.as_slice.result.now top.entities.items c.in_ok-entities.entities.items c.as_slice.ensures.value c.in_ok-entities.ensures.ok in
     let fault = c.in_err-sets.field-0.0 in
-    exit (IsFaultOf document) c.from_residual-in_err-sets.result fault c.from_residual-in_err-sets.ensures.1
+    handed_on (IsFaultOf document) c.from_residual-in_err-sets.result fault c.from_residual-in_err-sets.ensures.1
     (sets-told document (tables_of top) there fault values entities (shown (λ number. Set number) HasSetKeys IsSetIn c.as_slice-2.result.now top.sets.items fault c.as_slice-2.ensures.value c.in_err-sets.ensures.fault))
 
 -- or a system, and what is before it is fine
@@ -145,7 +146,7 @@ returns-in_err-systems-clause-fault c =
     let entities = fine IsEntityIn (λ components. components.items) c.as_slice.result.now top.entities.items c.in_ok-entities.entities.items c.as_slice.ensures.value c.in_ok-entities.ensures.ok in
     let sets = fine IsSetIn (λ set. set) c.as_slice-2.result.now top.sets.items c.in_ok-sets.sets.items c.as_slice-2.ensures.value c.in_ok-sets.ensures.ok in
     let fault = c.in_err-systems.field-0.0 in
-    exit (IsFaultOf document) c.from_residual-in_err-systems.result fault c.from_residual-in_err-systems.ensures.1
+    handed_on (IsFaultOf document) c.from_residual-in_err-systems.result fault c.from_residual-in_err-systems.ensures.1
     (systems-told document (tables_of top) there fault values entities sets (shown (λ number. System number) HasSystemKeys IsSystemIn c.as_slice-3.result.now top.systems.items fault c.as_slice-3.ensures.value c.in_err-systems.ensures.fault))
 
 -- or a chain, and what is before it is fine
@@ -159,5 +160,5 @@ returns-in_err-chains-clause-fault c =
     let sets = fine IsSetIn (λ set. set) c.as_slice-2.result.now top.sets.items c.in_ok-sets.sets.items c.as_slice-2.ensures.value c.in_ok-sets.ensures.ok in
     let systems = fine IsSystemIn (λ system. system) c.as_slice-3.result.now top.systems.items c.in_ok-systems.systems.items c.as_slice-3.ensures.value c.in_ok-systems.ensures.ok in
     let fault = c.in_err-chains.field-0.0 in
-    exit (IsFaultOf document) c.from_residual-in_err-chains.result fault c.from_residual-in_err-chains.ensures.1
+    handed_on (IsFaultOf document) c.from_residual-in_err-chains.result fault c.from_residual-in_err-chains.ensures.1
     (chains-told document (tables_of top) there fault values entities sets systems (shown (λ number. Chain number) HasChain IsChainIn c.as_slice-4.result.now top.chains.items fault c.as_slice-4.ensures.value c.in_err-chains.ensures.fault))

@@ -21,8 +21,9 @@ use Rattle.program_file.proofs.Blocks.{blocks-keys, blocks-read}
 use Rattle.program_file.proofs.Items.{item-read, texts-keys}
 use Rattle.program_file.proofs.Refusals.{NoneIs-never, spelled-one}
 use Rattle.program_file.proofs.Unread.{conditions-of, blocks-code}
-use Rattle.program_file.proofs.Wrong.{exit, unkeyed, unkeyed-part, unkeyed-value, value-no_text, wrong-keys, wrong-text}
+use Rattle.program_file.proofs.Wrong.{unkeyed, unkeyed-part, unkeyed-value, value-no_text, wrong-keys, wrong-text}
 use Rattle.program_file.proofs.program_file.SystemTable.read.Goals as goal
+use Rattle.model.proofs.lists.Results.{handed_on}
 
 -- the keys that were looked at
 keys-read : (table : Members) (item : ItemTexts) (queries : List (Bor (List ℕ))) (res res_mut : List Res) (reads writes : List Event) (spawns : Option ℕ) (blocks : List BlockTexts)
@@ -55,7 +56,7 @@ pub returns-in_err-refuse_unknown-clause-wrong : goal.returns-in_err-refuse_unkn
 returns-in_err-refuse_unknown-clause-wrong c =
     let table = table_view c.args.table.now in
     let fault = c.in_err-refuse_unknown.field-0.0 in
-    exit (IsWrong (HasSystemKeys table) (HasSystem table)) c.from_residual.result fault c.from_residual.ensures.1
+    handed_on (IsWrong (HasSystemKeys table) (HasSystem table)) c.from_residual.result fault c.from_residual.ensures.1
     (wrong-keys (HasSystemKeys table) (HasSystem table) fault
     (unkeyed-value (HasSystemKeys table) fault c.in_err-refuse_unknown.ensures.refused.0
     (λ keys. c.in_err-refuse_unknown.ensures.refused.1 (subst (λ (names : List (Bor (List ℕ))). HasOnly (map (λ name. name.now) names) table) (sym c.as_slice.ensures) keys.only))))
@@ -64,7 +65,7 @@ pub returns-in_err-item-clause-wrong : goal.returns-in_err-item-clause-wrong
 returns-in_err-item-clause-wrong c =
     let table = table_view c.args.table.now in
     let fault = c.in_err-item.field-0.0 in
-    exit (IsWrong (HasSystemKeys table) (HasSystem table)) c.from_residual-in_err-item.result fault c.from_residual-in_err-item.ensures.1
+    handed_on (IsWrong (HasSystemKeys table) (HasSystem table)) c.from_residual-in_err-item.result fault c.from_residual-in_err-item.ensures.1
     (wrong-keys (HasSystemKeys table) (HasSystem table) fault
     (unkeyed-part (HasItemKeys table) (HasSystemKeys table) fault (λ keys. keys.item) c.in_err-item.ensures.unkeyed))
 
@@ -72,7 +73,7 @@ pub returns-in_err-queries-clause-wrong : goal.returns-in_err-queries-clause-wro
 returns-in_err-queries-clause-wrong c =
     let table = table_view c.args.table.now in
     let fault = c.in_err-queries.field-0.0 in
-    exit (IsWrong (HasSystemKeys table) (HasSystem table)) c.from_residual-in_err-queries.result fault c.from_residual-in_err-queries.ensures.1
+    handed_on (IsWrong (HasSystemKeys table) (HasSystem table)) c.from_residual-in_err-queries.result fault c.from_residual-in_err-queries.ensures.1
     (wrong-keys (HasSystemKeys table) (HasSystem table) fault
     (unkeyed (λ (texts : List (List ℕ)). HasTexts (codes "query") texts table) (HasSystemKeys table) fault (λ keys. keys.queries) c.in_err-queries.ensures.refused c.in_err-queries.ensures.err))
 
@@ -80,7 +81,7 @@ pub returns-in_err-res-clause-wrong : goal.returns-in_err-res-clause-wrong
 returns-in_err-res-clause-wrong c =
     let table = table_view c.args.table.now in
     let fault = c.in_err-res.field-0.0 in
-    exit (IsWrong (HasSystemKeys table) (HasSystem table)) c.from_residual-in_err-res.result fault c.from_residual-in_err-res.ensures.1
+    handed_on (IsWrong (HasSystemKeys table) (HasSystem table)) c.from_residual-in_err-res.result fault c.from_residual-in_err-res.ensures.1
     (wrong-keys (HasSystemKeys table) (HasSystem table) fault
     (unkeyed (λ (resources : List Res). HasResources (codes "res") resources table) (HasSystemKeys table) fault (λ keys. keys.res) c.in_err-res.ensures.refused c.in_err-res.ensures.err))
 
@@ -88,7 +89,7 @@ pub returns-in_err-res_mut-clause-wrong : goal.returns-in_err-res_mut-clause-wro
 returns-in_err-res_mut-clause-wrong c =
     let table = table_view c.args.table.now in
     let fault = c.in_err-res_mut.field-0.0 in
-    exit (IsWrong (HasSystemKeys table) (HasSystem table)) c.from_residual-in_err-res_mut.result fault c.from_residual-in_err-res_mut.ensures.1
+    handed_on (IsWrong (HasSystemKeys table) (HasSystem table)) c.from_residual-in_err-res_mut.result fault c.from_residual-in_err-res_mut.ensures.1
     (wrong-keys (HasSystemKeys table) (HasSystem table) fault
     (unkeyed (λ (resources : List Res). HasResources (codes "res_mut") resources table) (HasSystemKeys table) fault (λ keys. keys.res_mut) c.in_err-res_mut.ensures.refused c.in_err-res_mut.ensures.err))
 
@@ -96,7 +97,7 @@ pub returns-in_err-reads-clause-wrong : goal.returns-in_err-reads-clause-wrong
 returns-in_err-reads-clause-wrong c =
     let table = table_view c.args.table.now in
     let fault = c.in_err-reads.field-0.0 in
-    exit (IsWrong (HasSystemKeys table) (HasSystem table)) c.from_residual-in_err-reads.result fault c.from_residual-in_err-reads.ensures.1
+    handed_on (IsWrong (HasSystemKeys table) (HasSystem table)) c.from_residual-in_err-reads.result fault c.from_residual-in_err-reads.ensures.1
     (wrong-keys (HasSystemKeys table) (HasSystem table) fault
     (unkeyed (λ (events : List Event). HasEvents (codes "reads") events table) (HasSystemKeys table) fault (λ keys. keys.reads) c.in_err-reads.ensures.refused c.in_err-reads.ensures.err))
 
@@ -104,7 +105,7 @@ pub returns-in_err-writes-clause-wrong : goal.returns-in_err-writes-clause-wrong
 returns-in_err-writes-clause-wrong c =
     let table = table_view c.args.table.now in
     let fault = c.in_err-writes.field-0.0 in
-    exit (IsWrong (HasSystemKeys table) (HasSystem table)) c.from_residual-in_err-writes.result fault c.from_residual-in_err-writes.ensures.1
+    handed_on (IsWrong (HasSystemKeys table) (HasSystem table)) c.from_residual-in_err-writes.result fault c.from_residual-in_err-writes.ensures.1
     (wrong-keys (HasSystemKeys table) (HasSystem table) fault
     (unkeyed (λ (events : List Event). HasEvents (codes "writes") events table) (HasSystemKeys table) fault (λ keys. keys.writes) c.in_err-writes.ensures.refused c.in_err-writes.ensures.err))
 
@@ -112,7 +113,7 @@ pub returns-in_err-spawns-clause-wrong : goal.returns-in_err-spawns-clause-wrong
 returns-in_err-spawns-clause-wrong c =
     let table = table_view c.args.table.now in
     let fault = c.in_err-spawns.field-0.0 in
-    exit (IsWrong (HasSystemKeys table) (HasSystem table)) c.from_residual-in_err-spawns.result fault c.from_residual-in_err-spawns.ensures.1
+    handed_on (IsWrong (HasSystemKeys table) (HasSystem table)) c.from_residual-in_err-spawns.result fault c.from_residual-in_err-spawns.ensures.1
     (wrong-keys (HasSystemKeys table) (HasSystem table) fault
     (unkeyed-value (HasSystemKeys table) fault c.in_err-spawns.ensures.refused.0 (λ keys. c.in_err-spawns.ensures.refused.1 keys.spawns.0 keys.spawns.1)))
 
@@ -120,7 +121,7 @@ pub returns-in_err-blocks-clause-wrong : goal.returns-in_err-blocks-clause-wrong
 returns-in_err-blocks-clause-wrong c =
     let table = table_view c.args.table.now in
     let fault = c.in_err-blocks.field-0.0 in
-    exit (IsWrong (HasSystemKeys table) (HasSystem table)) c.from_residual-in_err-blocks.result fault c.from_residual-in_err-blocks.ensures.1
+    handed_on (IsWrong (HasSystemKeys table) (HasSystem table)) c.from_residual-in_err-blocks.result fault c.from_residual-in_err-blocks.ensures.1
     (wrong-keys (HasSystemKeys table) (HasSystem table) fault
     (unkeyed-part (HasBlocks table) (HasSystemKeys table) fault (λ keys. keys.blocks) c.in_err-blocks.ensures.unkeyed))
 
@@ -130,7 +131,7 @@ returns-in_err-read_item-clause-wrong c =
     let table = table_view c.args.table.now in
     let fault = c.in_err-read_item.field-0.0 in
     let only : HasOnly keys_of_system table = subst (λ (names : List (Bor (List ℕ))). HasOnly (map (λ name. name.now) names) table) c.as_slice.ensures c.in_ok-refuse_unknown.ensures.ok in
-    exit (IsWrong (HasSystemKeys table) (HasSystem table)) c.from_residual-in_err-read_item.result fault c.from_residual-in_err-read_item.ensures.1
+    handed_on (IsWrong (HasSystemKeys table) (HasSystem table)) c.from_residual-in_err-read_item.result fault c.from_residual-in_err-read_item.ensures.1
     (wrong-text (λ (conditions : List Cond). AreSpelled IsCondition conditions (map (λ text. text.now) c.in_ok-item.item.conditions.items)) (HasSystemKeys table) (HasSystem table) fault
     (keys-read table c.in_ok-item.item c.in_ok-queries.queries.items c.in_ok-res.res.items c.in_ok-res_mut.res_mut.items c.in_ok-reads.reads.items c.in_ok-writes.writes.items c.in_ok-spawns.spawns c.in_ok-blocks.blocks.items
     only c.in_ok-item.ensures.said c.in_ok-queries.ensures.ok c.in_ok-res.ensures.ok c.in_ok-res_mut.ensures.ok c.in_ok-reads.ensures.ok c.in_ok-writes.ensures.ok c.in_ok-spawns.ensures.ok c.in_ok-blocks.ensures.ok)
@@ -141,7 +142,7 @@ returns-in_err-queries_of-clause-wrong c =
     let table = table_view c.args.table.now in
     let fault = c.in_err-queries_of.field-0.0 in
     let only : HasOnly keys_of_system table = subst (λ (names : List (Bor (List ℕ))). HasOnly (map (λ name. name.now) names) table) c.as_slice.ensures c.in_ok-refuse_unknown.ensures.ok in
-    exit (IsWrong (HasSystemKeys table) (HasSystem table)) c.from_residual-in_err-queries_of.result fault c.from_residual-in_err-queries_of.ensures.1
+    handed_on (IsWrong (HasSystemKeys table) (HasSystem table)) c.from_residual-in_err-queries_of.result fault c.from_residual-in_err-queries_of.ensures.1
     (wrong-text (λ (queries : List Query). AreSpelled IsQuery queries (map (λ text. text.now) c.in_ok-queries.queries.items)) (HasSystemKeys table) (HasSystem table) fault
     (keys-read table c.in_ok-item.item c.in_ok-queries.queries.items c.in_ok-res.res.items c.in_ok-res_mut.res_mut.items c.in_ok-reads.reads.items c.in_ok-writes.writes.items c.in_ok-spawns.spawns c.in_ok-blocks.blocks.items
     only c.in_ok-item.ensures.said c.in_ok-queries.ensures.ok c.in_ok-res.ensures.ok c.in_ok-res_mut.ensures.ok c.in_ok-reads.ensures.ok c.in_ok-writes.ensures.ok c.in_ok-spawns.ensures.ok c.in_ok-blocks.ensures.ok)
@@ -153,7 +154,7 @@ returns-in_err-read_blocks-clause-wrong c =
     let table = table_view c.args.table.now in
     let fault = c.in_err-read_blocks.field-0.0 in
     let only : HasOnly keys_of_system table = subst (λ (names : List (Bor (List ℕ))). HasOnly (map (λ name. name.now) names) table) c.as_slice.ensures c.in_ok-refuse_unknown.ensures.ok in
-    exit (IsWrong (HasSystemKeys table) (HasSystem table)) c.from_residual-in_err-read_blocks.result fault c.from_residual-in_err-read_blocks.ensures.1
+    handed_on (IsWrong (HasSystemKeys table) (HasSystem table)) c.from_residual-in_err-read_blocks.result fault c.from_residual-in_err-read_blocks.ensures.1
     (wrong-text (λ (code : List (List Instruction)). AllZip IsCodeOf c.in_ok-blocks.blocks.items code) (HasSystemKeys table) (HasSystem table) fault
     (keys-read table c.in_ok-item.item c.in_ok-queries.queries.items c.in_ok-res.res.items c.in_ok-res_mut.res_mut.items c.in_ok-reads.reads.items c.in_ok-writes.writes.items c.in_ok-spawns.spawns c.in_ok-blocks.blocks.items
     only c.in_ok-item.ensures.said c.in_ok-queries.ensures.ok c.in_ok-res.ensures.ok c.in_ok-res_mut.ensures.ok c.in_ok-reads.ensures.ok c.in_ok-writes.ensures.ok c.in_ok-spawns.ensures.ok c.in_ok-blocks.ensures.ok)

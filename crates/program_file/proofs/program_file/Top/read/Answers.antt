@@ -3,15 +3,16 @@ use Rattle.toml.specs.Data.{Members}
 use Rattle.toml.specs.View.{table_view}
 use Rattle.program_file.specs.Faults.{HasTop, IsUnkeyed}
 use Rattle.program_file.specs.Keys.{HasOnly, HasTable, HasTables}
-use Rattle.program_file.proofs.Wrong.{exit, unkeyed, unkeyed-value, value-no_text}
+use Rattle.program_file.proofs.Wrong.{unkeyed, unkeyed-value, value-no_text}
 use Rattle.program_file.proofs.program_file.Top.read.Goals as goal
+use Rattle.model.proofs.lists.Results.{handed_on}
 
 -- another key is there
 pub returns-in_err-refuse_unknown-clause-unkeyed : goal.returns-in_err-refuse_unknown-clause-unkeyed
 returns-in_err-refuse_unknown-clause-unkeyed c =
     let document = table_view c.args.document.now in
     let fault = c.in_err-refuse_unknown.field-0.0 in
-    exit (IsUnkeyed (HasTop document)) c.from_residual.result fault c.from_residual.ensures.1
+    handed_on (IsUnkeyed (HasTop document)) c.from_residual.result fault c.from_residual.ensures.1
     (unkeyed-value (HasTop document) fault c.in_err-refuse_unknown.ensures.refused.0
     (λ top. c.in_err-refuse_unknown.ensures.refused.1 (subst (λ (names : List (Bor (List ℕ))). HasOnly (map (λ name. name.now) names) document) (sym c.as_slice.ensures) top.1.only)))
 
@@ -20,7 +21,7 @@ pub returns-in_err-table_at-clause-unkeyed : goal.returns-in_err-table_at-clause
 returns-in_err-table_at-clause-unkeyed c =
     let document = table_view c.args.document.now in
     let fault = c.in_err-table_at.field-0.0 in
-    exit (IsUnkeyed (HasTop document)) c.from_residual-in_err-table_at.result fault c.from_residual-in_err-table_at.ensures.1
+    handed_on (IsUnkeyed (HasTop document)) c.from_residual-in_err-table_at.result fault c.from_residual-in_err-table_at.ensures.1
     (unkeyed (λ (members : Members). HasTable (codes "resources") members document) (HasTop document) fault (λ top. (top.0.resources, top.1.resources)) c.in_err-table_at.ensures.refused (value-no_text fault c.in_err-table_at.ensures.err))
 
 -- or the others no lists of tables
@@ -28,26 +29,26 @@ pub returns-in_err-tables_at-clause-unkeyed : goal.returns-in_err-tables_at-clau
 returns-in_err-tables_at-clause-unkeyed c =
     let document = table_view c.args.document.now in
     let fault = c.in_err-tables_at.field-0.0 in
-    exit (IsUnkeyed (HasTop document)) c.from_residual-in_err-tables_at.result fault c.from_residual-in_err-tables_at.ensures.1
+    handed_on (IsUnkeyed (HasTop document)) c.from_residual-in_err-tables_at.result fault c.from_residual-in_err-tables_at.ensures.1
     (unkeyed (λ (tables : List Members). HasTables (codes "entity") tables document) (HasTop document) fault (λ top. (top.0.entities, top.1.entities)) c.in_err-tables_at.ensures.refused c.in_err-tables_at.ensures.err)
 
 pub returns-in_err-tables_at-2-clause-unkeyed : goal.returns-in_err-tables_at-2-clause-unkeyed
 returns-in_err-tables_at-2-clause-unkeyed c =
     let document = table_view c.args.document.now in
     let fault = c.in_err-tables_at-2.field-0.0 in
-    exit (IsUnkeyed (HasTop document)) c.from_residual-in_err-tables_at-2.result fault c.from_residual-in_err-tables_at-2.ensures.1
+    handed_on (IsUnkeyed (HasTop document)) c.from_residual-in_err-tables_at-2.result fault c.from_residual-in_err-tables_at-2.ensures.1
     (unkeyed (λ (tables : List Members). HasTables (codes "set") tables document) (HasTop document) fault (λ top. (top.0.sets, top.1.sets)) c.in_err-tables_at-2.ensures.refused c.in_err-tables_at-2.ensures.err)
 
 pub returns-in_err-tables_at-3-clause-unkeyed : goal.returns-in_err-tables_at-3-clause-unkeyed
 returns-in_err-tables_at-3-clause-unkeyed c =
     let document = table_view c.args.document.now in
     let fault = c.in_err-tables_at-3.field-0.0 in
-    exit (IsUnkeyed (HasTop document)) c.from_residual-in_err-tables_at-3.result fault c.from_residual-in_err-tables_at-3.ensures.1
+    handed_on (IsUnkeyed (HasTop document)) c.from_residual-in_err-tables_at-3.result fault c.from_residual-in_err-tables_at-3.ensures.1
     (unkeyed (λ (tables : List Members). HasTables (codes "system") tables document) (HasTop document) fault (λ top. (top.0.systems, top.1.systems)) c.in_err-tables_at-3.ensures.refused c.in_err-tables_at-3.ensures.err)
 
 pub returns-in_err-tables_at-4-clause-unkeyed : goal.returns-in_err-tables_at-4-clause-unkeyed
 returns-in_err-tables_at-4-clause-unkeyed c =
     let document = table_view c.args.document.now in
     let fault = c.in_err-tables_at-4.field-0.0 in
-    exit (IsUnkeyed (HasTop document)) c.from_residual-in_err-tables_at-4.result fault c.from_residual-in_err-tables_at-4.ensures.1
+    handed_on (IsUnkeyed (HasTop document)) c.from_residual-in_err-tables_at-4.result fault c.from_residual-in_err-tables_at-4.ensures.1
     (unkeyed (λ (tables : List Members). HasTables (codes "chain") tables document) (HasTop document) fault (λ top. (top.0.chains, top.1.chains)) c.in_err-tables_at-4.ensures.refused c.in_err-tables_at-4.ensures.err)
