@@ -86,6 +86,17 @@ all_noted count bound M row rivals room end members among = record {
   );
 }
 
+-- none of them, where there are no rivals
+pub none_meet : (count : ℕ) (M : ℕ → Type 0) (row rivals : List ℕ) → length row ≡ count / 64 + 1 → ((m : ℕ) → contains row m ≡ false) → ((m : ℕ) → contains rivals m ≡ false) →
+    ((m : ℕ) → m < count → M m → contains rivals m ≡ true) → IsRow count (λ m. (m < count) × M m) row
+none_meet count M row rivals room empty none among = record {
+  room = room;
+  members = λ m. (
+    (λ e. absurd (both_ways (contains row m) (empty m) e)),
+    (λ p. absurd (both_ways (contains rivals m) (none m) (among m p.0 p.1))),
+  );
+}
+
 -- ---- rows
 
 -- rows made anew up to a place, and behind it rows with room

@@ -77,6 +77,9 @@ fn renew_row(row: &mut NumberSet, built: &Built, rivals: &NumberSet, access: &Pa
     ensures { IsRow (length built.now.systems) (λ m. (m < length built.now.systems) × Meet (Some sets.now) (params_of built.now m) access.now) row.new }
 {
     row.clear();
+    if rivals.is_empty() {
+        return;
+    }
     for system in 0..built.count() {
         note_meeting(row, system, built, rivals, access, sets);
     }

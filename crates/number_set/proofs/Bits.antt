@@ -1,11 +1,11 @@
 -- Words of bits: one bit set, and one word within another.
-use Rattle.std.proofs.Common.{ℕ, ◌+◌, ◌*◌, ◌/◌, ◌%◌, ◌^◌, ◌<◌, ◌≤◌, ◌≡◌, ◌≢◌, true, ◌||◌, eqb, min, inl, inr, List, length, get_or, sym, ap, ◌∙◌, subst, arith, get_or-set_same, get_or-set_other}
+use Rattle.std.proofs.Common.{ℕ, ◌+◌, ◌*◌, ◌/◌, ◌%◌, ◌^◌, ◌<◌, ◌≤◌, ◌≡◌, ◌≢◌, true, false, ◌||◌, eqb, min, inl, inr, List, length, get_or, sym, ap, ◌∙◌, subst, arith, get_or-set_same, get_or-set_other}
 use Rattle.std.proofs.Math.ListN.{set}
 use Rattle.std.specs.Int.{bit_at, w64}
 use Rattle.std.specs.Prelude.{bit_or, bit_and}
-use Rattle.std.proofs.lemmas.Bool.{eqb-true, eq-eqb, cases_lt}
+use Rattle.std.proofs.lemmas.Bool.{both_ways, eqb-true, eq-eqb, ne_eqb, cases_lt}
 use Rattle.std.proofs.lemmas.Bool.Decides.{eqb_tells}
-use Rattle.std.proofs.lemmas.Nat.Bits.{bit_at_and, bit_at_set_same, bit_at_set_other, bit_at-lt, same_from_bits, bit_at_above}
+use Rattle.std.proofs.lemmas.Nat.Bits.{bit_at_and, bit_at_set_same, bit_at_set_other, bit_at-lt, same_from_bits, same_from_bits_below, bit_at-zero, bit_at_above}
 use Rattle.number_set.specs.Members.{contains}
 
 -- where a bit is set, a word within another has it
@@ -140,3 +140,19 @@ within_share first second third index few within =
     (λ i low set_here.
     let both = bit_shared (get_or first index 0) (get_or second index 0) i set_here in
     bit_at_member third index i low (within (number_of index i) (member_at first index i low both.0) (member_at second index i low both.1)))
+
+-- ---- words without bits
+
+-- a word that is 0 has no members
+pub none_in_word : (words : List ℕ) (index n : ℕ) → n / 64 ≡ index → get_or words index 0 ≡ 0 → contains words n ≡ false
+none_in_word words index n here none =
+    let bit : bit_at (get_or words (n / 64) 0) (n % 64) ≡ 0 = ap (λ (i : ℕ). bit_at (get_or words i 0) (n % 64)) here ∙ (ap (λ (x : ℕ). bit_at x (n % 64)) none ∙ bit_at-zero (n % 64)) in
+    ne_eqb (bit_at (get_or words (n / 64) 0) (n % 64)) 1 (λ e. omega arith)
+
+-- and the other way round
+pub word_of_none : (words : List ℕ) (index : ℕ) → get_or words index 0 < 2 ^ 64 → ((n : ℕ) → contains words n ≡ false) → get_or words index 0 ≡ 0
+word_of_none words index few none = same_from_bits_below 64 (get_or words index 0) 0 few (omega arith) (λ i low.
+    let small : bit_at (get_or words index 0) i < 2 = bit_at-lt (get_or words index 0) i in
+    let unset : bit_at (get_or words index 0) i ≢ 1 = λ set_here. both_ways (contains words (number_of index i)) (none (number_of index i)) (member_at words index i low set_here) in
+    let zero_bit : bit_at (get_or words index 0) i ≡ 0 = omega arith in
+    zero_bit ∙ sym (bit_at-zero i))

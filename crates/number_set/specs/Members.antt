@@ -1,10 +1,14 @@
 -- The members of a set of numbers that is kept as bits, 64 to a word.
-use Rattle.std.specs.Prelude.{ℕ, Bool, true, ◌≡◌, ◌==◌, ◌/◌, ◌%◌, List, get_or}
+use Rattle.std.specs.Prelude.{ℕ, Bool, true, false, ◌≡◌, ◌==◌, ◌/◌, ◌%◌, List, get_or}
 use Rattle.std.specs.Int.{bit_at}
 
 -- whether a number is a member: its bit is set
 abbrev pub contains : List ℕ → ℕ → Bool
 contains words n = bit_at (get_or words (n / 64) 0) (n % 64) == 1
+
+-- no number is a member
+abbrev pub HasNone : List ℕ → Type 0
+HasNone words = (n : ℕ) → contains words n ≡ false
 
 -- each member of one set is one of the other
 abbrev pub AreWithin : List ℕ → List ℕ → Type 0

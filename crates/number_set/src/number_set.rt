@@ -1,7 +1,7 @@
 // Sets of numbers below a bound: one bit for each number, 64 to a word, so that two sets are compared a word at a time.
 
 ghost use Rattle.std.specs.Prelude.{◌≡◌, ◌<◌, ◌+◌, ◌/◌, ◌↔◌, ◌||◌, ◌==◌, ℕ, true, false, length, IsTrue, IfOk};
-ghost use Rattle.number_set.specs.Members.{contains, AreWithin, SharesOnly};
+ghost use Rattle.number_set.specs.Members.{contains, HasNone, AreWithin, SharesOnly};
 
 use std::alloc::{AllocError, Global};
 use std::marker::Model;
@@ -38,6 +38,13 @@ impl NumberSet {
         ensures { result ≡ contains self.now number }
     {
         holds(self.words.as_slice(), number)
+    }
+
+    /// Whether no number is a member.
+    pub fn is_empty(&self) -> bool
+        ensures { IsTrue result ↔ HasNone self.now }
+    {
+        are_empty(self.words.as_slice())
     }
 
     /// Makes the number a member. Asks that there is room for it.
@@ -104,6 +111,18 @@ fn put(words: &mut [u64], number: u32)
 {
     let word = (number / BITS) as usize;
     words[word] = words[word] | (1 << (number % BITS));
+}
+
+// Whether no bit is set.
+fn are_empty(words: &[u64]) -> bool
+    ensures { IsTrue result ↔ HasNone words.now }
+{
+    for index in 0..words.len() {
+        if words[index] != 0 {
+            return false;
+        }
+    }
+    true
 }
 
 // Whether each bit of the first words is one of the second.

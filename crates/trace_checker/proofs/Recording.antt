@@ -1,6 +1,6 @@
 -- A step asks of the kind sets that a run records only those recorded last. So what is said by the lists so far is said by all lists, and what a
 -- core stands for goes on from list to list.
-use Rattle.std.proofs.Common.{ℕ, suc, ◌<◌, ◌≤◌, ◌≡◌, inl, inr, List, [], ◌∷◌, ◌++◌, length, get_or, take, Option, Some, None, MatchOption, refl, sym, ap, subst, arith}
+use Rattle.std.proofs.Common.{ℕ, suc, ◌-◌, ◌<◌, ◌≤◌, ◌≡◌, inl, inr, List, [], ◌∷◌, ◌++◌, length, get_or, take, Option, Some, None, MatchOption, refl, sym, ap, ◌∙◌, subst, arith}
 use Rattle.std.proofs.Math.Seq.{take-suc}
 use Rattle.std.proofs.lemmas.List.{get_or-take}
 use Rattle.model.specs.declared.steps.Step.{Step}
@@ -171,3 +171,12 @@ pub stands_listed : (core : Stand) (lists : List (List ℕ)) (h : List Step) (k 
 stands_listed core lists h k place e within stands =
     let here = subst (λ n. Stands core (Some (take (suc (syncs_in h)) lists ++ get_or lists n [] ∷ [])) (Sync k ∷ h)) e stands in
     subst (λ (sets : Option (List (List ℕ))). Stands core sets (Sync k ∷ h)) (ap Some (sym (take-suc lists (suc (syncs_in h)) [] (subst (λ n. n < length lists) e within)))) here
+
+-- and after one at which they are those before it
+pub stands_same : (core : Stand) (lists : List (List ℕ)) (h : List Step) (k place : ℕ) → place ≡ syncs_in (Sync k ∷ h) → place < length lists → get_or lists place [] ≡ get_or lists (place - 1) [] →
+    Stands core (Some (take (suc (syncs_in h)) lists ++ get_or (take (suc (syncs_in h)) lists) (syncs_in h) [] ∷ [])) (Sync k ∷ h) → Stands core (sets_so_far (Some lists) (Sync k ∷ h)) (Sync k ∷ h)
+stands_same core lists h k place e within same stands =
+    let before : place - 1 ≡ syncs_in h = omega (arith, e) in
+    let taken : get_or (take (suc (syncs_in h)) lists) (syncs_in h) [] ≡ get_or lists (syncs_in h) [] = get_or-take (suc (syncs_in h)) lists (syncs_in h) [] (omega arith) in
+    let last : get_or (take (suc (syncs_in h)) lists) (syncs_in h) [] ≡ get_or lists place [] = taken ∙ (ap (λ n. get_or lists n []) (sym before) ∙ sym same) in
+    stands_listed core lists h k place e within (subst (λ l. Stands core (Some (take (suc (syncs_in h)) lists ++ l ∷ [])) (Sync k ∷ h)) last stands)

@@ -1,6 +1,6 @@
 // What a schedule says of a trace.
 
-ghost use Rattle.std.specs.Prelude.{ℕ, ◌≡◌, ◌+◌, ◌≤◌, ◌<◌, List, [], ◌∷◌, Option, MatchOption, length, IfOk, IfErr, OnOk};
+ghost use Rattle.std.specs.Prelude.{ℕ, ◌≡◌, ◌+◌, ◌≤◌, ◌<◌, List, [], ◌∷◌, Option, MatchOption, Some, length, IfOk, IfErr, OnOk};
 ghost use Rattle.model.specs.declared.steps.Step.{Step as AStep};
 ghost use Rattle.model.specs.declared.steps.Step.TheVariants.{Sync as Synced};
 ghost use Rattle.model.specs.steps.Schedule.{recording};
@@ -11,6 +11,7 @@ ghost use Rattle.trace_checker.specs.declared.check.Verdict.{Verdict};
 ghost use Rattle.trace_checker.specs.Verdicts.{IsVerdict, AreVerdicts, is_complete, fault_number, sets_so_far};
 
 use executor_core::{Core, Step, StepFault, Trace};
+use model::KindSets;
 use schedule_builder::Built;
 use std::alloc::{AllocError, Global};
 use std::fmt;
@@ -130,9 +131,23 @@ fn take(core: &mut Core, step: Step, trace: &Trace, place: usize) -> Result<(), 
     let Step::Sync(point) = step else {
         return core.step(step);
     };
-    let Some(lists) = trace.sets() else {
-        return core.step(step);
-    };
+    match trace.sets() {
+        Some(lists) => pass(core, lists, point, place),
+        None => core.step(step),
+    }
+}
+
+// Takes a sync point of a run that records kind sets, those at this place after it. Where they are those before it, the core keeps who meets
+// whom.
+fn pass(core: &mut Core, lists: &[KindSets], point: u32, place: usize) -> Result<(), StepFault>
+    requires { place < length lists.now }
+    ensures fault { (sets : Option (List (List ℕ))) (h : List AStep) → Stands core.old sets h → IfErr result (λ fault. IsFirstFault (recording core.old.schedule sets) h (Synced point) fault) }
+    ensures stands { OnOk result ((h : List AStep) → Stands core.old (sets_so_far (Some lists.now) h) h → place ≡ syncs_in (Synced point ∷ h) → Stands core.new (sets_so_far (Some lists.now) (Synced point ∷ h)) (Synced point ∷ h)) }
+    ensures schedule { core.new.schedule ≡ core.old.schedule }
+{
+    if place > 0 && lists[place].is_same(&lists[place - 1]) {
+        return core.sync_same(point);
+    }
     core.sync_in(point, &lists[place])
 }
 
