@@ -6,6 +6,7 @@ pub mod Ordered
 pub mod Rising
 pub mod Numbers
 pub mod Apart
+pub mod Sought
 pub mod Rows
 pub mod Columns
 pub mod Tables

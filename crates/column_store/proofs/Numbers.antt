@@ -23,7 +23,7 @@ use Rattle.model.proofs.lists.Places.{get-there}
 lt_true : (a b : ℕ) → a < b → nat_lt a b ≡ true
 lt_true a b h = grind (arith, nat_tests)
 
-get-map_or : {A B : Type 0} (f : A → B) (xs : List A) (i : ℕ) (d : A) → get_or (map f xs) i (f d) ≡ f (get_or xs i d)
+pub get-map_or : {A B : Type 0} (f : A → B) (xs : List A) (i : ℕ) (d : A) → get_or (map f xs) i (f d) ≡ f (get_or xs i d)
 get-map_or f [] i d = refl
 get-map_or f (x ∷ xs) zero d = refl
 get-map_or f (x ∷ xs) (suc i) d = get-map_or f xs i d
@@ -82,7 +82,7 @@ not_before a b h = grind (arith, nat_tests)
 not_before_itself : (x : Entity) → is_before x x ≡ true → ⊥
 not_before_itself x h = not_before x.index x.generation h
 
-each-has : (P : Entity → Type 0) (f : ℕ → Entity) (rows : List ℕ) (row : ℕ) → AllByRecursion P (map f rows) → has row rows ≡ true → P (f row)
+pub each-has : (P : Entity → Type 0) (f : ℕ → Entity) (rows : List ℕ) (row : ℕ) → AllByRecursion P (map f rows) → has row rows ≡ true → P (f row)
 each-has P f [] row h k = absurd (cc)
 each-has P f (r ∷ rows) row h k = go (r == row) refl k (each-has P f rows row h.1)
   where

@@ -1,5 +1,5 @@
 -- What a table is: the rows of the entities of one archetype, and which of its columns are at home.
-use Rattle.std.specs.Prelude.{◌≡◌, ℕ, ℤ, Bool, true, false, cond, List, [], ◌∷◌, map, slice_get, Option, Some, None, option_map, option_and_then}
+use Rattle.std.specs.Prelude.{◌≡◌, ℕ, suc, ℤ, Bool, true, false, cond, List, [], ◌∷◌, map, slice_get, Option, Some, None, option_map, option_and_then}
 use Rattle.model.specs.state.State.{Cell}
 use Rattle.model.specs.declared.entities.Entity.{Entity}
 use Rattle.column_store.specs.Order.{is_same}
@@ -66,6 +66,11 @@ abbrev pub row_of : Entity → List TableRow → Option TableRow
 row_of e [] = None
 row_of e (row ∷ rows) = cond (is_same row.entity e) (Some row) (row_of e rows)
 
+-- how many rows come before that of an entity: the number of its row, and as many as there are where it has none
+abbrev pub row_number : Entity → List TableRow → ℕ
+row_number e [] = 0
+row_number e (row ∷ rows) = cond (is_same row.entity e) 0 (suc (row_number e rows))
+
 -- a row that has these components in place of its own
 abbrev pub renewed_row : List StampedValue → TableRow → TableRow
 renewed_row components row = record { entity = row.entity; cells = map (λ s. Some (stamped_cell s)) components }
@@ -90,6 +95,10 @@ filled_rows kinds kind (cell ∷ cells) (row ∷ rows) =
 -- the cell of a kind at a row: there where both are
 abbrev pub cell_in_row : TableValue → ℕ → ℕ → Option Cell
 cell_in_row t row kind = option_and_then (cell_of_kind t.kinds kind) (slice_get t.rows row)
+
+-- the cell of a kind of an entity: there where both are
+abbrev pub cell_of_entity : TableValue → Entity → ℕ → Option Cell
+cell_of_entity t e kind = option_and_then (cell_of_kind t.kinds kind) (row_of e t.rows)
 
 -- where the column of a kind is
 abbrev pub standing_of : TableValue → ℕ → Option Standing

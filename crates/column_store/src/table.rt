@@ -1,6 +1,6 @@
 // Tables.
 
-ghost use Rattle.std.specs.Prelude.{◌≡◌, ◌+◌, ◌-◌, ◌<◌, ◌++◌, ◌∷◌, [], length, map, option_map, Some, IsSome, IsNone, IfSome, IfOk, OnOk, OnErr, IsTrue, slice_get};
+ghost use Rattle.std.specs.Prelude.{◌≡◌, ◌+◌, ◌-◌, ◌<◌, ◌++◌, ◌∷◌, [], length, map, option_map, Some, IsSome, IsNone, is_some, IfSome, IfOk, OnOk, OnErr, IsTrue, slice_get};
 ghost use Rattle.std.specs.List.{list_all};
 ghost use Rattle.kinds.specs.Kind.{kind_number};
 ghost use Rattle.kinds.specs.Value.{value_number, value_words};
@@ -11,7 +11,7 @@ ghost use Rattle.column_store.specs.Order.{AreApart};
 ghost use Rattle.column_store.specs.RowOrder.{OrdersRows};
 ghost use Rattle.column_store.specs.Swapped.{swap_removed};
 ghost use Rattle.std.specs.Arc.{arc_value};
-ghost use Rattle.column_store.specs.Table.{Standing, empty_table, is_home, is_owned, is_not_away, is_own_if, row_of, new_row, renewed_row, cell_in_row, standing_of, kind_cells, write_cell, lent, owned, homed, IsHome, IsAlike};
+ghost use Rattle.column_store.specs.Table.{Standing, empty_table, is_home, is_owned, is_not_away, is_own_if, row_of, row_number, new_row, renewed_row, cell_in_row, cell_of_entity, standing_of, kind_cells, write_cell, lent, owned, homed, IsHome, IsAlike};
 
 use crate::column_slot::{
     ColumnSlot, copied_slots, empty_columns, own_each, push_row, read_row, replace_row,
@@ -172,8 +172,44 @@ impl Table {
         }
     }
 
+    /// The row of an entity, found by halving in the order of ids.
+    pub fn row(&self, e: Entity) -> Option<usize>
+        ensures { result ≡ option_map (λ _. row_number e self.now.rows) (row_of e self.now.rows) }
+    {
+        self.entities.row(e)
+    }
+
+    /// Whether an entity is there.
+    pub fn has(&self, e: Entity) -> bool
+        ensures { result ≡ is_some (row_of e self.now.rows) }
+    {
+        self.row(e).is_some()
+    }
+
+    // The row of an entity that is there.
+    fn known_row(&self, e: Entity) -> usize
+        requires { IsSome (row_of e self.now.rows) }
+        ensures number { result ≡ row_number e self.now.rows }
+        ensures within { result < length self.now.rows }
+        ensures row { slice_get self.now.rows result ≡ row_of e self.now.rows }
+    {
+        match self.row(e) {
+            None => unreachable!(),
+            Some(row) => row,
+        }
+    }
+
+    /// The component of an entity.
+    pub fn get<C: Component>(&self, e: Entity) -> C
+        requires there { IsSome (cell_of_entity self.now e C.NUMBER) }
+        requires home { IsTrue (is_not_away (standing_of self.now C.NUMBER)) }
+        ensures { option_map (λ c. c.words) (cell_of_entity self.now e C.NUMBER) ≡ Some (C.words result) }
+    {
+        self.get_at(self.known_row(e))
+    }
+
     /// The component at a row.
-    pub fn get<C: Component>(&self, row: usize) -> C
+    pub fn get_at<C: Component>(&self, row: usize) -> C
         requires within { row < length self.now.rows }
         requires there { IsSome (cell_in_row self.now row C.NUMBER) }
         requires home { IsTrue (is_not_away (standing_of self.now C.NUMBER)) }
@@ -218,6 +254,20 @@ impl Table {
         let count = self.entities.as_slice().len();
         reserve_rows(&mut self.columns, count, room)?;
         self.room = room;
+        Ok(())
+    }
+
+    /// Adds the row of an entity that isn't there at the end, with its components in the order of the kinds. Where an allocation fails the
+    /// table stays as it was.
+    pub fn put(&mut self, e: Entity, components: &[StampedValue]) -> Result<(), AllocError>
+        requires absent { IsNone (row_of e self.old.rows) }
+        requires kinds { map stamped_number components.now ≡ self.old.kinds }
+        requires owned { IsTrue (list_all is_owned self.old.standings) }
+        ensures ok { OnOk result (self.new ≡ record self.old { rows = self.old.rows ++ new_row e components.now ∷ [] }) }
+        ensures err { OnErr result (self.new ≡ self.old) }
+    {
+        self.reserve(1)?;
+        self.push(e, components);
         Ok(())
     }
 
@@ -270,6 +320,22 @@ impl Table {
         ensures kinds { IfOk result (λ components. map stamped_number components.items ≡ self.now.kinds) }
     {
         read_row(alloc, &self.columns, row)
+    }
+
+    /// Removes the row of an entity, moves the last one into its place, and gives its components, in the order of the kinds. Where an
+    /// allocation fails the table stays as it was.
+    pub fn take(&mut self, alloc: Global, e: Entity) -> Result<Vec<StampedValue>, AllocError>
+        requires there { IsSome (row_of e self.old.rows) }
+        requires owned { IsTrue (list_all is_owned self.old.standings) }
+        ensures row { IfOk result (λ components. row_of e self.old.rows ≡ Some (new_row e components.items)) }
+        ensures kinds { IfOk result (λ components. map stamped_number components.items ≡ self.old.kinds) }
+        ensures ok { OnOk result (self.new ≡ record self.old { rows = swap_removed self.old.rows (row_number e self.old.rows) }) }
+        ensures err { OnErr result (self.new ≡ self.old) }
+    {
+        let row = self.known_row(e);
+        let components = self.components(alloc, row)?;
+        self.swap_remove(row);
+        Ok(components)
     }
 
     /// The column of a kind, which is at home.
@@ -348,8 +414,18 @@ impl Table {
         );
     }
 
+    /// Replaces the component of an entity, which counts as changed at this tick, also where the value stays.
+    pub fn set<C: Component>(&mut self, e: Entity, component: C, tick: Tick)
+        requires there { IsSome (cell_of_entity self.old e C.NUMBER) }
+        requires owned { IsTrue (is_own_if (standing_of self.old C.NUMBER)) }
+        ensures { self.new ≡ write_cell self.old (row_number e self.old.rows) C.NUMBER (C.words component) tick }
+    {
+        let row = self.known_row(e);
+        self.set_at(row, component, tick);
+    }
+
     /// Replaces the component at a row, which counts as changed at this tick, also where the value stays.
-    pub fn set<C: Component>(&mut self, row: usize, component: C, tick: Tick)
+    pub fn set_at<C: Component>(&mut self, row: usize, component: C, tick: Tick)
         requires within { row < length self.old.rows }
         requires there { IsSome (cell_in_row self.old row C.NUMBER) }
         requires owned { IsTrue (is_own_if (standing_of self.old C.NUMBER)) }
