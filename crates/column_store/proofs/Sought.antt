@@ -11,7 +11,7 @@ use Rattle.column_store.specs.RowOrder.{entity_at, IsOrderOf}
 use Rattle.column_store.specs.Cells.{stamped_cell}
 use Rattle.column_store.specs.declared.stamped.StampedValue.{StampedValue}
 use Rattle.column_store.specs.Table.{TableRow, row_of, row_number, new_row}
-use Rattle.column_store.proofs.Lists.{get-there}
+use Rattle.model.proofs.lists.Places.{get-there}
 use Rattle.column_store.proofs.Apart.{same_entity, apart-place}
 use Rattle.column_store.proofs.Rising.{nowhere_at_gap, nowhere_past}
 use Rattle.column_store.proofs.Numbers.{get-map_or, each-has}
