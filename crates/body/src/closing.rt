@@ -8,10 +8,10 @@ ghost use Rattle.body.specs.Lent.{lent_of, lent_after};
 ghost use Rattle.body.specs.Sheet.{Sheet, WritesReach};
 ghost use Rattle.body.specs.Together.{words_of_sheet};
 
+use crate::room::QueryRoom;
 use crate::view_column::{ColumnAccess, ViewColumn};
 use crate::view_query::ViewQuery;
 use archetype_store::World;
-use query_plan::RowBuffers;
 
 // Brings a column home, where it was lent.
 fn put_held(held: ViewColumn, world: &mut World)
@@ -29,8 +29,8 @@ fn put_held(held: ViewColumn, world: &mut World)
     }
 }
 
-// Brings the columns of a query home. It allocates nothing.
-fn put_columns(columns: Vec<ViewColumn>, world: &mut World)
+// Brings the columns of a query home. It allocates nothing, and gives back the room of their list.
+fn put_columns(columns: Vec<ViewColumn>, world: &mut World) -> Vec<ViewColumn>
     requires { CanComeHome (lent_of (map held_seen columns.items)) world.old }
     ensures { world.new ≡ all_home (lent_of (map held_seen columns.items)) world.old }
 {
@@ -38,17 +38,19 @@ fn put_columns(columns: Vec<ViewColumn>, world: &mut World)
     while let Some(held) = columns.pop() {
         put_held(held, world);
     }
+    columns
 }
 
 // Brings the columns of queries home, with what was written there: all of it is in columns that the world lent. No query is left, and the room of
-// their list stays. The buffers of their rows go to this room.
-pub(crate) fn put_home(queries: &mut Vec<ViewQuery>, world: &mut World, room: &mut RowBuffers)
+// their list stays. Their own lists go to this room.
+pub(crate) fn put_home(queries: &mut Vec<ViewQuery>, world: &mut World, room: &mut QueryRoom)
     requires { CanComeHome (lent_after queries.old.items) world.old }
     ensures home { world.new ≡ all_home (lent_after queries.old.items) world.old }
     ensures reach { AllByRecursion (λ (s : Sheet). WritesReach (words_of_sheet s) s.taken) queries.old.items }
     ensures none { queries.new.items ≡ [] }
 {
     while let Some(query) = queries.pop() {
-        put_columns(query.close(room), world);
+        let columns = query.close(room);
+        room.give_columns(put_columns(columns, world));
     }
 }

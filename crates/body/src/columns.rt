@@ -1,12 +1,13 @@
 // The columns of a query of a view: taken of a world, or shared by it.
 
-ghost use Rattle.std.specs.Prelude.{◌≡◌, ◌+◌, ◌≤◌, ◌++◌, map, IfOk, OnErr};
+ghost use Rattle.std.specs.Prelude.{◌≡◌, ◌+◌, ◌≤◌, ◌++◌, map, IfOk, OnOk, OnErr};
 ghost use Rattle.std.specs.Vec.{vec_len, vec_capacity};
 ghost use Rattle.query_plan.specs.Picks.{pick_seen};
 ghost use Rattle.body.specs.HeldColumns.{held_seen};
 ghost use Rattle.body.specs.Lent.{lent_of, with_away};
 ghost use Rattle.body.specs.Picked.{spot_of, spot_seen, picked_own, picked_read, own_column, read_column, AreSpotsHome, AreOtherSpots, AreHeldOf};
 
+use crate::room::QueryRoom;
 use crate::view_column::{ColumnAccess, ViewColumn};
 use archetype_store::World;
 use archetype_store::store::{ColumnAt, SharedColumn, TakenColumn};
@@ -16,30 +17,40 @@ use std::snapshot::Snapshot;
 
 // Where the picks of a query are: the written ones, and the others.
 #[derive(Drop)]
-struct ColumnRequests {
+pub(crate) struct ColumnRequests {
     own: Vec<ColumnAt>,
     read: Vec<ColumnAt>,
 }
 
-// Where picks are.
-fn requests_of(alloc: Global, picks: &[Pick]) -> Result<ColumnRequests, AllocError>
-    ensures own { IfOk result (λ requests. map spot_seen requests.own.items ≡ map spot_of (picked_own (map pick_seen picks.now))) }
-    ensures read { IfOk result (λ requests. map spot_seen requests.read.items ≡ map spot_of (picked_read (map pick_seen picks.now))) }
-{
-    let mut own = Vec::new(alloc);
-    let mut read = Vec::new(alloc);
-    for pick in picks {
-        let at = ColumnAt {
-            archetype: pick.archetype,
-            kind: pick.kind,
-        };
-        if pick.is_written {
-            own.push(at)?;
-        } else {
-            read.push(at)?;
+impl ColumnRequests {
+    // Of no picks.
+    pub(crate) fn none(alloc: Global) -> Self {
+        ColumnRequests {
+            own: Vec::new(alloc),
+            read: Vec::new(alloc),
         }
     }
-    Ok(ColumnRequests { own, read })
+
+    // Where these picks are, in the room of those before.
+    fn fill(&mut self, picks: &[Pick]) -> Result<(), AllocError>
+        ensures own { OnOk result (map spot_seen self.new.own.items ≡ map spot_of (picked_own (map pick_seen picks.now))) }
+        ensures read { OnOk result (map spot_seen self.new.read.items ≡ map spot_of (picked_read (map pick_seen picks.now))) }
+    {
+        self.own.clear();
+        self.read.clear();
+        for pick in picks {
+            let at = ColumnAt {
+                archetype: pick.archetype,
+                kind: pick.kind,
+            };
+            if pick.is_written {
+                self.own.push(at)?;
+            } else {
+                self.read.push(at)?;
+            }
+        }
+        Ok(())
+    }
 }
 
 // Holds columns that were taken of a world.
@@ -72,11 +83,13 @@ fn hold_read(columns: &mut Vec<ViewColumn>, shared: Vec<SharedColumn>, world: &W
     }
 }
 
-// The columns that a query picks: taken of a world where they are written, else shared by it. After an error the world is as it was.
+// The columns that a query picks: taken of a world where they are written, else shared by it. They stand in a list of this room, and so do the
+// requests for them. After an error the world is as it was.
 pub(crate) fn take_picked(
     alloc: Global,
     picks: &[Pick],
     world: &mut World,
+    room: &mut QueryRoom,
 ) -> Result<Vec<ViewColumn>, AllocError>
     requires home { AreSpotsHome world.old.layout (map pick_seen picks.now) }
     requires others { AreOtherSpots (map pick_seen picks.now) }
@@ -84,8 +97,10 @@ pub(crate) fn take_picked(
     ensures away { IfOk result (λ columns. world.new ≡ record { state = world.old.state; layout = with_away (lent_of (map held_seen columns.items)) world.old.layout }) }
     ensures err { OnErr result (world.new ≡ world.old) }
 {
-    let requests = requests_of(alloc, picks)?;
-    let mut columns = Vec::with_capacity(alloc, requests.own.len() + requests.read.len())?;
+    let mut columns = room.take_columns(alloc);
+    let requests = &mut room.requests;
+    requests.fill(picks)?;
+    columns.reserve(requests.own.len() + requests.read.len())?;
     let read = world.share_read(alloc, &requests.read)?;
     let own = world.take_written(alloc, &requests.own)?;
     hold_own(&mut columns, own, world);

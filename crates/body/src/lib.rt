@@ -19,6 +19,7 @@ mod view_values;
 
 pub use memory::Memory;
 pub use open_state::OpenState;
+pub use room::QueryRoom;
 pub use state::{Memories, State};
 pub use system_body::{Body, BodyFault};
 pub use view::View;

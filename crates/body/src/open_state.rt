@@ -279,7 +279,7 @@ impl OpenState {
             tick,
             granted,
             commands,
-            &mut self.room.rows,
+            &mut self.room.queries,
         )?;
         Ok(view)
     }
@@ -350,7 +350,7 @@ impl OpenState {
         self.world.prove_laid();
         let mut view = view;
         view.send(&mut self.events)?;
-        let (registers, commands) = view.close(&mut self.world, &mut self.room.rows);
+        let (registers, commands) = view.close(&mut self.world, &mut self.room.queries);
         keep_registers(&mut self.systems, system, registers);
         self.room.keep_view(view);
         Ok(commands)

@@ -14,13 +14,14 @@ ghost use Rattle.body.specs.Sheet.{Sheet};
 
 use crate::closing::put_home;
 use crate::columns::take_picked;
+use crate::room::QueryRoom;
 use crate::slot_table::{fill_slots, no_slots};
 use crate::view_query::ViewQuery;
 use archetype_store::World;
 use change_ticks::Tick;
 use query::Query;
 use query_plan::plan::plan_by;
-use query_plan::{RowBuffers, Rows, shape_of};
+use query_plan::{Rows, shape_of};
 use std::alloc::{AllocError, Global};
 
 // A query as it is opened over a world at a tick to come: it shows its rows, and the columns that it writes are away. After an error the
@@ -31,7 +32,7 @@ pub(crate) fn open_query(
     world: &mut World,
     last_run: Tick,
     tick: Tick,
-    room: &mut RowBuffers,
+    room: &mut QueryRoom,
 ) -> Result<ViewQuery, AllocError>
     requires home { ArePickedHome query.now world.old.layout }
     requires coming { world.old.state.clock < tick }
@@ -47,13 +48,13 @@ pub(crate) fn open_query(
     world.prove_laid();
     let _now = world.now();
     let shape = shape_of(query).number();
-    let plan = plan_by(alloc, world, shape, query, last_run, room)?;
+    let plan = plan_by(alloc, world, shape, query, last_run, &mut room.rows)?;
     let Ok(count) = u32::try_from(plan.picks.len()) else {
         return Err(AllocError);
     };
-    let mut slots = no_slots(alloc, plan.archetypes as usize + 1)?;
+    let mut slots = no_slots(room.take_slots(alloc), plan.archetypes as usize + 1)?;
     let rows = Rows::of(alloc, plan.rows, world)?;
-    let columns = take_picked(alloc, plan.picks.as_slice(), world)?;
+    let columns = take_picked(alloc, plan.picks.as_slice(), world, room)?;
     fill_slots(&mut slots, query.terms(), columns.as_slice(), count);
     Ok(ViewQuery::open(tick, query, slots, rows, columns))
 }
@@ -66,7 +67,7 @@ pub(crate) fn open_queries(
     world: &mut World,
     last_run: Tick,
     tick: Tick,
-    room: &mut RowBuffers,
+    room: &mut QueryRoom,
 ) -> Result<(), AllocError>
     requires home { AllByRecursion (λ query. ArePickedHome query world.old.layout) queries.now }
     requires apart { (kind : ℕ) → TwoConflictAt queries.now kind → ⊥ }

@@ -1,6 +1,6 @@
 // Which column has the components of a kind in an archetype of a query.
 
-ghost use Rattle.std.specs.Prelude.{◌≡◌, ◌<◌, Some, None, replicate, map, length, slice_set, IfOk};
+ghost use Rattle.std.specs.Prelude.{◌≡◌, ◌<◌, Some, None, [], replicate, map, length, slice_set, IfOk};
 ghost use Rattle.std.specs.List.{list_any, AllByRecursion};
 ghost use Rattle.kinds.specs.Kind.{kind_number, kind_count};
 ghost use Rattle.model.specs.Lists.{is_number, update_at};
@@ -14,7 +14,7 @@ use crate::view_query::ColumnIndex;
 use kinds::Kind;
 use kinds::kind::prove_kinds_apart;
 use query::Term;
-use std::alloc::{AllocError, Global};
+use std::alloc::AllocError;
 
 // Whether one of these terms fetches a kind.
 fn any_fetches(terms: &[Term], kind: Kind) -> bool
@@ -31,12 +31,17 @@ fn fetches(terms: &[Term], kind: Kind) -> bool
     any_fetches(terms, kind)
 }
 
-// Tables of so many archetypes, without a column.
+// Tables of so many archetypes, without a column, in the room of an empty list.
 #[tactic(auto, using(crate::proofs::States::repeated))]
-pub(crate) fn no_slots(alloc: Global, archetypes: usize) -> Result<Vec<ColumnIndex>, AllocError>
+pub(crate) fn no_slots(
+    slots: Vec<ColumnIndex>,
+    archetypes: usize,
+) -> Result<Vec<ColumnIndex>, AllocError>
+    requires { slots.items ≡ [] }
     ensures { IfOk result (λ slots. slots.items ≡ replicate archetypes (record { columns = replicate kind_count None })) }
 {
-    let mut slots = Vec::with_capacity(alloc, archetypes)?;
+    let mut slots = slots;
+    slots.reserve(archetypes)?;
     for _made in 0..archetypes {
         slots.push(ColumnIndex {
             columns: [None; Kind::COUNT],

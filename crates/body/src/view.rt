@@ -26,6 +26,7 @@ ghost use Rattle.body.specs.Seen.{query_at, rows_at, row_at, read_at, with_writt
 use crate::closing::put_home;
 use crate::memory::Memory;
 use crate::opening::open_queries;
+use crate::room::QueryRoom;
 use crate::view_commands::ViewCommands;
 use crate::view_query::ViewQuery;
 use crate::view_values::ViewValues;
@@ -36,7 +37,6 @@ use command_queue::CommandBuffer;
 use entity_table::Entity;
 use event_buffers::{EventLists, Events, SendFault};
 use kinds::{Component, Event, Fields, Kind, Res, Value};
-use query_plan::RowBuffers;
 use std::alloc::{AllocError, Global};
 use std::marker::Model;
 
@@ -91,7 +91,7 @@ impl View {
         tick: Tick,
         granted: &[Entity],
         commands: CommandBuffer,
-        room: &mut RowBuffers,
+        room: &mut QueryRoom,
     ) -> Result<(), AllocError>
         requires empty { commands ≡ [] }
         requires home { AllByRecursion (λ query. ArePickedHome query world.old.layout) params.now.queries }
@@ -150,9 +150,9 @@ impl View {
     }
 
     /// Brings the columns home, and so lays what was written over the world, and writes its resources. All else of the world stays. All that
-    /// was written is written in columns that the world lent. The registers, as they are in the end, and the commands. The buffers of its rows go
-    /// to this room, and the view is of use to be opened again alone.
-    pub fn close(&mut self, world: &mut World, room: &mut RowBuffers) -> ([i64; 8], CommandBuffer)
+    /// was written is written in columns that the world lent. The registers, as they are in the end, and the commands. The lists of its queries
+    /// go to this room, and the view is of use to be opened again alone.
+    pub fn close(&mut self, world: &mut World, room: &mut QueryRoom) -> ([i64; 8], CommandBuffer)
         requires lent { AreLent world.old self.old.opening.taken }
         requires past { self.old.opening.tick ≤ world.old.state.clock }
         ensures home { world.new ≡ record { state = world_after self.old.opening.tick self.old world.old.state; layout = with_back (lent_in self.old.opening.taken) world.old.layout } }

@@ -15,12 +15,13 @@ ghost use Rattle.body.specs.Fields.{words_with, field_of, field_seen, sheet_with
 ghost use Rattle.body.specs.Seen.{words_read, with_words, no_row};
 ghost use Rattle.body.specs.Sheet.{slot_in, slot_cell, seen_at, at_slot, row_of, IsPlan, IsReadableAt, IsReadable, IsWritableAt, IsWritable, WritesReach};
 
+use crate::room::QueryRoom;
 use crate::view_column::ViewColumn;
 use change_ticks::Tick;
 use entity_table::Entity;
 use kinds::{Component, Fields, Kind, Value};
 use query::Query;
-use query_plan::{Row, RowBuffers, Rows};
+use query_plan::{Row, Rows};
 use std::marker::Model;
 use std::snapshot::Snapshot;
 
@@ -224,8 +225,8 @@ impl ViewQuery {
         }
     }
 
-    /// Gives the columns back: each as it was taken, with what was written laid over it. The buffer of its rows goes to this room.
-    pub fn close(self, room: &mut RowBuffers) -> Vec<ViewColumn>
+    /// Gives the columns back: each as it was taken, with what was written laid over it. Its other lists go to this room.
+    pub fn close(self, room: &mut QueryRoom) -> Vec<ViewColumn>
         ensures columns { map held_seen result.items ≡ map (column_after self.tick (words_in_query self.terms self.rows self.cells)) self.taken }
         ensures reach { WritesReach (words_in_query self.terms self.rows self.cells) self.taken }
     {
@@ -234,7 +235,8 @@ impl ViewQuery {
             columns,
             taken: _taken,
         } = self;
-        source.rows.give_back(room);
+        source.rows.give_back(&mut room.rows);
+        room.give_slots(source.slots);
         columns
     }
 }

@@ -1,4 +1,4 @@
-use Rattle.std.proofs.Common.{◌<◌, map, length, sym, ap, ◌∙◌, arith}
+use Rattle.std.proofs.Common.{map, sym, ap, ◌∙◌, arith}
 use Rattle.std.proofs.lemmas.Int.{to_z-of_z}
 use Rattle.kinds.specs.Kind.{kind_number}
 use Rattle.kinds.specs.Components.{widths}
