@@ -1,19 +1,19 @@
 -- A field that is written in many rows of a query.
-use Rattle.std.proofs.Common.{◌≡◌, ℕ, zero, suc, ◌+◌, ◌<◌, ◌≤◌, true, ℤ, List, [], ◌∷◌, length, get_or, map, slice_get, drop, Option, Some, None, option_map, unwrap_or, refl, sym, ap, ap₂, ◌∙◌, subst, arith}
-use Rattle.std.proofs.lemmas.Option.{slice_get-get_or, slice_get_within, get_or_from_slice_get}
-use Rattle.std.proofs.lemmas.List.{drop_more, length-map}
+use Rattle.std.proofs.Common.{◌≡◌, ℕ, zero, suc, ◌+◌, ◌-◌, ◌<◌, ◌≤◌, true, ℤ, List, [], ◌∷◌, ◌++◌, length, get_or, map, slice_get, take, drop, Option, Some, None, option_map, unwrap_or, refl, sym, ap, ap₂, ◌∙◌, subst, arith}
+use Rattle.std.proofs.lemmas.Option.{slice_get-get_or, slice_get_within}
+use Rattle.std.proofs.lemmas.List.{drop_more, length-map, get_or_default, take-append-drop, drop-drop, length-drop, length-take-le}
 use Rattle.model.specs.Lists.{update_at}
 use Rattle.model.specs.state.State.{Cell}
 use Rattle.model.specs.access.Query.{Term, writes}
-use Rattle.model.specs.shown.Input.{words_of}
+use Rattle.model.specs.shown.Input.{ShownRow, words_of}
 use Rattle.kinds.specs.Components.{widths, word_at}
 use Rattle.column_store.specs.Cells.{changed_cell}
 use Rattle.query_plan.specs.declared.row.Row.{Row}
-use Rattle.query_plan.specs.Places.{AreEvery}
 use Rattle.body.specs.declared.view_column.ViewColumn.{ViewColumn}
 use Rattle.body.specs.Columns.{Column, cell_in, with_cell}
 use Rattle.body.specs.HeldColumns.{held_seen}
-use Rattle.body.specs.Fields.{other_place, words_with, field_of, field_seen, field_cell, column_with_fields, sheet_with_fields}
+use Rattle.body.specs.Fields.{other_place, words_with, field_of, field_seen, field_cell, column_with_fields, with_field_rows, sheet_with_fields}
+use Rattle.body.specs.Turns.{AreInTurn}
 use Rattle.body.specs.Seen.{words_read, with_words, no_row}
 use Rattle.body.specs.Sheet.{slot_in, slot_cell, seen_at, at_slot, Sheet, sheet_of, IsSheet, IsReadableAt, IsWritableAt}
 use Rattle.body.proofs.Gets.{same-some, update-as, update-twice, update-id}
@@ -132,100 +132,121 @@ none-written o width tick place from (v ∷ vs) columns l = absurd (omega arith)
 none-written None width tick place from [] columns l = refl
 none-written (Some j) width tick place from [] columns l = sym (update-id columns j)
 
--- ---- rows of one archetype
+-- ---- rows that stand in turn
 
 -- a row that is there
-record IsAt (rows : List Row) (n r : ℕ) : Type 0 where
-  row : Row
-  row_is : row ≡ get_or rows r row
-  archetype_is : row.archetype ≡ n
-  place_is : row.place ≡ r
+pub record IsAt (rows : List Row) (n r place : ℕ) : Type 0 where
+  pub row : Row
+  pub row_is : row ≡ get_or rows r row
+  pub archetype_is : row.archetype ≡ n
+  pub place_is : row.place ≡ place
 
-row-at : (rows : List Row) (n r : ℕ) → AreEvery n rows → r < length rows → IsAt rows n r
-row-at rows n r every l =
-    let none : Row = record { entity = record { index = 0; generation = 0 }; archetype = 0; place = 0 } in
-    let row = get_or rows r none in
-    let there : slice_get rows r ≡ Some row = slice_get-get_or rows r none l in
-    let p = every r row there in
-    record { row = row; row_is = sym (get_or_from_slice_get rows r row row there); archetype_is = p.0; place_is = p.1 }
+pub in-turn : (rows : List Row) (r count : ℕ) (first : Row) → AreInTurn rows r count → first ≡ get_or rows r first → r + count ≤ length rows → (i : ℕ) → i < count → IsAt rows first.archetype (r + i) (first.place + i)
+in-turn rows r count first turn is within i l =
+    let row = get_or rows (r + i) first in
+    let p = turn i first l in
+    record {
+      row = row;
+      row_is = get_or_default rows (r + i) first row (omega arith);
+      archetype_is = p.0 ∙ ap (λ (x : Row). x.archetype) (sym is);
+      place_is = p.1 ∙ ap (λ (x : Row). x.place + i) (sym is);
+    }
+
+-- as many rows are there as are shown
+pub all-within : (tick : ℕ) (terms : List Term) (slots : List (List (Option ℕ))) (rows : List Row) (taken columns : List Column) → IsSheet tick terms slots rows taken columns → (s : Sheet) → sheet_of tick terms slots rows taken columns ≡ s →
+    (r n : ℕ) → 0 < n → r + n ≤ length s.rows → r + n ≤ length rows
+all-within tick terms slots rows taken columns is s seen r n some l = let last = rows-within tick terms slots rows taken columns is s seen (r + (n - 1)) (omega arith) in omega arith
 
 module _ (tick : ℕ) (terms : List Term) (slots : List (List (Option ℕ))) (rows : List Row) (taken columns : List Column) (is : IsSheet tick terms slots rows taken columns) (s : Sheet) (seen : sheet_of tick terms slots rows taken columns ≡ s)
-    (n k : ℕ) (every : AreEvery n rows) where
-  at-row : (r : ℕ) → r < length s.rows → IsAt rows n r
-  at-row r l = row-at rows n r every (rows-within tick terms slots rows taken columns is s seen r l)
-
-  -- what the rows of one archetype are read as, and that they may be read and written
-  pub every-read : (place r : ℕ) → r < length s.rows → field_of place (words_of (slot_cell (slot_in slots n k) columns r)) ≡ field_seen s r k place
-  every-read place r l =
-      let at = at-row r l in
-      ap (λ a. field_of place (words_of (slot_cell (slot_in slots a k) columns r))) (sym at.archetype_is)
-      ∙ ap (λ p. field_of place (words_of (slot_cell (slot_in slots at.row.archetype k) columns p))) (sym at.place_is)
+    (n k r p : ℕ) (l : r < length s.rows) (at : IsAt rows n r p) where
+  -- what the row is read as, and that it may be read and written
+  pub turn-read : (place : ℕ) → field_of place (words_of (slot_cell (slot_in slots n k) columns p)) ≡ field_seen s r k place
+  turn-read place =
+      ap (λ a. field_of place (words_of (slot_cell (slot_in slots a k) columns p))) (sym at.archetype_is)
+      ∙ ap (λ q. field_of place (words_of (slot_cell (slot_in slots at.row.archetype k) columns q))) (sym at.place_is)
       ∙ ap (field_of place) (sheet-read tick terms slots rows taken columns is s seen r at.row k l at.row_is)
 
-  pub every-within : (r : ℕ) → r < length s.rows → n < length slots
-  every-within r l = let at = at-row r l in subst (λ a. a < length slots) at.archetype_is (row-within tick terms slots rows taken columns is s seen r at.row l at.row_is)
+  pub turn-within : n < length slots
+  turn-within = subst (λ a. a < length slots) at.archetype_is (row-within tick terms slots rows taken columns is s seen r at.row l at.row_is)
 
-  pub every-readable : (r : ℕ) → r < length s.rows → IsReadableAt (slot_in slots n k) columns k r
-  every-readable r l =
-      let at = at-row r l in
-      subst (λ a. IsReadableAt (slot_in slots a k) columns k r) at.archetype_is
-      (subst (λ p. IsReadableAt (slot_in slots at.row.archetype k) columns k p) at.place_is (row-readable tick terms slots rows taken columns is s seen r at.row k l at.row_is))
+  pub turn-readable : IsReadableAt (slot_in slots n k) columns k p
+  turn-readable =
+      subst (λ a. IsReadableAt (slot_in slots a k) columns k p) at.archetype_is
+      (subst (λ q. IsReadableAt (slot_in slots at.row.archetype k) columns k q) at.place_is (row-readable tick terms slots rows taken columns is s seen r at.row k l at.row_is))
 
-  pub every-writable : (r : ℕ) → r < length s.rows → writes s.terms k ≡ true → IsWritableAt (slot_in slots n k) columns k r
-  every-writable r l w =
-      let at = at-row r l in
-      subst (λ a. IsWritableAt (slot_in slots a k) columns k r) at.archetype_is
-      (subst (λ p. IsWritableAt (slot_in slots at.row.archetype k) columns k p) at.place_is (row-writable tick terms slots rows taken columns is s seen r at.row k l at.row_is w))
+  pub turn-writable : writes s.terms k ≡ true → IsWritableAt (slot_in slots n k) columns k p
+  turn-writable w =
+      subst (λ a. IsWritableAt (slot_in slots a k) columns k p) at.archetype_is
+      (subst (λ q. IsWritableAt (slot_in slots at.row.archetype k) columns k q) at.place_is (row-writable tick terms slots rows taken columns is s seen r at.row k l at.row_is w))
 
--- what is left of a query once a field is written in rows of one archetype
+-- what is left of a query once a field is written in rows that stand in turn
 pub record IsFieldWritten (tick : ℕ) (terms : List Term) (slots : List (List (Option ℕ))) (rows : List Row) (taken news : List Column) (s : Sheet) (k place r : ℕ) (values : List ℤ) : Type 0 where
   pub sheet : IsSheet tick terms slots rows taken news
   pub seen : sheet_of tick terms slots rows taken news ≡ sheet_with_fields s k place r values
 
-module _ (tick : ℕ) (terms : List Term) (slots : List (List (Option ℕ))) (rows : List Row) (taken : List Column) (n k j place : ℕ) (every : AreEvery n rows) (slot : slot_in slots n k ≡ Some j) where
+module _ (tick : ℕ) (terms : List Term) (slots : List (List (Option ℕ))) (rows : List Row) (taken : List Column) (n k j place : ℕ) (slot : slot_in slots n k ≡ Some j) where
   -- one row
-  written-once : (columns : List Column) (s : Sheet) (r : ℕ) (value : ℤ) → IsSheet tick terms slots rows taken columns → sheet_of tick terms slots rows taken columns ≡ s → r < length s.rows →
-      update_at j (with_cell r (field_cell (widths k) tick place value)) columns ≡ update_at j (with_cell r (changed_cell (words_with (widths k) place value (unwrap_or (words_read s.terms (get_or s.rows r no_row).values (get_or s.cells r []) k) [])) tick)) columns
-  written-once columns s r value is seen l =
-      let at = row-at rows n r every (rows-within tick terms slots rows taken columns is s seen r l) in
+  written-once : (columns : List Column) (s : Sheet) (r p : ℕ) (value : ℤ) → IsSheet tick terms slots rows taken columns → sheet_of tick terms slots rows taken columns ≡ s → r < length s.rows → IsAt rows n r p →
+      update_at j (with_cell p (field_cell (widths k) tick place value)) columns ≡ update_at j (with_cell p (changed_cell (words_with (widths k) place value (unwrap_or (words_read s.terms (get_or s.rows r no_row).values (get_or s.cells r []) k) [])) tick)) columns
+  written-once columns s r p value is seen l at =
       let read = sheet-read tick terms slots rows taken columns is s seen r at.row k l at.row_is in
-      let here = ap (λ p. words_of (slot_cell (slot_in slots at.row.archetype k) columns p)) at.place_is in
-      let of_n = ap (λ a. words_of (slot_cell (slot_in slots a k) columns r)) at.archetype_is ∙ ap (λ o. words_of (slot_cell o columns r)) slot in
-      cells-alike columns j r (field_cell (widths k) tick place value) (changed_cell (words_with (widths k) place value (unwrap_or (words_read s.terms (get_or s.rows r no_row).values (get_or s.cells r []) k) [])) tick)
+      let here = ap (λ q. words_of (slot_cell (slot_in slots at.row.archetype k) columns q)) at.place_is in
+      let of_n = ap (λ a. words_of (slot_cell (slot_in slots a k) columns p)) at.archetype_is ∙ ap (λ o. words_of (slot_cell o columns p)) slot in
+      cells-alike columns j p (field_cell (widths k) tick place value) (changed_cell (words_with (widths k) place value (unwrap_or (words_read s.terms (get_or s.rows r no_row).values (get_or s.cells r []) k) [])) tick)
       (λ c e. ap (λ ws. let x : Cell = record { words = words_with (widths k) place value ws; added = c.added; changed = tick } in x)
       (ap (λ o. unwrap_or o []) (sym (ap words_of e) ∙ sym of_n ∙ sym here ∙ read)))
 
-  pub field-written : (columns news : List Column) (s : Sheet) (r : ℕ) (values : List ℤ) → IsSheet tick terms slots rows taken columns → sheet_of tick terms slots rows taken columns ≡ s → r + length values ≤ length s.rows →
-      writes s.terms k ≡ true → news ≡ update_at j (column_with_fields (widths k) tick place r values) columns → IsFieldWritten tick terms slots rows taken news s k place r values
-  field-written columns news s r [] is seen l w e =
+  pub field-written : (columns news : List Column) (s : Sheet) (r p : ℕ) (values : List ℤ) → IsSheet tick terms slots rows taken columns → sheet_of tick terms slots rows taken columns ≡ s → r + length values ≤ length s.rows →
+      ((i : ℕ) → i < length values → IsAt rows n (r + i) (p + i)) → writes s.terms k ≡ true → news ≡ update_at j (column_with_fields (widths k) tick place p values) columns → IsFieldWritten tick terms slots rows taken news s k place r values
+  field-written columns news s r p [] is seen l turn w e =
       let same = e ∙ update-id columns j in
       record { sheet = subst (IsSheet tick terms slots rows taken) (sym same) is; seen = ap (sheet_of tick terms slots rows taken) same ∙ seen }
-  field-written columns news s r (value ∷ more) is seen l w e =
+  field-written columns news s r p (value ∷ more) is seen l turn w e =
       let within : r < length s.rows = omega arith in
-      let at = row-at rows n r every (rows-within tick terms slots rows taken columns is s seen r within) in
+      let at : IsAt rows n r p = subst (λ m. IsAt rows n m p) (let a : r + 0 ≡ r = omega arith in a) (subst (IsAt rows n (r + 0)) (let a : p + 0 ≡ p = omega arith in a) (turn 0 (omega arith))) in
       let words = words_with (widths k) place value (unwrap_or (words_read s.terms (get_or s.rows r no_row).values (get_or s.cells r []) k) []) in
-      let middle = update_at j (with_cell r (field_cell (widths k) tick place value)) columns in
-      let changed = written-once columns s r value is seen within
-      ∙ ap (λ p. update_at j (with_cell p (changed_cell words tick)) columns) (sym at.place_is)
+      let middle = update_at j (with_cell p (field_cell (widths k) tick place value)) columns in
+      let changed = written-once columns s r p value is seen within at
+      ∙ ap (λ q. update_at j (with_cell q (changed_cell words tick)) columns) (sym at.place_is)
       ∙ ap (λ o. at_slot o (with_cell at.row.place (changed_cell words tick)) columns) (sym (ap (λ a. slot_in slots a k) at.archetype_is ∙ slot)) in
       let after = sheet-after tick terms slots rows taken columns is s seen r at.row k words middle within at.row_is w changed in
       let now = sheet-set tick terms slots rows taken columns is s seen r at.row k words middle within at.row_is w changed in
       let rest : suc r + length more ≤ length s.rows = omega arith in
-      let done = field-written middle news (record { terms = s.terms; rows = s.rows; cells = update_at r (with_words s.terms k words) s.cells; taken = s.taken; tick = s.tick }) (suc r) more after now rest w
-      (e ∙ sym (update-twice (column_with_fields (widths k) tick place (suc r) more) (with_cell r (field_cell (widths k) tick place value)) columns j)) in
+      let later : (i : ℕ) → i < length more → IsAt rows n (suc r + i) (suc p + i) = λ i m.
+      subst (λ a. IsAt rows n a (suc p + i)) (let a : r + suc i ≡ suc r + i = omega arith in a) (subst (IsAt rows n (r + suc i)) (let a : p + suc i ≡ suc p + i = omega arith in a) (turn (suc i) (omega arith))) in
+      let done = field-written middle news (record { terms = s.terms; rows = s.rows; cells = update_at r (with_words s.terms k words) s.cells; taken = s.taken; tick = s.tick }) (suc r) (suc p) more after now rest later w
+      (e ∙ sym (update-twice (column_with_fields (widths k) tick place (suc p) more) (with_cell p (field_cell (widths k) tick place value)) columns j)) in
       record { sheet = done.sheet; seen = done.seen }
 
 -- the same where there may be no such column, and then no row
 pub fields-written : (tick : ℕ) (terms : List Term) (slots : List (List (Option ℕ))) (rows : List Row) (taken columns news : List Column) (is : IsSheet tick terms slots rows taken columns) (s : Sheet)
-    (seen : sheet_of tick terms slots rows taken columns ≡ s) (n k place r : ℕ) (values : List ℤ) → AreEvery n rows → r + length values ≤ length s.rows → writes s.terms k ≡ true →
-    news ≡ at_slot (slot_in slots n k) (column_with_fields (widths k) tick place r values) columns → IsFieldWritten tick terms slots rows taken news s k place r values
-fields-written tick terms slots rows taken columns news is s seen n k place r values every l w e = at (slot_in slots n k) refl values l e
+    (seen : sheet_of tick terms slots rows taken columns ≡ s) (n k place r p : ℕ) (values : List ℤ) → ((i : ℕ) → i < length values → IsAt rows n (r + i) (p + i)) → r + length values ≤ length s.rows → writes s.terms k ≡ true →
+    news ≡ at_slot (slot_in slots n k) (column_with_fields (widths k) tick place p values) columns → IsFieldWritten tick terms slots rows taken news s k place r values
+fields-written tick terms slots rows taken columns news is s seen n k place r p values turn l w e = at (slot_in slots n k) refl values l turn e
   where
-    at : (o : Option ℕ) → slot_in slots n k ≡ o → (vs : List ℤ) → r + length vs ≤ length s.rows → news ≡ at_slot (slot_in slots n k) (column_with_fields (widths k) tick place r vs) columns → IsFieldWritten tick terms slots rows taken news s k place r vs
-    at (Some j) is_j vs within changed =
-        field-written tick terms slots rows taken n k j place every is_j columns news s r vs is seen within w (changed ∙ ap (λ o. at_slot o (column_with_fields (widths k) tick place r vs) columns) is_j)
-    at None is_none [] within changed =
-        let same = changed ∙ ap (λ o. at_slot o (column_with_fields (widths k) tick place r []) columns) is_none in
+    at : (o : Option ℕ) → slot_in slots n k ≡ o → (vs : List ℤ) → r + length vs ≤ length s.rows → ((i : ℕ) → i < length vs → IsAt rows n (r + i) (p + i)) →
+        news ≡ at_slot (slot_in slots n k) (column_with_fields (widths k) tick place p vs) columns → IsFieldWritten tick terms slots rows taken news s k place r vs
+    at (Some j) is_j vs within there changed =
+        field-written tick terms slots rows taken n k j place is_j columns news s r p vs is seen within there w (changed ∙ ap (λ o. at_slot o (column_with_fields (widths k) tick place p vs) columns) is_j)
+    at None is_none [] within there changed =
+        let same = changed ∙ ap (λ o. at_slot o (column_with_fields (widths k) tick place p []) columns) is_none in
         record { sheet = subst (IsSheet tick terms slots rows taken) (sym same) is; seen = ap (sheet_of tick terms slots rows taken) same ∙ seen }
-    at None is_none (v ∷ vs) within changed =
-        absurd (subst (λ o. IsWritableAt o columns k r) is_none (every-writable tick terms slots rows taken columns is s seen n k every r (omega arith) w))
+    at None is_none (v ∷ vs) within there changed =
+        absurd (subst (λ o. IsWritableAt o columns k (p + 0)) is_none (turn-writable tick terms slots rows taken columns is s seen n k (r + 0) (p + 0) (omega arith) (there 0 (omega arith)) w))
+
+-- ---- values that are written in two goes
+
+rows-then : (terms : List Term) (rows : List ShownRow) (k place r m : ℕ) (xs ys : List ℤ) (cells : List (List (Option (List ℤ)))) → m ≡ r + length xs →
+    with_field_rows terms rows k place r (xs ++ ys) cells ≡ with_field_rows terms rows k place m ys (with_field_rows terms rows k place r xs cells)
+rows-then terms rows k place r m [] ys cells e = ap (λ a. with_field_rows terms rows k place a ys cells) (let same : r ≡ m = omega arith in same)
+rows-then terms rows k place r m (x ∷ xs) ys cells e = rows-then terms rows k place (suc r) m xs ys _ (omega arith)
+
+pub sheet-further : (k place from i n m : ℕ) (values : List ℤ) (now new last : Sheet) → m ≡ i + n → i + n ≤ length values → new ≡ sheet_with_fields now k place (from + i) (take n (drop i values)) →
+    sheet_with_fields now k place (from + i) (drop i values) ≡ last → sheet_with_fields new k place (from + m) (drop m values) ≡ last
+sheet-further k place from i n m values now new last at l e h =
+    let long : length (take n (drop i values)) ≡ n = length-take-le n (drop i values) (let d = length-drop i values in omega arith) in
+    let parts : drop i values ≡ take n (drop i values) ++ drop m values = sym (take-append-drop n (drop i values)) ∙ ap (λ ys. take n (drop i values) ++ ys) (drop-drop n i values ∙ ap (λ a. drop a values) (let same : i + n ≡ m = omega arith in same)) in
+    ap (λ (s : Sheet). sheet_with_fields s k place (from + m) (drop m values)) e
+    ∙ sym (ap (λ (cells : List (List (Option (List ℤ)))). let x : Sheet = record { terms = now.terms; rows = now.rows; cells = cells; taken = now.taken; tick = now.tick } in x)
+    (rows-then now.terms now.rows k place (from + i) (from + m) (take n (drop i values)) (drop m values) now.cells (omega arith)))
+    ∙ ap (sheet_with_fields now k place (from + i)) (sym parts) ∙ h

@@ -23,5 +23,6 @@ pub mod QueryOpens
 pub mod Outs
 pub mod Counts
 pub mod FieldWords
+pub mod TurnRows
 pub mod FieldRows
 pub mod Sent

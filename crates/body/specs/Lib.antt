@@ -6,6 +6,7 @@ pub mod Columns
 pub mod HeldColumns
 pub mod Sheet
 pub mod Fields
+pub mod Turns
 pub mod Values
 pub mod SeenOver
 pub mod Together

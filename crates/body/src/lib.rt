@@ -11,6 +11,7 @@ mod room;
 mod slot_table;
 pub mod state;
 pub mod system_body;
+mod turns;
 pub mod view;
 pub mod view_column;
 mod view_commands;

@@ -1,6 +1,6 @@
 // A query of a view: its rows stand in columns, are read there and written there.
 
-ghost use Rattle.std.specs.Prelude.{◌≡◌, ◌+◌, ◌<◌, ◌≤◌, ℕ, pos, [], ◌∷◌, map, length, get_or, option_map, unwrap_or, IfSome, IsTrue};
+ghost use Rattle.std.specs.Prelude.{◌≡◌, ◌+◌, ◌<◌, ◌≤◌, ℕ, pos, [], ◌∷◌, map, length, take, get_or, option_map, unwrap_or, IfSome, IsTrue};
 ghost use Rattle.column_store.specs.Cells.{changed_cell};
 ghost use Rattle.kinds.specs.Kind.{kind_number};
 ghost use Rattle.kinds.specs.Components.{widths};
@@ -16,6 +16,7 @@ ghost use Rattle.body.specs.Seen.{words_read, with_words, no_row};
 ghost use Rattle.body.specs.Sheet.{slot_in, slot_cell, seen_at, at_slot, row_of, IsPlan, IsReadableAt, IsReadable, IsWritableAt, IsWritable, WritesReach};
 
 use crate::room::QueryRoom;
+use crate::turns::{are_in_turns, in_turn};
 use crate::view_column::ViewColumn;
 use change_ticks::Tick;
 use entity_table::Entity;
@@ -38,6 +39,8 @@ struct RowSource {
     query: Snapshot<Query>,
     slots: Vec<ColumnIndex>,
     rows: Rows,
+    // Whether many rows stand in turn, as far as was looked: then they are read and written in one go, else each by itself.
+    is_in_turns: bool,
 }
 
 /// A query of a view. Contracts see its terms, its rows as they were shown, what was written in them, the columns as they were taken, and
@@ -80,12 +83,14 @@ impl ViewQuery {
         ensures tick { result.tick ≡ tick }
     {
         let taken = Snapshot::of(&columns);
+        let is_in_turns = are_in_turns(&rows);
         ViewQuery {
             source: RowSource {
                 tick,
                 query: Snapshot::of(query),
                 slots,
                 rows,
+                is_in_turns,
             },
             columns,
             taken,
@@ -188,18 +193,34 @@ impl ViewQuery {
         ensures length { length values.new ≡ length values.old }
         ensures values { (i : ℕ) → i < length values.old → get_or values.new i (pos 0) ≡ field_seen self.now (from + i) (kind_number kind) place }
     {
-        match self.source.rows.archetype() {
-            Some(archetype) => read_column(
-                &self.source.slots,
-                &self.columns,
-                archetype as usize,
-                kind,
-                from,
-                place,
-                values,
-            ),
-            None => read_each(self, kind, from, place, values),
+        if self.source.is_in_turns {
+            read_turns(self, kind, from, place, values);
+        } else {
+            read_each(self, kind, from, place, values);
         }
+    }
+
+    // The values of the first of the rows from one on, those that stand in turn, and how many they are.
+    fn read_turn(&self, kind: Kind, from: usize, place: usize, values: &mut [i64]) -> usize
+        requires some { 0 < length values.old }
+        requires rows { from + length values.old ≤ length self.now.rows }
+        ensures length { length values.new ≡ length values.old }
+        ensures some { 0 < result }
+        ensures most { result ≤ length values.old }
+        ensures values { (i : ℕ) → i < result → get_or values.new i (pos 0) ≡ field_seen self.now (from + i) (kind_number kind) place }
+    {
+        let count = in_turn(&self.source.rows, from, values.len());
+        let first = self.source.rows.at(from);
+        read_column(
+            &self.source.slots,
+            &self.columns,
+            first.archetype as usize,
+            kind,
+            first.place as usize,
+            place,
+            &mut values[..count],
+        );
+        count
     }
 
     /// Writes values into a field of a kind of the rows from one on, a value a row, of a query that has a `mut` term of the kind. The other
@@ -210,19 +231,36 @@ impl ViewQuery {
         requires place { place < widths (kind_number kind) }
         ensures { self.new ≡ sheet_with_fields self.old (kind_number kind) place from values.now }
     {
-        match self.source.rows.archetype() {
-            Some(archetype) => write_column(
-                &self.source.slots,
-                &mut self.columns,
-                archetype as usize,
-                kind,
-                from,
-                place,
-                values,
-                self.source.tick,
-            ),
-            None => write_each(self, kind, from, place, values),
+        if self.source.is_in_turns {
+            write_turns(self, kind, from, place, values);
+        } else {
+            write_each(self, kind, from, place, values);
         }
+    }
+
+    // Writes the values of the first of the rows from one on, those that stand in turn, and tells how many they are.
+    fn write_turn(&mut self, kind: Kind, from: usize, place: usize, values: &[i64]) -> usize
+        requires some { 0 < length values.now }
+        requires rows { from + length values.now ≤ length self.old.rows }
+        requires mut_term { IsTrue (writes self.old.terms (kind_number kind)) }
+        requires place { place < widths (kind_number kind) }
+        ensures some { 0 < result }
+        ensures most { result ≤ length values.now }
+        ensures written { self.new ≡ sheet_with_fields self.old (kind_number kind) place from (take result values.now) }
+    {
+        let count = in_turn(&self.source.rows, from, values.len());
+        let first = self.source.rows.at(from);
+        write_column(
+            &self.source.slots,
+            &mut self.columns,
+            first.archetype as usize,
+            kind,
+            first.place as usize,
+            place,
+            &values[..count],
+            self.source.tick,
+        );
+        count
     }
 
     /// Gives the columns back: each as it was taken, with what was written laid over it. Its other lists go to this room.
@@ -385,6 +423,35 @@ fn write_column(
             held.write_field(kind, from, place, values, tick);
         }
         None => unreachable!(),
+    }
+}
+
+// The values of a field of a kind of the rows from one on, those that stand in turn in one go.
+fn read_turns(query: &ViewQuery, kind: Kind, from: usize, place: usize, values: &mut [i64])
+    requires { from + length values.old ≤ length query.now.rows }
+    ensures length { length values.new ≡ length values.old }
+    ensures values { (i : ℕ) → i < length values.old → get_or values.new i (pos 0) ≡ field_seen query.now (from + i) (kind_number kind) place }
+{
+    // Proves that numbers of rows fit.
+    let _count = query.rows();
+    let mut done = 0;
+    while done < values.len() {
+        done += query.read_turn(kind, from + done, place, &mut values[done..]);
+    }
+}
+
+// Writes values into a field of a kind of the rows from one on, those that stand in turn in one go.
+fn write_turns(query: &mut ViewQuery, kind: Kind, from: usize, place: usize, values: &[i64])
+    requires rows { from + length values.now ≤ length query.old.rows }
+    requires mut_term { IsTrue (writes query.old.terms (kind_number kind)) }
+    requires place { place < widths (kind_number kind) }
+    ensures { query.new ≡ sheet_with_fields query.old (kind_number kind) place from values.now }
+{
+    // Proves that numbers of rows fit.
+    let _count = query.rows();
+    let mut done = 0;
+    while done < values.len() {
+        done += query.write_turn(kind, from + done, place, &values[done..]);
     }
 }
 
