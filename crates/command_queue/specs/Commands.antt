@@ -17,3 +17,10 @@ command_of (the.Despawn e) = Despawn e
 -- the commands of the buffers of these numbers, one buffer after the other
 abbrev pub commands_of : List (List outcome.Command) → List ℕ → List outcome.Command
 commands_of buffers order = flat_map (λ n. get_or buffers n []) order
+
+-- the index of the entity of a command
+abbrev pub index_in : Command → ℕ
+index_in (the.Spawn e) = e.index
+index_in (the.Insert e value) = e.index
+index_in (the.Remove e kind) = e.index
+index_in (the.Despawn e) = e.index

@@ -1,5 +1,5 @@
 -- What commands make of entities before it is done in the world: changes of entities, one for an index.
-use Rattle.std.specs.Prelude.{ℕ, suc, ◌≡◌, ◌≢◌, Bool, true, false, cond, ◌==◌, List, [], ◌∷◌, get_or, nat_eq, Option, Some, None, option_map}
+use Rattle.std.specs.Prelude.{ℕ, suc, ◌≡◌, ◌≢◌, ◌<◌, ◌≤◌, Bool, true, false, cond, ◌==◌, List, [], ◌∷◌, get_or, nat_eq, Option, Some, None, option_map}
 use Rattle.std.specs.List.{AllByRecursion}
 use Rattle.std.specs.HashMap.{HashMap, get}
 use Rattle.model.specs.declared.entities.Entity.{Entity}
@@ -29,9 +29,30 @@ abbrev pub put_change : EntityChange → List EntityChange → List EntityChange
 put_change c [] = c ∷ []
 put_change c (d ∷ ds) = cond (d.entity.index == c.entity.index) (c ∷ ds) (d ∷ put_change c ds)
 
--- a map tells the place of each change by its index
-abbrev pub ArePlaced : {S : Type 0} → HashMap ℕ ℕ S → List EntityChange → Type 0
-ArePlaced places cs = (index : ℕ) → get nat_eq places index ≡ place_of index cs
+-- indices rise from place to place
+abbrev pub AreInTurn : List EntityChange → Type 0
+AreInTurn cs = (i j p q : ℕ) → place_of i cs ≡ Some p → place_of j cs ≡ Some q → i < j → p < q
+
+-- a map tells the place of each change by its index, or indices rise
+abbrev pub ArePlaced : {S : Type 0} → Option (HashMap ℕ ℕ S) → List EntityChange → Type 0
+ArePlaced None cs = AreInTurn cs
+ArePlaced (Some places) cs = (index : ℕ) → get nat_eq places index ≡ place_of index cs
+
+-- a map, where there is one, tells the place of a further index
+abbrev pub IsNoted : {S : Type 0} → Option (HashMap ℕ ℕ S) → ℕ → ℕ → Option (HashMap ℕ ℕ S) → Type 0
+IsNoted None index place None = Unit {0}
+IsNoted None index place (Some new) = ⊥
+IsNoted (Some old) index place None = ⊥
+IsNoted (Some old) index place (Some new) = (q : ℕ) → get nat_eq new q ≡ cond (index == q) (Some place) (get nat_eq old q)
+
+-- no change is of a greater index
+abbrev pub IsLast : List EntityChange → ℕ → Type 0
+IsLast cs index = (i p : ℕ) → place_of i cs ≡ Some p → i ≤ index
+
+-- the place of an index is told by the map, or is the last one if any
+abbrev pub IsTold : {S : Type 0} → Option (HashMap ℕ ℕ S) → List EntityChange → ℕ → Type 0
+IsTold None cs index = IsLast cs index
+IsTold (Some places) cs index = Unit {0}
 
 -- changes that a world can make, no two of one index
 pub record AreChanges (w : World) (cs : List EntityChange) : Type 0 where

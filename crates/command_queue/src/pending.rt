@@ -1,6 +1,6 @@
 // What commands make of entities, kept until it is done in the world.
 
-ghost use Rattle.std.specs.Prelude.{ℕ, ◌≡◌, ◌≤◌, ◌∷◌, [], None, map, min, suc, OnOk, IfOk};
+ghost use Rattle.std.specs.Prelude.{ℕ, ◌≡◌, ◌≤◌, ◌∷◌, [], true, None, Some, map, min, suc, OnOk, IfOk};
 ghost use Rattle.kinds.specs.Kind.{kind_number};
 ghost use Rattle.kinds.specs.Value.{value_number, value_words};
 ghost use Rattle.model.specs.state.State.{most_passed_over};
@@ -9,8 +9,8 @@ ghost use Rattle.model.specs.shown.Outcome.{spawned_by};
 ghost use Rattle.model.specs.shown.Outcome.Command.{Insert, Remove, Despawn};
 ghost use Rattle.archetype_store.specs.Layout.{AreAllHome};
 ghost use Rattle.archetype_store.specs.Changes.{AreOfOtherIndices};
-ghost use Rattle.command_queue.specs.Commands.{command_of};
-ghost use Rattle.command_queue.specs.Pending.{place_of, put_change, ArePlaced, IsPending, target_of, Stands, IsOpen, CanSpawn};
+ghost use Rattle.command_queue.specs.Commands.{command_of, index_in};
+ghost use Rattle.command_queue.specs.Pending.{place_of, put_change, AreInTurn, ArePlaced, IsNoted, IsLast, IsTold, IsPending, target_of, Stands, IsOpen, CanSpawn};
 
 use crate::command::Command;
 use crate::rows::{insert_kept, keeps, remove_kept};
@@ -35,12 +35,63 @@ pub(crate) enum EntityState {
     Dead,
 }
 
-// What the commands so far make of entities: the last change of each, its place by its index, and how many commands were passed over.
+// What the commands so far make of entities: the last change of each, and how many commands were passed over.
 #[derive(Drop)]
 pub(crate) struct Pending {
     pub(crate) changes: Vec<EntityChange>,
-    places: IndexMap<u32, usize>,
+    // The place of each change by its index, once a command came whose index is before that of the last change: up to then indices rise.
+    places: Option<IndexMap<u32, usize>>,
     pub(crate) passed_over: u64,
+}
+
+// The index of the entity of a command.
+fn index_of(command: Command) -> u32
+    ensures { result ≡ index_in command }
+{
+    match command {
+        Command::Spawn(e) => e.index,
+        Command::Insert(e, _value) => e.index,
+        Command::Remove(e, _kind) => e.index,
+        Command::Despawn(e) => e.index,
+    }
+}
+
+// Whether an index isn't before that of the last change.
+fn comes_last(changes: &[EntityChange], index: u32) -> bool
+    requires apart { AreOfOtherIndices changes.now }
+    ensures { result ≡ true → AreInTurn changes.now → IsLast changes.now index }
+{
+    let count = changes.len();
+    if count == 0 {
+        return true;
+    }
+    changes[count - 1].entity.index <= index
+}
+
+// Notes the place of the change of a further index, where places are told by a map.
+fn note_place(
+    places: &mut Option<IndexMap<u32, usize>>,
+    index: u32,
+    place: usize,
+) -> Result<(), AllocError>
+    ensures { OnOk result (IsNoted places.old index place places.new) }
+{
+    if let Some(places) = places {
+        places.insert(index, place)?;
+    }
+    Ok(())
+}
+
+// The place of each change by its index.
+fn places_of(alloc: Global, changes: &[EntityChange]) -> Result<IndexMap<u32, usize>, AllocError>
+    requires { AreOfOtherIndices changes.now }
+    ensures { IfOk result (λ places. ArePlaced (Some places) changes.now) }
+{
+    let mut places = IndexMap::new(alloc);
+    for place in 0..changes.len() {
+        places.insert(changes[place].entity.index, place)?;
+    }
+    Ok(places)
 }
 
 impl Pending {
@@ -52,20 +103,41 @@ impl Pending {
     {
         Pending {
             changes: Vec::new(alloc),
-            places: IndexMap::new(alloc),
+            places: None,
             passed_over: 0,
         }
+    }
+
+    // Has the places of changes told, where an index is before that of the last one.
+    fn tell(&mut self, alloc: Global, index: u32) -> Result<(), AllocError>
+        requires apart { AreOfOtherIndices self.old.changes.items }
+        requires placed { ArePlaced self.old.places self.old.changes.items }
+        ensures changes { self.new.changes ≡ self.old.changes }
+        ensures passed { self.new.passed_over ≡ self.old.passed_over }
+        ensures placed { ArePlaced self.new.places self.new.changes.items }
+        ensures told { OnOk result (IsTold self.new.places self.new.changes.items index) }
+    {
+        if let Some(_places) = &self.places {
+            return Ok(());
+        }
+        if comes_last(&self.changes, index) {
+            return Ok(());
+        }
+        let places = places_of(alloc, &self.changes)?;
+        self.places = Some(places);
+        Ok(())
     }
 
     // Adds the first change of an index.
     fn add(&mut self, change: EntityChange) -> Result<(), AllocError>
         requires placed { ArePlaced self.old.places self.old.changes.items }
+        requires told { IsTold self.old.places self.old.changes.items change.entity.index }
         requires first { place_of change.entity.index self.old.changes.items ≡ None }
         ensures changes { OnOk result (self.new.changes.items ≡ put_change change self.old.changes.items) }
         ensures placed { OnOk result (ArePlaced self.new.places self.new.changes.items) }
         ensures passed { self.new.passed_over ≡ self.old.passed_over }
     {
-        self.places.insert(change.entity.index, self.changes.len())?;
+        note_place(&mut self.places, change.entity.index, self.changes.len())?;
         self.changes.push(change)?;
         Ok(())
     }
@@ -87,6 +159,7 @@ impl Pending {
     fn place(&self, index: u32) -> Option<usize>
         requires apart { AreOfOtherIndices self.now.changes.items }
         requires placed { ArePlaced self.now.places self.now.changes.items }
+        requires told { IsTold self.now.places self.now.changes.items index }
         ensures { result ≡ place_of index self.now.changes.items }
     {
         let count = self.changes.len();
@@ -96,12 +169,16 @@ impl Pending {
         if self.changes[count - 1].entity.index == index {
             return Some(count - 1);
         }
-        self.places.get(&index).copied()
+        match &self.places {
+            None => None,
+            Some(places) => places.get(&index).copied(),
+        }
     }
 
     // How an entity stands.
     fn find(&self, world: &World, e: Entity) -> EntityState
-        requires { IsPending world.now.state self.now }
+        requires pending { IsPending world.now.state self.now }
+        requires told { IsTold self.now.places self.now.changes.items e.index }
         ensures { Stands world.now.state.slots self.now.changes.items e result }
     {
         match self.place(e.index) {
@@ -126,6 +203,7 @@ impl Pending {
     fn open(&mut self, alloc: Global, world: &World, e: Entity) -> Result<Option<usize>, AllocError>
         requires home { AreAllHome world.now.layout }
         requires pending { IsPending world.now.state self.old }
+        requires told { IsTold self.old.places self.old.changes.items e.index }
         ensures pending { OnOk result (IsPending world.now.state self.new) }
         ensures same { OnOk result (target_of world.now.state self.new ≡ target_of world.now.state self.old) }
         ensures open { IfOk result (IsOpen world.now.state.slots self.new.changes.items e) }
@@ -156,6 +234,7 @@ impl Pending {
         requires past { tick ≤ world.now.state.clock }
         requires home { AreAllHome world.now.layout }
         requires pending { IsPending world.now.state self.old }
+        requires told { IsTold self.old.places self.old.changes.items e.index }
         ensures pending { OnOk result (IsPending world.now.state self.new) }
         ensures done { OnOk result (target_of world.now.state self.new ≡ apply_command tick (target_of world.now.state self.old) (Insert e (value_number value) (value_words value))) }
     {
@@ -176,6 +255,7 @@ impl Pending {
     ) -> Result<(), AllocError>
         requires home { AreAllHome world.now.layout }
         requires pending { IsPending world.now.state self.old }
+        requires told { IsTold self.old.places self.old.changes.items e.index }
         ensures pending { OnOk result (IsPending world.now.state self.new) }
         ensures done { (tick : ℕ) → OnOk result (target_of world.now.state self.new ≡ apply_command tick (target_of world.now.state self.old) (Remove e (kind_number kind))) }
     {
@@ -188,7 +268,8 @@ impl Pending {
 
     // An entity that lives dies.
     fn despawn(&mut self, world: &World, e: Entity) -> Result<(), AllocError>
-        requires { IsPending world.now.state self.old }
+        requires pending { IsPending world.now.state self.old }
+        requires told { IsTold self.old.places self.old.changes.items e.index }
         ensures pending { OnOk result (IsPending world.now.state self.new) }
         ensures done { (tick : ℕ) → OnOk result (target_of world.now.state self.new ≡ apply_command tick (target_of world.now.state self.old) (Despawn e)) }
     {
@@ -201,6 +282,34 @@ impl Pending {
             })?,
         }
         Ok(())
+    }
+
+    // Does one command, where the place of the change of its entity is told.
+    fn known_command(
+        &mut self,
+        alloc: Global,
+        world: &World,
+        command: Command,
+        tick: Tick,
+    ) -> Result<(), AllocError>
+        requires past { tick ≤ world.now.state.clock }
+        requires home { AreAllHome world.now.layout }
+        requires pending { IsPending world.now.state self.old }
+        requires told { IsTold self.old.places self.old.changes.items (index_in command) }
+        requires spawns { CanSpawn (target_of world.now.state self.old).slots (spawned_by (command_of command ∷ [])) }
+        ensures pending { OnOk result (IsPending world.now.state self.new) }
+        ensures done { OnOk result (target_of world.now.state self.new ≡ apply_command tick (target_of world.now.state self.old) (command_of command)) }
+    {
+        match command {
+            Command::Spawn(e) => {
+                let fate = Fate::Lives(Vec::new(alloc));
+                self.add(EntityChange { entity: e, fate })?;
+                Ok(())
+            }
+            Command::Insert(e, value) => self.insert(alloc, world, e, value, tick),
+            Command::Remove(e, kind) => self.remove(alloc, world, e, kind),
+            Command::Despawn(e) => self.despawn(world, e),
+        }
     }
 
     // Does one command.
@@ -218,16 +327,8 @@ impl Pending {
         ensures pending { OnOk result (IsPending world.now.state self.new) }
         ensures done { OnOk result (target_of world.now.state self.new ≡ apply_command tick (target_of world.now.state self.old) (command_of command)) }
     {
-        match command {
-            Command::Spawn(e) => {
-                let fate = Fate::Lives(Vec::new(alloc));
-                self.add(EntityChange { entity: e, fate })?;
-                Ok(())
-            }
-            Command::Insert(e, value) => self.insert(alloc, world, e, value, tick),
-            Command::Remove(e, kind) => self.remove(alloc, world, e, kind),
-            Command::Despawn(e) => self.despawn(world, e),
-        }
+        self.tell(alloc, index_of(command))?;
+        self.known_command(alloc, world, command, tick)
     }
 
     // Does the commands of a buffer, in order of issue.

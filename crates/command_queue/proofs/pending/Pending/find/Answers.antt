@@ -14,7 +14,7 @@ pub returns-else-lives : goal.returns-else-lives
 returns-else-lives c =
     let cs = c.args.self.now.changes.items in
     let none : place_of c.args.e.index cs ≡ None = sym c.in-None.ensures in
-    alive_unchanged c.args.world.now.state cs c.requires.changes c.args.e none ∙ sym c.lives.ensures ∙ c.if-lives.false
+    alive_unchanged c.args.world.now.state cs c.requires.pending.changes c.args.e none ∙ sym c.lives.ensures ∙ c.if-lives.false
 
 pub returns-then-keeps : goal.returns-then-keeps
 returns-then-keeps c =
@@ -27,6 +27,6 @@ returns-else-keeps c =
     let cs = c.args.self.now.changes.items in
     let there : place_of c.args.e.index cs ≡ Some c.in-Some.place = sym c.in-Some.ensures in
     let x = c.index.result.now in
-    alive_changed c.args.world.now.state cs c.requires.changes c.args.e c.in-Some.place x there
+    alive_changed c.args.world.now.state cs c.requires.pending.changes c.args.e c.in-Some.place x there
     ∙ ap (λ y. is_left_alive y.fate && (y.entity.generation == c.args.e.generation)) (sym c.index.ensures)
     ∙ sym c.keeps.ensures ∙ c.if-keeps.false

@@ -4,6 +4,7 @@ use Rattle.model.specs.state.Rows.{insert_component}
 use Rattle.model.specs.state.Commands.{CommandTarget, with_row, if_alive}
 use Rattle.command_queue.specs.Pending.{IsKept, IsOpen, target_of}
 use Rattle.command_queue.proofs.Puts.{at_place}
+use Rattle.command_queue.proofs.Turns.{placed_same}
 use Rattle.command_queue.proofs.Targets.{kept_lives, places_again, if_lives}
 use Rattle.command_queue.proofs.Inserted.{its_entity, changes_inserted, slots_edited}
 use Rattle.command_queue.proofs.pending.Pending.insert.Goals as goal
@@ -28,7 +29,7 @@ returns-in_ok-insert_kept-in-Some-clause-pending c =
     let its = its_entity w cs valid c.args.e p kept x c.insert_kept.new.change c.index_mut.ensures.value c.in_ok-insert_kept-in-Some.ensures.entity in
     record {
       changes = changes_inserted w cs valid c.args.e p kept x c.insert_kept.new.change c.index_mut.ensures.value c.in_ok-insert_kept-in-Some.ensures.entity c.args.tick c.args.value c.requires.past c.in_ok-insert_kept-in-Some.ensures.row;
-      places = λ q. c.in_ok-open.ensures.pending.places q ∙ sym (places_again w cs valid c.args.e p kept c.insert_kept.new.change its q);
+      places = placed_same _ cs _ (places_again w cs valid c.args.e p kept c.insert_kept.new.change its) c.in_ok-open.ensures.pending.places;
     }
 
 pub returns-in_ok-insert_kept-in-Some-clause-done : goal.returns-in_ok-insert_kept-in-Some-clause-done

@@ -4,6 +4,7 @@ use Rattle.model.specs.state.Rows.{remove_component}
 use Rattle.model.specs.state.Commands.{CommandTarget, with_row, if_alive}
 use Rattle.command_queue.specs.Pending.{IsKept, IsOpen, target_of}
 use Rattle.command_queue.proofs.Puts.{at_place}
+use Rattle.command_queue.proofs.Turns.{placed_same}
 use Rattle.command_queue.proofs.Targets.{kept_lives, places_again, if_lives}
 use Rattle.command_queue.proofs.Inserted.{its_entity, changes_removed, slots_edited}
 use Rattle.command_queue.proofs.pending.Pending.remove.Goals as goal
@@ -28,7 +29,7 @@ returns-in-Some-clause-pending c =
     let its = its_entity w cs valid c.args.e p kept x c.remove_kept.new.change c.index_mut.ensures.value c.remove_kept.ensures.entity in
     record {
       changes = changes_removed w cs valid c.args.e p kept x c.remove_kept.new.change c.index_mut.ensures.value c.remove_kept.ensures.entity (kind_number c.args.kind) (rw c.number.ensures at c.remove_kept.ensures.row);
-      places = λ q. c.in_ok-open.ensures.pending.places q ∙ sym (places_again w cs valid c.args.e p kept c.remove_kept.new.change its q);
+      places = placed_same _ cs _ (places_again w cs valid c.args.e p kept c.remove_kept.new.change its) c.in_ok-open.ensures.pending.places;
     }
 
 pub returns-in-Some-clause-done : goal.returns-in-Some-clause-done

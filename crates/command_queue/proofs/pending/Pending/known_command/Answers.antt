@@ -8,7 +8,7 @@ use Rattle.command_queue.specs.Commands.{command_of}
 use Rattle.command_queue.specs.Pending.{AreChanges, CanSpawn, target_of}
 use Rattle.command_queue.proofs.Targets.{granted_unchanged}
 use Rattle.command_queue.proofs.Spawns.{spawned_changes, spawned_slots}
-use Rattle.command_queue.proofs.pending.Pending.command.Goals as goal
+use Rattle.command_queue.proofs.pending.Pending.known_command.Goals as goal
 
 pub add-requires-clause-first : goal.add-requires-clause-first
 add-requires-clause-first c =
