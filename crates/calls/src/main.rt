@@ -13,6 +13,7 @@ mod engines;
 mod gates;
 mod moving;
 mod plans;
+mod random;
 mod resources;
 mod runs;
 mod store;
@@ -27,6 +28,7 @@ use crate::moving::{
     stamps,
 };
 use crate::plans::{made_later, put_back};
+use crate::random::random_worlds;
 use crate::resources::{kept_total, three_tallies};
 use crate::store::{buffers, entities, steps, texts, unions};
 use crate::threads::{
@@ -72,11 +74,15 @@ fn runs_alone(alloc: Global) -> [Test; 8] {
 }
 
 // The tests of what stands below engines.
-fn parts(alloc: Global) -> [Test; 7] {
+fn parts(alloc: Global) -> [Test; 8] {
     [
         ("entities of a store", entities(alloc)),
         ("two plans of a row that is put back", put_back(alloc)),
         ("two plans of a table that is made later", made_later(alloc)),
+        (
+            "two plans in a thousand random worlds",
+            random_worlds(alloc),
+        ),
         ("events in two buffers", buffers(alloc)),
         ("what two systems touch together", unions(alloc)),
         ("steps of a core", steps(alloc)),

@@ -16,8 +16,8 @@ use query_plan::plan::{plan, plan_by};
 use query_plan::{Plan, RowBuffers, prove_picks_home, shape_of};
 use std::alloc::Global;
 
-// The entity of an index that lives for the first time.
-fn entity(index: u32) -> Entity {
+/// The entity of an index that lives for the first time.
+pub(crate) fn entity(index: u32) -> Entity {
     Entity {
         index,
         generation: 1,
@@ -60,8 +60,8 @@ fn rows_are(alloc: Global, world: &World, plan: Plan, wanted: &[u32]) -> Option<
     Some(are)
 }
 
-// Whether both plans of a query have rows of these indices.
-fn are_planned(
+/// Whether both plans of a query have rows of these indices.
+pub(crate) fn are_planned(
     alloc: Global,
     world: &World,
     query: &Query,

@@ -1,4 +1,4 @@
-use Rattle.std.proofs.Common.{length, ◌-◌, suc, ◌≡◌, ◌≤◌, arith}
+use Rattle.std.proofs.Common.{length, ◌-◌, suc, ◌≡◌, arith}
 use Rattle.std.proofs.lemmas.Bool.{leb-true}
 use Rattle.command_queue.proofs.Turns.{last_from, last_none}
 use Rattle.command_queue.proofs.pending.comes_last.Goals as goal

@@ -1,5 +1,4 @@
 use Rattle.std.proofs.Common.{ap, sym, get_or, ◌∙◌, ◌==◌, cond, Some}
-use Rattle.archetype_store.specs.declared.change.EntityChange.{EntityChange}
 use Rattle.command_queue.proofs.Turns.{place_taken}
 use Rattle.command_queue.proofs.pending.places_of.Goals as goal
 
