@@ -53,7 +53,7 @@ count-items read m zero found text le = tt
 count-items read m (suc n) found text le =
     items-cond m (first (skip_blank text) == right_bracket) (Some (found, drop 1 (skip_blank text))) _ (omega (arith, le))
     (items-then m _ (read (skip_blank text)) (λ v. items-then m (items read n (push_item found v.0)) (after_element right_bracket v.1)
-      (λ rest. count-items read m n (push_item found v.0) rest (omega (arith, count-push found v.0)))))
+    (λ rest. count-items read m n (push_item found v.0) rest (omega (arith, count-push found v.0)))))
 
 count-scalar : (n : ℕ) (r : Read Scalar) → Counts n (read_map scalar_data r)
 count-scalar n None = tt
@@ -318,7 +318,7 @@ narrow-lines values headers most (suc n) doc text le room h =
     let shorter : length start ≤ values = le_trans (rest-skip_from true false text) le in
     document-cond values most (length start == 0) (Some doc) _ (wider values headers most doc.0 (omega (arith, room)) h)
     (read-line values headers most doc (lines n) (line start) (narrow-line values start shorter) (behind start (line start) shorter (leaves-line start)) h
-      (λ next rest short there. narrow-lines values (suc headers) most n next rest short (omega (arith, room)) there))
+    (λ next rest short there. narrow-lines values (suc headers) most n next rest short (omega (arith, room)) there))
   where
     behind : (start : List ℕ) (r : Read Expression) → length start ≤ values → Leaves (length start) r → Leaves values r
     behind start None shorter left = tt

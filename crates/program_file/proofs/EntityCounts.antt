@@ -36,7 +36,7 @@ pub count-entities : (text : List ℕ) (document : Members) (entities : List (Ve
 count-entities text document entities is h =
     let ds = map table h.tables in
     let within : item_count (items_of ds) ≤ length text =
-      count-items_in (length text) (get_member (codes "entity") document) (items_of ds) h.there (count-document text document (codes "entity") is) in
+    count-items_in (length text) (get_member (codes "entity") document) (items_of ds) h.there (count-document text document (codes "entity") is) in
     let listed = count-items_of ds in
     let mapped : length ds ≡ length h.tables = length-map table h.tables in
     let each = zip-length _ h.tables entities h.each in

@@ -25,7 +25,6 @@ longer n m (Some p) le h = le_trans h le
 pub dropped : (k : ℕ) (text : List ℕ) → length (drop k text) ≤ length text
 dropped k text = omega (arith, length-drop k text)
 
-
 pub leaves-cond : {A : Type 0} (n : ℕ) (c : Bool) (a b : Read A) → Leaves n a → Leaves n b → Leaves n (cond c a b)
 leaves-cond n true a b ha hb = ha
 leaves-cond n false a b ha hb = hb
@@ -111,7 +110,7 @@ leaves-body delim multi (suc n) text =
     leaves-cond (length text) (is_plain delim multi (first text)) (prepend (first text ∷ []) (body delim multi n (drop 1 text))) _
     (leaves-as (length text) (λ s. first text ∷ s) (body delim multi n (drop 1 text)) more)
     (leaves-then (length text) (λ p. after_piece (body delim multi n) p.0 p.1) (special delim multi text) (leaves-special delim multi text)
-      (λ p le. leaves-after_piece (length text) (body delim multi n) p.0 p.1 le (leaves-body delim multi n)))
+    (λ p le. leaves-after_piece (length text) (body delim multi n) p.0 p.1 le (leaves-body delim multi n)))
 
 rest-trim_newline : (text : List ℕ) → length (trim_newline text) ≤ length text
 rest-trim_newline text = search (shorter-cond, dropped, le_refl)
@@ -137,10 +136,10 @@ unfolding key_after
 leaves-key_after zero path text = tt
 leaves-key_after (suc n) path text =
     leaves-then (length text) _ (simple_key text) (leaves-simple_key text) (λ part le.
-      let rest : length (skip_ws part.1) ≤ length text = le_trans (rest-skip_ws part.1) le in
-      let more : length (skip_ws (drop 1 (skip_ws part.1))) ≤ length text = le_trans (rest-skip_ws _) (le_trans (dropped 1 (skip_ws part.1)) rest) in
-      let next = key_after n (path ++ part.0 ∷ []) (skip_ws (drop 1 (skip_ws part.1))) in
-      leaves-cond (length text) (first (skip_ws part.1) == 46) next (Some ((path, part.0), skip_ws part.1)) (longer _ _ next more (leaves-key_after n (path ++ part.0 ∷ []) (skip_ws (drop 1 (skip_ws part.1))))) rest)
+    let rest : length (skip_ws part.1) ≤ length text = le_trans (rest-skip_ws part.1) le in
+    let more : length (skip_ws (drop 1 (skip_ws part.1))) ≤ length text = le_trans (rest-skip_ws _) (le_trans (dropped 1 (skip_ws part.1)) rest) in
+    let next = key_after n (path ++ part.0 ∷ []) (skip_ws (drop 1 (skip_ws part.1))) in
+    leaves-cond (length text) (first (skip_ws part.1) == 46) next (Some ((path, part.0), skip_ws part.1)) (longer _ _ next more (leaves-key_after n (path ++ part.0 ∷ []) (skip_ws (drop 1 (skip_ws part.1))))) rest)
 
 -- ---- values
 
@@ -163,7 +162,7 @@ pub leaves-key_equals : (text : List ℕ) → Leaves (length text) (key_equals t
 unfolding key_equals
 leaves-key_equals text =
     leaves-then (length text) _ (key text) (leaves-key_after recursion_limit [] text) (λ k le.
-      leaves-rest (length text) k.0 (after_byte equals k.1) (rests-within (length k.1) (length text) _ le (rests-after_byte equals k.1)))
+    leaves-rest (length text) k.0 (after_byte equals k.1) (rests-within (length k.1) (length text) _ le (rests-after_byte equals k.1)))
   where
     leaves-rest : (n : ℕ) (k : Key) (r : Option (List ℕ)) → Rests n r → Leaves n (option_map (λ rest. (k, skip_ws rest)) r)
     leaves-rest n k None h = tt
@@ -188,8 +187,8 @@ leaves-items read h (suc n) found text =
     let start : length (skip_blank text) ≤ length text = rest-skip_from true false text in
     leaves-cond (length text) (first (skip_blank text) == right_bracket) (Some (found, drop 1 (skip_blank text))) _ (le_trans (dropped 1 (skip_blank text)) start)
     (leaves-then (length text) _ (read (skip_blank text)) (longer _ _ (read (skip_blank text)) start (h (skip_blank text)))
-      (λ v le. rests-then (length text) (items read n (push_item found v.0)) (after_element right_bracket v.1) (rests-after_element (length text) right_bracket v.1 le)
-        (λ rest shorter. longer _ _ (items read n (push_item found v.0) rest) shorter (leaves-items read h n (push_item found v.0) rest))))
+    (λ v le. rests-then (length text) (items read n (push_item found v.0)) (after_element right_bracket v.1) (rests-after_element (length text) right_bracket v.1 le)
+    (λ rest shorter. longer _ _ (items read n (push_item found v.0) rest) shorter (leaves-items read h n (push_item found v.0) rest))))
 
 leaves-members : (read : List ℕ → Read Data) → LeavesAll read → (n : ℕ) (found : Nodes) (text : List ℕ) → Leaves (length text) (members read n found text)
 unfolding members
@@ -198,7 +197,7 @@ leaves-members read h (suc n) found text =
     let start : length (skip_blank text) ≤ length text = rest-skip_from true false text in
     leaves-cond (length text) (first (skip_blank text) == right_brace) (Some (close found, drop 1 (skip_blank text))) _ (le_trans (dropped 1 (skip_blank text)) start)
     (leaves-then (length text) _ (keyval read (skip_blank text)) (longer _ _ (keyval read (skip_blank text)) start (leaves-keyval read h (skip_blank text)))
-      (λ e le. leaves-each (members read n) (length text) (put e.0.0 e.0.1 found) e.1 le (λ more rest shorter. longer _ _ (members read n more rest) shorter (leaves-members read h n more rest))))
+    (λ e le. leaves-each (members read n) (length text) (put e.0.0 e.0.1 found) e.1 le (λ more rest shorter. longer _ _ (members read n more rest) shorter (leaves-members read h n more rest))))
   where
     leaves-each : {B : Type 0} (f : Nodes → List ℕ → Read B) (m : ℕ) (o : Option Nodes) (behind : List ℕ) → length behind ≤ m
         → ((more : Nodes) (rest : List ℕ) → length rest ≤ m → Leaves m (f more rest)) → Leaves m (option_and_then (λ more. option_and_then (f more) (after_element right_brace behind)) o)
@@ -220,8 +219,8 @@ leaves-val (suc depth) text =
     leaves-cond (length text) (first text == left_bracket) (read_map array listed) _
     (leaves-as (length text) array listed (longer _ _ listed (dropped 1 text) (leaves-items (val depth) (leaves-val depth) (length text) no_items (drop 1 text))))
     (leaves-cond (length text) (first text == left_brace) (read_map table keyed) (atom text)
-      (leaves-as (length text) table keyed (longer _ _ keyed (dropped 1 text) (leaves-members (val depth) (leaves-val depth) (length text) no_nodes (drop 1 text))))
-      (leaves-atom text))
+    (leaves-as (length text) table keyed (longer _ _ keyed (dropped 1 text) (leaves-members (val depth) (leaves-val depth) (length text) no_nodes (drop 1 text))))
+    (leaves-atom text))
 
 -- ---- lines
 
@@ -247,8 +246,8 @@ leaves-expression text =
     leaves-cond (length text) (first text == left_bracket && slice_index text 1 == left_bracket) _ _
     (leaves-then (length text) _ array_key (longer _ _ array_key (dropped 2 text) (leaves-header_key (drop 2 text))) (λ k le. leaves-closed (length text) (k.0, array_table) k.1 le))
     (leaves-cond (length text) (first text == left_bracket) _ _
-      (leaves-as (length text) (λ k. (k, std_table)) table_key (longer _ _ table_key (dropped 1 text) (leaves-header_key (drop 1 text))))
-      (leaves-as (length text) (λ p. (p.0, key_value p.1)) pair (leaves-keyval (val recursion_limit) (leaves-val recursion_limit) text)))
+    (leaves-as (length text) (λ k. (k, std_table)) table_key (longer _ _ table_key (dropped 1 text) (leaves-header_key (drop 1 text))))
+    (leaves-as (length text) (λ p. (p.0, key_value p.1)) pair (leaves-keyval (val recursion_limit) (leaves-val recursion_limit) text)))
 
 pub leaves-line : (text : List ℕ) → Leaves (length text) (line text)
 unfolding line
