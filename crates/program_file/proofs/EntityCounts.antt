@@ -1,5 +1,5 @@
 -- A text declares no more entities than it has bytes.
-use Rattle.std.proofs.Common.{◌≡◌, ℕ, suc, ◌≤◌, List, [], ◌∷◌, length, length-map, map, codes, Option, Some, None, IfSome, Vec, refl, sym, subst, arith}
+use Rattle.std.proofs.Common.{◌≡◌, ℕ, suc, ◌≤◌, List, [], ◌∷◌, length, map, codes, Option, Some, None, IfSome, Vec, refl, sym, subst, arith}
 use Rattle.std.specs.List.{AllZip}
 use Rattle.std.specs.declared.alloc.Global.{Global}
 use Rattle.std.proofs.lemmas.Option.{none-some, same_Some}
@@ -32,12 +32,16 @@ count-items_in n (Some (boolean b)) ds is h = absurd (none-some ds is)
 count-items_in n (Some (datetime d)) ds is h = absurd (none-some ds is)
 count-items_in n (Some (table ms)) ds is h = absurd (none-some ds is)
 
+count-tables : (tables : List Members) → length (map table tables) ≡ length tables
+count-tables [] = refl
+count-tables (t ∷ ts) = let more = count-tables ts in omega arith
+
 pub count-entities : (text : List ℕ) (document : Members) (entities : List (Vec Value Global)) → parse_document text ≡ Some document → AreEntitiesIn document entities → length entities ≤ length text
 count-entities text document entities is h =
     let ds = map table h.tables in
     let within : item_count (items_of ds) ≤ length text =
     count-items_in (length text) (get_member (codes "entity") document) (items_of ds) h.there (count-document text document (codes "entity") is) in
     let listed = count-items_of ds in
-    let mapped : length ds ≡ length h.tables = length-map table h.tables in
+    let mapped = count-tables h.tables in
     let each = zip-length _ h.tables entities h.each in
     omega (arith, within)
