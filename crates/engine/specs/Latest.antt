@@ -1,7 +1,9 @@
--- What the end of a run leaves to the next one.
-use Rattle.std.specs.Prelude.{ℕ, ◌≡◌, List, [], ◌∷◌, Option, None, IfSome}
-use Rattle.model.specs.steps.Schedule.{Schedule, Recorded}
-use Rattle.model.specs.state.State.{Slot}
+-- What a run adds to the traces of those before it, and what its end leaves to the next one.
+use Rattle.std.specs.Prelude.{ℕ, ◌≡◌, ◌++◌, true, List, [], ◌∷◌, is_some, Option, None, IfSome}
+use Rattle.model.specs.steps.Schedule.{Schedule, Recorded, recording}
+use Rattle.model.specs.shown.Outcome.{BodyMeaning}
+use Rattle.model.specs.state.State.{Slot, State}
+use Rattle.model.specs.runs.WideRuns.{IsWideRun}
 use Rattle.model.specs.state.KindSets.{kind_sets_of}
 use Rattle.executor_core.specs.Stands.{AreMeetings, Stand}
 use Rattle.executor_core.specs.Traces.{latest_list}
@@ -17,3 +19,11 @@ pub record IsFollowing (core : Stand) (s : Schedule) (before : List Recorded) (s
   pub schedule : core.schedule ≡ s
   pub meetings : IfSome (latest_in before) (AreMeetings core)
   pub there : IfSome (latest_in before) (λ numbers. numbers ≡ kind_sets_of slots)
+
+-- one run more, with room for so many systems at once: it leads from one state to another, and its trace, which records kind sets, stands behind the traces
+-- of the runs before
+pub record IsOneMoreRun (width : ℕ) (s : Schedule) (bodies : List BodyMeaning) (w : State) (before : List Recorded) (w' : State) (after : List Recorded) : Type 0 where
+  pub trace : Recorded
+  pub more : after ≡ before ++ trace ∷ []
+  pub records : is_some trace.sets ≡ true
+  pub ran : IsWideRun width (recording s trace.sets) bodies w trace.steps w'

@@ -4,6 +4,7 @@ pub mod Meanings
 pub mod EngineValue
 pub mod Deferred
 pub mod Jobs
+pub mod Shows
 pub mod Latest
 pub mod Stage
 pub mod Next

@@ -9,10 +9,10 @@ ghost use Rattle.model.specs.shown.Outcome.{BodyMeaning};
 ghost use Rattle.model.specs.steps.Schedule.{recording};
 ghost use Rattle.model.specs.declared.steps.Step.TheVariants.{Sync as Pass};
 ghost use Rattle.model.specs.steps.Lawful.{May};
-ghost use Rattle.model.specs.runs.WideRuns.{IsWideRun, AreWideRuns, WideStops, IsWideStopped};
+ghost use Rattle.model.specs.runs.WideRuns.{AreWideRuns, WideStops, IsWideStopped};
 ghost use Rattle.executor_core.specs.Stands.{AreMeetings, Stands};
 ghost use Rattle.executor_core.specs.Traces.{latest_list, with_list};
-ghost use Rattle.engine.specs.Latest.{IsFollowing, latest_in};
+ghost use Rattle.engine.specs.Latest.{IsFollowing, IsOneMoreRun, latest_in};
 ghost use Rattle.engine.specs.Jobs.{AreKept};
 ghost use Rattle.engine.specs.Meanings.{meanings, AreFit};
 ghost use Rattle.engine.specs.Next.{IsAtRest, IsNext, IsTaken, KeepsNext, StopsNext};
@@ -30,6 +30,13 @@ use model::KindSets;
 use schedule_builder::Built;
 use std::alloc::{AllocError, Global};
 use worker_pool::Mode;
+
+// The traces of the runs of a schedule, and the core that has taken their steps. It stands in a box: a loop that holds it by itself is dear to check.
+#[derive(Drop)]
+struct Recording<'a> {
+    core: Box<Core<'a>>,
+    traces: Vec<Trace>,
+}
 
 /// The runs of a schedule, one after the other. After a stop all jobs have come back, and their bodies are in their places.
 pub(crate) fn run_times<'s, M: Mode<'s>, B: Body + 's>(
@@ -49,21 +56,23 @@ pub(crate) fn run_times<'s, M: Mode<'s>, B: Body + 's>(
     ensures meanings { (result ≡ Err stop.NoWorker → IsTrue (M.stands mode.now)) → meanings B.meaning built.now jobs.new.bodies ≡ meanings B.meaning built.now jobs.old.bodies }
     ensures fit { (result ≡ Err stop.NoWorker → IsTrue (M.stands mode.now)) → AreFit B.fits built.now jobs.new.bodies }
 {
-    let mut traces = Vec::new(run.alloc);
-    let mut core = boxed_core(run.alloc, built)?;
+    let mut recording = Recording {
+        core: boxed_core(run.alloc, built)?,
+        traces: Vec::new(run.alloc),
+    };
     for _run in 0..times {
-        match run_turns(built, run, jobs, &mut core, &traces, mode) {
-            Ok(trace) => traces.push(trace)?,
+        match run_turns(built, run, jobs, &mut recording, mode) {
+            Ok(()) => {}
             Err(stop) => {
                 bring_home(jobs, mode)?;
                 return Err(stop);
             }
         }
     }
-    Ok(traces)
+    Ok(recording.traces)
 }
 
-// A core that has accepted nothing, in a box: a loop that holds it by itself is dear to check.
+// A core that has accepted nothing, in a box.
 fn boxed_core<'a>(alloc: Global, built: &'a Built) -> Result<Box<Core<'a>>, AllocError>
     ensures { IfOk result (λ core. core.value.schedule ≡ built.now) }
 {
@@ -81,21 +90,19 @@ fn latest_of(traces: &[Trace]) -> Option<&KindSets>
     }
 }
 
-// The turns of a run, with the core of the runs before it. After a stop jobs may still be out.
+// One run more, by its turns. After a stop jobs may still be out.
 fn run_turns<'s, M: Mode<'s>, B: Body + 's>(
     built: &Built,
     run: &mut RunState,
     jobs: &mut Jobs<B>,
-    core: &mut Core<'_>,
-    before: &[Trace],
+    recording: &mut Recording<'_>,
     mode: &M,
-) -> Result<Trace, Stop>
+) -> Result<(), Stop>
     requires rest { IsAtRest B.meaning B.fits built.now jobs.old.bodies run.old.deferred run.old.state }
     requires empty { jobs.old.pool ≡ [] }
-    requires following { IsFollowing core.old built.now before.now run.old.state.state.world.slots }
-    ensures records { IfOk result (λ trace. is_some trace.sets ≡ true) }
-    ensures following { IfOk result (λ trace. IsFollowing core.new built.now (before.now ++ trace ∷ []) run.new.state.state.world.slots) }
-    ensures ran { IfOk result (λ trace. IsWideRun (M.width mode.now) (recording built.now trace.sets) (meanings B.meaning built.now jobs.old.bodies) run.old.state.state trace.steps run.new.state.state) }
+    requires following { IsFollowing recording.old.core.value built.now recording.old.traces.items run.old.state.state.world.slots }
+    ensures ran { OnOk result (IsOneMoreRun (M.width mode.now) built.now (meanings B.meaning built.now jobs.old.bodies) run.old.state.state recording.old.traces.items run.new.state.state recording.new.traces.items) }
+    ensures following { OnOk result (IsFollowing recording.new.core.value built.now recording.new.traces.items run.new.state.state.world.slots) }
     ensures rest { OnOk result (IsAtRest B.meaning B.fits built.now jobs.new.bodies run.new.deferred run.new.state) }
     ensures empty { OnOk result (jobs.new.pool ≡ []) }
     ensures stopped { IfErr result (StopsBy (M.has_scope mode.now) (WideStops (M.width mode.now) built.now (meanings B.meaning built.now jobs.old.bodies) run.old.state.state)) }
@@ -105,13 +112,16 @@ fn run_turns<'s, M: Mode<'s>, B: Body + 's>(
     jobs.started = 0;
     run.deferred.clear();
     run.open(built)?;
-    let mut trace = begin(built, run.alloc, core, latest_of(before), &run.state)?;
+    let core = &mut *recording.core;
+    let latest = latest_of(&recording.traces);
+    let mut trace = begin(built, run.alloc, core, latest, &run.state)?;
     while let Some(turn) = next_turn(core, jobs.pool.count(), width) {
         let done = do_turn(built, run, jobs, mode, turn)?;
         take(run.alloc, core, &mut trace, &run.state, done)?;
     }
     run.state.prove_law();
-    Ok(trace)
+    recording.traces.push(trace)?;
+    Ok(())
 }
 
 // Begins the core again for a run that opens on this state, and what is recorded of it. The kind sets that the run before recorded last are

@@ -8,10 +8,10 @@ ghost use Rattle.model.specs.steps.Schedule.{Schedule, level_of};
 ghost use Rattle.model.specs.state.Ids.{grant_each, ids_of_each};
 ghost use Rattle.model.specs.runs.RunState.{after_commands, after_grant, after_sync, can_sync, counts_of_level, has_ids_for_level, has_tick, spawners_of_level, systems_of_level};
 ghost use Rattle.model.specs.state.KindSets.{kind_sets_of};
-ghost use Rattle.archetype_store.specs.Layout.{AreAllHome};
 ghost use Rattle.command_queue.specs.Commands.{commands_of};
 ghost use Rattle.body.specs.Steps.{with_slots_in};
 ghost use Rattle.engine.specs.Deferred.{AreInHand, IsDeferredFor, IsNothingDeferred, commands_at, emptied, grants_at, grants_of, nothing_deferred, run_with, with_commands, with_each_grant};
+ghost use Rattle.engine.specs.Shows.{NoneRunsIn};
 ghost use Rattle.engine.specs.Stops.{CannotSync, LacksTick, StopsBy};
 
 use crate::granting::{Spawners, note_grants, spawners_of};
@@ -183,16 +183,12 @@ impl Deferred {
         state: &mut OpenState,
         point: u32,
     ) -> Result<bool, Stop>
-        requires suits { IsDeferredFor built.now self.old }
         requires known { point < built.now.syncs }
-        requires home { AreAllHome state.old.layout }
-        requires in_hand { AreInHand state.old.state.world.slots self.old }
+        requires home { NoneRunsIn built.now self.old state.old }
         requires fresh { (n : ℕ) → level_of built.now n ≡ suc point → commands_at self.old n ≡ [] }
         ensures synced { OnOk result (run_with state.new.state self.new ≡ after_sync built.now point (run_with state.old.state self.old)) }
         ensures can { OnOk result (can_sync built.now point (run_with state.old.state self.old) ≡ true) }
-        ensures home { OnOk result (AreAllHome state.new.layout) }
-        ensures suits { OnOk result (IsDeferredFor built.now self.new) }
-        ensures in_hand { OnOk result (AreInHand state.new.state.world.slots self.new) }
+        ensures home { OnOk result (NoneRunsIn built.now self.new state.new) }
         ensures quiet { IfOk result (λ commanded. commanded ≡ false → kind_sets_of state.new.state.world.slots ≡ kind_sets_of state.old.state.world.slots) }
         ensures stopped { IfErr result (StopsBy false (CannotSync built.now point (run_with state.old.state self.old))) }
     {
@@ -212,15 +208,11 @@ impl Deferred {
         state: &mut OpenState,
         point: u32,
     ) -> Result<bool, Stop>
-        requires suits { IsDeferredFor built.now self.old }
         requires known { point < built.now.syncs }
-        requires home { AreAllHome state.old.layout }
-        requires in_hand { AreInHand state.old.state.world.slots self.old }
+        requires home { NoneRunsIn built.now self.old state.old }
         ensures synced { OnOk result (run_with state.new.state self.new ≡ after_commands built.now point (run_with state.old.state self.old)) }
         ensures ticked { OnOk result (has_tick state.old.state ≡ true) }
-        ensures home { OnOk result (AreAllHome state.new.layout) }
-        ensures suits { OnOk result (IsDeferredFor built.now self.new) }
-        ensures in_hand { OnOk result (AreInHand state.new.state.world.slots self.new) }
+        ensures home { OnOk result (NoneRunsIn built.now self.new state.new) }
         ensures quiet { IfOk result (λ commanded. commanded ≡ false → kind_sets_of state.new.state.world.slots ≡ kind_sets_of state.old.state.world.slots) }
         ensures stopped { IfErr result (StopsBy false (LacksTick state.old.state)) }
     {

@@ -3,22 +3,19 @@
 
 ghost use Rattle.std.specs.Prelude.{◌≡◌, ◌<◌, ◌≤◌, ◌++◌, ℕ, List, [], Some, Ok, suc, true, false, length, IfErr, IfOk, OnOk};
 ghost use Rattle.std.specs.List.{AllByRecursion};
-ghost use Rattle.model.specs.shown.Input.{shown};
-ghost use Rattle.model.specs.shown.Outcome.{events_sent, untouched};
+ghost use Rattle.model.specs.shown.Outcome.{events_sent};
 ghost use Rattle.model.specs.shown.Overlay.{has_event_numbers};
 ghost use Rattle.model.specs.steps.Schedule.{access_of, level_of, params_of};
-ghost use Rattle.model.specs.runs.RunState.{after_sync, answer_of, begin_run, can_sync, has_tick, memory_of_system, next_tick};
+ghost use Rattle.model.specs.runs.RunState.{after_sync, answer_of, begin_run, can_sync, has_tick, next_tick};
 ghost use Rattle.model.specs.state.KindSets.{kind_sets_of};
-ghost use Rattle.model.specs.state.Shape.{AreIdsFor};
-ghost use Rattle.archetype_store.specs.Layout.{AreAllHome};
 ghost use Rattle.query_plan.specs.Standing.{ArePickedHome};
 ghost use Rattle.body.specs.Columns.{Column};
-ghost use Rattle.body.specs.Keeps.{CanBeShown};
 ghost use Rattle.body.specs.Lent.{AreLent, lent_in, with_away, with_back};
-ghost use Rattle.body.specs.Out.{AreOut, IsWrittenBy};
+ghost use Rattle.body.specs.Out.{AreOut};
 ghost use Rattle.body.specs.Steps.{asked_at, laid, noted, store_of, ticked};
-ghost use Rattle.engine.specs.Deferred.{AreInHand, IsDeferredFor, IsNothingDeferred, commands_at, grants_at, run_with, with_commands};
+ghost use Rattle.engine.specs.Deferred.{AreInHand, IsDeferredFor, IsNothingDeferred, commands_at, run_with, with_commands};
 ghost use Rattle.engine.specs.Meanings.{HasMemories};
+ghost use Rattle.engine.specs.Shows.{IsShown, MayBeShown, NoneRunsIn};
 ghost use Rattle.engine.specs.Stops.{CannotOpen, CannotSync, IsNotLaid, LacksTick, StopsBy};
 
 use crate::deferred::Deferred;
@@ -83,18 +80,8 @@ impl RunState {
     /// What a system is shown as it starts, with the ids that it was granted, and a buffer for its commands: its run is noted at the tick to come,
     /// which becomes the clock.
     pub fn show(&mut self, built: &Built, system: u32) -> Result<Box<View>, Stop>
-        requires known { system < length built.now.systems }
-        requires memories { HasMemories built.now self.old.state.state }
-        requires home { AllByRecursion (λ query. ArePickedHome query self.old.state.layout) (params_of built.now system).queries }
-        requires suits { IsDeferredFor built.now self.old.deferred }
-        requires fresh { commands_at self.old.deferred system ≡ [] }
-        requires given { AreIdsFor built.now system (grants_at self.old.deferred system) }
-        ensures params { IfOk result (λ view. view.value.params ≡ params_of built.now system) }
-        ensures shown { IfOk result (λ view. view.value.shown ≡ shown (params_of built.now system) (memory_of_system self.old.state.state system) self.old.state.state (grants_at self.old.deferred system)) }
-        ensures showing { IfOk result (λ view. CanBeShown view.value.params view.value.shown) }
-        ensures untouched { IfOk result (λ view. view.value.outcome ≡ untouched view.value.params view.value.shown) }
-        ensures tick { IfOk result (λ view. view.value.opening.tick ≡ next_tick self.old.state.state) }
-        ensures written { IfOk result (λ view. AllByRecursion (IsWrittenBy (params_of built.now system).queries self.old.state.layout) (lent_in view.value.opening.taken)) }
+        requires { MayBeShown built.now system self.old.deferred self.old.state }
+        ensures shown { IfOk result (λ view. IsShown built.now system self.old.deferred self.old.state view.value) }
         ensures held { IfOk result (λ view. (others : List (List Column)) → AreOut (store_of self.old.state) others → AreOut (store_of self.new.state) (others ++ view.value.opening.taken)) }
         ensures noted { IfOk result (λ view. self.new.state ≡ record { state = noted system (params_of built.now system).reads (next_tick self.old.state.state) (ticked self.old.state.state); layout = with_away (lent_in view.value.opening.taken) self.old.state.layout }) }
         ensures deferred { self.new.deferred ≡ self.old.deferred }
@@ -143,16 +130,12 @@ impl RunState {
     /// granted to them that were not spawned are freed, and the systems of the level above it are granted theirs. Whether there were commands:
     /// else the kind sets stay as they are.
     pub fn sync(&mut self, built: &Built, point: u32) -> Result<bool, Stop>
-        requires suits { IsDeferredFor built.now self.old.deferred }
         requires known { point < built.now.syncs }
-        requires home { AreAllHome self.old.state.layout }
-        requires in_hand { AreInHand self.old.state.state.world.slots self.old.deferred }
+        requires home { NoneRunsIn built.now self.old.deferred self.old.state }
         requires fresh { (n : ℕ) → level_of built.now n ≡ suc point → commands_at self.old.deferred n ≡ [] }
         ensures synced { OnOk result (run_with self.new.state.state self.new.deferred ≡ after_sync built.now point (run_with self.old.state.state self.old.deferred)) }
         ensures can { OnOk result (can_sync built.now point (run_with self.old.state.state self.old.deferred) ≡ true) }
-        ensures home { OnOk result (AreAllHome self.new.state.layout) }
-        ensures suits { OnOk result (IsDeferredFor built.now self.new.deferred) }
-        ensures in_hand { OnOk result (AreInHand self.new.state.state.world.slots self.new.deferred) }
+        ensures home { OnOk result (NoneRunsIn built.now self.new.deferred self.new.state) }
         ensures quiet { IfOk result (λ commanded. commanded ≡ false → kind_sets_of self.new.state.state.world.slots ≡ kind_sets_of self.old.state.state.world.slots) }
         ensures stopped { IfErr result (StopsBy false (CannotSync built.now point (run_with self.old.state.state self.old.deferred))) }
     {

@@ -14,12 +14,13 @@ ghost use Rattle.body.specs.Keeps.{CanBeShown};
 ghost use Rattle.body.specs.Out.{AreOut};
 ghost use Rattle.body.specs.Steps.{store_of};
 ghost use Rattle.engine.specs.declared.faults.RunFault.TheVariants.{Memory};
-ghost use Rattle.engine.specs.Deferred.{AreInHand, IsDeferredFor, IsNothingDeferred, commands_at, grants_at, run_with};
+ghost use Rattle.engine.specs.Deferred.{commands_at, grants_at, run_with};
 ghost use Rattle.engine.specs.Meanings.{meanings, AllKeepWithin, Suits};
 ghost use Rattle.engine.specs.Stops.{StopsBy, fault_of};
 ghost use Rattle.trace_checker.specs.declared.replay.ReplayFault.TheVariants.{Run};
 ghost use Rattle.model.specs.runs.Causes.{serial_cause_of};
 ghost use Rattle.model.specs.runs.Replays.{IsListOf, IsStepTaken};
+ghost use Rattle.trace_checker.specs.Standing.{StandsBefore, StandsBetween};
 ghost use Rattle.trace_checker.specs.ReplayFaults.{AreWrongHere, HasRun, IsKnown, IsReplay, IsReplayFault, IsStepFault, list_at};
 
 use crate::check::{Verdict, check, syncs_of};
@@ -113,11 +114,8 @@ fn take_steps<B: Body>(
     run: &mut RunState,
     trace: &Trace,
 ) -> Result<(), ReplayFault>
-    requires suits { Suits B.fits built.now (map Some bodies.old) run.old.state.state }
+    requires stands { StandsBefore B.fits built.now (map Some bodies.old) run.old.deferred run.old.state }
     requires keep { AllKeepWithin built.now (meanings B.meaning built.now (map Some bodies.old)) }
-    requires out { AreOut (store_of run.old.state) [] }
-    requires deferred { IsDeferredFor built.now run.old.deferred }
-    requires nothing { IsNothingDeferred run.old.deferred }
     requires lawful { IsLawful (recording built.now trace.now.sets) trace.now.steps }
     requires complete { IsComplete (recording built.now trace.now.sets) trace.now.steps }
     ensures replayed { OnOk result (IsReplay built.now (meanings B.meaning built.now (map Some bodies.old)) run.old.state.state trace.now (Ok run.new.state.state)) }
@@ -191,21 +189,15 @@ fn take<B: Body>(
     step: Step,
     number: usize,
 ) -> Result<(), ReplayFault>
-    requires suits { Suits B.fits built.now (map Some bodies.old) run.old.state.state }
+    requires stands { StandsBetween B.fits built.now (map Some bodies.old) run.old.deferred run.old.state }
     requires keep { AllKeepWithin built.now (meanings B.meaning built.now (map Some bodies.old)) }
-    requires out { AreOut (store_of run.old.state) [] }
-    requires deferred { IsDeferredFor built.now run.old.deferred }
-    requires hand { AreInHand run.old.state.state.world.slots run.old.deferred }
     requires known { IsKnown built.now step }
     requires fresh { (n : ℕ) → step ≡ Begin n → commands_at run.old.deferred n ≡ [] }
     requires given { (n : ℕ) → step ≡ Begin n → AreIdsFor built.now n (grants_at run.old.deferred n) }
     requires waits { (k n : ℕ) → step ≡ Sync k → level_of built.now n ≡ suc k → commands_at run.old.deferred n ≡ [] }
     ensures taken { OnOk result (IsStepTaken built.now (meanings B.meaning built.now (map Some bodies.old)) (run_with run.old.state.state run.old.deferred) step (run_with run.new.state.state run.new.deferred)) }
     ensures stopped { IfErr result (IsStepFault built.now (meanings B.meaning built.now (map Some bodies.old)) (run_with run.old.state.state run.old.deferred) step number) }
-    ensures suits { OnOk result (Suits B.fits built.now (map Some bodies.new) run.new.state.state) }
-    ensures out { OnOk result (AreOut (store_of run.new.state) []) }
-    ensures deferred { OnOk result (IsDeferredFor built.now run.new.deferred) }
-    ensures hand { OnOk result (AreInHand run.new.state.state.world.slots run.new.deferred) }
+    ensures stands { OnOk result (StandsBetween B.fits built.now (map Some bodies.new) run.new.deferred run.new.state) }
     ensures meanings { meanings B.meaning built.now (map Some bodies.new) ≡ meanings B.meaning built.now (map Some bodies.old) }
 {
     run.state.prove_law();
@@ -237,19 +229,13 @@ fn start<B: Body>(
     system: u32,
 ) -> Result<(), Stop>
     requires known { system < length built.now.systems }
-    requires suits { Suits B.fits built.now (map Some bodies.old) run.old.state.state }
+    requires stands { StandsBetween B.fits built.now (map Some bodies.old) run.old.deferred run.old.state }
     requires keep { AllKeepWithin built.now (meanings B.meaning built.now (map Some bodies.old)) }
-    requires out { AreOut (store_of run.old.state) [] }
-    requires deferred { IsDeferredFor built.now run.old.deferred }
-    requires hand { AreInHand run.old.state.state.world.slots run.old.deferred }
     requires fresh { commands_at run.old.deferred system ≡ [] }
     requires given { AreIdsFor built.now system (grants_at run.old.deferred system) }
     ensures taken { OnOk result (IsStepTaken built.now (meanings B.meaning built.now (map Some bodies.old)) (run_with run.old.state.state run.old.deferred) (Begin system) (run_with run.new.state.state run.new.deferred)) }
     ensures stopped { IfErr result (StopsBy false (λ met. serial_cause_of built.now (meanings B.meaning built.now (map Some bodies.old)) (Begin system) (run_with run.old.state.state run.old.deferred) ≡ Some met)) }
-    ensures suits { OnOk result (Suits B.fits built.now (map Some bodies.new) run.new.state.state) }
-    ensures out { OnOk result (AreOut (store_of run.new.state) []) }
-    ensures deferred { OnOk result (IsDeferredFor built.now run.new.deferred) }
-    ensures hand { OnOk result (AreInHand run.new.state.state.world.slots run.new.deferred) }
+    ensures stands { OnOk result (StandsBetween B.fits built.now (map Some bodies.new) run.new.deferred run.new.state) }
     ensures meanings { meanings B.meaning built.now (map Some bodies.new) ≡ meanings B.meaning built.now (map Some bodies.old) }
 {
     run.state.prove_law();

@@ -104,16 +104,6 @@ sync-requires-clause-known g c =
     let next = subst (λ (r : Ready). IsTake (recording s sets) h (length out) width r) c.in-Sync.is (subst (λ (t : Turn). IsTurn (recording s sets) h (length out) width (Some t)) c.in-Take.is known.following) in
     (next.allowed false).known
 
-pub sync-requires-clause-suits : goal.sync-requires-clause-suits
-sync-requires-clause-suits g c =
-    let known = c.requires.next.4 in
-    known.between.hand.suits
-
-pub sync-requires-clause-in_hand : goal.sync-requires-clause-in_hand
-sync-requires-clause-in_hand g c =
-    let known = c.requires.next.4 in
-    known.between.hand.ids
-
 pub sync-requires-clause-fresh : goal.sync-requires-clause-fresh
 sync-requires-clause-fresh g c =
     let meaning = g.B.Body.meaning in
@@ -151,7 +141,11 @@ sync-requires-clause-home g c =
     let known = c.requires.next.4 in
     let next = subst (λ (r : Ready). IsTake (recording s sets) h (length out) width r) c.in-Sync.is (subst (λ (t : Turn). IsTurn (recording s sets) h (length out) width (Some t)) c.in-Take.is known.following) in
     let none = none_out width (recording s sets) bodies start h w.state deferred out known.between.stage c.in-Sync.point (next.allowed false) in
-    home_end meaning fits there s bodies slots out w known.between.placed none c.prove_law-in-Take.ensures.laid
+    record {
+      home = home_end meaning fits there s bodies slots out w known.between.placed none c.prove_law-in-Take.ensures.laid;
+      suits = known.between.hand.suits;
+      ids = known.between.hand.ids;
+    }
 
 pub returns-in_err-start-in-Start-clause-stopped : goal.returns-in_err-start-in-Start-clause-stopped
 returns-in_err-start-in-Start-clause-stopped g c =
@@ -374,8 +368,8 @@ returns-in_ok-commanded-in-Sync-clause-taken g c = λ sets bodies start h known.
         listed = listed_synced sets (kind_sets_of later.state.world.slots) h c.in-Sync.point known.between.listed;
         stage = stage_synced width s sets bodies start h w.state deferred out known.between.listed known.between.stage c.in-Sync.point later.state left next done.can done.synced;
         placed = placed_synced meaning fits there s bodies slots out w known.between.placed later none
-            (memories_synced s w.state known.between.placed.memories c.in-Sync.point deferred left later.state done.synced) done.home;
-        hand = in_hand_none s left out later none done.suits done.in_hand;
+            (memories_synced s w.state known.between.placed.memories c.in-Sync.point deferred left later.state done.synced) done.home.home;
+        hand = in_hand_none s left out later none done.home.suits done.home.ids;
       };
     }
 
@@ -399,3 +393,20 @@ returns-in_ok-system-in-Collect-clause-taken g c = rw c.plain.ensures (λ sets b
         hand = ended.hand bodies known.between.placed known.keeps known.between.hand;
       };
     })
+
+-- ---- only a sync point may leave other kind sets
+
+pub returns-in_ok-start-in-Start-clause-quiet : goal.returns-in_ok-start-in-Start-clause-quiet
+returns-in_ok-start-in-Start-clause-quiet g c = rw c.plain-in-Start.ensures (λ k is none. absurd (let clash = is in cc))
+
+pub returns-in_ok-answer-in-Ask-clause-quiet : goal.returns-in_ok-answer-in-Ask-clause-quiet
+returns-in_ok-answer-in-Ask-clause-quiet g c = rw c.plain-in-Ask.ensures (λ k is none. absurd (let clash = is in cc))
+
+pub returns-in-Skip-clause-quiet : goal.returns-in-Skip-clause-quiet
+returns-in-Skip-clause-quiet g c = rw c.plain-in-Skip.ensures (λ k is none. absurd (let clash = is in cc))
+
+pub returns-in_ok-commanded-in-Sync-clause-quiet : goal.returns-in_ok-commanded-in-Sync-clause-quiet
+returns-in_ok-commanded-in-Sync-clause-quiet g c = λ k is none. c.in_ok-commanded-in-Sync.ensures.quiet none
+
+pub returns-in_ok-system-in-Collect-clause-quiet : goal.returns-in_ok-system-in-Collect-clause-quiet
+returns-in_ok-system-in-Collect-clause-quiet g c = rw c.plain.ensures (λ k is none. absurd (let clash = is in cc))

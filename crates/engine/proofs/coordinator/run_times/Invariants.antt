@@ -9,11 +9,11 @@ use Rattle.engine.proofs.coordinator.run_times.Given as goal
 
 abbrev pub invariant-loop-run : goal.invariant-loop-run
 invariant-loop-run g l = record {
-  count : length l.traces.items ≡ l._run;
-  records : AllByRecursion (λ r. is_some r.sets ≡ true) l.traces.items;
-  ran : AreWideRuns (g.M.Mode.width l.mode) l.built (meanings g.B.Body.meaning l.built l.fn.jobs.bodies) l.fn.run.state.state l.traces.items l.run.state.state;
+  count : length l.recording.traces.items ≡ l._run;
+  records : AllByRecursion (λ r. is_some r.sets ≡ true) l.recording.traces.items;
+  ran : AreWideRuns (g.M.Mode.width l.mode) l.built (meanings g.B.Body.meaning l.built l.fn.jobs.bodies) l.fn.run.state.state l.recording.traces.items l.run.state.state;
   rest : IsAtRest g.B.Body.meaning g.B.Body.fits l.built l.jobs.bodies l.run.deferred l.run.state;
   empty : l.jobs.pool ≡ [];
-  following : IsFollowing l.core.value l.built l.traces.items l.run.state.state.world.slots;
+  following : IsFollowing l.recording.core.value l.built l.recording.traces.items l.run.state.state.world.slots;
   meant : meanings g.B.Body.meaning l.built l.jobs.bodies ≡ meanings g.B.Body.meaning l.built l.fn.jobs.bodies;
 }

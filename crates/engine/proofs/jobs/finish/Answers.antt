@@ -1,13 +1,10 @@
-use Rattle.std.proofs.Common.{◌≡◌, ◌<◌, List, length, slice_get, Some, sym, subst, arith}
+use Rattle.std.proofs.Common.{◌≡◌, ◌<◌, List, length, Some, sym, subst, arith}
 use Rattle.std.proofs.lemmas.Bool.{false≢true}
 use Rattle.model.specs.declared.steps.Step.TheVariants.{Finish}
 use Rattle.model.specs.runs.Causes.{interleaved_cause_of}
 use Rattle.model.specs.Lists.{IsIn}
 use Rattle.model.specs.runs.Meaning.{interleaved_step}
-use Rattle.std.specs.Option.{IsSomeAnd}
-use Rattle.body.specs.Seen.{Seen}
 use Rattle.worker_pool.specs.JobOut.{JobOut}
-use Rattle.worker_pool.specs.Ran.{Ran}
 use Rattle.engine.specs.Jobs.{woven, AreKept, InHand, Placed}
 use Rattle.engine.specs.Deferred.{DeferredValue}
 use Rattle.engine.specs.Stops.{IsNotLaid, StopsBy}

@@ -23,14 +23,21 @@ use Rattle.model.proofs.lists.Results.{handed_on}
 one-body : {B : Type 0} {a b : B} → Some a ≡ Some b → a ≡ b
 one-body e = cc
 
-pub show-requires-clause-home : goal.show-requires-clause-home
-show-requires-clause-home g c =
+pub show-requires : goal.show-requires
+show-requires g c =
     let s = c.args.built.now in
     let n = c.args.system in
     let w = c.args.run.now.state in
     let out = c.args.jobs.now.pool in
     let allowed = c.requires.allowed in
-    home-apart allowed.there (store_of w) (held_by out) (params_of s n) c.prove_law.ensures.laid allowed.among c.requires.placed.1.held allowed.apart
+    record {
+      known = allowed.known;
+      memories = c.requires.placed.1.memories;
+      home = home-apart allowed.there (store_of w) (held_by out) (params_of s n) c.prove_law.ensures.laid allowed.among c.requires.placed.1.held allowed.apart;
+      suits = c.requires.hand.suits;
+      fresh = allowed.fresh;
+      given = allowed.given;
+    }
 
 pub take-body-requires : goal.take-body-requires
 take-body-requires g c =
@@ -148,7 +155,7 @@ returns-in-Ok-clause-started g c = λ bodies.
     let job_of = λ (v : Seen). (let x : JobOut g.row.B.Denot = record { number = c.saturating_add-number.result; system = n; body = c.take-body.result; view = v; there = there } in x) in
     let job = job_of c.in_ok-view.view.value in
     let ok = c.in_ok-view.ensures in
-    let handed : IsHanded s n (grants_at deferred n) w later job = record { system = refl; params = ok.params; shown_there = ok.shown; tick = ok.tick; written = ok.written; held = ok.held; is_later = ok.noted } in
+    let handed : IsHanded s n (grants_at deferred n) w later job = record { system = refl; params = ok.shown.params; shown_there = ok.shown.shown_there; tick = ok.shown.tick; written = ok.shown.written; held = ok.held; is_later = ok.noted } in
     subst (λ (x : DeferredValue). interleaved_step s bodies (Begin n) (woven w.state deferred out) ≡ Some (woven later.state x c.hand_out.new.self)) (sym c.show.ensures.deferred)
     (subst (λ (xs : List (JobOut g.row.B.Denot)). interleaved_step s bodies (Begin n) (woven w.state deferred out) ≡ Some (woven later.state deferred xs)) (sym c.in-Ok.ensures.ok)
     (start_there meaning fits job.there s bodies n w later deferred out job ok.has handed))
@@ -168,7 +175,7 @@ returns-in-Ok-clause-placed g c = λ bodies placed.
     let job_of = λ (v : Seen). (let x : JobOut g.row.B.Denot = record { number = c.saturating_add-number.result; system = n; body = c.take-body.result; view = v; there = there } in x) in
     let job = job_of c.in_ok-view.view.value in
     let ok = c.in_ok-view.ensures in
-    let handed : IsHanded s n (grants_at deferred n) w later job = record { system = refl; params = ok.params; shown_there = ok.shown; tick = ok.tick; written = ok.written; held = ok.held; is_later = ok.noted } in
+    let handed : IsHanded s n (grants_at deferred n) w later job = record { system = refl; params = ok.shown.params; shown_there = ok.shown.shown_there; tick = ok.shown.tick; written = ok.shown.written; held = ok.held; is_later = ok.noted } in
     subst (λ (xs : List (JobOut g.row.B.Denot)). Placed meaning fits there s bodies c.take-body.new.self xs later) (sym c.in-Ok.ensures.ok)
     (subst (λ xs. Placed meaning fits there s bodies xs (out ++ job ∷ []) later) (sym c.take-body.ensures.taken)
     (placed_start meaning fits there s bodies slots out w placed n later job c.requires.allowed.known c.requires.allowed.home c.take-body.ensures.body (grants_at deferred n) handed refl))
@@ -185,7 +192,7 @@ returns-in-Ok-clause-hand g c =
     let job_of = λ (v : Seen). (let x : JobOut g.row.B.Denot = record { number = c.saturating_add-number.result; system = n; body = c.take-body.result; view = v; there = there } in x) in
     let job = job_of c.in_ok-view.view.value in
     let ok = c.in_ok-view.ensures in
-    let handed : IsHanded s n (grants_at deferred n) w later job = record { system = refl; params = ok.params; shown_there = ok.shown; tick = ok.tick; written = ok.written; held = ok.held; is_later = ok.noted } in
+    let handed : IsHanded s n (grants_at deferred n) w later job = record { system = refl; params = ok.shown.params; shown_there = ok.shown.shown_there; tick = ok.shown.tick; written = ok.shown.written; held = ok.held; is_later = ok.noted } in
     subst (λ (x : DeferredValue). InHand s x c.hand_out.new.self later) (sym c.show.ensures.deferred)
     (subst (λ (xs : List (JobOut g.row.B.Denot)). InHand s deferred xs later) (sym c.in-Ok.ensures.ok)
     (in_hand_start s n w later deferred out job c.requires.allowed.known c.requires.placed.1.memories c.prove_law.ensures.memories c.requires.hand c.requires.allowed.given handed))

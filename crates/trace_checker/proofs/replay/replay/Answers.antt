@@ -1,4 +1,4 @@
-use Rattle.std.proofs.Common.{Err, Ok, Some, map, subst, sym}
+use Rattle.std.proofs.Common.{rules, Err, Ok, Some, map, subst, sym}
 use Rattle.model.specs.state.State.{State}
 use Rattle.model.specs.steps.Schedule.{recording}
 use Rattle.body.specs.Steps.{store_of}
@@ -24,8 +24,13 @@ returns-in-Bad-clause-only g c = λ other h.
     one_replay (recording s r.sets) (meanings g.B.Body.meaning s (map Some c.args.bodies.now)) c.args.state r.steps (Err (replay.Bad c.in-Bad.step c.in-Bad.fault)) other
     (subst (IsVerdict s r) c.in-Bad.is c.in_ok-check.ensures.verdict) h
 
-pub take_steps-requires-clause-out : goal.take_steps-requires-clause-out
-take_steps-requires-clause-out g c κs within = none-out (store_of c.into_open.result) c.into_open.ensures.home
+pub take_steps-requires-clause-stands : goal.take_steps-requires-clause-stands
+take_steps-requires-clause-stands g c κs within = record {
+  suits = search rules;
+  out = none-out (store_of c.into_open.result) c.into_open.ensures.home;
+  deferred_for = search rules;
+  nothing = search rules;
+}
 
 pub returns-in_err-take_steps-clause-only : goal.returns-in_err-take_steps-clause-only
 returns-in_err-take_steps-clause-only g c =

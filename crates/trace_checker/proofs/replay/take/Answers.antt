@@ -1,12 +1,13 @@
-use Rattle.std.proofs.Common.{◌≡◌, [], map, None, Some, sym, ap, ◌∙◌, subst}
+use Rattle.std.proofs.Common.{◌≡◌, rules, List, [], map, None, Some, sym, ap, ◌∙◌, subst}
 use Rattle.model.specs.declared.steps.Step.{Step}
 use Rattle.model.specs.declared.steps.Step.TheVariants.{Cond, Start, Sync}
 use Rattle.model.specs.runs.Causes.{serial_cause_of}
-use Rattle.engine.specs.Deferred.{DeferredValue, run_with}
+use Rattle.engine.specs.Deferred.{DeferredValue, AreInHand, IsDeferredFor, run_with}
 use Rattle.engine.specs.Stops.{CannotSync, LacksTick, fault_of}
 use Rattle.engine.specs.Meanings.{meanings}
 use Rattle.body.specs.Steps.{StateValue, store_of}
 use Rattle.body.proofs.Outs.{all-home, home-apart, none-out}
+use Rattle.model.specs.state.State.{Slot}
 use Rattle.model.specs.steps.Schedule.{access_of}
 use Rattle.trace_checker.specs.declared.replay.ReplayFault.TheVariants as replay
 use Rattle.model.specs.runs.Replays.{IsStepTaken}
@@ -58,21 +59,40 @@ returns-else-answer-recorded-clause-taken g c =
     (subst (λ (x : DeferredValue). IsStepTaken s ms (run_with w deferred) (Cond c.in-Cond.condition c.in-Cond.recorded) (run_with c.ask.new.self.state.state x)) (sym c.ask.ensures.deferred)
     (ask_taken s ms c.in-Cond.condition c.in-Cond.recorded w c.ask.new.self.state.state deferred ok.ticked (ap (λ (x : StateValue). x.state) ok.asked) (sym same ∙ ok.answer)))
 
-pub returns-else-answer-recorded-clause-suits : goal.returns-else-answer-recorded-clause-suits
-returns-else-answer-recorded-clause-suits g c =
-    suits_asked g.B.Body.fits c.args.built.now (map Some c.args.bodies.now) c.in-Cond.condition c.args.run.now.state.state c.ask.new.self.state.state c.requires.suits
-    (ap (λ (x : StateValue). x.state) c.in_ok-answer-in-Cond.ensures.asked)
+pub returns-else-answer-recorded-clause-stands : goal.returns-else-answer-recorded-clause-stands
+returns-else-answer-recorded-clause-stands g c =
+    let s = c.args.built.now in
+    let w = c.args.run.now.state in
+    let later = c.ask.new.self.state in
+    let asked = c.in_ok-answer-in-Cond.ensures.asked in
+    let before = c.requires.stands in
+    let slots = ap (λ (x : StateValue). x.state.world.slots) asked in
+    record {
+      suits = suits_asked g.B.Body.fits s (map Some c.args.bodies.now) c.in-Cond.condition w.state later.state before.suits (ap (λ (x : StateValue). x.state) asked);
+      out = search rules;
+      deferred_for = subst (IsDeferredFor s) (sym c.ask.ensures.deferred) before.deferred_for;
+      hand = subst (AreInHand later.state.world.slots) (sym c.ask.ensures.deferred) (subst (λ (xs : List Slot). AreInHand xs c.args.run.now.deferred) (sym slots) before.hand);
+    }
 
 pub sync-requires-clause-home : goal.sync-requires-clause-home
-sync-requires-clause-home g c = all-home (store_of c.args.run.now.state) c.prove_law.ensures.laid c.requires.out
+sync-requires-clause-home g c =
+    let before = c.requires.stands in
+    record {
+      home = all-home (store_of c.args.run.now.state) c.prove_law.ensures.laid before.out;
+      suits = before.deferred_for;
+      ids = before.hand;
+    }
 
-pub returns-in_ok-sync-in-Sync-clause-suits : goal.returns-in_ok-sync-in-Sync-clause-suits
-returns-in_ok-sync-in-Sync-clause-suits g c =
-    suits_synced g.B.Body.fits c.args.built.now (map Some c.args.bodies.now) c.in-Sync.point c.args.run.now.state.state c.sync.new.self.state.state c.args.run.now.deferred c.sync.new.self.deferred c.requires.suits
-    c.in_ok-sync-in-Sync.ensures.synced
-
-pub returns-in_ok-sync-in-Sync-clause-out : goal.returns-in_ok-sync-in-Sync-clause-out
-returns-in_ok-sync-in-Sync-clause-out g c = none-out (store_of c.sync.new.self.state) c.in_ok-sync-in-Sync.ensures.home
+pub returns-in_ok-sync-in-Sync-clause-stands : goal.returns-in_ok-sync-in-Sync-clause-stands
+returns-in_ok-sync-in-Sync-clause-stands g c =
+    let done = c.in_ok-sync-in-Sync.ensures in
+    record {
+      suits = suits_synced g.B.Body.fits c.args.built.now (map Some c.args.bodies.now) c.in-Sync.point c.args.run.now.state.state c.sync.new.self.state.state c.args.run.now.deferred c.sync.new.self.deferred c.requires.stands.suits
+          done.synced;
+      out = none-out (store_of c.sync.new.self.state) done.home.home;
+      deferred_for = done.home.suits;
+      hand = done.home.ids;
+    }
 
 pub ask-requires-clause-home : goal.ask-requires-clause-home
-ask-requires-clause-home g c = home-apart None (store_of c.args.run.now.state) [] (access_of c.args.built.now c.in-Cond.condition) c.prove_law.ensures.laid (λ index l. tt) c.requires.out tt
+ask-requires-clause-home g c = home-apart None (store_of c.args.run.now.state) [] (access_of c.args.built.now c.in-Cond.condition) c.prove_law.ensures.laid (λ index l. tt) c.requires.stands.out tt

@@ -64,15 +64,17 @@ loop-step-init g c =
       place = refl;
       within = omega arith;
       reached = opened_right s r.sets ms w (run_with later.state.state later.deferred) opened.opened c.in_ok-compare_sets.ensures.right;
-      suits = record {
-        body_count = c.requires.suits.body_count;
-        memories = memories_opened s w c.requires.suits.memories later.deferred later.state.state
-            (sym (provided-Some (can_open s w) (after_opening s w) (run_with later.state.state later.deferred) opened.opened).1);
-        fit = c.requires.suits.fit;
+      stands = record {
+        suits = record {
+          body_count = c.requires.stands.suits.body_count;
+          memories = memories_opened s w c.requires.stands.suits.memories later.deferred later.state.state
+              (sym (provided-Some (can_open s w) (after_opening s w) (run_with later.state.state later.deferred) opened.opened).1);
+          fit = c.requires.stands.suits.fit;
+        };
+        out = none-out (store_of later.state) (subst AreAllHome (sym opened.layout) (all-home (store_of c.args.run.now.state) c.prove_law-2.ensures.laid c.requires.stands.out));
+        deferred_for = opened.suits;
+        hand = opened.in_hand;
       };
-      out = none-out (store_of later.state) (subst AreAllHome (sym opened.layout) (all-home (store_of c.args.run.now.state) c.prove_law-2.ensures.laid c.requires.out));
-      deferred = opened.suits;
-      hand = opened.in_hand;
       meant = refl;
     }
 
@@ -183,10 +185,7 @@ loop-step-preserved g c =
       within = let few = c.syncs_of-place.ensures.one in let so_far = inv.within in omega (arith, few, so_far);
       reached = reached_next S ms start steps i (Cond 0 false) c.loop-step-test.true run after inv.reached (taken_by s r.sets ms run step after taken)
           (right_after s r.sets ms front step after (c.loop-step.place + c.syncs_of-place.result) place c.in_ok-compare_after.ensures.right);
-      suits = ok.suits;
-      out = ok.out;
-      deferred = ok.deferred;
-      hand = ok.hand;
+      stands = ok.stands;
       meant = ok.meanings ∙ inv.meant;
     }
 

@@ -1,4 +1,4 @@
-use Rattle.std.proofs.Common.{◌≡◌, List, [], ◌∙◌, ap, subst, sym, length, get_or}
+use Rattle.std.proofs.Common.{◌≡◌, rules, List, [], ◌∙◌, ap, subst, sym, length, get_or}
 use Rattle.std.specs.Prelude.{All}
 use Rattle.model.specs.declared.entities.Entity.{Entity}
 use Rattle.model.specs.state.State.{Slot}
@@ -17,14 +17,14 @@ have_commands-commanded-requires c =
     let deferred = c.args.self.now in
     let level = c.systems_of-systems.result.now in
     let found = c.systems_of-systems.ensures ∙ ap (λ lists. get_or lists c.args.point []) (c.deref.ensures.value ∙ ap (λ (l : DeferredValue). l.levels) c.self.view_is) in
-    level_known c.args.built.now c.args.point deferred c.prove_law.ensures c.requires.suits c.requires.known level found (length c.deref-2.result.now) (ap length c.deref-2.ensures.value ∙ ap (λ (l : DeferredValue). length l.commands) c.self.view_is ∙ c.requires.suits.command_count)
+    level_known c.args.built.now c.args.point deferred c.prove_law.ensures c.requires.home.suits c.requires.known level found (length c.deref-2.result.now) (ap length c.deref-2.ensures.value ∙ ap (λ (l : DeferredValue). length l.commands) c.self.view_is ∙ c.requires.home.suits.command_count)
 
 pub apply-requires-clause-known : goal.apply-requires-clause-known
 apply-requires-clause-known c =
     let deferred = c.args.self.now in
     let level = c.systems_of-systems.result.now in
     let found = c.systems_of-systems.ensures ∙ ap (λ lists. get_or lists c.args.point []) (c.deref.ensures.value ∙ ap (λ (l : DeferredValue). l.levels) c.self.view_is) in
-    level_known c.args.built.now c.args.point deferred c.prove_law.ensures c.requires.suits c.requires.known level found (length c.deref-3.result.now) (ap length c.deref-3.ensures.value ∙ ap (λ (l : DeferredValue). length l.commands) c.self.view_is ∙ c.requires.suits.command_count)
+    level_known c.args.built.now c.args.point deferred c.prove_law.ensures c.requires.home.suits c.requires.known level found (length c.deref-3.result.now) (ap length c.deref-3.ensures.value ∙ ap (λ (l : DeferredValue). length l.commands) c.self.view_is ∙ c.requires.home.suits.command_count)
 
 pub apply-requires-clause-granted : goal.apply-requires-clause-granted
 apply-requires-clause-granted c =
@@ -34,7 +34,7 @@ apply-requires-clause-granted c =
     let slots : c.next.new.self.state.world.slots ≡ c.args.state.now.state.world.slots = ap (λ (s : StateValue). s.state.world.slots) c.in_ok-tick.ensures.moved in
     subst (λ (bs : List (List Command)). All (IsGranted c.next.new.self.state.world.slots) (spawned_by (commands_of bs level))) (sym buffers)
     (subst (λ (xs : List Slot). All (IsGranted xs) (spawned_by (commands_of deferred.commands level))) (sym slots)
-    (level_granted c.args.state.now.state.world.slots deferred c.requires.in_hand level))
+    (level_granted c.args.state.now.state.world.slots deferred c.requires.home.ids level))
 
 pub apply-requires-clause-apart : goal.apply-requires-clause-apart
 apply-requires-clause-apart c =
@@ -43,28 +43,28 @@ apply-requires-clause-apart c =
     let found = c.systems_of-systems.ensures ∙ ap (λ lists. get_or lists c.args.point []) (c.deref.ensures.value ∙ ap (λ (l : DeferredValue). l.levels) c.self.view_is) in
     let buffers : c.deref-3.result.now ≡ deferred.commands = c.deref-3.ensures.value ∙ ap (λ (l : DeferredValue). l.commands) c.self.view_is in
     subst (λ (bs : List (List Command)). AreApart (spawned_by (commands_of bs level))) (sym buffers)
-    (level_apart c.args.state.now.state.world.slots deferred c.requires.in_hand level (level_once c.args.built.now c.args.point deferred c.prove_law.ensures c.requires.suits c.requires.known level found))
+    (level_apart c.args.state.now.state.world.slots deferred c.requires.home.ids level (level_once c.args.built.now c.args.point deferred c.prove_law.ensures c.requires.home.suits c.requires.known level found))
 
 pub free_ids-requires : goal.free_ids-requires
 free_ids-requires c =
     let deferred = c.args.self.now in
     let level = c.systems_of-systems.result.now in
     let found = c.systems_of-systems.ensures ∙ ap (λ lists. get_or lists c.args.point []) (c.deref.ensures.value ∙ ap (λ (l : DeferredValue). l.levels) c.self.view_is) in
-    level_known c.args.built.now c.args.point deferred c.prove_law.ensures c.requires.suits c.requires.known level found (length c.deref-4.result.now) (ap length c.deref-4.ensures.value ∙ ap (λ (l : DeferredValue). length l.grants) c.self.view_is ∙ c.requires.suits.grant_count)
+    level_known c.args.built.now c.args.point deferred c.prove_law.ensures c.requires.home.suits c.requires.known level found (length c.deref-4.result.now) (ap length c.deref-4.ensures.value ∙ ap (λ (l : DeferredValue). length l.grants) c.self.view_is ∙ c.requires.home.suits.grant_count)
 
 pub clear_places-requires-clause-commands : goal.clear_places-requires-clause-commands
 clear_places-requires-clause-commands c =
     let deferred = c.args.self.now in
     let level = c.systems_of-systems.result.now in
     let found = c.systems_of-systems.ensures ∙ ap (λ lists. get_or lists c.args.point []) (c.deref.ensures.value ∙ ap (λ (l : DeferredValue). l.levels) c.self.view_is) in
-    level_known c.args.built.now c.args.point deferred c.prove_law.ensures c.requires.suits c.requires.known level found (length c.deref_mut.result.now) (ap length c.deref_mut.ensures.value ∙ ap (λ (l : DeferredValue). length l.commands) c.self.view_is ∙ c.requires.suits.command_count)
+    level_known c.args.built.now c.args.point deferred c.prove_law.ensures c.requires.home.suits c.requires.known level found (length c.deref_mut.result.now) (ap length c.deref_mut.ensures.value ∙ ap (λ (l : DeferredValue). length l.commands) c.self.view_is ∙ c.requires.home.suits.command_count)
 
 pub clear_places-requires-clause-grants : goal.clear_places-requires-clause-grants
 clear_places-requires-clause-grants c =
     let deferred = c.args.self.now in
     let level = c.systems_of-systems.result.now in
     let found = c.systems_of-systems.ensures ∙ ap (λ lists. get_or lists c.args.point []) (c.deref.ensures.value ∙ ap (λ (l : DeferredValue). l.levels) c.self.view_is) in
-    level_known c.args.built.now c.args.point deferred c.prove_law.ensures c.requires.suits c.requires.known level found (length c.deref_mut-2.result.now) (ap length c.deref_mut-2.ensures.value ∙ ap (λ (l : DeferredValue). length l.grants) c.self.view_is ∙ c.requires.suits.grant_count)
+    level_known c.args.built.now c.args.point deferred c.prove_law.ensures c.requires.home.suits c.requires.known level found (length c.deref_mut-2.result.now) (ap length c.deref_mut-2.ensures.value ∙ ap (λ (l : DeferredValue). length l.grants) c.self.view_is ∙ c.requires.home.suits.grant_count)
 
 pub returns-clause-synced : goal.returns-clause-synced
 returns-clause-synced c =
@@ -91,11 +91,11 @@ returns-clause-synced c =
     let commands = emptied_items level inside.commands c.deref_mut.result.now c.clear_places.new.commands c.deref_mut.ensures.value c.clear_places.ensures.commands in
     let grants = emptied_items level inside.grants c.deref_mut-2.result.now c.clear_places.new.grants c.deref_mut-2.ensures.value c.clear_places.ensures.grants in
     let gone = (λ i. let l : DeferredValue = record { levels = inside.levels.items; spawners = inside.spawners.items; commands = commands i; grants = grants i } in l) ∙ ap (without_systems level) c.self.view_is in
-    sync_is c.args.built.now c.args.point level deferred _ before after c.prove_law.ensures c.requires.suits
-    (level_is c.args.built.now c.args.point deferred c.prove_law.ensures c.requires.suits c.requires.known level found) synced gone
+    sync_is c.args.built.now c.args.point level deferred _ before after c.prove_law.ensures c.requires.home.suits
+    (level_is c.args.built.now c.args.point deferred c.prove_law.ensures c.requires.home.suits c.requires.known level found) synced gone
 
-pub returns-clause-in_hand : goal.returns-clause-in_hand
-returns-clause-in_hand c =
+pub returns-clause-home : goal.returns-clause-home
+returns-clause-home c =
     let deferred = c.args.self.now in
     let level = c.systems_of-systems.result.now in
     let before = c.args.state.now in
@@ -118,7 +118,11 @@ returns-clause-in_hand c =
     let commands = emptied_items level inside.commands c.deref_mut.result.now c.clear_places.new.commands c.deref_mut.ensures.value c.clear_places.ensures.commands in
     let grants = emptied_items level inside.grants c.deref_mut-2.result.now c.clear_places.new.grants c.deref_mut-2.ensures.value c.clear_places.ensures.grants in
     let gone = (λ i. let l : DeferredValue = record { levels = inside.levels.items; spawners = inside.spawners.items; commands = commands i; grants = grants i } in l) ∙ ap (without_systems level) c.self.view_is in
-    sync_in_hand level deferred _ before after c.requires.in_hand synced gone
+    record {
+      home = search rules;
+      suits = search rules;
+      ids = sync_in_hand level deferred _ before after c.requires.home.ids synced gone;
+    }
 
 pub returns-clause-quiet : goal.returns-clause-quiet
 returns-clause-quiet c = λ quiet.

@@ -1,4 +1,5 @@
-use Rattle.std.proofs.Common.{Err, ◌+◌, ap, ◌∙◌, add-one}
+use Rattle.std.proofs.Common.{Err, ◌+◌, sym, ap, ◌∙◌, subst, add-one}
+use Rattle.archetype_store.specs.Layout.{AreAllHome}
 use Rattle.model.specs.runs.RunState.{RunState}
 use Rattle.model.specs.state.KindSets.{kind_sets_of}
 use Rattle.engine.proofs.SameKindSets.{kind_sets-after_grant}
@@ -28,11 +29,16 @@ returns-clause-can c =
     can_sync_is c.args.built.now c.args.point (run_with c.args.state.now.state c.args.self.now) (run_with c.finish_level.new.state.state c.finish_level.new.self) c.in_ok-commanded.ensures.synced
     c.in_ok-commanded.ensures.ticked c.in_ok-grant.ensures.has
 
-pub returns-clause-in_hand : goal.returns-clause-in_hand
-returns-clause-in_hand c =
-    c.in_ok-grant.ensures.in_hand c.in_ok-commanded.ensures.in_hand
-    (λ n above. fresh_after c.args.built.now c.args.point (run_with c.args.state.now.state c.args.self.now) (run_with c.finish_level.new.state.state c.finish_level.new.self) c.in_ok-commanded.ensures.synced
-    n (c.requires.fresh n (above ∙ add-one c.args.point)))
+pub returns-clause-home : goal.returns-clause-home
+returns-clause-home c =
+    let before = c.in_ok-commanded.ensures.home in
+    record {
+      home = subst AreAllHome (sym c.in_ok-grant.ensures.layout) before.home;
+      suits = c.in_ok-grant.ensures.suits;
+      ids = c.in_ok-grant.ensures.in_hand before.ids
+          (λ n above. fresh_after c.args.built.now c.args.point (run_with c.args.state.now.state c.args.self.now) (run_with c.finish_level.new.state.state c.finish_level.new.self) c.in_ok-commanded.ensures.synced
+          n (c.requires.fresh n (above ∙ add-one c.args.point)));
+    }
 
 pub returns-clause-quiet : goal.returns-clause-quiet
 returns-clause-quiet c = λ quiet.

@@ -1,10 +1,13 @@
-use Rattle.std.proofs.Common.{◌++◌, sym, ap, ◌∙◌, subst, arith}
+use Rattle.std.proofs.Common.{◌++◌, rules, sym, ap, ◌∙◌, subst, arith}
 use Rattle.std.specs.List.{AllByRecursion}
 use Rattle.query_plan.specs.Standing.{ArePickedHome}
 use Rattle.model.specs.access.Access.{Params}
 use Rattle.model.specs.access.SelfConflict.{ConflictWithin}
 use Rattle.model.specs.runs.RunState.{memory_of_system}
 use Rattle.model.specs.shown.Input.{shown}
+use Rattle.model.specs.shown.Outcome.{untouched}
+use Rattle.body.specs.Lent.{lent_in}
+use Rattle.body.specs.Out.{IsWrittenBy}
 use Rattle.body.specs.Steps.{StateValue, store_of}
 use Rattle.body.proofs.Outs.{out-same}
 use Rattle.body.specs.Keeps.{CanBeShown}
@@ -18,12 +21,26 @@ open-requires-clause-apart c = λ conflict. c.prove_apart.ensures c.args.system 
 
 pub returns-clause-shown : goal.returns-clause-shown
 returns-clause-shown c =
+    let s = c.args.built.now in
     let n = c.args.system in
     let w = c.args.self.now.state in
     let p = c.params-params.result.now in
-    c.in_ok-view.ensures.shown
+    let ok = c.in_ok-view.ensures in
+    let params = ok.params ∙ c.params-params.ensures in
+    let shows = ok.shown
     ∙ ap (shown p (memory_of_system w.state n) w.state) (c.granted-granted.ensures ∙ ap (λ d. grants_at d n) c.take_buffer-commands.ensures.same)
-    ∙ ap (λ (q : Params). shown q (memory_of_system w.state n) w.state (grants_at c.args.self.now.deferred n)) c.params-params.ensures
+    ∙ ap (λ (q : Params). shown q (memory_of_system w.state n) w.state (grants_at c.args.self.now.deferred n)) c.params-params.ensures in
+    record {
+      params = params;
+      shown_there = shows;
+      showing = subst (λ (p : Params). CanBeShown p c.in_ok-view.view.value.shown) (sym params)
+          (subst (CanBeShown (params_of s n)) (sym shows)
+          (can_be_shown s n (memory_of_system w.state n) w.state (grants_at c.args.self.now.deferred n)
+          (registers_at w.state.world.clock w.state.systems n (let e = c.requires.memories.systems in let k = c.requires.known in omega (arith, e, k)) c.prove_law.ensures.memories.systems_in) c.requires.given));
+      untouched_there = ok.untouched ∙ ap (λ (q : Params). untouched q c.in_ok-view.view.value.shown) (sym ok.params);
+      tick = search rules;
+      written = subst (λ (q : Params). AllByRecursion (IsWrittenBy q.queries w.layout) (lent_in c.in_ok-view.view.value.opening.taken)) c.params-params.ensures ok.written;
+    }
 
 pub returns-clause-held : goal.returns-clause-held
 returns-clause-held c = λ others held.
@@ -31,18 +48,6 @@ returns-clause-held c = λ others held.
     (ap (λ (s : StateValue). s.state.world.slots) (c.note.ensures) ∙ ap (λ (s : StateValue). s.state.world.slots) c.in-Ok.ensures.moved)
     (ap (λ (s : StateValue). s.layout) (c.note.ensures) ∙ ap (λ (s : StateValue). s.layout) c.in-Ok.ensures.moved)
     (c.in_ok-view.ensures.out others held)
-
-pub returns-clause-showing : goal.returns-clause-showing
-returns-clause-showing c =
-    let s = c.args.built.now in
-    let n = c.args.system in
-    let w = c.args.self.now.state.state in
-    let shows = returns-clause-shown c in
-    let with_params = λ (p : Params). CanBeShown p c.in_ok-view.view.value.shown in
-    subst with_params (sym (c.in_ok-view.ensures.params ∙ c.params-params.ensures))
-    (subst (CanBeShown (params_of s n)) (sym shows)
-    (can_be_shown s n (memory_of_system w n) w (grants_at c.args.self.now.deferred n)
-    (registers_at w.world.clock w.systems n (let e = c.requires.memories.systems in let k = c.requires.known in omega (arith, e, k)) c.prove_law.ensures.memories.systems_in) c.requires.given))
 
 pub open-requires-clause-home : goal.open-requires-clause-home
 open-requires-clause-home c =
