@@ -331,7 +331,7 @@ module _ (there : Bool) (width : ℕ) (bytes trace : Option (List ℕ)) where
 
 -- there are ids for all entities of a document within the limit of files
 enough-at : (n : ℕ) → n ≤ most_bytes → has_ids n [] ≡ true
-unfolding has_ids, with_room
+unfolding has_ids with_room
 enough-at n h = let count : length (replicate (n - 0) fresh_slot) ≡ n = length-replicate _ _ ∙ (omega arith) in rw count (le-leb n most_bytes h)
 
 pub enough : (document : Members) (entities : List (Vec Value Global)) → IsOfShortText document → AreEntitiesIn document entities → has_ids (length entities) [] ≡ true
