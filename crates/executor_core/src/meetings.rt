@@ -70,16 +70,32 @@ pub(crate) fn renew_clashed(rows: &mut [NumberSet], built: &Built, sets: &[u32])
     }
 }
 
-// Makes a row anew: those of the rivals of an access that meet it.
+// Makes a row anew: those of the rivals of an access that meet it. Where there are none no system is looked at.
 fn renew_row(row: &mut NumberSet, built: &Built, rivals: &NumberSet, access: &Params, sets: &[u32])
     requires room { length row.old ≡ length built.now.systems / 64 + 1 }
     requires rivals { (m : ℕ) → (contains rivals.now m ≡ true) ↔ ((m < length built.now.systems) × Conflict (params_of built.now m) access.now) }
     ensures { IsRow (length built.now.systems) (λ m. (m < length built.now.systems) × Meet (Some sets.now) (params_of built.now m) access.now) row.new }
 {
-    row.clear();
     if rivals.is_empty() {
+        row.clear();
         return;
     }
+    note_rivals(row, built, rivals, access, sets);
+}
+
+// Makes a row anew, by a look at each system.
+fn note_rivals(
+    row: &mut NumberSet,
+    built: &Built,
+    rivals: &NumberSet,
+    access: &Params,
+    sets: &[u32],
+)
+    requires room { length row.old ≡ length built.now.systems / 64 + 1 }
+    requires rivals { (m : ℕ) → (contains rivals.now m ≡ true) ↔ ((m < length built.now.systems) × Conflict (params_of built.now m) access.now) }
+    ensures { IsRow (length built.now.systems) (λ m. (m < length built.now.systems) × Meet (Some sets.now) (params_of built.now m) access.now) row.new }
+{
+    row.clear();
     for system in 0..built.count() {
         note_meeting(row, system, built, rivals, access, sets);
     }

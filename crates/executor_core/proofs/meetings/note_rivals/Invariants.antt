@@ -2,7 +2,7 @@ use Rattle.std.proofs.Common.{◌≡◌, ◌+◌, ◌/◌, Some, length}
 use Rattle.model.specs.access.Meeting.{Meet}
 use Rattle.model.specs.steps.Schedule.{params_of}
 use Rattle.executor_core.proofs.Rows.{AreFirstMembers}
-use Rattle.executor_core.proofs.meetings.renew_row.Given as goal
+use Rattle.executor_core.proofs.meetings.note_rivals.Given as goal
 
 -- the systems so far are noted
 abbrev pub invariant-loop-system : goal.invariant-loop-system
