@@ -1,1 +1,3 @@
 pub mod Fitting
+pub mod Partings
+pub mod Stories

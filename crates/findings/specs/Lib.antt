@@ -1,1 +1,3 @@
+pub mod Parting
+pub mod Story
 pub mod Witness
