@@ -11,7 +11,7 @@ use executor_core::Trace;
 use explain::Loaded;
 use explain::loading::opening;
 use findings::diverging::{Parting, first_difference, parting_of};
-use findings::story::story_of;
+use findings::stories::story_of;
 use findings::telling::{push_pair, push_witness, text_of_parting};
 use findings::witness::{Witness, witness_of};
 use kinds::Value;

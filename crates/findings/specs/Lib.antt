@@ -1,3 +1,3 @@
 pub mod Parting
-pub mod Story
+pub mod Stories
 pub mod Witness

@@ -3,6 +3,6 @@
 
 pub mod diverging;
 pub mod listing;
-pub mod story;
+pub mod stories;
 pub mod telling;
 pub mod witness;

@@ -1,8 +1,8 @@
 use Rattle.std.proofs.Common.{◌≡◌, ℕ, List, map, drop, length, Some, string_bytes}
 use Rattle.engine.specs.Meanings.{Suits}
 use Rattle.program.specs.Setup.{meanings_of_scripts, script_suits}
-use Rattle.findings.specs.Story.{IsStory, count_text}
-use Rattle.findings.proofs.story.story_of.Given as goal
+use Rattle.findings.specs.Stories.{IsStory, count_text}
+use Rattle.findings.proofs.stories.story_of.Given as goal
 
 -- the runs that are left, told behind those so far, make the story of all
 abbrev pub invariant-loop-trace : goal.invariant-loop-trace
