@@ -1,6 +1,6 @@
 // What is found, as text: witnesses of races, where two traces part, and the worlds of a run.
 
-ghost use Rattle.std.specs.Prelude.{IfOk};
+ghost use Rattle.std.specs.Prelude.{◌<◌, ◌^◌, length, IfOk};
 ghost use Rattle.engine.specs.Meanings.{HasMemories};
 ghost use Rattle.program.specs.Setup.{AreScriptsOf};
 
@@ -111,7 +111,8 @@ fn parting_in(
     one: &[Trace],
     two: &[Trace],
 ) -> Result<Parting, Fault>
-    requires { AreScriptsOf loaded.built loaded.bodies.items }
+    requires fitting { AreScriptsOf loaded.built loaded.bodies.items }
+    requires few { length one.now < 2 ^ 32 }
 {
     let Loaded {
         built,

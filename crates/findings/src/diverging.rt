@@ -65,7 +65,7 @@ pub fn parting_of(
             return Ok(Parting::Longer(number as usize));
         };
         number += 1;
-        states = taken_both(alloc, built, bodies, states, (trace, counterpart), number)?;
+        states = taken_both(alloc, built, bodies, states, trace, counterpart, number)?;
         let text = text_of(alloc, number, &states.0)?;
         let text_beside = text_of(alloc, number, &states.1)?;
         if text.as_str() != text_beside.as_str() {
@@ -93,19 +93,19 @@ fn taken_both(
     built: &Built,
     bodies: &mut [ScriptBody],
     states: (State, State),
-    runs: (&Trace, &Trace),
+    trace: &Trace,
+    counterpart: &Trace,
     number: u32,
 ) -> Result<(State, State), Fault>
     requires suits { Suits script_suits built.now (map Some bodies.old) states.0 }
     requires beside { HasMemories built.now states.1 }
-    ensures one { IfOk result (λ left. IsReplayed (recording built.now runs.0.now.sets) (meanings_of_scripts built.now bodies.old) states.0 runs.0.now.steps left.0) }
-    ensures other { IfOk result (λ left. IsReplayed (recording built.now runs.1.now.sets) (meanings_of_scripts built.now bodies.old) states.1 runs.1.now.steps left.1) }
+    ensures one { IfOk result (λ left. IsReplayed (recording built.now trace.now.sets) (meanings_of_scripts built.now bodies.old) states.0 trace.now.steps left.0) }
+    ensures other { IfOk result (λ left. IsReplayed (recording built.now counterpart.now.sets) (meanings_of_scripts built.now bodies.old) states.1 counterpart.now.steps left.1) }
     ensures suits { IfOk result (λ left. Suits script_suits built.now (map Some bodies.new) left.0) }
     ensures beside { IfOk result (λ left. HasMemories built.now left.1) }
     ensures meanings { meanings_of_scripts built.now bodies.new ≡ meanings_of_scripts built.now bodies.old }
 {
     let (state, beside) = states;
-    let (trace, counterpart) = runs;
     let left = replay_run(alloc, built, bodies, state, trace, number as usize)?;
     let left_beside = replay_run(alloc, built, bodies, beside, counterpart, number as usize)?;
     Ok((left, left_beside))

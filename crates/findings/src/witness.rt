@@ -86,7 +86,10 @@ fn told_in(
     let mut answers = vec![in alloc; true; built.condition_count() as usize]?;
     for _ in 0..u64::from(built.condition_count()) + 1 {
         let list = list_of(alloc, built, turn, answers.as_slice())?;
-        if !is_in_turn(list.steps(), turn) || !are_fitting(built, bodies) {
+        if !is_in_turn(list.steps(), turn) {
+            return Ok(None);
+        }
+        if !are_fitting(built, bodies) {
             return Ok(None);
         }
         match left_by(alloc, built, bodies, first, &list) {
