@@ -1,8 +1,8 @@
 // The command line.
 
-use clap::{Arg, ArgMatches, Command};
+use clap::{Arg, ArgMatches, Command, value_parser};
 use command_line::LineFault;
-use command_line::args::asks_for_help;
+use command_line::args::{asks_for_help, has_plus};
 use std::alloc::{AllocError, Global};
 
 /// What is asked for.
@@ -16,6 +16,8 @@ pub enum Work {
     Races,
     /// Where two traces part.
     Diverge,
+    /// The worlds after the sync points of a run of a trace, counted from 1, or of all.
+    Steps(Option<u32>),
 }
 
 /// What a command line asks for: some work on the schedule that a file declares.
@@ -31,7 +33,7 @@ pub struct Args<'a> {
     pub work: Work,
 }
 
-const COMMANDS: [&str; 4] = ["schedule", "lanes", "races", "diverge"];
+const COMMANDS: [&str; 5] = ["schedule", "lanes", "races", "diverge", "steps"];
 
 impl<'a> Args<'a> {
     /// Reads the words of a command line, of which the first is the program's own name.
@@ -59,7 +61,18 @@ impl<'a> Args<'a> {
         if let Some(found) = matches.subcommand_matches("diverge") {
             return Ok(Args::of(found, Work::Diverge));
         }
+        if let Some(found) = matches.subcommand_matches("steps") {
+            return Args::of_steps(alloc, found);
+        }
         Err(LineFault::usage(alloc, "error: no command is named\n"))
+    }
+
+    // The worlds that the matches of `steps` ask for.
+    fn of_steps(alloc: Global, found: &ArgMatches<'a>) -> Result<Args<'a>, LineFault> {
+        if has_plus(found, "run") {
+            return Err(LineFault::usage(alloc, "error: a number has no plus\n"));
+        }
+        Ok(Args::of(found, Work::Steps(found.get_one::<u32>("run"))))
     }
 
     // The work, on the files that the matches name.
@@ -144,6 +157,26 @@ fn diverge<'a>(alloc: Global) -> Result<Command<'a>, AllocError> {
         .arg(path(alloc, "other", "OTHER", "the file of other recorded runs"))
 }
 
+// The run that is told.
+fn run<'a>(alloc: Global) -> Arg<'a> {
+    Arg::new(alloc, "run")
+        .long("run")
+        .value_name("N")
+        .value_parser(value_parser!(u32).range(1..))
+        .help("the run that is told, from 1; all if left out")
+}
+
+// What `steps` takes.
+fn steps<'a>(alloc: Global) -> Result<Command<'a>, AllocError> {
+    Command::new(alloc, "steps")
+        .about(
+            "prints the world after each sync point of recorded runs: ecsview steps arena.toml arena.trace --run 2",
+        )
+        .arg(file(alloc))?
+        .arg(trace(alloc))?
+        .arg(run(alloc))
+}
+
 // The program with one command more.
 fn with_command<'a>(
     program: Command<'a>,
@@ -160,5 +193,6 @@ fn command<'a>(alloc: Global) -> Result<Command<'a>, AllocError> {
     let program = with_command(program, schedule(alloc))?;
     let program = with_command(program, lanes(alloc))?;
     let program = with_command(program, races(alloc))?;
-    with_command(program, diverge(alloc))
+    let program = with_command(program, diverge(alloc))?;
+    with_command(program, steps(alloc))
 }

@@ -1,16 +1,19 @@
 // The drawings of a schedule, and of the runs of a trace.
 
-ghost use Rattle.std.specs.Prelude.{IfOk, string_bytes};
-ghost use Rattle.ecsview.specs.Drawings.{IsScheduleText};
+ghost use Rattle.std.specs.Prelude.{◌≡◌, ◌++◌, IfOk, OnOk, string_bytes};
+ghost use Rattle.ecsview.specs.Drawings.{IsLanesText, IsScheduleText, height_from, lanes_from, lanes_width, longest_from};
 
 use ambiguity_report::report::report;
+use drawing::Shape;
 use drawing::lanes::add_run;
 use drawing::svg::{OPENER, RULES, text_of_drawing};
+use executor_core::Trace;
 use explain::Loaded;
 use program::Fault;
 use program::checking::traces_of;
 use schedule_drawing::drawn::draw_schedule;
-use std::alloc::Global;
+use schedule_builder::Built;
+use std::alloc::{AllocError, Global};
 use std::io::Read;
 use trace_checker::Verdict;
 use trace_checker::check::check;
@@ -37,25 +40,56 @@ pub fn lanes_text<T: Read>(
     alloc: Global,
     loaded: &Loaded<'_>,
     trace: &mut T,
-) -> Result<String, Fault> {
+) -> Result<String, Fault>
+    ensures { IfOk result (λ text. IsLanesText OPENER.now RULES.now loaded.now (T.remaining trace.old) (string_bytes text)) }
+{
     let traces = traces_of(alloc, trace)?;
-    let mut shapes = Vec::new(alloc);
-    let mut top = 10;
-    let mut longest = 0usize;
-    let mut run = 0u32;
-    for trace in &traces {
-        run = run.saturating_add(1);
-        if let Verdict::Bad(step, fault) = check(alloc, &loaded.built, trace)? {
-            return Err(Fault::BadStep {
-                run: run as usize,
-                step,
-                fault,
-            });
-        }
-        top = add_run(alloc, &mut shapes, trace.steps(), run, top)?;
-        longest = longest.max(trace.steps().len());
-    }
-    let width = 56u64.saturating_mul(longest as u64).saturating_add(MARGIN);
+    check_steps(alloc, &loaded.built, traces.as_slice())?;
     let names = loaded.names.as_slice();
-    Ok(text_of_drawing(alloc, names, &[], width.max(360), top, shapes.as_slice())?)
+    let width = width_of(traces.as_slice());
+    let mut shapes = Vec::new(alloc);
+    let height = add_runs(alloc, &mut shapes, traces.as_slice())?;
+    Ok(text_of_drawing(alloc, names, &[], width, height, shapes.as_slice())?)
+}
+
+// Refuses the first run of which a step may not come.
+fn check_steps(alloc: Global, built: &Built, traces: &[Trace]) -> Result<(), Fault> {
+    let mut run = 0usize;
+    for trace in traces {
+        run = run.saturating_add(1);
+        if let Verdict::Bad(step, fault) = check(alloc, built, trace)? {
+            return Err(Fault::BadStep { run, step, fault });
+        }
+    }
+    Ok(())
+}
+
+// How wide the drawing of runs is.
+fn width_of(traces: &[Trace]) -> u64
+    ensures { result ≡ lanes_width (longest_from 0 traces.now) }
+{
+    let mut longest = 0u64;
+    for trace in traces {
+        longest = longest.max(trace.steps().len() as u64);
+    }
+    let width = 56u64.saturating_mul(longest).saturating_add(MARGIN);
+    width.max(360)
+}
+
+// Adds the drawings of runs, one below the other. Gives where the last ends.
+fn add_runs(
+    alloc: Global,
+    shapes: &mut Vec<Shape>,
+    traces: &[Trace],
+) -> Result<u64, AllocError>
+    ensures drawn { OnOk result (shapes.new.items ≡ shapes.old.items ++ lanes_from 0 10 traces.now) }
+    ensures end { IfOk result (λ end. end ≡ height_from 10 traces.now) }
+{
+    let mut top = 10;
+    let mut run = 0u32;
+    for trace in traces {
+        run = run.saturating_add(1);
+        top = add_run(alloc, shapes, trace.steps(), run, top)?;
+    }
+    Ok(top)
 }

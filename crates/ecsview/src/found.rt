@@ -1,6 +1,6 @@
-// What is found, as text: witnesses of races, and where two traces part.
+// What is found, as text: witnesses of races, where two traces part, and the worlds of a run.
 
-ghost use Rattle.std.specs.Prelude.{IfOk};
+ghost use Rattle.std.specs.Prelude.{◌<◌, ◌^◌, length, IfOk};
 ghost use Rattle.engine.specs.Meanings.{HasMemories};
 ghost use Rattle.program.specs.Setup.{AreScriptsOf};
 
@@ -11,6 +11,7 @@ use executor_core::Trace;
 use explain::Loaded;
 use explain::loading::opening;
 use findings::diverging::{Parting, first_difference, parting_of};
+use findings::stories::story_of;
 use findings::telling::{push_pair, push_witness, text_of_parting};
 use findings::witness::{Witness, witness_of};
 use kinds::Value;
@@ -110,7 +111,8 @@ fn parting_in(
     one: &[Trace],
     two: &[Trace],
 ) -> Result<Parting, Fault>
-    requires { AreScriptsOf loaded.built loaded.bodies.items }
+    requires fitting { AreScriptsOf loaded.built loaded.bodies.items }
+    requires few { length one.now < 2 ^ 32 }
 {
     let Loaded {
         built,
@@ -130,6 +132,28 @@ fn parting_in(
         one,
         two,
     )
+}
+
+/// The worlds after the sync points of the run of a trace that is asked for, counted from 1, or of all.
+pub fn steps_text<T: Read>(
+    alloc: Global,
+    loaded: Loaded<'_>,
+    trace: &mut T,
+    asked: Option<u32>,
+) -> Result<String, Fault>
+    requires { AreScriptsOf loaded.built loaded.bodies.items }
+{
+    let traces = traces_of(alloc, trace)?;
+    let Loaded {
+        built,
+        mut bodies,
+        entities,
+        resources,
+        ..
+    } = loaded;
+    let first = begun(alloc, &built, entities.as_slice(), &resources)?;
+    let bodies = bodies.as_mut_slice();
+    story_of(alloc, &built, bodies, first, traces.as_slice(), asked)
 }
 
 // The state with which the first run begins.

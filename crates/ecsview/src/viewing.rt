@@ -4,7 +4,7 @@ ghost use Rattle.program.specs.Setup.{AreScriptsOf};
 
 use crate::args::{Args, Work};
 use crate::drawings::{lanes_text, schedule_text};
-use crate::found::{diverge_text, races_text};
+use crate::found::{diverge_text, races_text, steps_text};
 use explain::Loaded;
 use explain::loading::load;
 use program::Fault;
@@ -74,6 +74,7 @@ fn answer<T: Read, U: Read>(
             let (text, status) = diverge_text(alloc, loaded, trace, other)?;
             Ok(Shown { text, status })
         }
+        Work::Steps(run) => Ok(done(steps_text(alloc, loaded, trace, run)?)),
     }
 }
 

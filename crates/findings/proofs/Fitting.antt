@@ -6,7 +6,7 @@ use Rattle.model.specs.state.State.{State}
 use Rattle.model.specs.steps.Schedule.{Schedule, params_of}
 use Rattle.script.specs.declared.script_body.ScriptBody.{ScriptBody}
 use Rattle.script.specs.Faults.{fits}
-use Rattle.engine.specs.Meanings.{body_at, body_fits, HasMemories, Suits}
+use Rattle.engine.specs.Meanings.{body_at, body_fits, AreFit, HasMemories, Suits}
 use Rattle.program.specs.Setup.{AreScriptsOf, script_fits, script_suits}
 
 at-place : (params : Params) (scripts : List ScriptBody) (n : ℕ) → body_fits (λ script p. fits p script) (body_at (map Some scripts) n) params ≡ script_fits (slice_get scripts n) params
@@ -24,3 +24,7 @@ fitting_suit s scripts state fitting memories = record {
 -- what suits one state suits another that has the memories
 pub suits_beside : (s : Schedule) (scripts : List ScriptBody) (state beside : State) → Suits script_suits s (map Some scripts) state → HasMemories s beside → Suits script_suits s (map Some scripts) beside
 suits_beside s scripts state beside suits memories = record { body_count = suits.body_count; memories = memories; fit = suits.fit }
+
+-- scripts that fit suit a state that has the memories
+pub suits_of_fit : (s : Schedule) (scripts : List ScriptBody) (state : State) → AreFit script_suits s (map Some scripts) → HasMemories s state → Suits script_suits s (map Some scripts) state
+suits_of_fit s scripts state fit memories = record { body_count = fit.body_count; memories = memories; fit = fit.fit }

@@ -1,1 +1,3 @@
+pub mod Parting
+pub mod Stories
 pub mod Witness

@@ -1,9 +1,17 @@
--- Which of two things comes first in a list of one run.
-use Rattle.std.specs.Prelude.{ℕ, ◌==◌, Bool, false, cond, not, List, [], ◌∷◌}
+-- Witnesses of races: two complete lawful lists of one run, in which two that race come in either order, and what they leave.
+use Rattle.std.specs.Prelude.{ℕ, ◌≡◌, ◌==◌, Bool, true, false, cond, not, List, [], ◌∷◌, reverse, string_bytes}
 use Rattle.ambiguity_report.specs.declared.races.Racer.{Racer}
 use Rattle.ambiguity_report.specs.declared.races.Racer.TheVariants.{System, Condition}
+use Rattle.ambiguity_report.specs.declared.report.Pair.{Pair}
 use Rattle.model.specs.declared.steps.Step.{Step}
 use Rattle.model.specs.declared.steps.Step.TheVariants.{Cond, Start, Skip, Finish, Sync}
+use Rattle.model.specs.runs.Replays.{IsReplayed}
+use Rattle.model.specs.shown.Outcome.{BodyMeaning}
+use Rattle.model.specs.state.State.{State}
+use Rattle.model.specs.steps.Schedule.{Schedule, Recorded, recording}
+use Rattle.printing.specs.WorldText.{world_text}
+use Rattle.findings.specs.declared.witness.Told.{Told}
+use Rattle.findings.specs.declared.witness.Witness.{Witness}
 
 -- whether a system starts or is skipped by a step
 abbrev pub begins : ℕ → Step → Bool
@@ -30,3 +38,20 @@ is_of_racer (Condition c) step = asks c step
 abbrev pub is_in_turn : Racer → ℕ → Bool → List Step → Bool
 is_in_turn r n swapped [] = false
 is_in_turn r n swapped (step ∷ steps) = cond (is_of_racer r step) (not swapped) (cond (begins n step) swapped (is_in_turn r n swapped steps))
+
+-- the text is that of the world that a recorded run leaves: it is lawful and complete, with true answers, and its meaning, interleaved and serial, is that
+-- world
+pub record IsLeftBy (s : Schedule) (bodies : List BodyMeaning) (start : State) (r : Recorded) (text : List ℕ) : Type 0 where
+  pub final : State
+  pub replayed : IsReplayed (recording s r.sets) bodies start r.steps final
+  pub world : text ≡ world_text 1 final
+
+-- a list of one run from a state, with the text of the world that it leaves, in which of a pair the first, or where they are swapped the system, comes first
+pub record IsTold (s : Schedule) (bodies : List BodyMeaning) (start : State) (r : Racer) (n : ℕ) (swapped : Bool) (t : Told) : Type 0 where
+  pub order : is_in_turn r n swapped (reverse t.list.steps) ≡ true
+  pub left : IsLeftBy s bodies start t.list (string_bytes t.world)
+
+-- both lists of a pair
+pub record IsWitness (s : Schedule) (bodies : List BodyMeaning) (start : State) (p : Pair) (w : Witness) : Type 0 where
+  pub before : IsTold s bodies start p.first p.second false w.before
+  pub behind : IsTold s bodies start p.first p.second true w.behind

@@ -1,9 +1,12 @@
 // Where two traces of one file part: the first run after which the worlds that they leave differ.
 
-ghost use Rattle.std.specs.Prelude.{◌≡◌, map, Some, IfOk, string_bytes};
+ghost use Rattle.std.specs.Prelude.{◌≡◌, ◌<◌, ◌^◌, length, map, Some, IfOk, string_bytes};
 ghost use Rattle.engine.specs.Meanings.{HasMemories, Suits};
+ghost use Rattle.findings.specs.Parting.{IsParting};
+ghost use Rattle.model.specs.runs.Replays.{IsReplayed};
+ghost use Rattle.model.specs.steps.Schedule.{recording};
 ghost use Rattle.printing.specs.WorldText.{world_text};
-ghost use Rattle.program.specs.Setup.{AreScriptsOf, script_suits};
+ghost use Rattle.program.specs.Setup.{AreScriptsOf, meanings_of_scripts, script_suits};
 
 use body::State;
 use executor_core::{Step, Trace};
@@ -39,7 +42,7 @@ pub struct Place {
 }
 
 /// Where two traces part, whose runs are taken again one after the other, each trace from a state of its own: the first run after which the texts of
-/// the worlds differ.
+/// the worlds differ. Each run is replayed from the state that the run before it leaves.
 pub fn parting_of(
     alloc: Global,
     built: &Built,
@@ -52,6 +55,8 @@ pub fn parting_of(
     requires memories { HasMemories built.now first }
     requires beside { HasMemories built.now second }
     requires fitting { AreScriptsOf built.now bodies.old }
+    requires few { length one.now < 2 ^ 32 }
+    ensures { IfOk result (IsParting built.now (meanings_of_scripts built.now bodies.old) 0 first second one.now other.now) }
 {
     let mut states = (first, second);
     let mut number = 0u32;
@@ -59,19 +64,27 @@ pub fn parting_of(
         let Some(counterpart) = other.get(number as usize) else {
             return Ok(Parting::Longer(number as usize));
         };
-        number = number.saturating_add(1);
-        states = taken_both(alloc, built, bodies, states, (trace, counterpart), number)?;
+        number += 1;
+        states = taken_both(alloc, built, bodies, states, trace, counterpart, number)?;
         let text = text_of(alloc, number, &states.0)?;
         let text_beside = text_of(alloc, number, &states.1)?;
         if text.as_str() != text_beside.as_str() {
             return Ok(Parting::After(number as usize, text, text_beside));
         }
     }
-    Ok(if one.len() < other.len() {
-        Parting::Longer(one.len())
+    Ok(ended(number, one.len(), other.len()))
+}
+
+// What two traces come to where all worlds behind so many runs are alike, which is all of the first trace.
+fn ended(number: u32, one: usize, other: usize) -> Parting
+    ensures longer { one < other → result ≡ Parting.Longer number }
+    ensures none { (one < other → ⊥) → result ≡ Parting.None number }
+{
+    if one < other {
+        Parting::Longer(number as usize)
     } else {
-        Parting::None(one.len())
-    })
+        Parting::None(number as usize)
+    }
 }
 
 // Takes a run of each trace again, each from its own state.
@@ -80,16 +93,19 @@ fn taken_both(
     built: &Built,
     bodies: &mut [ScriptBody],
     states: (State, State),
-    runs: (&Trace, &Trace),
+    trace: &Trace,
+    counterpart: &Trace,
     number: u32,
 ) -> Result<(State, State), Fault>
     requires suits { Suits script_suits built.now (map Some bodies.old) states.0 }
     requires beside { HasMemories built.now states.1 }
+    ensures one { IfOk result (λ left. IsReplayed (recording built.now trace.now.sets) (meanings_of_scripts built.now bodies.old) states.0 trace.now.steps left.0) }
+    ensures other { IfOk result (λ left. IsReplayed (recording built.now counterpart.now.sets) (meanings_of_scripts built.now bodies.old) states.1 counterpart.now.steps left.1) }
     ensures suits { IfOk result (λ left. Suits script_suits built.now (map Some bodies.new) left.0) }
     ensures beside { IfOk result (λ left. HasMemories built.now left.1) }
+    ensures meanings { meanings_of_scripts built.now bodies.new ≡ meanings_of_scripts built.now bodies.old }
 {
     let (state, beside) = states;
-    let (trace, counterpart) = runs;
     let left = replay_run(alloc, built, bodies, state, trace, number as usize)?;
     let left_beside = replay_run(alloc, built, bodies, beside, counterpart, number as usize)?;
     Ok((left, left_beside))

@@ -1,7 +1,8 @@
-// What is found in a schedule and in traces: a witness of each race, where two traces part, and their texts.
+// What is found in a schedule and in traces: a witness of each race, where two traces part, the worlds of a run, and their texts.
 #![tactic(auto)]
 
 pub mod diverging;
 pub mod listing;
+pub mod stories;
 pub mod telling;
 pub mod witness;

@@ -1,11 +1,8 @@
 // Witnesses: two lists of one run in which two that race come in either order, and the worlds that they leave.
 
-ghost use Rattle.std.specs.Prelude.{◌≡◌, ◌<◌, length, IfOk, IsTrue, string_bytes, map, Some};
+ghost use Rattle.std.specs.Prelude.{◌≡◌, ◌<◌, length, IfOk, IfSome, IsTrue, string_bytes, map, Some};
 ghost use Rattle.engine.specs.Meanings.{HasMemories, Suits};
-ghost use Rattle.model.specs.runs.Replays.{IsReplayed};
-ghost use Rattle.model.specs.state.State.{State as Now};
-ghost use Rattle.model.specs.steps.Schedule.{recording};
-ghost use Rattle.printing.specs.WorldText.{world_text};
+ghost use Rattle.findings.specs.Witness.{IsLeftBy, IsTold, IsWitness};
 ghost use Rattle.program.specs.Setup.{AreScriptsOf, fits_at, meanings_of_scripts, script_suits};
 
 use crate::listing::{Turn, is_in_turn, list_of};
@@ -37,7 +34,8 @@ pub struct Witness {
     pub behind: Told,
 }
 
-/// A witness of a pair, from the state with which the first run begins. None where no list was found.
+/// A witness of a pair, from the state with which the first run begins: in each of its lists the two come in one of the orders, and the list is lawful and
+/// complete, with true answers. None where no list was found.
 pub fn witness_of(
     alloc: Global,
     built: &Built,
@@ -46,6 +44,8 @@ pub fn witness_of(
     pair: Pair,
 ) -> Result<Option<Witness>, Fault>
     requires { HasMemories built.now first.now }
+    ensures witness { IfOk result (λ found. IfSome found (IsWitness built.now (meanings_of_scripts built.now bodies.old) first.now pair)) }
+    ensures meanings { meanings_of_scripts built.now bodies.new ≡ meanings_of_scripts built.now bodies.old }
 {
     let Some(before) = told_in(alloc, built, bodies, first, turn_of(pair, false))? else {
         return Ok(None);
@@ -80,11 +80,16 @@ fn told_in(
     turn: Turn,
 ) -> Result<Option<Told>, Fault>
     requires { HasMemories built.now first.now }
+    ensures told { IfOk result (λ found. IfSome found (IsTold built.now (meanings_of_scripts built.now bodies.old) first.now turn.racer turn.system turn.swapped)) }
+    ensures meanings { meanings_of_scripts built.now bodies.new ≡ meanings_of_scripts built.now bodies.old }
 {
     let mut answers = vec![in alloc; true; built.condition_count() as usize]?;
     for _ in 0..u64::from(built.condition_count()) + 1 {
         let list = list_of(alloc, built, turn, answers.as_slice())?;
-        if !is_in_turn(list.steps(), turn) || !are_fitting(built, bodies) {
+        if !is_in_turn(list.steps(), turn) {
+            return Ok(None);
+        }
+        if !are_fitting(built, bodies) {
             return Ok(None);
         }
         match left_by(alloc, built, bodies, first, &list) {
@@ -105,7 +110,7 @@ fn left_by(
     list: &Trace,
 ) -> Result<String, Fault>
     requires { Suits script_suits built.now (map Some bodies.old) first.now }
-    ensures left { IfOk result (λ text. (final : Now) × IsReplayed (recording built.now list.now.sets) (meanings_of_scripts built.now bodies.old) first.now list.now.steps final × (string_bytes text ≡ world_text 1 final)) }
+    ensures left { IfOk result (λ text. IsLeftBy built.now (meanings_of_scripts built.now bodies.old) first.now list.now (string_bytes text)) }
     ensures meanings { meanings_of_scripts built.now bodies.new ≡ meanings_of_scripts built.now bodies.old }
 {
     let start = first.copy(alloc)?;

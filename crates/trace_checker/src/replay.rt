@@ -180,9 +180,9 @@ fn compare_after(
     compare_sets(run, trace, place, number)
 }
 
-// Takes the step of this number. A system that starts has deferred nothing and was granted what it can be given, and so have those of the level
-// above a sync point deferred nothing.
-fn take<B: Body>(
+/// Takes the step of this number. A system that starts has deferred nothing and was granted what it can be given, and so have those of the level
+/// above a sync point deferred nothing.
+pub fn take<B: Body>(
     built: &Built,
     bodies: &mut [B],
     run: &mut RunState,

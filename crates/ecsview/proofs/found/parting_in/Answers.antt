@@ -4,4 +4,4 @@ use Rattle.ecsview.proofs.found.parting_in.Goals as goal
 
 -- the scripts of what is loaded fit its systems
 pub parting_of-requires-clause-fitting : goal.parting_of-requires-clause-fitting
-parting_of-requires-clause-fitting c = subst (AreScriptsOf c.args.loaded.built) (sym c.as_mut_slice.ensures.value) c.requires
+parting_of-requires-clause-fitting c = subst (AreScriptsOf c.args.loaded.built) (sym c.as_mut_slice.ensures.value) c.requires.fitting

@@ -1,0 +1,127 @@
+// Recorded runs as a story: the world after each of their sync points.
+
+ghost use Rattle.std.specs.Prelude.{◌≡◌, ◌<◌, ◌^◌, length, map, Some, IfOk, OnOk, string_bytes};
+ghost use Rattle.engine.specs.Meanings.{AreFit, HasMemories, Suits};
+ghost use Rattle.findings.specs.Stories.{IsStory, count_text, is_asked as is_asked_of, told_text};
+ghost use Rattle.model.specs.runs.Replays.{IsReplayed};
+ghost use Rattle.model.specs.steps.Lawful.{IsLawful};
+ghost use Rattle.model.specs.steps.Schedule.{recording};
+ghost use Rattle.program.specs.Setup.{AreScriptsOf, meanings_of_scripts, script_suits};
+ghost use Rattle.story.specs.Story.{worlds_text};
+
+use body::State;
+use engine::RunFault;
+use executor_core::Trace;
+use program::Fault;
+use program::replaying::replay_run;
+use schedule_builder::Built;
+use script::ScriptBody;
+use std::alloc::Global;
+use story::worlds::worlds_of;
+use trace_checker::ReplayFault;
+
+/// The runs of a trace, taken again one after the other: how many there are, and the world after each sync point of the run that is asked for, counted
+/// from 1, or of all. Each world is told as one behind the runs before it.
+pub fn story_of(
+    alloc: Global,
+    built: &Built,
+    bodies: &mut [ScriptBody],
+    first: State,
+    traces: &[Trace],
+    asked: Option<u32>,
+) -> Result<String, Fault>
+    requires memories { HasMemories built.now first }
+    requires fitting { AreScriptsOf built.now bodies.old }
+    requires few { length traces.now < 2 ^ 32 }
+    ensures { IfOk result (λ text. IsStory built.now (meanings_of_scripts built.now bodies.old) asked 0 first traces.now (count_text (length traces.now)) (string_bytes text)) }
+{
+    let mut text = String::new(alloc);
+    let count = traces.len();
+    writeln!(text, "runs {count}")?;
+    let mut state = first;
+    let mut before = 0u32;
+    for trace in traces {
+        let part = Part {
+            before,
+            is_told: is_asked(asked, before + 1),
+        };
+        let (left, told) = taken(alloc, built, bodies, state, trace, part)?;
+        text.push_str(told.as_str())?;
+        state = left;
+        before += 1;
+    }
+    Ok(text)
+}
+
+// A run: how many come before it, and whether it is told.
+#[derive(Clone, Copy)]
+struct Part {
+    before: u32,
+    is_told: bool,
+}
+
+// Whether the run of this number is asked for.
+fn is_asked(asked: Option<u32>, number: u32) -> bool
+    ensures { result ≡ is_asked_of asked number }
+{
+    match asked {
+        Some(run) => run == number,
+        None => true,
+    }
+}
+
+// Takes a run again, and tells its worlds, where they are asked for.
+fn taken(
+    alloc: Global,
+    built: &Built,
+    bodies: &mut [ScriptBody],
+    state: State,
+    trace: &Trace,
+    part: Part,
+) -> Result<(State, String), Fault>
+    requires { Suits script_suits built.now (map Some bodies.old) state }
+    ensures replayed { IfOk result (λ left. IsReplayed (recording built.now trace.now.sets) (meanings_of_scripts built.now bodies.old) state trace.now.steps left.0) }
+    ensures told { IfOk result (λ left. string_bytes left.1 ≡ told_text part.is_told built.now (meanings_of_scripts built.now bodies.old) state part.before trace.now.steps) }
+    ensures suits { IfOk result (λ left. Suits script_suits built.now (map Some bodies.new) left.0) }
+    ensures meanings { meanings_of_scripts built.now bodies.new ≡ meanings_of_scripts built.now bodies.old }
+{
+    let start = state.copy(alloc)?;
+    let number = part.before as usize + 1;
+    let left = replay_run(alloc, built, bodies, state, trace, number)?;
+    if !part.is_told {
+        return Ok((left, String::new(alloc)));
+    }
+    let told = told_of(alloc, built, bodies, start, trace, part.before)?;
+    Ok((left, told))
+}
+
+// The worlds of a run that has been taken again, told by taking its steps once more: now only memory can fail.
+fn told_of(
+    alloc: Global,
+    built: &Built,
+    bodies: &mut [ScriptBody],
+    start: State,
+    trace: &Trace,
+    before: u32,
+) -> Result<String, Fault>
+    requires suits { Suits script_suits built.now (map Some bodies.old) start }
+    requires lawful { IsLawful (recording built.now trace.now.sets) trace.now.steps }
+    ensures told { IfOk result (λ text. string_bytes text ≡ worlds_text built.now (meanings_of_scripts built.now bodies.old) start before trace.now.steps) }
+    ensures fit { OnOk result (AreFit script_suits built.now (map Some bodies.new)) }
+    ensures meanings { meanings_of_scripts built.now bodies.new ≡ meanings_of_scripts built.now bodies.old }
+{
+    match worlds_of(alloc, built, bodies, start, trace, before) {
+        Ok(text) => Ok(text),
+        Err(fault) => Err(fault_of(fault)),
+    }
+}
+
+// What is told where a run that has been taken again once stops: memory fails.
+fn fault_of(fault: ReplayFault) -> Fault {
+    match fault {
+        ReplayFault::Run(RunFault::ClockSpent) => Fault::ClockSpent,
+        ReplayFault::Run(RunFault::IdsSpent) => Fault::IdsSpent,
+        ReplayFault::Run(RunFault::BodyFault(_)) => Fault::BodyRefused,
+        _ => Fault::Memory,
+    }
+}
