@@ -1,4 +1,4 @@
 pub mod Fitting
 pub mod Partings
-pub mod Stories
+pub mod StoryRuns
 pub mod Witnesses

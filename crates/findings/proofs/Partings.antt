@@ -1,6 +1,6 @@
 -- Where two traces part: one run of each more.
-use Rattle.std.proofs.Common.{◌≡◌, ◌<◌, ◌≤◌, ◌+◌, ◌⊎◌, ℕ, zero, suc, List, [], ◌∷◌, length, drop, get_or, slice_get, Some, refl, sym, ap, subst, arith}
-use Rattle.std.proofs.lemmas.Option.{get_or_from_slice_get, slice_get_within}
+use Rattle.std.proofs.Common.{◌≡◌, ◌<◌, ◌≤◌, ◌+◌, ◌⊎◌, ℕ, zero, suc, List, [], ◌∷◌, length, drop, get_or, slice_get, Option, Some, None, inl, inr, refl, sym, ap, subst, arith}
+use Rattle.std.proofs.lemmas.Option.{get_or_from_slice_get, slice_get_cases, slice_get_within}
 use Rattle.model.specs.runs.Replays.{IsReplayed}
 use Rattle.model.specs.shown.Outcome.{BodyMeaning}
 use Rattle.model.specs.state.State.{State}
@@ -11,10 +11,16 @@ use Rattle.findings.specs.declared.diverging.Parting.TheVariants as parting
 use Rattle.findings.specs.Parting.{IsParting, IsPartingAt}
 
 -- a list from a place on begins with what stands there
+cut_next : (runs : List Recorded) (i : ℕ) (r : Recorded) → i < length runs → r ≡ get_or runs i r → r ∷ drop (suc i) runs ≡ drop i runs
+cut_next [] i r known at = absurd (omega arith)
+cut_next (x ∷ runs) zero r known at = ap (λ (y : Recorded). y ∷ runs) at
+cut_next (x ∷ runs) (suc i) r known at = cut_next runs i r (omega arith) at
+
+next : (i : ℕ) → suc i ≡ i + 1
+next i = omega arith
+
 cut : (runs : List Recorded) (i : ℕ) (r : Recorded) → i < length runs → r ≡ get_or runs i r → r ∷ drop (i + 1) runs ≡ drop i runs
-cut [] i r known at = absurd (omega arith)
-cut (x ∷ runs) zero r known at = ap (λ (y : Recorded). y ∷ runs) at
-cut (x ∷ runs) (suc i) r known at = cut runs i r (omega arith) at
+cut runs i r known at = subst (λ n. r ∷ drop n runs ≡ drop i runs) (next i) (cut_next runs i r known at)
 
 -- past its end nothing stands
 past : (runs : List Recorded) (i : ℕ) → length runs ≤ i → drop i runs ≡ []
@@ -59,3 +65,12 @@ module _ (s : Schedule) (bodies : List BodyMeaning) (count : ℕ) (start beginni
   parting_none over beside e =
       subst (λ runs. IsParting s bodies count start beginning runs (drop i other) p) (sym (past one i over))
       (subst (λ runs. IsParting s bodies count start beginning [] runs p) (sym (past other i beside)) e)
+
+  end_by : ((x : Recorded) × (i < length other) × (slice_get other i ≡ Some x) × (get_or other i x ≡ x)) ⊎ ((length other ≤ i) × (slice_get other i ≡ None)) → length one ≤ i → (i < length other → p ≡ parting.Longer count)
+      → (length other ≤ i → p ≡ parting.None count) → IsParting s bodies count start beginning (drop i one) (drop i other) p
+  end_by (inl (x, more, there, same)) over by_more by_none = parting_long over more (by_more more)
+  end_by (inr (ended, same)) over by_more by_none = parting_none over ended (by_none ended)
+
+  -- the first trace has ended: the second has more, or has ended too
+  pub parting_end : length one ≤ i → (i < length other → p ≡ parting.Longer count) → (length other ≤ i → p ≡ parting.None count) → IsParting s bodies count start beginning (drop i one) (drop i other) p
+  parting_end over by_more by_none = end_by (slice_get_cases other i).1 over by_more by_none

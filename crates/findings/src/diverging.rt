@@ -1,6 +1,6 @@
 // Where two traces of one file part: the first run after which the worlds that they leave differ.
 
-ghost use Rattle.std.specs.Prelude.{◌≡◌, ◌<◌, ◌^◌, length, map, Some, IfOk, string_bytes};
+ghost use Rattle.std.specs.Prelude.{◌≡◌, ◌≢◌, ◌<◌, ◌^◌, true, false, length, map, Some, IfOk, string_bytes};
 ghost use Rattle.engine.specs.Meanings.{HasMemories, Suits};
 ghost use Rattle.findings.specs.Parting.{IsParting};
 ghost use Rattle.model.specs.runs.Replays.{IsReplayed};
@@ -68,11 +68,19 @@ pub fn parting_of(
         states = taken_both(alloc, built, bodies, states, trace, counterpart, number)?;
         let text = text_of(alloc, number, &states.0)?;
         let text_beside = text_of(alloc, number, &states.1)?;
-        if text.as_str() != text_beside.as_str() {
+        if are_apart(text.as_str(), text_beside.as_str()) {
             return Ok(Parting::After(number as usize, text, text_beside));
         }
     }
     Ok(ended(number, one.len(), other.len()))
+}
+
+// Whether two texts differ.
+fn are_apart(one: &str, other: &str) -> bool
+    ensures apart { result ≡ true → one.now ≢ other.now }
+    ensures same { result ≡ false → one.now ≡ other.now }
+{
+    one != other
 }
 
 // What two traces come to where all worlds behind so many runs are alike, which is all of the first trace.

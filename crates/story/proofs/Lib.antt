@@ -1,1 +1,1 @@
-pub mod Worlds
+pub mod Scenes

@@ -1,6 +1,6 @@
 // The world after each sync point of a recorded run.
 
-ghost use Rattle.std.specs.Prelude.{◌≡◌, ◌++◌, map, Some, IfOk, OnOk, string_bytes};
+ghost use Rattle.std.specs.Prelude.{◌≡◌, ◌++◌, [], map, Some, IfOk, OnOk, string_bytes};
 ghost use Rattle.body.specs.Out.{AreOut};
 ghost use Rattle.body.specs.Steps.{store_of};
 ghost use Rattle.engine.specs.Meanings.{AllKeepWithin, AreFit, Suits, meanings};

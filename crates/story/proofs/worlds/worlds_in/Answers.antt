@@ -1,4 +1,4 @@
-use Rattle.std.proofs.Common.{◌≡◌, ◌+◌, ◌≤◌, ◌∷◌, List, [], Some, get_or, length, map, reverse, take, refl, sym, ap, ap₂, subst, ◌∙◌, string_bytes, arith}
+use Rattle.std.proofs.Common.{◌≡◌, ◌+◌, ◌≤◌, ◌∷◌, List, [], Some, false, get_or, length, map, reverse, take, refl, sym, ap, ap₂, subst, ◌∙◌, string_bytes, arith}
 use Rattle.std.proofs.lemmas.List.{take_all}
 use Rattle.model.specs.declared.steps.Step.TheVariants.{Cond}
 use Rattle.model.specs.shown.Outcome.{BodyMeaning}
@@ -17,7 +17,7 @@ use Rattle.engine.proofs.Remembering.{memories_opened}
 use Rattle.story.specs.Story.{scene_text, worlds_text}
 use Rattle.trace_checker.proofs.StepsRecording.{known_by}
 use Rattle.trace_checker.proofs.Taking.{known_at}
-use Rattle.story.proofs.Worlds.{fresh_by, given_by, meant_next, told_next, waits_by}
+use Rattle.story.proofs.Scenes.{fresh_by, given_by, meant_next, told_next, waits_by}
 use Rattle.story.proofs.worlds.worlds_in.Goals as goal
 
 pub loop-step-init : goal.loop-step-init
@@ -29,7 +29,7 @@ loop-step-init g c =
     record {
       count = refl;
       meaning = opened.opened;
-      told = refl;
+      told = c.new-text.ensures.bytes;
       stands = record {
         suits = record {
           body_count = c.requires.stands.suits.body_count;
@@ -92,7 +92,7 @@ loop-step-preserved g c =
     let number = c.loop-step.number + 1 in
     let count : number ≡ i + 1 = let e = inv.count in omega arith in
     let taken = subst (λ (bs : List BodyMeaning). IsStepTaken s bs run step after) inv.meant ok.taken in
-    let now = c.in_ok-run.run in
+    let now = c.in_ok-run.run' in
     record {
       count = count;
       meaning = meant_next s r.sets ms start steps i (Cond 0 false) c.loop-step-test.true run after inv.meaning taken ∙ ap Some (sym (ap₂ run_with told.state told.deferred));
