@@ -134,13 +134,6 @@ impl View {
         self.issued.prove_law();
     }
 
-    /// The tick at which what is written counts as changed.
-    pub fn tick(&self) -> Tick
-        ensures { result ≡ self.now.opening.tick }
-    {
-        self.tick
-    }
-
     /// Sends the events that were emitted. Where one gets no number none is sent; where an allocation fails those of some kinds may have been.
     pub fn send(&self, events: &mut Events) -> Result<(), SendFault>
         ensures ok { OnOk result (events.new ≡ queues_after (events_sent self.now.params.writes self.now.outcome.events) events.old) }
