@@ -11,8 +11,8 @@ use executor_core::Trace;
 use explain::Loaded;
 use program::Fault;
 use program::checking::traces_of;
-use schedule_drawing::drawn::draw_schedule;
 use schedule_builder::Built;
+use schedule_drawing::drawn::draw_schedule;
 use std::alloc::{AllocError, Global};
 use std::io::Read;
 use trace_checker::Verdict;
@@ -77,11 +77,7 @@ fn width_of(traces: &[Trace]) -> u64
 }
 
 // Adds the drawings of runs, one below the other. Gives where the last ends.
-fn add_runs(
-    alloc: Global,
-    shapes: &mut Vec<Shape>,
-    traces: &[Trace],
-) -> Result<u64, AllocError>
+fn add_runs(alloc: Global, shapes: &mut Vec<Shape>, traces: &[Trace]) -> Result<u64, AllocError>
     ensures drawn { OnOk result (shapes.new.items ≡ shapes.old.items ++ lanes_from 0 10 traces.now) }
     ensures end { IfOk result (λ end. end ≡ height_from 10 traces.now) }
 {

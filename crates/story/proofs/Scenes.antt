@@ -65,5 +65,5 @@ module _ (s : Schedule) (sets : Option (List (List ℕ))) (bodies : List BodyMea
   told_next later before number text count meaning taken so_far =
       let place : number ≡ length (reverse (take i steps)) + 1 = let a = length-reverse (take i steps) in let b = length-take-le i steps (omega (arith, below)) in omega (arith, a, b, count) in
       let added : scene_text before number (get_or steps i d) later.state ≡ after_text before (length (reverse (take i steps)) + 1) (get_or steps i d) (serial s bodies start (get_or steps i d ∷ reverse (take i steps))) =
-          ap (λ n. scene_text before n (get_or steps i d) later.state) place ∙ ap (after_text before (length (reverse (take i steps)) + 1) (get_or steps i d)) (sym (meant-with later meaning taken)) in
+      ap (λ n. scene_text before n (get_or steps i d) later.state) place ∙ ap (after_text before (length (reverse (take i steps)) + 1) (get_or steps i d)) (sym (meant-with later meaning taken)) in
       subst (λ h. text ++ scene_text before number (get_or steps i d) later.state ≡ worlds_text s bodies start before h) (history_next steps i d below) (ap₂ (λ x y. x ++ y) so_far added)

@@ -42,7 +42,7 @@ returns-then-are_apart c =
     let beside = c.in_ok-states.states.1 in
     let look = c.in-Some.ensures.lookup in
     let there : slice_get c.args.other.now c.loop-trace.trace-index ≡ Some q =
-        subst (λ n. slice_get c.args.other.now n ≡ Some q) inv.count (slice_get_read c.args.other.now (length c.args.other.now) c.loop-trace.number q refl look.3.0 (look.3.1 q)) in
+    subst (λ n. slice_get c.args.other.now n ≡ Some q) inv.count (slice_get_read c.args.other.now (length c.args.other.now) c.loop-trace.number q refl look.3.0 (look.3.1 q)) in
     inv.rest _ (parting_next s ms c.loop-trace.number c.loop-trace.states.0 c.loop-trace.states.1 c.args.one.now c.args.other.now c.loop-trace.trace-index _ left beside r q c.loop-trace-test.true c.trace-item.is there
     (subst (λ (bs : List BodyMeaning). IsReplayed (recording s r.sets) bs c.loop-trace.states.0 r.steps left) inv.meant ok.one)
     (subst (λ (bs : List BodyMeaning). IsReplayed (recording s q.sets) bs c.loop-trace.states.1 q.steps beside) inv.meant ok.other)
@@ -61,7 +61,7 @@ loop-trace-preserved c =
     let beside = c.in_ok-states.states.1 in
     let look = c.in-Some.ensures.lookup in
     let there : slice_get c.args.other.now c.loop-trace.trace-index ≡ Some q =
-        subst (λ n. slice_get c.args.other.now n ≡ Some q) inv.count (slice_get_read c.args.other.now (length c.args.other.now) c.loop-trace.number q refl look.3.0 (look.3.1 q)) in
+    subst (λ n. slice_get c.args.other.now n ≡ Some q) inv.count (slice_get_read c.args.other.now (length c.args.other.now) c.loop-trace.number q refl look.3.0 (look.3.1 q)) in
     let same : world_text (c.loop-trace.number + 1) left ≡ world_text (c.loop-trace.number + 1) beside = sym c.in_ok-text.ensures ∙ (sym c.as_str.ensures.value ∙ c.are_apart.ensures.same c.if-are_apart.false ∙ c.as_str-in-loop-trace.ensures.value) ∙ c.in_ok-text_beside.ensures in
     record {
       count = let e = inv.count in omega (arith, e);
@@ -70,9 +70,9 @@ loop-trace-preserved c =
       beside = ok.beside;
       meant = ok.meanings ∙ inv.meant;
       rest = λ p h. inv.rest p (parting_next s ms c.loop-trace.number c.loop-trace.states.0 c.loop-trace.states.1 c.args.one.now c.args.other.now c.loop-trace.trace-index p left beside r q c.loop-trace-test.true c.trace-item.is there
-    (subst (λ (bs : List BodyMeaning). IsReplayed (recording s r.sets) bs c.loop-trace.states.0 r.steps left) inv.meant ok.one)
-    (subst (λ (bs : List BodyMeaning). IsReplayed (recording s q.sets) bs c.loop-trace.states.1 q.steps beside) inv.meant ok.other)
-    (inr (same, h)));
+          (subst (λ (bs : List BodyMeaning). IsReplayed (recording s r.sets) bs c.loop-trace.states.0 r.steps left) inv.meant ok.one)
+          (subst (λ (bs : List BodyMeaning). IsReplayed (recording s q.sets) bs c.loop-trace.states.1 q.steps beside) inv.meant ok.other)
+          (inr (same, h)));
     }
 
 -- the first trace has ended
