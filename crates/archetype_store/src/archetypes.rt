@@ -1,6 +1,6 @@
 // The components of entities, in tables by archetype: the kinds that an entity has.
 
-ghost use Rattle.std.specs.Prelude.{◌≡◌, ◌<◌, true, false, not, [], length, Some, map, option_map, IfSome, IfOk, IsErr, OnOk, OnErr};
+ghost use Rattle.std.specs.Prelude.{◌≡◌, ◌<◌, true, false, not, [], length, Some, map, option_map, IfSome, IsTrue, IfOk, IsErr, OnOk, OnErr};
 ghost use Rattle.kinds.specs.Value.{value_number, value_words};
 ghost use Rattle.model.specs.Lists.{is_there};
 ghost use Rattle.model.specs.state.Rows.{cell_at, kinds_of, insert_component, remove_component};
@@ -183,11 +183,12 @@ impl Archetypes {
         self.index.register(alloc, &self.tables, *shape)
     }
 
-    /// The archetypes that fit the shape of a number, by their numbers in rising order. None where no shape of this number is kept.
-    pub fn fitting(&self, alloc: Global, shape: usize) -> Result<Option<Vec<usize>>, AllocError>
-        ensures { IfOk result (λ found. IfSome found (λ archetypes. archetypes.items ≡ fitting_from shape 0 self.now.layout)) }
+    /// Lists the archetypes that fit the shape of a number, by their numbers in rising order, in the room of a list. Whether a shape of this
+    /// number is kept: where none is the list tells nothing.
+    pub fn fitting(&self, shape: usize, found: &mut Vec<usize>) -> Result<bool, AllocError>
+        ensures { IfOk result (λ kept. IsTrue kept → found.new.items ≡ fitting_from shape 0 self.now.layout) }
     {
-        self.index.archetypes_of(alloc, shape)
+        self.index.find_fitting(shape, found)
     }
 
     /// The layout is that of the rows.

@@ -272,11 +272,12 @@ impl Slots {
         self.archetypes.register(shape)
     }
 
-    /// The archetypes that fit the shape of a number, by their numbers in rising order. None where no shape of this number is kept.
-    pub fn fitting(&self, alloc: Global, shape: usize) -> Result<Option<Vec<usize>>, AllocError>
-        ensures { IfOk result (λ found. IfSome found (λ archetypes. archetypes.items ≡ fitting_from shape 0 self.now.layout)) }
+    /// Lists the archetypes that fit the shape of a number, by their numbers in rising order, in the room of a list. Whether a shape of this
+    /// number is kept: where none is the list tells nothing.
+    pub fn fitting(&self, shape: usize, found: &mut Vec<usize>) -> Result<bool, AllocError>
+        ensures { IfOk result (λ kept. IsTrue kept → found.new.items ≡ fitting_from shape 0 self.now.layout) }
     {
-        self.archetypes.fitting(alloc, shape)
+        self.archetypes.fitting(shape, found)
     }
 
     /// The layout is that of the slots.

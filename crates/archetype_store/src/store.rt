@@ -1,6 +1,6 @@
 // The world: entities with their components, resources and the clock.
 
-ghost use Rattle.std.specs.Prelude.{◌≡◌, ◌++◌, ◌+◌, ◌≤◌, ◌<◌, ◌↔◌, ℕ, true, false, [], Some, length, map, option_map, is_some, All, IfSome, IfNone, IfOk, IsErr, OnOk, OnErr, IsErrOf};
+ghost use Rattle.std.specs.Prelude.{◌≡◌, ◌++◌, ◌+◌, ◌≤◌, ◌<◌, ◌↔◌, ℕ, true, false, [], Some, length, map, option_map, is_some, All, IfSome, IfNone, IsTrue, IfOk, IsErr, OnOk, OnErr, IsErrOf};
 ghost use Rattle.kinds.specs.Kind.{kind_number};
 ghost use Rattle.model.specs.Lists.{update_at};
 ghost use Rattle.kinds.specs.Res.{res_number};
@@ -48,11 +48,21 @@ use std::sync::Arc;
 
 /// The world. Contracts see its state (slots by index, resources by number, the clock) and beside it how components are laid out: the
 /// archetypes that have entities.
-#[derive(Drop)]
 pub struct World {
     slots: Slots,
     resources: Resources,
     clock: Clock,
+}
+
+// One function drops it wherever it is let go.
+impl Drop for World {
+    fn drop(self) {
+        let World {
+            slots: _,
+            resources: _,
+            clock: _,
+        } = self;
+    }
 }
 
 impl Model for World {
@@ -158,11 +168,12 @@ impl World {
         self.slots.register(shape)
     }
 
-    /// The archetypes that fit the shape of a number, by their numbers in rising order. None where no shape of this number is kept.
-    pub fn fitting(&self, alloc: Global, shape: usize) -> Result<Option<Vec<usize>>, AllocError>
-        ensures { IfOk result (λ found. IfSome found (λ archetypes. archetypes.items ≡ fitting_from shape 0 self.now.layout)) }
+    /// Lists the archetypes that fit the shape of a number, by their numbers in rising order, in the room of a list. Whether a shape of this
+    /// number is kept: where none is the list tells nothing.
+    pub fn fitting(&self, shape: usize, found: &mut Vec<usize>) -> Result<bool, AllocError>
+        ensures { IfOk result (λ kept. IsTrue kept → found.new.items ≡ fitting_from shape 0 self.now.layout) }
     {
-        self.slots.fitting(alloc, shape)
+        self.slots.fitting(shape, found)
     }
 
     /// The sets of kinds of the living entities. It looks at each table, however many entities there are: somebody lives without components
@@ -252,6 +263,7 @@ impl World {
         &mut self,
         alloc: Global,
         columns: &[ColumnAt],
+        room: Vec<TakenColumn>,
     ) -> Result<Vec<TakenColumn>, AllocError>
         requires { CanTake self.old.layout columns.now }
         ensures taken { IfOk result (λ taken. AreTaken self.old.state.slots self.old.layout columns.now taken.items) }
@@ -261,7 +273,9 @@ impl World {
         // Tell how the layout is that of the state, and that no stamp is above the clock.
         self.prove_laid();
         let _now = self.now();
-        let mut taken = Vec::with_capacity(alloc, columns.len())?;
+        let mut taken = room;
+        taken.clear();
+        taken.reserve(columns.len())?;
         for at in columns {
             match self.take_column(alloc, at.archetype, at.kind) {
                 Ok(column) => taken.push_reserved(TakenColumn {
@@ -282,12 +296,15 @@ impl World {
         &mut self,
         alloc: Global,
         columns: &[ColumnAt],
+        room: Vec<SharedColumn>,
     ) -> Result<Vec<SharedColumn>, AllocError>
         requires { CanShare self.old.layout columns.now }
         ensures shared { IfOk result (λ shared. AreShared self.old.state.slots self.old.layout columns.now shared.items) }
         ensures same { self.new ≡ self.old }
     {
-        let mut shared = Vec::with_capacity(alloc, columns.len())?;
+        let mut shared = room;
+        shared.clear();
+        shared.reserve(columns.len())?;
         for at in columns {
             let column = self.share_column(alloc, at.archetype, at.kind)?;
             let archetype = at.archetype;

@@ -1,6 +1,6 @@
 // Where tables are found: by the word of their kinds, and by the number of their archetype.
 
-ghost use Rattle.std.specs.Prelude.{◌≡◌, ◌≤◌, ◌++◌, ◌∷◌, ◌||◌, ◌==◌, ℕ, List, [], length, map, nat_eq, None, vec_capacity, IfOk, IfSome, MatchOption, OnOk, OnErr};
+ghost use Rattle.std.specs.Prelude.{◌≡◌, ◌≤◌, ◌++◌, ◌∷◌, ◌||◌, ◌==◌, ℕ, List, [], length, map, nat_eq, None, vec_capacity, IfOk, IfSome, IsTrue, MatchOption, OnOk, OnErr};
 ghost use Rattle.std.specs.HashMap.{get};
 ghost use Rattle.kinds.specs.Kind.{kind_number};
 ghost use Rattle.column_store.specs.Cells.{stamped_number};
@@ -180,19 +180,20 @@ impl TableIndex {
         }
     }
 
-    /// The archetypes that fit the shape of a number, in order, where it is kept.
-    pub(crate) fn archetypes_of(
+    /// Lists the archetypes that fit the shape of a number, in order, in the room of a list. Whether the shape is kept: else the list tells
+    /// nothing.
+    pub(crate) fn find_fitting(
         &self,
-        alloc: Global,
         shape: usize,
-    ) -> Result<Option<Vec<usize>>, AllocError>
-        ensures { IfOk result (λ found. (tables : List TableValue) → IsIndexed tables self.now → IfSome found (λ archetypes. archetypes.items ≡ fitting_from shape 0 (layout_of tables))) }
+        found: &mut Vec<usize>,
+    ) -> Result<bool, AllocError>
+        ensures { IfOk result (λ kept. (tables : List TableValue) → IsIndexed tables self.now → IsTrue kept → found.new.items ≡ fitting_from shape 0 (layout_of tables)) }
     {
         let Some(tables) = self.fitting(shape) else {
-            return Ok(None);
+            return Ok(false);
         };
-        let archetypes = numbers_at(alloc, self.numbers.as_slice(), tables)?;
-        Ok(Some(archetypes))
+        numbers_at(self.numbers.as_slice(), tables, found)?;
+        Ok(true)
     }
 
     /// The table of an archetype: only tables with rows are numbered.

@@ -42,7 +42,6 @@ use std::marker::Model;
 
 /// What a system is shown at its start, and what it writes. Contracts see the parameters, what is shown, the outcome so far, and what it
 /// was opened over.
-#[derive(Drop)]
 pub struct View {
     tick: Tick,
     queries: Vec<ViewQuery>,
@@ -50,6 +49,20 @@ pub struct View {
     unread: EventLists,
     sent: EventLists,
     issued: ViewCommands,
+}
+
+// One function drops it wherever it is let go.
+impl Drop for View {
+    fn drop(self) {
+        let View {
+            tick: _,
+            queries: _,
+            values: _,
+            unread: _,
+            sent: _,
+            issued: _,
+        } = self;
+    }
 }
 
 impl Model for View {
@@ -132,13 +145,6 @@ impl View {
         ensures commands { is_some self.now.params.spawns ≡ false → self.now.outcome.commands ≡ [] }
     {
         self.issued.prove_law();
-    }
-
-    /// The tick at which what is written counts as changed.
-    pub fn tick(&self) -> Tick
-        ensures { result ≡ self.now.opening.tick }
-    {
-        self.tick
     }
 
     /// Sends the events that were emitted. Where one gets no number none is sent; where an allocation fails those of some kinds may have been.

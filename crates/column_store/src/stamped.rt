@@ -25,10 +25,19 @@ pub struct StampedValue {
 }
 
 /// Components of one kind with their stamps. Contracts see the number of the kind, the cells, and for how many there is room.
-#[derive(Drop)]
 pub struct StampedColumn {
     column: Column,
     stamps: Vec<Stamp>,
+}
+
+// One function drops it wherever it is let go.
+impl Drop for StampedColumn {
+    fn drop(self) {
+        let StampedColumn {
+            column: _,
+            stamps: _,
+        } = self;
+    }
 }
 
 impl Model for StampedColumn {

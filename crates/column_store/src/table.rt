@@ -31,26 +31,43 @@ use std::sync::Arc;
 /// The entities of one archetype with their components: a row for each entity, and a column for each kind, in rising kinds. A row comes in at
 /// the end, and where one is removed the last one takes its place; beside them their order in rising ids is kept. A column can leave and
 /// come home, and be read elsewhere too. To contracts one that is away has the cells with which it left.
-#[derive(Drop)]
 pub struct Table {
     kinds: Vec<Kind>,
     entities: EntityList,
     columns: Vec<ColumnSlot>,
-    // So many further rows come in without allocating.
+    // So many further rows come in without allocating: room is made in steps.
+    spare: usize,
+    // So many of them were asked for.
     room: usize,
 }
+
+// One function drops it wherever it is let go.
+impl Drop for Table {
+    fn drop(self) {
+        let Table {
+            kinds: _,
+            entities: _,
+            columns: _,
+            spare: _,
+            room: _,
+        } = self;
+    }
+}
+
+// For so many rows room is made at once, where there are as many.
+const STEP: usize = 64;
 
 impl Model for Table {
     ghost use Rattle.std.specs.Prelude.{map};
     ghost use Rattle.kinds.specs.Kind.{kind_number};
     ghost use Rattle.column_store.specs.Table.{TableValue};
-    ghost use Rattle.column_store.specs.Inside.{table_with_room, IsTableWithRoom};
+    ghost use Rattle.column_store.specs.Inside.{table_with_room, IsTableWithSpare};
 
     ghost Value = { TableValue };
 
     ghost view = { λ t. table_with_room (map kind_number t.kinds.items) t.entities t.columns.items t.room };
 
-    ghost invariant = { λ t. IsTableWithRoom (map kind_number t.kinds.items) t.entities t.columns.items t.room };
+    ghost invariant = { λ t. IsTableWithSpare (map kind_number t.kinds.items) t.entities t.columns.items t.spare t.room };
 }
 
 impl Table {
@@ -64,6 +81,7 @@ impl Table {
             kinds,
             entities: EntityList::new(alloc),
             columns,
+            spare: 0,
             room: 0,
         })
     }
@@ -81,6 +99,7 @@ impl Table {
             kinds,
             entities,
             columns,
+            spare: 0,
             room: 0,
         })
     }
@@ -250,9 +269,15 @@ impl Table {
         let Some(room) = self.room.checked_add(further) else {
             return Err(AllocError);
         };
-        self.entities.reserve(room)?;
+        if room <= self.spare {
+            self.room = room;
+            return Ok(());
+        }
         let count = self.entities.as_slice().len();
-        reserve_rows(&mut self.columns, count, room)?;
+        let spare = room.max(count.min(STEP));
+        self.entities.reserve(spare)?;
+        reserve_rows(&mut self.columns, count, spare)?;
+        self.spare = spare;
         self.room = room;
         Ok(())
     }
@@ -289,6 +314,7 @@ impl Table {
     {
         self.entities.push(e);
         push_row(&mut self.columns, components);
+        self.spare -= 1;
         self.room -= 1;
     }
 
@@ -363,6 +389,7 @@ impl Table {
             alloc,
             kind,
         )?;
+        self.spare = 0;
         self.room = 0;
         Ok(column)
     }
@@ -378,6 +405,7 @@ impl Table {
         ensures cells { IfOk result (λ column. map (λ cell. Some cell) (arc_value column).cells ≡ kind_cells self.old (kind_number kind)) }
         ensures alike { IsAlike self.old self.new }
     {
+        self.spare = 0;
         self.room = 0;
         share_in(
             &self.kinds,
@@ -395,6 +423,7 @@ impl Table {
         ensures ok { OnOk result (self.new ≡ owned self.old) }
         ensures alike { IsAlike self.old self.new }
     {
+        self.spare = 0;
         self.room = 0;
         own_each(&mut self.columns, alloc)
     }
@@ -405,6 +434,7 @@ impl Table {
         requires same_length { length column.cells ≡ length self.old.rows }
         ensures { self.new ≡ homed self.old column }
     {
+        self.spare = 0;
         self.room = 0;
         home_in(
             &self.kinds,

@@ -15,7 +15,7 @@ read_row-requires c =
     let ps = c.self.inside.columns.items in
     let within = subst (λ n. c.args.row < n) (ap (λ (t : TableValue). length t.rows) (sym c.self.view_is) ∙ length-rows_of es ps) c.requires.within in
     let stand = subst (λ (t : TableValue). list_all is_home t.standings ≡ true) (sym c.self.view_is) c.requires.home in
-    subst (AllByRecursion (HoldsRow c.args.row)) (sym c.deref.ensures.value) (held_rows (length es) c.args.row ps within c.self.invariant.table.of_length (all_home ps stand))
+    subst (AllByRecursion (HoldsRow c.args.row)) (sym c.deref.ensures.value) (held_rows (length es) c.args.row ps within c.self.invariant.kept.table.of_length (all_home ps stand))
 
 pub returns-clause-cells : goal.returns-clause-cells
 returns-clause-cells c =
@@ -31,5 +31,5 @@ returns-clause-cells c =
 pub returns-clause-kinds : goal.returns-clause-kinds
 returns-clause-kinds c =
     if_ok c.read_row.result (λ ss. map stamped_number ss.items ≡ map kind_in c.deref.result.now) _
-    (λ ss read. read ∙ ap (map kind_in) c.deref.ensures.value ∙ c.self.invariant.table.of_kinds ∙ ap (λ (t : TableValue). t.kinds) c.self.view_is)
+    (λ ss read. read ∙ ap (map kind_in) c.deref.ensures.value ∙ c.self.invariant.kept.table.of_kinds ∙ ap (λ (t : TableValue). t.kinds) c.self.view_is)
     c.read_row.ensures.kinds
