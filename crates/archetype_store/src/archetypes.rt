@@ -1,6 +1,6 @@
 // The components of entities, in tables by archetype: the kinds that an entity has.
 
-ghost use Rattle.std.specs.Prelude.{◌≡◌, ◌<◌, true, false, not, [], length, Some, map, option_map, IfSome, IsTrue, IfOk, IsErr, OnOk, OnErr};
+ghost use Rattle.std.specs.Prelude.{◌≡◌, ◌<◌, true, false, not, [], length, Some, map, option_map, is_some, IfSome, IsTrue, IfOk, IsErr, OnOk, OnErr};
 ghost use Rattle.kinds.specs.Value.{value_number, value_words};
 ghost use Rattle.model.specs.Lists.{is_there};
 ghost use Rattle.model.specs.state.Rows.{cell_at, kinds_of, insert_component, remove_component};
@@ -9,6 +9,7 @@ ghost use Rattle.archetype_store.specs.Row.{component_of};
 ghost use Rattle.std.specs.Arc.{arc_value};
 ghost use Rattle.kinds.specs.Kind.{kind_number};
 ghost use Rattle.archetype_store.specs.Layout.{archetype_at, column_home, with_home, AreAllHome};
+ghost use Rattle.archetype_store.specs.Places.{IsRowPlace};
 ghost use Rattle.std.specs.List.{AllByRecursion};
 ghost use Rattle.column_store.specs.Order.{AreApart};
 ghost use Rattle.column_store.specs.RowOrder.{OrdersRows};
@@ -21,7 +22,7 @@ ghost use Rattle.archetype_store.specs.Archetypes.{row_of, holder_of, row_cells,
 use crate::change::EntityChange;
 use crate::lay::{clear_in, insert_in, remove_in};
 use crate::lending::{column_at, home_at, lend_at, share_at, share_entities_at};
-use crate::locations::{EntityLocation, place_at, reach};
+use crate::locations::{EntityLocation, RowPlace, place_at, reach};
 use crate::owning::{copied_tables, own_all};
 use crate::row_moves::change_in;
 use crate::shapes::Shape;
@@ -125,6 +126,29 @@ impl Archetypes {
         match place_at(&self.places, index) {
             None => true,
             Some(_place) => false,
+        }
+    }
+
+    /// Where the components of the entity of an index are, where it has some. It touches no table.
+    pub fn row_place(&self, index: u32) -> Option<RowPlace>
+        ensures there { is_some result ≡ is_there (row_of self.now.rows index) }
+        ensures place { IfSome result (IsRowPlace self.now.layout index) }
+    {
+        match place_at(&self.places, index) {
+            None => None,
+            Some(location) => {
+                let place = self.row_numbers[index as usize];
+                let Some(archetype) = self.index.archetype_of(location.table) else {
+                    unreachable!();
+                };
+                let generation = location.generation;
+                let entity = Entity { index, generation };
+                Some(RowPlace {
+                    entity,
+                    archetype,
+                    place,
+                })
+            }
         }
     }
 

@@ -172,7 +172,7 @@ pub(crate) fn numbers_at(
 }
 
 // The archetype of a table.
-fn number_at(numbers: &[Option<usize>], table: usize) -> Option<usize>
+pub(crate) fn number_at(numbers: &[Option<usize>], table: usize) -> Option<usize>
     ensures { result ≡ get_or numbers.now table None }
 {
     match numbers.get(table) {

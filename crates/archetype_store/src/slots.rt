@@ -2,7 +2,7 @@
 
 ghost use Rattle.std.specs.Prelude.{◌≡◌, ◌++◌, ◌≤◌, ◌<◌, ◌↔◌, ℕ, true, false, [], Some, length, map, option_map, is_some, All, IsTrue, IfSome, IfNone, MatchOption, IfOk, OnOk, OnErr, IsErrOf};
 ghost use Rattle.kinds.specs.Value.{value_number, value_words};
-ghost use Rattle.model.specs.Lists.{update_at};
+ghost use Rattle.model.specs.Lists.{update_at, is_there};
 ghost use Rattle.model.specs.state.Rows.{IsRising, row_at, insert_component, remove_component};
 ghost use Rattle.model.specs.state.Ids as ids;
 ghost use Rattle.model.specs.state.Commands as commands;
@@ -17,6 +17,7 @@ ghost use Rattle.archetype_store.specs.Changes.{changed, components_left, AreOfO
 ghost use Rattle.archetype_store.specs.Store.{slots_with};
 ghost use Rattle.archetype_store.specs.Archetypes.{row_of};
 ghost use Rattle.archetype_store.specs.Layout.{archetype_at, column_home, with_home, IsLayoutOf, AreAllHome};
+ghost use Rattle.archetype_store.specs.Places.{IsRowPlace};
 ghost use Rattle.std.specs.List.{AllByRecursion};
 ghost use Rattle.column_store.specs.Order.{AreApart as AreRowsApart};
 ghost use Rattle.column_store.specs.RowOrder.{OrdersRows};
@@ -26,6 +27,7 @@ ghost use Rattle.archetype_store.specs.View.{kinds_seen, entities_seen};
 use crate::archetypes::Archetypes;
 use crate::change::EntityChange;
 use crate::fault::StoreFault;
+use crate::locations::RowPlace;
 use crate::settling::settle_all;
 use crate::shapes::Shape;
 use crate::slot::Slot;
@@ -134,6 +136,14 @@ impl Slots {
             return None;
         }
         Some(e)
+    }
+
+    /// Where the components of the entity of an index are: none where no entity of it lives, or where it has none.
+    pub fn row_place(&self, index: u32) -> Option<RowPlace>
+        ensures there { is_some result ≡ is_there (row_at self.now.slots index) }
+        ensures place { IfSome result (IsRowPlace self.now.layout index) }
+    {
+        self.archetypes.row_place(index)
     }
 
     /// How many entities live. It looks at no slot.

@@ -2,7 +2,7 @@
 
 ghost use Rattle.std.specs.Prelude.{◌≡◌, ◌++◌, ◌+◌, ◌≤◌, ◌<◌, ◌↔◌, ℕ, true, false, [], Some, length, map, option_map, is_some, All, IfSome, IfNone, IsTrue, IfOk, IsErr, OnOk, OnErr, IsErrOf};
 ghost use Rattle.kinds.specs.Kind.{kind_number};
-ghost use Rattle.model.specs.Lists.{update_at};
+ghost use Rattle.model.specs.Lists.{update_at, is_there};
 ghost use Rattle.kinds.specs.Res.{res_number};
 ghost use Rattle.kinds.specs.Components.{widths};
 ghost use Rattle.model.specs.state.State.{last_tick};
@@ -19,6 +19,7 @@ ghost use Rattle.std.specs.Arc.{arc_value};
 ghost use Rattle.std.specs.List.{AllByRecursion};
 ghost use Rattle.archetype_store.specs.Slot.{cell_of, column_cells, bare_of};
 ghost use Rattle.archetype_store.specs.Layout.{archetype_at, column_home, with_home, IsLayoutOf, AreAllHome};
+ghost use Rattle.archetype_store.specs.Places.{IsRowPlace};
 ghost use Rattle.archetype_store.specs.Lending.{CanTake, CanShare, CanComeHome, AreTaken, AreShared, all_away, all_home};
 ghost use Rattle.column_store.specs.Order.{AreApart as AreRowsApart};
 ghost use Rattle.column_store.specs.RowOrder.{OrdersRows};
@@ -32,6 +33,7 @@ use crate::change::EntityChange;
 pub use crate::columns::{ColumnAt, SharedColumn, TakenColumn};
 use crate::fault::{GrantFault, StoreFault};
 use crate::kind_sets::{entities_in, sets_of};
+pub use crate::locations::RowPlace;
 use crate::resources::Resources;
 use crate::shapes::Shape;
 use crate::slot::Slot;
@@ -430,6 +432,14 @@ impl World {
         ensures { result ≡ bare_of index (slot_at self.now.state.slots index) }
     {
         self.slots.bare_at(index)
+    }
+
+    /// Where the components of the entity of an index are: none where no entity of it lives, or where it has none. It touches no column.
+    pub fn row_place(&self, index: u32) -> Option<RowPlace>
+        ensures there { is_some result ≡ is_there (row_at self.now.state.slots index) }
+        ensures place { IfSome result (IsRowPlace self.now.layout index) }
+    {
+        self.slots.row_place(index)
     }
 
     /// Inserts a component of an entity at a tick. A component of the kind that is there is replaced and keeps its added stamp. After
