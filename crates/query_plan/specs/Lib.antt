@@ -2,5 +2,6 @@ pub mod Picks
 pub mod Standing
 pub mod Candidates
 pub mod Filters
+pub mod Marks
 pub mod Places
 pub mod Kept

@@ -10,11 +10,12 @@ use std::mem;
 
 /// Buffers of rows that nobody reads any more. Who plans a query takes its buffers from here and gives them back, so that a start takes no
 /// memory for its rows once one like it was planned. Contracts see nothing of them: what is taken has no rows. Beside them stand the list of
-/// the archetypes that are planned among and that of the columns that are picked, which are used again likewise.
+/// the archetypes that are planned among, that of their marks and that of the columns that are picked, which are used again likewise.
 #[derive(Drop)]
 pub struct RowBuffers {
     spare: Vec<Vec<Row>>,
     archetypes: Vec<usize>,
+    marks: Vec<bool>,
     picks: Vec<Pick>,
 }
 
@@ -24,6 +25,7 @@ impl RowBuffers {
         RowBuffers {
             spare: Vec::new(alloc),
             archetypes: Vec::new(alloc),
+            marks: Vec::new(alloc),
             picks: Vec::new(alloc),
         }
     }
@@ -47,6 +49,16 @@ impl RowBuffers {
     /// Keeps a list of numbers of archetypes.
     pub(crate) fn give_archetypes(&mut self, archetypes: Vec<usize>) {
         self.archetypes = archetypes;
+    }
+
+    /// A list for marks of archetypes, whatever is in it.
+    pub(crate) fn take_marks(&mut self, alloc: Global) -> Vec<bool> {
+        mem::replace(&mut self.marks, Vec::new(alloc))
+    }
+
+    /// Keeps a list of marks of archetypes.
+    pub(crate) fn give_marks(&mut self, marks: Vec<bool>) {
+        self.marks = marks;
     }
 
     /// A list for picks, whatever is in it.
