@@ -1,8 +1,8 @@
 -- A walk over the indices finds the rows of a query by the marks of its archetypes.
-use Rattle.std.proofs.Common.{◌≡◌, ℕ, zero, suc, ◌+◌, ◌<◌, ◌≤◌, Bool, true, false, cond, not, ◌||◌, ◌&&◌, ◌==◌, ◌⊎◌, inl, inr, List, [], ◌∷◌, ◌++◌, length, take, drop, get_or, set, map, Option, Some, None, slice_get, refl, sym, ap, ap₂, subst, ◌∙◌, append_assoc, append-nil, arith}
-use Rattle.std.specs.List.{AllByRecursion, list_any, list_all}
-use Rattle.std.proofs.lemmas.Bool.{cases_eq, cases_lt, and_parts, and_from, or_left, or_right, or_parts, eqb-true, eq-eqb, ne_eqb, not-true}
-use Rattle.std.proofs.lemmas.List.{drop_more, drop_all, take_more, take_all, map-append, length-set, get_or-set_same, get_or-set_other}
+use Rattle.std.proofs.Common.{◌≡◌, ℕ, zero, suc, ◌+◌, ◌<◌, ◌≤◌, Bool, true, false, cond, not, ◌||◌, ◌&&◌, ◌==◌, ◌⊎◌, inl, inr, List, [], ◌∷◌, ◌++◌, length, take, drop, get_or, set, map, Some, None, refl, sym, ap, ap₂, subst, ◌∙◌, append_assoc, append-nil, arith}
+use Rattle.std.specs.List.{list_any, list_all}
+use Rattle.std.proofs.lemmas.Bool.{cases_eq, cases_lt, and_parts, and_from, or_left, or_right, or_parts, eq-eqb, ne_eqb}
+use Rattle.std.proofs.lemmas.List.{drop_more, drop_all, take_more, map-append, length-set, get_or-set_same, get_or-set_other}
 use Rattle.std.proofs.lemmas.List.Folds.{list_any-append}
 use Rattle.std.proofs.lemmas.Option.{slice_get_within, slice_get-get_or, cond_some}
 use Rattle.model.specs.declared.entities.Entity.{Entity}
@@ -12,9 +12,9 @@ use Rattle.model.specs.state.Rows.{row_at, kinds_of}
 use Rattle.model.specs.state.Commands.{is_alive}
 use Rattle.model.specs.access.Query.{Term, matches}
 use Rattle.model.specs.access.Query.Term.{Entity as Id, Read, Mut, Opt, With, Without, Added, Changed, AnyOf}
-use Rattle.model.specs.shown.Input.{ShownRow, is_row, passes, rows_of}
+use Rattle.model.specs.shown.Input.{ShownRow, passes, rows_of}
 use Rattle.model.proofs.lists.Bools.{or_false}
-use Rattle.model.proofs.lists.Each.{each-at, each-append}
+use Rattle.model.proofs.lists.Each.{each-at}
 use Rattle.model.proofs.progress.Width.{and_false as and_no}
 use Rattle.archetype_store.specs.declared.locations.RowPlace.{RowPlace}
 use Rattle.archetype_store.specs.Layout.{Archetype, archetype_at, IsLayoutOf}
@@ -23,7 +23,7 @@ use Rattle.archetype_store.specs.Slot.{bare_of}
 use Rattle.query_plan.specs.declared.row.Row.{Row}
 use Rattle.query_plan.specs.Candidates.{numbers_where, AreCandidates}
 use Rattle.query_plan.specs.Marks.{asks_stamps, matches_at, AreMarks, AreMarksAmong, IsRowOf}
-use Rattle.query_plan.specs.Standing.{is_row_at, chosen, IsStanding}
+use Rattle.query_plan.specs.Standing.{is_row_at, chosen}
 use Rattle.query_plan.proofs.Chosen.{whose}
 use Rattle.query_plan.proofs.Gathered.{living_generation, rows_chosen, from_zero}
 use Rattle.query_plan.proofs.BareRows.{all_free, cond_none}

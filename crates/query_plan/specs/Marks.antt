@@ -1,6 +1,5 @@
 -- Which archetypes a query matches, as marks, and what is found by them at an index.
 use Rattle.std.specs.Prelude.{◌≡◌, ℕ, ◌<◌, Bool, true, false, ◌&&◌, List, length, get_or}
-use Rattle.model.specs.declared.entities.Entity.{Entity}
 use Rattle.model.specs.Lists.{has}
 use Rattle.model.specs.state.State.{Slot, fresh_slot}
 use Rattle.model.specs.access.Query.{Term, matches}

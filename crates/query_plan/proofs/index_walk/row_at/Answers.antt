@@ -1,5 +1,4 @@
-use Rattle.std.proofs.Common.{sym, ◌∙◌, ap, arith}
-use Rattle.model.specs.declared.entities.Entity.{Entity}
+use Rattle.std.proofs.Common.{◌∙◌, ap}
 use Rattle.query_plan.specs.declared.row.Row.{Row}
 use Rattle.query_plan.proofs.IndexWalks.{marked_row, row_found}
 use Rattle.query_plan.proofs.index_walk.row_at.Goals as goal
