@@ -92,10 +92,19 @@ fn walked_by(
     ensures places { IfOk result (λ found. IfSome found (λ rows. AllByRecursion (IsStanding world.now.state.slots world.now.layout) rows.items)) }
 {
     let matched = mark(query, world, archetypes, marks)?;
-    if !is_sooner(world.slot_count(), &matched) {
+    let takes_bare = matches_kinds(query, &[]);
+    if !is_sooner(world.slot_count(), takes_bare, matched) {
         return Ok(None);
     }
-    let rows = walk(alloc, query, world, marks, room)?;
+    let rows = walk(
+        alloc,
+        query,
+        world,
+        marks,
+        takes_bare,
+        matched.entities,
+        room,
+    )?;
     Ok(Some(rows))
 }
 
@@ -127,22 +136,29 @@ fn mark(
     Ok(matched)
 }
 
-// Whether a walk over so many slots is likely sooner at its end than lists of what is matched are merged: there is more than one list, and
-// the slots are at most twice as many as the entities.
-fn is_sooner(slots: u32, matched: &Matched) -> bool {
-    matched.archetypes > 1 && slots as usize / 2 <= matched.entities
+// Whether a walk over so many slots is likely sooner at its end than the lists of two archetypes or more are merged by halves: for each row that
+// a merge would move it looks at two slots at most. Where entities without components are rows too, all slots are looked at anyway.
+fn is_sooner(slots: u32, takes_bare: bool, matched: Matched) -> bool {
+    if matched.archetypes < 2 {
+        return false;
+    }
+    let halvings = matched.archetypes.ilog2() as usize;
+    takes_bare || slots as usize / 2 <= matched.entities.saturating_mul(halvings)
 }
 
-// The rows of a query that asks for no stamps, index by index.
+// The rows of a query that asks for no stamps, index by index. There is room for so many from the start.
 fn walk(
     alloc: Global,
     query: &Query,
     world: &World,
     marks: &[bool],
+    takes_bare: bool,
+    likely: usize,
     room: &mut RowBuffers,
 ) -> Result<Vec<Row>, AllocError>
     requires marks { AreMarks query.now world.now.layout marks.now }
     requires free { list_any term_asks_stamps query.now ≡ false }
+    requires bare { takes_bare ≡ matches query.now (λ kind. false) }
     ensures rows { IfOk result (λ rows. (last : ℕ) → map (λ row. row.entity) rows.items ≡ map (λ row. row.entity) (input.rows_of query.now last world.now.state.slots)) }
     ensures places { IfOk result (λ rows. AllByRecursion (IsStanding world.now.state.slots world.now.layout) rows.items) }
 {
@@ -151,8 +167,8 @@ fn walk(
     let Ok(count) = u32::try_from(world.archetype_count()) else {
         return Err(AllocError);
     };
-    let takes_bare = matches_kinds(query, &[]);
     let mut rows = room.take(alloc);
+    rows.reserve(likely)?;
     for index in 0..world.slot_count() {
         let Some(row) = row_at(query, world, marks, takes_bare, count, index)? else {
             continue;
