@@ -102,7 +102,7 @@ impl Room {
         if let Some(view) = self.views.pop() {
             return Ok(view);
         }
-        Ok(Box::new(alloc, View::blank(alloc, params)?)?)
+        Ok(Box::new(alloc, View::blank(alloc, params))?)
     }
 
     /// Keeps a view that is closed. Where an allocation fails for its place it is dropped.

@@ -78,16 +78,16 @@ impl Model for View {
 }
 
 impl View {
-    // A view that is to be opened, which has no queries.
-    pub(crate) fn blank(alloc: Global, params: &Params) -> Result<Self, AllocError> {
-        Ok(View {
+    // A view that is to be opened, which has no queries. Allocates nothing.
+    pub(crate) fn blank(alloc: Global, params: &Params) -> Self {
+        View {
             tick: 0,
             queries: Vec::new(alloc),
             values: ViewValues::blank(params),
-            unread: EventLists::empty(alloc, &[])?,
-            sent: EventLists::empty(alloc, &[])?,
+            unread: EventLists::new(alloc),
+            sent: EventLists::new(alloc),
             issued: ViewCommands::blank(alloc),
-        })
+        }
     }
 
     /// What a system with these parameters and this memory is shown of a world and its events, with these ids granted, and nothing written: what
@@ -120,8 +120,9 @@ impl View {
         ensures back { OnOk result (with_back (lent_in self.new.opening.taken) world.new.layout ≡ world.old.layout) }
         ensures err { OnErr result (world.new ≡ world.old) }
     {
-        let unread = EventLists::unread(alloc, params.reads(), memory.cursors(), events)?;
-        let sent = EventLists::empty(alloc, params.writes())?;
+        self.unread
+            .open_unread(alloc, params.reads(), memory.cursors(), events)?;
+        self.sent.open_empty(alloc, params.writes())?;
         self.issued.open(params, granted, commands)?;
         self.values.open(params, memory, world);
         open_queries(
@@ -133,8 +134,6 @@ impl View {
             tick,
             room,
         )?;
-        self.unread = unread;
-        self.sent = sent;
         self.tick = tick;
         Ok(())
     }
