@@ -20,7 +20,7 @@ use crate::column_slot::{
 use crate::entity_list::EntityList;
 use crate::parts::{among, copied_kinds, find_in, home_in, lend_in, seen_in, share_in, write_in};
 use crate::row_order::RowOrder;
-use crate::stamped::{StampedColumn, StampedValue};
+use crate::stamped::{Components, StampedColumn, StampedValue};
 use change_ticks::{Stamp, Tick};
 use entity_table::Entity;
 use kinds::{Component, Kind, Value};
@@ -345,7 +345,19 @@ impl Table {
         ensures cells { IfOk result (λ components. option_map (λ r. r.cells) (slice_get self.now.rows row) ≡ Some (map (λ s. Some (stamped_cell s)) components.items)) }
         ensures kinds { IfOk result (λ components. map stamped_number components.items ≡ self.now.kinds) }
     {
-        read_row(alloc, &self.columns, row)
+        let mut components = Components::new(alloc);
+        self.read(row, &mut components)?;
+        Vec::from_slice(alloc, components.as_slice())
+    }
+
+    /// Lists the components at a row, in the order of the kinds, in the room of a list. A list of few allocates nothing.
+    pub fn read(&self, row: usize, components: &mut Components) -> Result<(), AllocError>
+        requires within { row < length self.now.rows }
+        requires home { IsTrue (list_all is_home self.now.standings) }
+        ensures cells { OnOk result (option_map (λ r. r.cells) (slice_get self.now.rows row) ≡ Some (map (λ s. Some (stamped_cell s)) components.new.items)) }
+        ensures kinds { OnOk result (map stamped_number components.new.items ≡ self.now.kinds) }
+    {
+        read_row(&self.columns, row, components)
     }
 
     /// Removes the row of an entity, moves the last one into its place, and gives its components, in the order of the kinds. Where an
