@@ -29,7 +29,7 @@ use crate::shapes::Shape;
 use crate::table_index::TableIndex;
 use crate::tables::{ArchetypeView, components_at, find_at, has_at, view_at, views_of};
 use change_ticks::Tick;
-use column_store::{StampedColumn, StampedValue, Table};
+use column_store::{Components, StampedColumn, StampedValue, Table};
 use entity_table::Entity;
 use kinds::{Kind, Value};
 use std::alloc::{AllocError, Global};
@@ -152,16 +152,19 @@ impl Archetypes {
         }
     }
 
-    /// The components of the entity of an index, in rising kinds.
-    pub fn components(&self, alloc: Global, index: u32) -> Result<Vec<StampedValue>, AllocError>
+    /// Lists the components of the entity of an index, in rising kinds, in the room of a list.
+    pub fn components(&self, index: u32, components: &mut Components) -> Result<(), AllocError>
         requires { AreAllHome self.now.layout }
-        ensures { IfOk result (λ components. map component_of components.items ≡ row_of self.now.rows index) }
+        ensures { OnOk result (map component_of components.new.items ≡ row_of self.now.rows index) }
     {
         match place_at(&self.places, index) {
-            None => Ok(Vec::new(alloc)),
+            None => {
+                components.clear();
+                Ok(())
+            }
             Some(place) => {
                 let row = self.row_numbers[index as usize];
-                components_at(alloc, &self.tables, place.table, row)
+                components_at(&self.tables, place.table, row, components)
             }
         }
     }

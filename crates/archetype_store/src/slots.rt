@@ -33,7 +33,7 @@ use crate::shapes::Shape;
 use crate::slot::Slot;
 use crate::tables::ArchetypeView;
 use change_ticks::Tick;
-use column_store::{StampedColumn, StampedValue};
+use column_store::{Components, StampedColumn, StampedValue};
 use entity_table::{Entity, EntityTable, GrantFault};
 use kinds::{Kind, Value};
 use std::alloc::{AllocError, Global};
@@ -427,11 +427,11 @@ impl Slots {
         Ok(())
     }
 
-    /// The components of an index, in rising kinds.
-    pub fn components(&self, alloc: Global, index: u32) -> Result<Vec<StampedValue>, AllocError>
+    /// Lists the components of an index, in rising kinds, in the room of a list.
+    pub fn components(&self, index: u32, components: &mut Components) -> Result<(), AllocError>
         requires { AreAllHome self.now.layout }
-        ensures { IfOk result (λ components. map component_of components.items ≡ row_at self.now.slots index) }
+        ensures { OnOk result (map component_of components.new.items ≡ row_at self.now.slots index) }
     {
-        self.archetypes.components(alloc, index)
+        self.archetypes.components(index, components)
     }
 }

@@ -40,7 +40,7 @@ use crate::slot::Slot;
 use crate::slots::Slots;
 pub use crate::tables::ArchetypeView;
 use change_ticks::{Clock, ClockSpent, Stamp, Tick};
-use column_store::{StampedColumn, StampedValue};
+use column_store::{Components, StampedColumn};
 use entity_table::Entity;
 use kinds::{Component, Kind, Res};
 use model::KindSets;
@@ -557,11 +557,11 @@ impl World {
         }
     }
 
-    /// The components of an index, in rising kinds: none unless an entity of it lives.
-    pub fn components(&self, alloc: Global, index: u32) -> Result<Vec<StampedValue>, AllocError>
+    /// Lists the components of an index, in rising kinds, in the room of a list: none unless an entity of it lives.
+    pub fn components(&self, index: u32, components: &mut Components) -> Result<(), AllocError>
         requires { AreAllHome self.now.layout }
-        ensures { IfOk result (λ components. map component_of components.items ≡ row_at self.now.state.slots index) }
+        ensures { OnOk result (map component_of components.new.items ≡ row_at self.now.state.slots index) }
     {
-        self.slots.components(alloc, index)
+        self.slots.components(index, components)
     }
 }
