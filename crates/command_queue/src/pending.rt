@@ -13,9 +13,10 @@ ghost use Rattle.command_queue.specs.Commands.{command_of, index_in};
 ghost use Rattle.command_queue.specs.Pending.{place_of, put_change, AreInTurn, ArePlaced, IsNoted, IsLast, IsTold, IsPending, target_of, Stands, IsOpen, CanSpawn};
 
 use crate::command::Command;
-use crate::rows::{insert_kept, keeps, remove_kept};
+use crate::rows::{fill_kept, insert_kept, keeps, remove_kept};
 use archetype_store::{EntityChange, Fate, World};
 use change_ticks::Tick;
+use column_store::Components;
 use entity_table::Entity;
 use indexmap::IndexMap;
 use kinds::{Kind, Value};
@@ -215,8 +216,9 @@ impl Pending {
                 // Proves that the components of a world are of its shape.
                 let _now = world.now();
                 let place = self.changes.len();
-                let fate = Fate::Lives(world.components(alloc, e.index)?);
+                let fate = Fate::Lives(Components::new(alloc));
                 self.add(EntityChange { entity: e, fate })?;
+                fill_kept(&mut self.changes[place], world)?;
                 Ok(Some(place))
             }
         }
@@ -302,7 +304,7 @@ impl Pending {
     {
         match command {
             Command::Spawn(e) => {
-                let fate = Fate::Lives(Vec::new(alloc));
+                let fate = Fate::Lives(Components::new(alloc));
                 self.add(EntityChange { entity: e, fate })?;
                 Ok(())
             }
