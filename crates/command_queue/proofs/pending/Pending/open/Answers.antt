@@ -1,9 +1,8 @@
 use Rattle.std.proofs.Common.{◌≡◌, length, refl, ap, ap₂, ◌∙◌, arith}
 use Rattle.model.specs.state.Commands.{CommandTarget}
 use Rattle.model.specs.state.Rows.{row_at}
-use Rattle.archetype_store.specs.declared.change.Fate.TheVariants as the
 use Rattle.archetype_store.specs.declared.change.EntityChange.{EntityChange}
-use Rattle.command_queue.specs.Pending.{is_left_alive}
+use Rattle.command_queue.specs.Pending.{bare_change, is_left_alive}
 use Rattle.command_queue.proofs.Puts.{length_first}
 use Rattle.command_queue.proofs.Turns.{placed_same}
 use Rattle.command_queue.proofs.Opened.{put_there, filled_places, filled_changes, filled_slots, filled_kept}
@@ -12,28 +11,28 @@ use Rattle.command_queue.proofs.pending.Pending.open.Goals as goal
 pub index_mut-requires : goal.index_mut-requires
 index_mut-requires c =
     let cs = c.args.self.now.changes.items in
-    let bare : EntityChange = record { entity = c.args.e; fate = the.Lives c.new.result } in
+    let bare = bare_change c.args.e in
     let many : length cs ≡ c.len-place.result = omega (arith, c.len-place.ensures, c.args.self.now.changes.ok.0) in
-    let more = ap length c.in_ok-add-in-Unchanged.ensures.changes ∙ length_first cs bare bare refl c.in-Unchanged.ensures.1 in
-    omega (arith, many, more, c.add.new.self.changes.ok.0)
+    let more = ap length c.in_ok-add_bare-in-Unchanged.ensures.changes ∙ length_first cs bare bare refl c.in-Unchanged.ensures.1 in
+    omega (arith, many, more, c.add_bare.new.self.changes.ok.0)
 
 pub fill_kept-requires-clause-lasts : goal.fill_kept-requires-clause-lasts
 fill_kept-requires-clause-lasts c =
     let cs = c.args.self.now.changes.items in
-    let bare : EntityChange = record { entity = c.args.e; fate = the.Lives c.new.result } in
+    let bare = bare_change c.args.e in
     let many : length cs ≡ c.len-place.result = omega (arith, c.len-place.ensures, c.args.self.now.changes.ok.0) in
     let x = c.index_mut.result.now in
-    let is : x ≡ bare = c.index_mut.ensures.value ∙ put_there cs c.args.e c.in-Unchanged.ensures.1 bare refl c.add.new.self.changes.items c.in_ok-add-in-Unchanged.ensures.changes c.len-place.result many x in
+    let is : x ≡ bare = c.index_mut.ensures.value ∙ put_there cs c.args.e c.in-Unchanged.ensures.1 bare refl c.add_bare.new.self.changes.items c.in_ok-add_bare-in-Unchanged.ensures.changes c.len-place.result many x in
     ap (λ (y : EntityChange). is_left_alive y.fate) is
 
 pub returns-in_ok-fill_kept-in-Unchanged-clause-pending : goal.returns-in_ok-fill_kept-in-Unchanged-clause-pending
 returns-in_ok-fill_kept-in-Unchanged-clause-pending c =
     let w = c.args.world.now.state in
     let cs = c.args.self.now.changes.items in
-    let ds = c.add.new.self.changes.items in
-    let a = c.in_ok-add-in-Unchanged.ensures in
+    let ds = c.add_bare.new.self.changes.items in
+    let a = c.in_ok-add_bare-in-Unchanged.ensures in
     let f = c.in_ok-fill_kept-in-Unchanged.ensures in
-    let bare : EntityChange = record { entity = c.args.e; fate = the.Lives c.new.result } in
+    let bare = bare_change c.args.e in
     let many : length cs ≡ c.len-place.result = omega (arith, c.len-place.ensures, c.args.self.now.changes.ok.0) in
     let x = c.index_mut.result.now in
     let is : x ≡ bare = c.index_mut.ensures.value ∙ put_there cs c.args.e c.in-Unchanged.ensures.1 bare refl ds a.changes c.len-place.result many x in
@@ -48,10 +47,10 @@ pub returns-in_ok-fill_kept-in-Unchanged-clause-same : goal.returns-in_ok-fill_k
 returns-in_ok-fill_kept-in-Unchanged-clause-same c =
     let w = c.args.world.now.state in
     let cs = c.args.self.now.changes.items in
-    let ds = c.add.new.self.changes.items in
-    let a = c.in_ok-add-in-Unchanged.ensures in
+    let ds = c.add_bare.new.self.changes.items in
+    let a = c.in_ok-add_bare-in-Unchanged.ensures in
     let f = c.in_ok-fill_kept-in-Unchanged.ensures in
-    let bare : EntityChange = record { entity = c.args.e; fate = the.Lives c.new.result } in
+    let bare = bare_change c.args.e in
     let many : length cs ≡ c.len-place.result = omega (arith, c.len-place.ensures, c.args.self.now.changes.ok.0) in
     let x = c.index_mut.result.now in
     let is : x ≡ bare = c.index_mut.ensures.value ∙ put_there cs c.args.e c.in-Unchanged.ensures.1 bare refl ds a.changes c.len-place.result many x in
@@ -65,10 +64,10 @@ pub returns-in_ok-fill_kept-in-Unchanged-clause-open : goal.returns-in_ok-fill_k
 returns-in_ok-fill_kept-in-Unchanged-clause-open c =
     let w = c.args.world.now.state in
     let cs = c.args.self.now.changes.items in
-    let ds = c.add.new.self.changes.items in
-    let a = c.in_ok-add-in-Unchanged.ensures in
+    let ds = c.add_bare.new.self.changes.items in
+    let a = c.in_ok-add_bare-in-Unchanged.ensures in
     let f = c.in_ok-fill_kept-in-Unchanged.ensures in
-    let bare : EntityChange = record { entity = c.args.e; fate = the.Lives c.new.result } in
+    let bare = bare_change c.args.e in
     let many : length cs ≡ c.len-place.result = omega (arith, c.len-place.ensures, c.args.self.now.changes.ok.0) in
     let x = c.index_mut.result.now in
     let is : x ≡ bare = c.index_mut.ensures.value ∙ put_there cs c.args.e c.in-Unchanged.ensures.1 bare refl ds a.changes c.len-place.result many x in
