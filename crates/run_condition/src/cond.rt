@@ -12,15 +12,9 @@ use std::marker::Model;
 
 /// A run condition: what is asked before a system runs. Contracts see the condition of the definitions, with resources and
 /// event kinds by number.
+#[derive(Drop)]
 pub struct Cond {
     tree: Tree,
-}
-
-// One function drops it wherever it is let go.
-impl Drop for Cond {
-    fn drop(self) {
-        let Cond { tree: _ } = self;
-    }
 }
 
 /// A condition and its parts.
