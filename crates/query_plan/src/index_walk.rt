@@ -136,14 +136,14 @@ fn mark(
     Ok(matched)
 }
 
-// Whether a walk over so many slots is likely sooner at its end than the lists of two archetypes or more are merged by halves: for each row that
-// a merge would move it looks at two slots at most. Where entities without components are rows too, all slots are looked at anyway.
+// Whether a walk over so many slots is likely sooner at its end than the lists of two archetypes or more are merged by halves: it looks at five
+// slots at most for each four rows that merges would move. Where entities without components are rows too, all slots are looked at anyway.
 fn is_sooner(slots: u32, takes_bare: bool, matched: Matched) -> bool {
     if matched.archetypes < 2 {
         return false;
     }
     let halvings = matched.archetypes.ilog2() as usize;
-    takes_bare || slots as usize / 2 <= matched.entities.saturating_mul(halvings)
+    takes_bare || slots as usize / 5 * 4 <= matched.entities.saturating_mul(halvings)
 }
 
 // The rows of a query that asks for no stamps, index by index. There is room for so many from the start.
