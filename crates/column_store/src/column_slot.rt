@@ -322,7 +322,9 @@ pub(crate) fn read_row(
     ensures kinds { OnOk result (map stamped_number components.new.items ≡ map kind_in columns.now) }
 {
     components.clear();
-    components.reserve(columns.len())?;
+    if components.capacity() < columns.len() {
+        components.reserve(columns.len())?;
+    }
     for column in columns {
         components.push(column.at(row))?;
     }
