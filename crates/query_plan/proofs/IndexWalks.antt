@@ -1,5 +1,6 @@
 -- A walk over the indices finds the rows of a query by the marks of its archetypes.
 use Rattle.std.proofs.Common.{◌≡◌, ℕ, zero, suc, ◌+◌, ◌<◌, ◌≤◌, Bool, true, false, cond, not, ◌||◌, ◌&&◌, ◌==◌, ◌⊎◌, inl, inr, List, [], ◌∷◌, ◌++◌, length, take, drop, get_or, set, map, Some, None, refl, sym, ap, ap₂, subst, ◌∙◌, append_assoc, append-nil, arith}
+use Rattle.std.proofs.Math.Bool.{and-true}
 use Rattle.std.specs.List.{list_any, list_all}
 use Rattle.std.proofs.lemmas.Bool.{cases_eq, cases_lt, and_parts, and_from, or_left, or_right, or_parts, eq-eqb, ne_eqb}
 use Rattle.std.proofs.lemmas.List.{drop_more, drop_all, take_more, map-append, length-set, get_or-set_same, get_or-set_other}
@@ -154,11 +155,7 @@ module _ (query : List Term) (slots : List Slot) (layout : List Archetype) (i : 
     marked_row last =
         let s = get_or slots i fresh_slot in
         ap₂ (λ a b. a && b && list_all (passes last s.row) query) slot_lives mark_is
-        ∙ ap (λ b. get_or marks at.archetype false && b) (free_terms last s.row query free) ∙ and_true (get_or marks at.archetype false)
-      where
-        and_true : (b : Bool) → (b && true) ≡ b
-        and_true true = refl
-        and_true false = refl
+        ∙ ap (λ b. get_or marks at.archetype false && b) (free_terms last s.row query free) ∙ and-true (get_or marks at.archetype false)
 
     pub row_found : (row : Row) → get_or marks at.archetype false ≡ true → row ≡ record { entity = at.entity; archetype = at.archetype; place = at.place } → IsRowOf query slots layout i row
     row_found row marked same = subst (IsRowOf query slots layout i) (sym same) (record {
@@ -184,11 +181,7 @@ module _ (query : List Term) (slots : List Slot) (layout : List Archetype) (i : 
         three false = refl
 
     test_is : (is_living (get_or slots i fresh_slot).status && not (is_there (get_or slots i fresh_slot).row)) ≡ is_living (get_or slots i fresh_slot).status
-    test_is = ap (λ b. is_living (get_or slots i fresh_slot).status && not b) none ∙ and_true (is_living (get_or slots i fresh_slot).status)
-      where
-        and_true : (b : Bool) → (b && true) ≡ b
-        and_true true = refl
-        and_true false = refl
+    test_is = ap (λ b. is_living (get_or slots i fresh_slot).status && not b) none ∙ and-true (is_living (get_or slots i fresh_slot).status)
 
     pub bare_found : (e : Entity) (count : ℕ) → count ≡ length layout → bare_of i (get_or slots i fresh_slot) ≡ Some e → IsRowOf query slots layout i (record { entity = e; archetype = count; place = i })
     bare_found e count many is =
