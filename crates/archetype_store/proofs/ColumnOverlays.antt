@@ -2,7 +2,6 @@
 use Rattle.std.proofs.Common.{◌≡◌, ℕ, zero, suc, ℤ, ◌<◌, Bool, true, false, cond, ◌==◌, ◌&&◌, ◌||◌, List, [], ◌∷◌, get_or, map, Option, Some, None, option_map, refl, sym, ap, ap₂, subst, ◌∙◌}
 use Rattle.std.specs.List.{list_any, AllByRecursion}
 use Rattle.std.proofs.lemmas.Bool.{and_parts, eqb-true}
-use Rattle.model.specs.Lists.{map_index}
 use Rattle.model.specs.state.State.{Cell, Component, Slot, fresh_slot, is_living}
 use Rattle.model.specs.state.Rows.{cell_at, IsRising}
 use Rattle.model.specs.state.Commands.{is_alive, with_row}

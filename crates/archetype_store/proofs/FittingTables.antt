@@ -8,7 +8,7 @@ use Rattle.archetype_store.specs.declared.shapes.KeptShape.{KeptShape}
 use Rattle.archetype_store.specs.Layout.{archetype_of, layout_of}
 use Rattle.archetype_store.specs.LivingSets.{set_number}
 use Rattle.archetype_store.specs.Shapes.{fits, fitting_from, fitting_tables, numbers_from, with_some, numbered, Fitting, noted, kept_seen, AreListed}
-use Rattle.archetype_store.specs.Tables.{table_at, kinds_at, AreAllAlike}
+use Rattle.archetype_store.specs.Tables.{table_at, kinds_at, number_of, AreAllAlike}
 
 -- ---- tables of the same kinds
 
@@ -101,6 +101,18 @@ archetypes_from s m before (t ∷ ts) =
 
 pub archetypes_fitting : (s : ℕ) (T : List TableValue) → numbered (numbers_from 0 T) (fitting_tables s 0 T) ≡ fitting_from s 0 (layout_of T)
 archetypes_fitting s T = archetypes_from s 0 [] T
+
+-- the number of a table with rows
+number_step : (b : Bool) (m n : ℕ) → cond b (suc m) m + n ≡ m + cond b (suc n) n
+number_step true m n = omega arith
+number_step false m n = refl
+
+pub number_at : (m : ℕ) (T : List TableValue) (t : ℕ) → is_there (table_at T t).rows ≡ true → get_or (numbers_from m T) t None ≡ Some (m + number_of T t)
+number_at m [] t h = absurd (cc)
+number_at m (u ∷ us) zero h = ap (λ b. get_or (cond b (Some m ∷ numbers_from (suc m) us) (None ∷ numbers_from m us)) 0 None) h ∙ ap (λ k. Some k) (let e : m ≡ m + 0 = omega arith in e)
+number_at m (u ∷ us) (suc t) h =
+    ap (λ (ns : List (Option ℕ)). get_or ns (suc t) None) (numbers_step (is_there u.rows) m us) ∙ number_at (cond (is_there u.rows) (suc m) m) us t h
+    ∙ ap (λ k. Some k) (number_step (is_there u.rows) m (number_of us t))
 
 -- ---- numbers of tables that differ in where their columns stand, or in one table
 

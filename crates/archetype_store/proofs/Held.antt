@@ -1,5 +1,5 @@
 -- What a change of one row leaves in tables.
-use Rattle.std.proofs.Common.{◌≡◌, ◌≢◌, ℕ, zero, suc, ◌+◌, ◌-◌, ◌<◌, ◌≤◌, Bool, true, false, cond, ◌==◌, ◌⊎◌, inl, inr, List, [], ◌∷◌, ◌++◌, length, set, map, Option, Some, None, option_map, is_some, option_and_then, ℤ, Result, Ok, Err, IfOk, refl, sym, ap, ap₂, subst, ◌∙◌, arith}
+use Rattle.std.proofs.Common.{◌≡◌, ◌≢◌, ℕ, zero, suc, ◌+◌, ◌-◌, ◌<◌, ◌≤◌, Bool, true, false, cond, ◌==◌, ◌⊎◌, inl, inr, List, [], ◌∷◌, ◌++◌, length, set, map, Option, Some, None, option_map, is_some, option_and_then, ℤ, Result, Ok, Err, OnOk, refl, sym, ap, ap₂, subst, ◌∙◌, arith}
 use Rattle.std.proofs.lemmas.Bool.{cases_eq, eq-eqb, ne_eqb}
 use Rattle.std.proofs.lemmas.List.{get_or-set_same, get_or-set_other, length-map, map-append}
 use Rattle.std.proofs.Math.Seq.{map-set_same}
@@ -386,6 +386,6 @@ components_held t row e ss apart at cells kinds = ap (option_map (components_of 
         ap (λ row. Some row) (ap (components_in t.kinds) is ∙ ap (λ ks. components_of ks (new_row e ss)) (sym kinds) ∙ components_new e ss)
 
 -- what holds of a result by two things that hold of it
-pub if_both : {A E : Type 0} (r : Result A E) (P Q R : A → Type 0) → ((x : A) → P x → Q x → R x) → IfOk r P → IfOk r Q → IfOk r R
-if_both (Ok a) P Q R f p q = f a p q
-if_both (Err e) P Q R f p q = tt
+pub on_both : {A E P Q R : Type 0} (r : Result A E) → (P → Q → R) → OnOk r P → OnOk r Q → OnOk r R
+on_both (Ok a) f p q = f p q
+on_both (Err e) f p q = tt

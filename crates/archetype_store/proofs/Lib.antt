@@ -5,6 +5,7 @@ pub mod Held
 pub mod KindSets
 pub mod FittingTables
 pub mod TableIndex
+pub mod RowsPlaced
 pub mod Laid
 pub mod Laying
 pub mod Changing

@@ -6,6 +6,7 @@ pub mod RowNumbers
 pub mod Whole
 pub mod Slot
 pub mod Slots
+pub mod Places
 pub mod LivingSets
 pub mod Resources
 pub mod Store

@@ -1,6 +1,6 @@
 // The components of entities, in tables by archetype: the kinds that an entity has.
 
-ghost use Rattle.std.specs.Prelude.{◌≡◌, ◌<◌, true, false, not, [], length, Some, map, option_map, IfSome, IfOk, IsErr, OnOk, OnErr};
+ghost use Rattle.std.specs.Prelude.{◌≡◌, ◌<◌, true, false, not, [], length, Some, map, option_map, is_some, IfSome, IsTrue, IfOk, IsErr, OnOk, OnErr};
 ghost use Rattle.kinds.specs.Value.{value_number, value_words};
 ghost use Rattle.model.specs.Lists.{is_there};
 ghost use Rattle.model.specs.state.Rows.{cell_at, kinds_of, insert_component, remove_component};
@@ -9,6 +9,7 @@ ghost use Rattle.archetype_store.specs.Row.{component_of};
 ghost use Rattle.std.specs.Arc.{arc_value};
 ghost use Rattle.kinds.specs.Kind.{kind_number};
 ghost use Rattle.archetype_store.specs.Layout.{archetype_at, column_home, with_home, AreAllHome};
+ghost use Rattle.archetype_store.specs.Places.{IsRowPlace};
 ghost use Rattle.std.specs.List.{AllByRecursion};
 ghost use Rattle.column_store.specs.Order.{AreApart};
 ghost use Rattle.column_store.specs.RowOrder.{OrdersRows};
@@ -21,14 +22,14 @@ ghost use Rattle.archetype_store.specs.Archetypes.{row_of, holder_of, row_cells,
 use crate::change::EntityChange;
 use crate::lay::{clear_in, insert_in, remove_in};
 use crate::lending::{column_at, home_at, lend_at, share_at, share_entities_at};
-use crate::locations::{EntityLocation, place_at, reach};
+use crate::locations::{EntityLocation, RowPlace, place_at, reach};
 use crate::owning::{copied_tables, own_all};
 use crate::row_moves::change_in;
 use crate::shapes::Shape;
 use crate::table_index::TableIndex;
 use crate::tables::{ArchetypeView, components_at, find_at, has_at, view_at, views_of};
 use change_ticks::Tick;
-use column_store::{StampedColumn, StampedValue, Table};
+use column_store::{Components, StampedColumn, StampedValue, Table};
 use entity_table::Entity;
 use kinds::{Kind, Value};
 use std::alloc::{AllocError, Global};
@@ -128,16 +129,42 @@ impl Archetypes {
         }
     }
 
-    /// The components of the entity of an index, in rising kinds.
-    pub fn components(&self, alloc: Global, index: u32) -> Result<Vec<StampedValue>, AllocError>
-        requires { AreAllHome self.now.layout }
-        ensures { IfOk result (λ components. map component_of components.items ≡ row_of self.now.rows index) }
+    /// Where the components of the entity of an index are, where it has some. It touches no table.
+    pub fn row_place(&self, index: u32) -> Option<RowPlace>
+        ensures there { is_some result ≡ is_there (row_of self.now.rows index) }
+        ensures place { IfSome result (IsRowPlace self.now.layout index) }
     {
         match place_at(&self.places, index) {
-            None => Ok(Vec::new(alloc)),
+            None => None,
+            Some(location) => {
+                let place = self.row_numbers[index as usize];
+                let Some(archetype) = self.index.archetype_of(location.table) else {
+                    unreachable!();
+                };
+                let generation = location.generation;
+                let entity = Entity { index, generation };
+                Some(RowPlace {
+                    entity,
+                    archetype,
+                    place,
+                })
+            }
+        }
+    }
+
+    /// Lists the components of the entity of an index, in rising kinds, in the room of a list.
+    pub fn components(&self, index: u32, components: &mut Components) -> Result<(), AllocError>
+        requires { AreAllHome self.now.layout }
+        ensures { OnOk result (map component_of components.new.items ≡ row_of self.now.rows index) }
+    {
+        match place_at(&self.places, index) {
+            None => {
+                components.clear();
+                Ok(())
+            }
             Some(place) => {
                 let row = self.row_numbers[index as usize];
-                components_at(alloc, &self.tables, place.table, row)
+                components_at(&self.tables, place.table, row, components)
             }
         }
     }
@@ -183,11 +210,12 @@ impl Archetypes {
         self.index.register(alloc, &self.tables, *shape)
     }
 
-    /// The archetypes that fit the shape of a number, by their numbers in rising order. None where no shape of this number is kept.
-    pub fn fitting(&self, alloc: Global, shape: usize) -> Result<Option<Vec<usize>>, AllocError>
-        ensures { IfOk result (λ found. IfSome found (λ archetypes. archetypes.items ≡ fitting_from shape 0 self.now.layout)) }
+    /// Lists the archetypes that fit the shape of a number, by their numbers in rising order, in the room of a list. Whether a shape of this
+    /// number is kept: where none is the list tells nothing.
+    pub fn fitting(&self, shape: usize, found: &mut Vec<usize>) -> Result<bool, AllocError>
+        ensures { IfOk result (λ kept. IsTrue kept → found.new.items ≡ fitting_from shape 0 self.now.layout) }
     {
-        self.index.archetypes_of(alloc, shape)
+        self.index.find_fitting(shape, found)
     }
 
     /// The layout is that of the rows.

@@ -3,14 +3,14 @@
 ghost use Rattle.std.specs.Prelude.{◌≡◌};
 ghost use Rattle.archetype_store.specs.Changes.{row_left};
 
-use column_store::StampedValue;
+use column_store::{Components, StampedValue};
 use entity_table::Entity;
 
 /// What an entity is left as.
 #[derive(Drop)]
 pub enum Fate {
     /// It lives, with these components, in rising kinds.
-    Lives(Vec<StampedValue>),
+    Lives(Components),
     /// It lives no more.
     Dies,
 }

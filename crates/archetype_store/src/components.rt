@@ -6,7 +6,7 @@ ghost use Rattle.model.specs.state.Rows.{cell_at, insert_component, remove_compo
 ghost use Rattle.archetype_store.specs.Row.{component_of, added_at};
 
 use change_ticks::{Stamp, Tick};
-use column_store::StampedValue;
+use column_store::{Components, StampedValue};
 use kinds::Value;
 use std::alloc::AllocError;
 
@@ -39,7 +39,7 @@ fn place_of(components: &[StampedValue], number: u32) -> Option<usize>
 
 // Adds a component at a tick to those of a row that has none of its kind.
 pub(crate) fn insert_new(
-    components: &mut Vec<StampedValue>,
+    components: &mut Components,
     value: Value,
     tick: Tick,
 ) -> Result<(), AllocError>
@@ -56,7 +56,7 @@ pub(crate) fn insert_new(
 }
 
 // Takes the component of the kind with this number from those of a row that has one.
-pub(crate) fn take_out(components: &mut Vec<StampedValue>, number: u32)
+pub(crate) fn take_out(components: &mut Components, number: u32)
     requires { IsSome (cell_at (map component_of components.old.items) number) }
     ensures row { map component_of components.new.items ≡ remove_component number (map component_of components.old.items) }
     ensures fewer { suc (length components.new.items) ≡ length components.old.items }
@@ -71,7 +71,7 @@ pub(crate) fn take_out(components: &mut Vec<StampedValue>, number: u32)
 
 /// Inserts a component at a tick into those of a row: one of its kind is replaced and keeps its added stamp.
 pub fn put_component(
-    components: &mut Vec<StampedValue>,
+    components: &mut Components,
     value: Value,
     tick: Tick,
 ) -> Result<(), AllocError>
@@ -99,7 +99,7 @@ pub fn put_component(
 }
 
 /// Removes the component of the kind with this number from those of a row, where it has one.
-pub fn take_component(components: &mut Vec<StampedValue>, number: u32)
+pub fn take_component(components: &mut Components, number: u32)
     ensures { map component_of components.new.items ≡ remove_component number (map component_of components.old.items) }
 {
     match index_of(components, number) {

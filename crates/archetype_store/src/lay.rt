@@ -20,7 +20,7 @@ use crate::tables::{
     components_at, find_at, kind_count_at, push_at, remove_at, reserve_at, table_for, write_at,
 };
 use change_ticks::Tick;
-use column_store::{StampedValue, Table};
+use column_store::{Components, StampedValue, Table};
 use entity_table::Entity;
 use kinds::Value;
 use std::alloc::AllocError;
@@ -153,8 +153,8 @@ pub(crate) fn insert_in(
         write_at(tables, place.table, row, value, tick);
         return Ok(());
     }
-    let alloc = *tables.allocator();
-    let mut components = components_at(alloc, tables, place.table, row)?;
+    let mut components = Components::new(*tables.allocator());
+    components_at(tables, place.table, row, &mut components)?;
     insert_new(&mut components, value, tick)?;
     lay(tables, index, places, numbers, e, &components)
 }
@@ -191,8 +191,9 @@ pub(crate) fn remove_in(
         clear_in(tables, places, numbers, e);
         return Ok(());
     }
-    let alloc = *tables.allocator();
-    let mut components = components_at(alloc, tables, place.table, numbers[e.index as usize])?;
+    let mut components = Components::new(*tables.allocator());
+    let row = numbers[e.index as usize];
+    components_at(tables, place.table, row, &mut components)?;
     take_out(&mut components, number);
     lay(tables, index, places, numbers, e, &components)
 }

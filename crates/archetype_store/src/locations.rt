@@ -4,6 +4,7 @@ ghost use Rattle.std.specs.Prelude.{◌≡◌, ◌<◌, ◌≤◌, ℕ, length, 
 ghost use Rattle.archetype_store.specs.Archetypes.{place_of};
 ghost use Rattle.archetype_store.specs.RowNumbers.{number_of_row};
 
+use entity_table::Entity;
 use std::alloc::AllocError;
 
 // The generation of an entity that has components, and the table that has its row.
@@ -11,6 +12,17 @@ use std::alloc::AllocError;
 pub(crate) struct EntityLocation {
     pub(crate) generation: u32,
     pub(crate) table: usize,
+}
+
+/// Where the components of an entity are: in which archetype, and at which place.
+#[derive(Clone, Copy, PartialEq, Eq, Debug)]
+pub struct RowPlace {
+    /// The entity.
+    pub entity: Entity,
+    /// The number of its archetype among those that have entities, from 0.
+    pub archetype: usize,
+    /// Its place among the entities of the archetype.
+    pub place: usize,
 }
 
 // The place of an index.

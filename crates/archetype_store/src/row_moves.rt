@@ -112,7 +112,7 @@ fn planned_all<'a>(
     ensures changes { IfOk result (λ rows. map change_of rows.items ≡ changes.now) }
     ensures planned { IfOk result (λ rows. AllByRecursion (IsPlanned tables.new.items places.new.items) rows.items) }
 {
-    let mut rows = Vec::new(alloc);
+    let mut rows = Vec::with_capacity(alloc, changes.len())?;
     for change in changes {
         rows.push(planned(tables, index, places, numbers, change)?)?;
     }

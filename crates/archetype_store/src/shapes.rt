@@ -152,26 +152,27 @@ pub(crate) fn copied_shapes(
     Ok(copies)
 }
 
-// The archetypes of these tables, of which those without rows have none.
+// Lists the archetypes of these tables, of which those without rows have none, in a list that is emptied first.
 pub(crate) fn numbers_at(
-    alloc: Global,
     numbers: &[Option<usize>],
     tables: &[usize],
-) -> Result<Vec<usize>, AllocError>
-    ensures { IfOk result (λ archetypes. archetypes.items ≡ numbered numbers.now tables.now) }
+    archetypes: &mut Vec<usize>,
+) -> Result<(), AllocError>
+    ensures { OnOk result (archetypes.new.items ≡ numbered numbers.now tables.now) }
 {
-    let mut archetypes = Vec::with_capacity(alloc, tables.len())?;
+    archetypes.clear();
+    archetypes.reserve(tables.len())?;
     for table in tables {
         let Some(archetype) = number_at(numbers, *table) else {
             continue;
         };
         archetypes.push(archetype)?;
     }
-    Ok(archetypes)
+    Ok(())
 }
 
 // The archetype of a table.
-fn number_at(numbers: &[Option<usize>], table: usize) -> Option<usize>
+pub(crate) fn number_at(numbers: &[Option<usize>], table: usize) -> Option<usize>
     ensures { result ≡ get_or numbers.now table None }
 {
     match numbers.get(table) {

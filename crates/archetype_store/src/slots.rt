@@ -2,7 +2,7 @@
 
 ghost use Rattle.std.specs.Prelude.{◌≡◌, ◌++◌, ◌≤◌, ◌<◌, ◌↔◌, ℕ, true, false, [], Some, length, map, option_map, is_some, All, IsTrue, IfSome, IfNone, MatchOption, IfOk, OnOk, OnErr, IsErrOf};
 ghost use Rattle.kinds.specs.Value.{value_number, value_words};
-ghost use Rattle.model.specs.Lists.{update_at};
+ghost use Rattle.model.specs.Lists.{update_at, is_there};
 ghost use Rattle.model.specs.state.Rows.{IsRising, row_at, insert_component, remove_component};
 ghost use Rattle.model.specs.state.Ids as ids;
 ghost use Rattle.model.specs.state.Commands as commands;
@@ -17,6 +17,7 @@ ghost use Rattle.archetype_store.specs.Changes.{changed, components_left, AreOfO
 ghost use Rattle.archetype_store.specs.Store.{slots_with};
 ghost use Rattle.archetype_store.specs.Archetypes.{row_of};
 ghost use Rattle.archetype_store.specs.Layout.{archetype_at, column_home, with_home, IsLayoutOf, AreAllHome};
+ghost use Rattle.archetype_store.specs.Places.{IsRowPlace};
 ghost use Rattle.std.specs.List.{AllByRecursion};
 ghost use Rattle.column_store.specs.Order.{AreApart as AreRowsApart};
 ghost use Rattle.column_store.specs.RowOrder.{OrdersRows};
@@ -26,12 +27,13 @@ ghost use Rattle.archetype_store.specs.View.{kinds_seen, entities_seen};
 use crate::archetypes::Archetypes;
 use crate::change::EntityChange;
 use crate::fault::StoreFault;
+use crate::locations::RowPlace;
 use crate::settling::settle_all;
 use crate::shapes::Shape;
 use crate::slot::Slot;
 use crate::tables::ArchetypeView;
 use change_ticks::Tick;
-use column_store::{StampedColumn, StampedValue};
+use column_store::{Components, StampedColumn, StampedValue};
 use entity_table::{Entity, EntityTable, GrantFault};
 use kinds::{Kind, Value};
 use std::alloc::{AllocError, Global};
@@ -134,6 +136,14 @@ impl Slots {
             return None;
         }
         Some(e)
+    }
+
+    /// Where the components of the entity of an index are: none where no entity of it lives, or where it has none.
+    pub fn row_place(&self, index: u32) -> Option<RowPlace>
+        ensures there { is_some result ≡ is_there (row_at self.now.slots index) }
+        ensures place { IfSome result (IsRowPlace self.now.layout index) }
+    {
+        self.archetypes.row_place(index)
     }
 
     /// How many entities live. It looks at no slot.
@@ -272,11 +282,12 @@ impl Slots {
         self.archetypes.register(shape)
     }
 
-    /// The archetypes that fit the shape of a number, by their numbers in rising order. None where no shape of this number is kept.
-    pub fn fitting(&self, alloc: Global, shape: usize) -> Result<Option<Vec<usize>>, AllocError>
-        ensures { IfOk result (λ found. IfSome found (λ archetypes. archetypes.items ≡ fitting_from shape 0 self.now.layout)) }
+    /// Lists the archetypes that fit the shape of a number, by their numbers in rising order, in the room of a list. Whether a shape of this
+    /// number is kept: where none is the list tells nothing.
+    pub fn fitting(&self, shape: usize, found: &mut Vec<usize>) -> Result<bool, AllocError>
+        ensures { IfOk result (λ kept. IsTrue kept → found.new.items ≡ fitting_from shape 0 self.now.layout) }
     {
-        self.archetypes.fitting(alloc, shape)
+        self.archetypes.fitting(shape, found)
     }
 
     /// The layout is that of the slots.
@@ -416,11 +427,11 @@ impl Slots {
         Ok(())
     }
 
-    /// The components of an index, in rising kinds.
-    pub fn components(&self, alloc: Global, index: u32) -> Result<Vec<StampedValue>, AllocError>
+    /// Lists the components of an index, in rising kinds, in the room of a list.
+    pub fn components(&self, index: u32, components: &mut Components) -> Result<(), AllocError>
         requires { AreAllHome self.now.layout }
-        ensures { IfOk result (λ components. map component_of components.items ≡ row_at self.now.slots index) }
+        ensures { OnOk result (map component_of components.new.items ≡ row_at self.now.slots index) }
     {
-        self.archetypes.components(alloc, index)
+        self.archetypes.components(index, components)
     }
 }

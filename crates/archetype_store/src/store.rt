@@ -1,8 +1,8 @@
 // The world: entities with their components, resources and the clock.
 
-ghost use Rattle.std.specs.Prelude.{◌≡◌, ◌++◌, ◌+◌, ◌≤◌, ◌<◌, ◌↔◌, ℕ, true, false, [], Some, length, map, option_map, is_some, All, IfSome, IfNone, IfOk, IsErr, OnOk, OnErr, IsErrOf};
+ghost use Rattle.std.specs.Prelude.{◌≡◌, ◌++◌, ◌+◌, ◌≤◌, ◌<◌, ◌↔◌, ℕ, true, false, [], Some, length, map, option_map, is_some, All, IfSome, IfNone, IsTrue, IfOk, IsErr, OnOk, OnErr, IsErrOf};
 ghost use Rattle.kinds.specs.Kind.{kind_number};
-ghost use Rattle.model.specs.Lists.{update_at};
+ghost use Rattle.model.specs.Lists.{update_at, is_there};
 ghost use Rattle.kinds.specs.Res.{res_number};
 ghost use Rattle.kinds.specs.Components.{widths};
 ghost use Rattle.model.specs.state.State.{last_tick};
@@ -19,6 +19,7 @@ ghost use Rattle.std.specs.Arc.{arc_value};
 ghost use Rattle.std.specs.List.{AllByRecursion};
 ghost use Rattle.archetype_store.specs.Slot.{cell_of, column_cells, bare_of};
 ghost use Rattle.archetype_store.specs.Layout.{archetype_at, column_home, with_home, IsLayoutOf, AreAllHome};
+ghost use Rattle.archetype_store.specs.Places.{IsRowPlace};
 ghost use Rattle.archetype_store.specs.Lending.{CanTake, CanShare, CanComeHome, AreTaken, AreShared, all_away, all_home};
 ghost use Rattle.column_store.specs.Order.{AreApart as AreRowsApart};
 ghost use Rattle.column_store.specs.RowOrder.{OrdersRows};
@@ -32,13 +33,14 @@ use crate::change::EntityChange;
 pub use crate::columns::{ColumnAt, SharedColumn, TakenColumn};
 use crate::fault::{GrantFault, StoreFault};
 use crate::kind_sets::{entities_in, sets_of};
+pub use crate::locations::RowPlace;
 use crate::resources::Resources;
 use crate::shapes::Shape;
 use crate::slot::Slot;
 use crate::slots::Slots;
 pub use crate::tables::ArchetypeView;
 use change_ticks::{Clock, ClockSpent, Stamp, Tick};
-use column_store::{StampedColumn, StampedValue};
+use column_store::{Components, StampedColumn};
 use entity_table::Entity;
 use kinds::{Component, Kind, Res};
 use model::KindSets;
@@ -48,11 +50,21 @@ use std::sync::Arc;
 
 /// The world. Contracts see its state (slots by index, resources by number, the clock) and beside it how components are laid out: the
 /// archetypes that have entities.
-#[derive(Drop)]
 pub struct World {
     slots: Slots,
     resources: Resources,
     clock: Clock,
+}
+
+// One function drops it wherever it is let go.
+impl Drop for World {
+    fn drop(self) {
+        let World {
+            slots: _,
+            resources: _,
+            clock: _,
+        } = self;
+    }
 }
 
 impl Model for World {
@@ -158,11 +170,12 @@ impl World {
         self.slots.register(shape)
     }
 
-    /// The archetypes that fit the shape of a number, by their numbers in rising order. None where no shape of this number is kept.
-    pub fn fitting(&self, alloc: Global, shape: usize) -> Result<Option<Vec<usize>>, AllocError>
-        ensures { IfOk result (λ found. IfSome found (λ archetypes. archetypes.items ≡ fitting_from shape 0 self.now.layout)) }
+    /// Lists the archetypes that fit the shape of a number, by their numbers in rising order, in the room of a list. Whether a shape of this
+    /// number is kept: where none is the list tells nothing.
+    pub fn fitting(&self, shape: usize, found: &mut Vec<usize>) -> Result<bool, AllocError>
+        ensures { IfOk result (λ kept. IsTrue kept → found.new.items ≡ fitting_from shape 0 self.now.layout) }
     {
-        self.slots.fitting(alloc, shape)
+        self.slots.fitting(shape, found)
     }
 
     /// The sets of kinds of the living entities. It looks at each table, however many entities there are: somebody lives without components
@@ -252,6 +265,7 @@ impl World {
         &mut self,
         alloc: Global,
         columns: &[ColumnAt],
+        room: Vec<TakenColumn>,
     ) -> Result<Vec<TakenColumn>, AllocError>
         requires { CanTake self.old.layout columns.now }
         ensures taken { IfOk result (λ taken. AreTaken self.old.state.slots self.old.layout columns.now taken.items) }
@@ -261,7 +275,9 @@ impl World {
         // Tell how the layout is that of the state, and that no stamp is above the clock.
         self.prove_laid();
         let _now = self.now();
-        let mut taken = Vec::with_capacity(alloc, columns.len())?;
+        let mut taken = room;
+        taken.clear();
+        taken.reserve(columns.len())?;
         for at in columns {
             match self.take_column(alloc, at.archetype, at.kind) {
                 Ok(column) => taken.push_reserved(TakenColumn {
@@ -282,12 +298,15 @@ impl World {
         &mut self,
         alloc: Global,
         columns: &[ColumnAt],
+        room: Vec<SharedColumn>,
     ) -> Result<Vec<SharedColumn>, AllocError>
         requires { CanShare self.old.layout columns.now }
         ensures shared { IfOk result (λ shared. AreShared self.old.state.slots self.old.layout columns.now shared.items) }
         ensures same { self.new ≡ self.old }
     {
-        let mut shared = Vec::with_capacity(alloc, columns.len())?;
+        let mut shared = room;
+        shared.clear();
+        shared.reserve(columns.len())?;
         for at in columns {
             let column = self.share_column(alloc, at.archetype, at.kind)?;
             let archetype = at.archetype;
@@ -415,6 +434,14 @@ impl World {
         self.slots.bare_at(index)
     }
 
+    /// Where the components of the entity of an index are: none where no entity of it lives, or where it has none. It touches no column.
+    pub fn row_place(&self, index: u32) -> Option<RowPlace>
+        ensures there { is_some result ≡ is_there (row_at self.now.state.slots index) }
+        ensures place { IfSome result (IsRowPlace self.now.layout index) }
+    {
+        self.slots.row_place(index)
+    }
+
     /// Inserts a component of an entity at a tick. A component of the kind that is there is replaced and keeps its added stamp. After
     /// an error nothing has changed.
     pub fn insert<C: Component>(
@@ -530,11 +557,11 @@ impl World {
         }
     }
 
-    /// The components of an index, in rising kinds: none unless an entity of it lives.
-    pub fn components(&self, alloc: Global, index: u32) -> Result<Vec<StampedValue>, AllocError>
+    /// Lists the components of an index, in rising kinds, in the room of a list: none unless an entity of it lives.
+    pub fn components(&self, index: u32, components: &mut Components) -> Result<(), AllocError>
         requires { AreAllHome self.now.layout }
-        ensures { IfOk result (λ components. map component_of components.items ≡ row_at self.now.state.slots index) }
+        ensures { OnOk result (map component_of components.new.items ≡ row_at self.now.state.slots index) }
     {
-        self.slots.components(alloc, index)
+        self.slots.components(index, components)
     }
 }

@@ -1,18 +1,18 @@
 // Where tables are found: by the word of their kinds, and by the number of their archetype.
 
-ghost use Rattle.std.specs.Prelude.{◌≡◌, ◌≤◌, ◌++◌, ◌∷◌, ◌||◌, ◌==◌, ℕ, List, [], length, map, nat_eq, None, vec_capacity, IfOk, IfSome, MatchOption, OnOk, OnErr};
+ghost use Rattle.std.specs.Prelude.{◌≡◌, ◌≤◌, ◌++◌, ◌∷◌, ◌||◌, ◌==◌, ℕ, List, [], length, map, get_or, nat_eq, None, vec_capacity, IfOk, IfSome, IsTrue, MatchOption, OnOk, OnErr};
 ghost use Rattle.std.specs.HashMap.{get};
 ghost use Rattle.kinds.specs.Kind.{kind_number};
 ghost use Rattle.column_store.specs.Cells.{stamped_number};
 ghost use Rattle.column_store.specs.Table.{TableValue};
 ghost use Rattle.archetype_store.specs.Layout.{layout_of};
-ghost use Rattle.archetype_store.specs.Shapes.{shape_number, fitting_from, fitting_tables};
+ghost use Rattle.archetype_store.specs.Shapes.{shape_number, fitting_from, fitting_tables, numbers_from};
 ghost use Rattle.archetype_store.specs.Tables.{IsTableOf};
 ghost use Rattle.archetype_store.specs.TableIndex.{has_bit, peopled_from, IsWord, IsFound, IsIndexed};
 
 use crate::kind_sets::number_of;
 use crate::shapes::{
-    KeptShape, Shape, copied_shapes, fitting_of, note_all, numbers_at, reserve_all,
+    KeptShape, Shape, copied_shapes, fitting_of, note_all, number_at, numbers_at, reserve_all,
 };
 use column_store::{StampedValue, Table};
 use kinds::Kind;
@@ -180,19 +180,20 @@ impl TableIndex {
         }
     }
 
-    /// The archetypes that fit the shape of a number, in order, where it is kept.
-    pub(crate) fn archetypes_of(
+    /// Lists the archetypes that fit the shape of a number, in order, in the room of a list. Whether the shape is kept: else the list tells
+    /// nothing.
+    pub(crate) fn find_fitting(
         &self,
-        alloc: Global,
         shape: usize,
-    ) -> Result<Option<Vec<usize>>, AllocError>
-        ensures { IfOk result (λ found. (tables : List TableValue) → IsIndexed tables self.now → IfSome found (λ archetypes. archetypes.items ≡ fitting_from shape 0 (layout_of tables))) }
+        found: &mut Vec<usize>,
+    ) -> Result<bool, AllocError>
+        ensures { IfOk result (λ kept. (tables : List TableValue) → IsIndexed tables self.now → IsTrue kept → found.new.items ≡ fitting_from shape 0 (layout_of tables)) }
     {
         let Some(tables) = self.fitting(shape) else {
-            return Ok(None);
+            return Ok(false);
         };
-        let archetypes = numbers_at(alloc, self.numbers.as_slice(), tables)?;
-        Ok(Some(archetypes))
+        numbers_at(self.numbers.as_slice(), tables, found)?;
+        Ok(true)
     }
 
     /// The table of an archetype: only tables with rows are numbered.
@@ -204,5 +205,12 @@ impl TableIndex {
         } else {
             None
         }
+    }
+
+    /// The archetype of a table: one without rows has none.
+    pub(crate) fn archetype_of(&self, table: usize) -> Option<usize>
+        ensures { (tables : List TableValue) → IsIndexed tables self.now → result ≡ get_or (numbers_from 0 tables) table None }
+    {
+        number_at(self.numbers.as_slice(), table)
     }
 }

@@ -21,7 +21,7 @@ ghost use Rattle.archetype_store.specs.Tables.{table_at, kinds_at, held_at, room
 
 use crate::table_index::{TableIndex, word_of};
 use change_ticks::Tick;
-use column_store::{RowOrder, StampedValue, Table};
+use column_store::{Components, RowOrder, StampedValue, Table};
 use entity_table::Entity;
 use kinds::{Kind, Value};
 use std::alloc::{AllocError, Global};
@@ -167,22 +167,22 @@ pub(crate) fn kind_count_at(tables: &[Table], table: usize) -> usize
     tables[table].kinds().len()
 }
 
-// The components at a row of a table, in the order of its kinds.
+// Lists the components at a row of a table, in the order of its kinds, in the room of a list.
 pub(crate) fn components_at(
-    alloc: Global,
     tables: &[Table],
     table: usize,
     row: usize,
-) -> Result<Vec<StampedValue>, AllocError>
+    components: &mut Components,
+) -> Result<(), AllocError>
     requires there { IsSome (entity_in_row tables.now table row) }
     requires home { AreHome tables.now }
-    ensures row { IfOk result (λ components. (e : Entity) → entity_in_row tables.now table row ≡ Some e → held_at tables.now table e ≡ Some (map component_of components.items)) }
-    ensures kinds { IfOk result (λ components. map stamped_number components.items ≡ kinds_at tables.now table) }
+    ensures row { OnOk result ((e : Entity) → entity_in_row tables.now table row ≡ Some e → held_at tables.now table e ≡ Some (map component_of components.new.items)) }
+    ensures kinds { OnOk result (map stamped_number components.new.items ≡ kinds_at tables.now table) }
 {
     let there = &tables[table];
     // Tells that no entity is there twice.
     let _entities = there.entities();
-    there.components(alloc, row)
+    there.read(row, components)
 }
 
 // Writes a component at a row of a table.

@@ -18,6 +18,7 @@ pub mod Aloneness
 pub mod Lendings
 pub mod LendingCloses
 pub mod Pickings
+mod Emptied
 pub mod Openings
 pub mod QueryOpens
 pub mod Outs

@@ -13,6 +13,7 @@ use archetype_store::World;
 use archetype_store::store::{ColumnAt, SharedColumn, TakenColumn};
 use query_plan::Pick;
 use std::alloc::{AllocError, Global};
+use std::mem;
 use std::snapshot::Snapshot;
 
 // Where the picks of a query are: the written ones, and the others.
@@ -53,38 +54,52 @@ impl ColumnRequests {
     }
 }
 
-// Holds columns that were taken of a world.
-fn hold_own(columns: &mut Vec<ViewColumn>, taken: Vec<TakenColumn>, world: &World)
+// Holds columns that were taken of a world, and gives their list back without elements.
+fn hold_own(
+    columns: &mut Vec<ViewColumn>,
+    taken: Vec<TakenColumn>,
+    world: &World,
+) -> Vec<TakenColumn>
     requires { vec_len columns.old + vec_len taken ≤ vec_capacity columns.old }
     ensures columns { map held_seen columns.new.items ≡ map held_seen columns.old.items ++ map (own_column world.now) taken.items }
     ensures len { vec_len columns.new ≡ vec_len columns.old + vec_len taken }
     ensures capacity { vec_capacity columns.new ≡ vec_capacity columns.old }
 {
-    for own in taken {
+    let mut left = taken;
+    left.reverse();
+    while let Some(own) = left.pop() {
         columns.push_reserved(ViewColumn {
             archetype: own.archetype,
             cells: ColumnAccess::Written(own.column),
             world: Snapshot::of(world),
         });
     }
+    left
 }
 
-// Holds columns that a world shares.
-fn hold_read(columns: &mut Vec<ViewColumn>, shared: Vec<SharedColumn>, world: &World)
+// Holds columns that a world shares, and gives their list back without elements.
+fn hold_read(
+    columns: &mut Vec<ViewColumn>,
+    shared: Vec<SharedColumn>,
+    world: &World,
+) -> Vec<SharedColumn>
     requires { vec_len columns.old + vec_len shared ≤ vec_capacity columns.old }
     ensures { map held_seen columns.new.items ≡ map held_seen columns.old.items ++ map (read_column world.now) shared.items }
 {
-    for read in shared {
+    let mut left = shared;
+    left.reverse();
+    while let Some(read) = left.pop() {
         columns.push_reserved(ViewColumn {
             archetype: read.archetype,
             cells: ColumnAccess::Read(read.column),
             world: Snapshot::of(world),
         });
     }
+    left
 }
 
 // The columns that a query picks: taken of a world where they are written, else shared by it. They stand in a list of this room, and so do the
-// requests for them. After an error the world is as it was.
+// requests for them and what the world gives. After an error the world is as it was.
 pub(crate) fn take_picked(
     alloc: Global,
     picks: &[Pick],
@@ -98,12 +113,14 @@ pub(crate) fn take_picked(
     ensures err { OnErr result (world.new ≡ world.old) }
 {
     let mut columns = room.take_columns(alloc);
+    let taken = mem::replace(&mut room.taken, Vec::new(alloc));
+    let shared = mem::replace(&mut room.shared, Vec::new(alloc));
     let requests = &mut room.requests;
     requests.fill(picks)?;
     columns.reserve(requests.own.len() + requests.read.len())?;
-    let read = world.share_read(alloc, &requests.read)?;
-    let own = world.take_written(alloc, &requests.own)?;
-    hold_own(&mut columns, own, world);
-    hold_read(&mut columns, read, world);
+    let read = world.share_read(alloc, &requests.read, shared)?;
+    let own = world.take_written(alloc, &requests.own, taken)?;
+    room.taken = hold_own(&mut columns, own, world);
+    room.shared = hold_read(&mut columns, read, world);
     Ok(columns)
 }

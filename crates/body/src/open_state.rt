@@ -51,7 +51,6 @@ const MOST_PASSED_OVER: u64 = 1 << 62;
 /// A state in a run. While views are open over it, the columns that they write are away. Contracts see the state that the definitions
 /// speak of, in which a column that is away has the components with which it left, and beside it how components are laid out. No last run is
 /// above the clock, and each memory has its registers.
-#[derive(Drop)]
 pub struct OpenState {
     world: World,
     events: Events,
@@ -59,6 +58,20 @@ pub struct OpenState {
     conditions: Vec<Memory>,
     passed_over: u64,
     room: Room,
+}
+
+// One function drops it wherever it is let go.
+impl Drop for OpenState {
+    fn drop(self) {
+        let OpenState {
+            world: _,
+            events: _,
+            systems: _,
+            conditions: _,
+            passed_over: _,
+            room: _,
+        } = self;
+    }
 }
 
 impl Model for OpenState {

@@ -55,6 +55,7 @@ pub(crate) fn open_query(
     let mut slots = no_slots(room.take_slots(alloc), plan.archetypes as usize + 1)?;
     let rows = Rows::of(alloc, plan.rows, world)?;
     let columns = take_picked(alloc, plan.picks.as_slice(), world, room)?;
+    room.rows.give_picks(plan.picks);
     fill_slots(&mut slots, query.terms(), columns.as_slice(), count);
     Ok(ViewQuery::open(tick, query, slots, rows, columns))
 }

@@ -7,6 +7,7 @@ use crate::view::View;
 use crate::view_column::ViewColumn;
 use crate::view_query::ColumnIndex;
 use access_set::Params;
+use archetype_store::store::{SharedColumn, TakenColumn};
 use query_plan::RowBuffers;
 use std::alloc::{AllocError, Global};
 
@@ -18,6 +19,10 @@ pub struct QueryRoom {
     pub(crate) rows: RowBuffers,
     /// Where the columns are that a query asks a world for.
     pub(crate) requests: ColumnRequests,
+    /// The list in which a world gives the columns that it lends.
+    pub(crate) taken: Vec<TakenColumn>,
+    /// The list in which it gives those that it shares.
+    pub(crate) shared: Vec<SharedColumn>,
     slots: Vec<Vec<ColumnIndex>>,
     columns: Vec<Vec<ViewColumn>>,
 }
@@ -28,6 +33,8 @@ impl QueryRoom {
         QueryRoom {
             rows: RowBuffers::new(alloc),
             requests: ColumnRequests::none(alloc),
+            taken: Vec::new(alloc),
+            shared: Vec::new(alloc),
             slots: Vec::new(alloc),
             columns: Vec::new(alloc),
         }
@@ -95,7 +102,7 @@ impl Room {
         if let Some(view) = self.views.pop() {
             return Ok(view);
         }
-        Ok(Box::new(alloc, View::blank(alloc, params)?)?)
+        Ok(Box::new(alloc, View::blank(alloc, params))?)
     }
 
     /// Keeps a view that is closed. Where an allocation fails for its place it is dropped.

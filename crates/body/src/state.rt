@@ -28,7 +28,6 @@ pub struct Memories {
 
 /// The state of an engine. Contracts see the state that the definitions speak of. No last run is above the
 /// clock, each memory has its registers, and all columns are at home.
-#[derive(Drop)]
 pub struct State {
     world: World,
     events: Events,
@@ -37,6 +36,20 @@ pub struct State {
     passed_over: u64,
     // For the next starts.
     room: Room,
+}
+
+// One function drops it wherever it is let go.
+impl Drop for State {
+    fn drop(self) {
+        let State {
+            world: _,
+            events: _,
+            systems: _,
+            conditions: _,
+            passed_over: _,
+            room: _,
+        } = self;
+    }
 }
 
 impl Model for State {

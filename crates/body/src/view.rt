@@ -42,7 +42,6 @@ use std::marker::Model;
 
 /// What a system is shown at its start, and what it writes. Contracts see the parameters, what is shown, the outcome so far, and what it
 /// was opened over.
-#[derive(Drop)]
 pub struct View {
     tick: Tick,
     queries: Vec<ViewQuery>,
@@ -50,6 +49,20 @@ pub struct View {
     unread: EventLists,
     sent: EventLists,
     issued: ViewCommands,
+}
+
+// One function drops it wherever it is let go.
+impl Drop for View {
+    fn drop(self) {
+        let View {
+            tick: _,
+            queries: _,
+            values: _,
+            unread: _,
+            sent: _,
+            issued: _,
+        } = self;
+    }
 }
 
 impl Model for View {
@@ -65,16 +78,16 @@ impl Model for View {
 }
 
 impl View {
-    // A view that is to be opened, which has no queries.
-    pub(crate) fn blank(alloc: Global, params: &Params) -> Result<Self, AllocError> {
-        Ok(View {
+    // A view that is to be opened, which has no queries. Allocates nothing.
+    pub(crate) fn blank(alloc: Global, params: &Params) -> Self {
+        View {
             tick: 0,
             queries: Vec::new(alloc),
             values: ViewValues::blank(params),
-            unread: EventLists::empty(alloc, &[])?,
-            sent: EventLists::empty(alloc, &[])?,
+            unread: EventLists::new(alloc),
+            sent: EventLists::new(alloc),
             issued: ViewCommands::blank(alloc),
-        })
+        }
     }
 
     /// What a system with these parameters and this memory is shown of a world and its events, with these ids granted, and nothing written: what
@@ -107,8 +120,9 @@ impl View {
         ensures back { OnOk result (with_back (lent_in self.new.opening.taken) world.new.layout ≡ world.old.layout) }
         ensures err { OnErr result (world.new ≡ world.old) }
     {
-        let unread = EventLists::unread(alloc, params.reads(), memory.cursors(), events)?;
-        let sent = EventLists::empty(alloc, params.writes())?;
+        self.unread
+            .open_unread(alloc, params.reads(), memory.cursors(), events)?;
+        self.sent.open_empty(alloc, params.writes())?;
         self.issued.open(params, granted, commands)?;
         self.values.open(params, memory, world);
         open_queries(
@@ -120,8 +134,6 @@ impl View {
             tick,
             room,
         )?;
-        self.unread = unread;
-        self.sent = sent;
         self.tick = tick;
         Ok(())
     }
@@ -132,13 +144,6 @@ impl View {
         ensures commands { is_some self.now.params.spawns ≡ false → self.now.outcome.commands ≡ [] }
     {
         self.issued.prove_law();
-    }
-
-    /// The tick at which what is written counts as changed.
-    pub fn tick(&self) -> Tick
-        ensures { result ≡ self.now.opening.tick }
-    {
-        self.tick
     }
 
     /// Sends the events that were emitted. Where one gets no number none is sent; where an allocation fails those of some kinds may have been.

@@ -45,11 +45,21 @@ struct RowSource {
 
 /// A query of a view. Contracts see its terms, its rows as they were shown, what was written in them, the columns as they were taken, and
 /// the tick of its writes.
-#[derive(Drop)]
 pub struct ViewQuery {
     source: RowSource,
     columns: Vec<ViewColumn>,
     taken: Snapshot<Vec<ViewColumn>>,
+}
+
+// One function drops it wherever it is let go.
+impl Drop for ViewQuery {
+    fn drop(self) {
+        let ViewQuery {
+            source: _,
+            columns: _,
+            taken: _,
+        } = self;
+    }
 }
 
 impl Model for ViewQuery {

@@ -108,10 +108,10 @@ pub(crate) fn taken(alloc: Global) -> Option<bool> {
     let mut world = world_of_one(alloc, Clock::at(1))?;
     put(&mut world, HEALTH)?;
     let at = health_column(alloc, &world)?;
-    if let Ok(taken) = world.take_written(alloc, &[at]) {
+    if let Ok(taken) = world.take_written(alloc, &[at], Vec::new(alloc)) {
         return Some(is_health(taken.as_slice()));
     }
     let is_kept = is_untouched(&world);
-    let taken = world.take_written(alloc, &[at]).ok()?;
+    let taken = world.take_written(alloc, &[at], Vec::new(alloc)).ok()?;
     Some(is_kept && is_health(taken.as_slice()))
 }

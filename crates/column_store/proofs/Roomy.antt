@@ -7,7 +7,7 @@ use Rattle.model.specs.declared.entities.Entity.{Entity}
 use Rattle.column_store.specs.EntityList.{EntityListValue}
 use Rattle.column_store.specs.Swapped.{swap_removed}
 use Rattle.column_store.specs.Table.{ColumnSlotValue}
-use Rattle.column_store.specs.Inside.{room_of, swap_out_in, push_all, replace_all, HasRoom, AreRoomier, IsTable, IsTableWithRoom}
+use Rattle.column_store.specs.Inside.{room_of, swap_out_in, push_all, replace_all, HasRoom, AreRoomier, IsTable, IsTableWithRoom, IsTableWithSpare}
 use Rattle.column_store.proofs.Swapped.{length-swap_removed}
 use Rattle.column_store.proofs.Kept.{fewer_rooms, rooms-push, rooms-swap, rooms-replace, rooms-roomier}
 
@@ -76,3 +76,11 @@ module _ (ns : List ℕ) (es es' : EntityListValue) (ps ps' : List ColumnSlotVal
 pub reserved_room : (ns : List ℕ) (es : EntityListValue) (ps : List ColumnSlotValue) (room : ℕ) → IsTable ns es.list ps → length es.list + room ≤ es.room → AllByRecursion (HasRoom (length es.list + room)) ps →
     IsTableWithRoom ns es ps room
 reserved_room ns es ps room table within each = record { table = table; within = λ some. within; each = λ some. each }
+
+-- and with as much asked for
+pub no_spare : (ns : List ℕ) (es : EntityListValue) (ps : List ColumnSlotValue) → IsTable ns es.list ps → IsTableWithSpare ns es ps 0 0
+no_spare ns es ps h = record { kept = no_room ns es ps h; asked = omega arith }
+
+-- where no more is asked for than there is
+pub with_spare : (ns : List ℕ) (es : EntityListValue) (ps : List ColumnSlotValue) (spare room : ℕ) → IsTableWithRoom ns es ps spare → room ≤ spare → IsTableWithSpare ns es ps spare room
+with_spare ns es ps spare room kept asked = record { kept = kept; asked = asked }

@@ -168,6 +168,11 @@ pub record IsTableWithRoom (kinds : List ℕ) (entities : EntityListValue) (colu
   pub within : 0 < room → length entities.list + room ≤ entities.room
   pub each : 0 < room → AllByRecursion (HasRoom (length entities.list + room)) columns
 
+-- the same, where room was made for so many, and asked for so many of them
+pub record IsTableWithSpare (kinds : List ℕ) (entities : EntityListValue) (columns : List ColumnSlotValue) (spare room : ℕ) : Type 0 where
+  pub kept : IsTableWithRoom kinds entities columns spare
+  pub asked : room ≤ spare
+
 -- the table that is seen of it
 abbrev pub table_with_room : List ℕ → EntityListValue → List ColumnSlotValue → ℕ → TableValue
 table_with_room kinds entities columns room = record (table_of kinds entities.list columns) { room = room }

@@ -9,7 +9,7 @@ ghost use Rattle.column_store.specs.Table.{is_home};
 ghost use Rattle.column_store.specs.Table.Standing.{Owned, Away};
 ghost use Rattle.column_store.specs.Inside.{cell_at, kind_in, standing_at, seen_slot, owned_slot, empty_column, write_in, push_in, swap_out_in, replace_in, push_all, replace_all, HasRoom, HoldsRow, OwnsRow, IsOfLength, Takes, AllTake, Renews, AllRenew, IsAtHome, IsOwned, IsRoomier, AreRoomier, AreAlike};
 
-use crate::stamped::{StampedColumn, StampedValue};
+use crate::stamped::{Components, StampedColumn, StampedValue};
 use change_ticks::Tick;
 use kinds::{Kind, Value};
 use std::alloc::{AllocError, Global};
@@ -311,21 +311,24 @@ pub(crate) fn swap_remove_row(columns: &mut [ColumnSlot], row: usize)
     }
 }
 
-// The components of a row, one of each column.
+// Reads the components of a row into the room of a list, one of each column.
 pub(crate) fn read_row(
-    alloc: Global,
     columns: &[ColumnSlot],
     row: usize,
-) -> Result<Vec<StampedValue>, AllocError>
+    components: &mut Components,
+) -> Result<(), AllocError>
     requires { AllByRecursion (HoldsRow row) columns.now }
-    ensures cells { IfOk result (λ list. map (λ s. Some (stamped_cell s)) list.items ≡ map (cell_at row) columns.now) }
-    ensures kinds { IfOk result (λ list. map stamped_number list.items ≡ map kind_in columns.now) }
+    ensures cells { OnOk result (map (λ s. Some (stamped_cell s)) components.new.items ≡ map (cell_at row) columns.now) }
+    ensures kinds { OnOk result (map stamped_number components.new.items ≡ map kind_in columns.now) }
 {
-    let mut components = Vec::new(alloc);
+    components.clear();
+    if components.capacity() < columns.len() {
+        components.reserve(columns.len())?;
+    }
     for column in columns {
         components.push(column.at(row))?;
     }
-    Ok(components)
+    Ok(())
 }
 
 // The columns of kinds without components.

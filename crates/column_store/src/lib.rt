@@ -16,5 +16,5 @@ pub mod stamped;
 pub mod table;
 
 pub use row_order::RowOrder;
-pub use stamped::{StampedColumn, StampedValue};
+pub use stamped::{Components, StampedColumn, StampedValue};
 pub use table::Table;

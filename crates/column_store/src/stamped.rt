@@ -12,7 +12,9 @@ ghost use Rattle.column_store.specs.Swapped.{swap_removed};
 use crate::column::Column;
 use change_ticks::{Stamp, Tick};
 use kinds::{Component, Fields, Kind, Value};
+use smallvec::SmallVec;
 use std::alloc::{AllocError, Global};
+use std::default::MadeWith;
 use std::marker::Model;
 
 /// A component of any kind, with its stamp.
@@ -24,11 +26,36 @@ pub struct StampedValue {
     pub stamp: Stamp,
 }
 
+/// The components of one row. Few of them lie in the value itself.
+pub type Components = SmallVec<StampedValue, 4>;
+
+// What fills the unused places of such a list.
+impl MadeWith<Global> for StampedValue {
+    fn made_with(_alloc: Global) -> Self {
+        StampedValue {
+            value: Value::of(Kind::Frozen, &[]),
+            stamp: Stamp {
+                added: 0,
+                changed: 0,
+            },
+        }
+    }
+}
+
 /// Components of one kind with their stamps. Contracts see the number of the kind, the cells, and for how many there is room.
-#[derive(Drop)]
 pub struct StampedColumn {
     column: Column,
     stamps: Vec<Stamp>,
+}
+
+// One function drops it wherever it is let go.
+impl Drop for StampedColumn {
+    fn drop(self) {
+        let StampedColumn {
+            column: _,
+            stamps: _,
+        } = self;
+    }
 }
 
 impl Model for StampedColumn {

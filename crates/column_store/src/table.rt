@@ -20,7 +20,7 @@ use crate::column_slot::{
 use crate::entity_list::EntityList;
 use crate::parts::{among, copied_kinds, find_in, home_in, lend_in, seen_in, share_in, write_in};
 use crate::row_order::RowOrder;
-use crate::stamped::{StampedColumn, StampedValue};
+use crate::stamped::{Components, StampedColumn, StampedValue};
 use change_ticks::{Stamp, Tick};
 use entity_table::Entity;
 use kinds::{Component, Kind, Value};
@@ -31,26 +31,43 @@ use std::sync::Arc;
 /// The entities of one archetype with their components: a row for each entity, and a column for each kind, in rising kinds. A row comes in at
 /// the end, and where one is removed the last one takes its place; beside them their order in rising ids is kept. A column can leave and
 /// come home, and be read elsewhere too. To contracts one that is away has the cells with which it left.
-#[derive(Drop)]
 pub struct Table {
     kinds: Vec<Kind>,
     entities: EntityList,
     columns: Vec<ColumnSlot>,
-    // So many further rows come in without allocating.
+    // So many further rows come in without allocating: room is made in steps.
+    spare: usize,
+    // So many of them were asked for.
     room: usize,
 }
+
+// One function drops it wherever it is let go.
+impl Drop for Table {
+    fn drop(self) {
+        let Table {
+            kinds: _,
+            entities: _,
+            columns: _,
+            spare: _,
+            room: _,
+        } = self;
+    }
+}
+
+// For so many rows room is made at once, where there are as many.
+const STEP: usize = 64;
 
 impl Model for Table {
     ghost use Rattle.std.specs.Prelude.{map};
     ghost use Rattle.kinds.specs.Kind.{kind_number};
     ghost use Rattle.column_store.specs.Table.{TableValue};
-    ghost use Rattle.column_store.specs.Inside.{table_with_room, IsTableWithRoom};
+    ghost use Rattle.column_store.specs.Inside.{table_with_room, IsTableWithSpare};
 
     ghost Value = { TableValue };
 
     ghost view = { λ t. table_with_room (map kind_number t.kinds.items) t.entities t.columns.items t.room };
 
-    ghost invariant = { λ t. IsTableWithRoom (map kind_number t.kinds.items) t.entities t.columns.items t.room };
+    ghost invariant = { λ t. IsTableWithSpare (map kind_number t.kinds.items) t.entities t.columns.items t.spare t.room };
 }
 
 impl Table {
@@ -64,6 +81,7 @@ impl Table {
             kinds,
             entities: EntityList::new(alloc),
             columns,
+            spare: 0,
             room: 0,
         })
     }
@@ -81,6 +99,7 @@ impl Table {
             kinds,
             entities,
             columns,
+            spare: 0,
             room: 0,
         })
     }
@@ -250,9 +269,15 @@ impl Table {
         let Some(room) = self.room.checked_add(further) else {
             return Err(AllocError);
         };
-        self.entities.reserve(room)?;
+        if room <= self.spare {
+            self.room = room;
+            return Ok(());
+        }
         let count = self.entities.as_slice().len();
-        reserve_rows(&mut self.columns, count, room)?;
+        let spare = room.max(count.min(STEP));
+        self.entities.reserve(spare)?;
+        reserve_rows(&mut self.columns, count, spare)?;
+        self.spare = spare;
         self.room = room;
         Ok(())
     }
@@ -289,6 +314,7 @@ impl Table {
     {
         self.entities.push(e);
         push_row(&mut self.columns, components);
+        self.spare -= 1;
         self.room -= 1;
     }
 
@@ -319,7 +345,19 @@ impl Table {
         ensures cells { IfOk result (λ components. option_map (λ r. r.cells) (slice_get self.now.rows row) ≡ Some (map (λ s. Some (stamped_cell s)) components.items)) }
         ensures kinds { IfOk result (λ components. map stamped_number components.items ≡ self.now.kinds) }
     {
-        read_row(alloc, &self.columns, row)
+        let mut components = Components::new(alloc);
+        self.read(row, &mut components)?;
+        Vec::from_slice(alloc, components.as_slice())
+    }
+
+    /// Lists the components at a row, in the order of the kinds, in the room of a list. A list of few allocates nothing.
+    pub fn read(&self, row: usize, components: &mut Components) -> Result<(), AllocError>
+        requires within { row < length self.now.rows }
+        requires home { IsTrue (list_all is_home self.now.standings) }
+        ensures cells { OnOk result (option_map (λ r. r.cells) (slice_get self.now.rows row) ≡ Some (map (λ s. Some (stamped_cell s)) components.new.items)) }
+        ensures kinds { OnOk result (map stamped_number components.new.items ≡ self.now.kinds) }
+    {
+        read_row(&self.columns, row, components)
     }
 
     /// Removes the row of an entity, moves the last one into its place, and gives its components, in the order of the kinds. Where an
@@ -363,6 +401,7 @@ impl Table {
             alloc,
             kind,
         )?;
+        self.spare = 0;
         self.room = 0;
         Ok(column)
     }
@@ -378,6 +417,7 @@ impl Table {
         ensures cells { IfOk result (λ column. map (λ cell. Some cell) (arc_value column).cells ≡ kind_cells self.old (kind_number kind)) }
         ensures alike { IsAlike self.old self.new }
     {
+        self.spare = 0;
         self.room = 0;
         share_in(
             &self.kinds,
@@ -395,6 +435,7 @@ impl Table {
         ensures ok { OnOk result (self.new ≡ owned self.old) }
         ensures alike { IsAlike self.old self.new }
     {
+        self.spare = 0;
         self.room = 0;
         own_each(&mut self.columns, alloc)
     }
@@ -405,6 +446,7 @@ impl Table {
         requires same_length { length column.cells ≡ length self.old.rows }
         ensures { self.new ≡ homed self.old column }
     {
+        self.spare = 0;
         self.room = 0;
         home_in(
             &self.kinds,

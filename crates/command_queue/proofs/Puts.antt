@@ -1,6 +1,8 @@
 -- A change is put among changes: where changes are, and what they make of a slot.
-use Rattle.std.proofs.Common.{◌≡◌, ℕ, zero, suc, arith, ◌<◌, Bool, true, false, cond, ◌==◌, ◌⊎◌, inl, inr, List, [], ◌∷◌, ◌++◌, length, get_or, set, Option, Some, None, option_map, refl, sym, ap, subst, ◌∙◌, eqb-true}
+use Rattle.std.proofs.Common.{◌≡◌, ℕ, zero, suc, arith, ◌+◌, ◌<◌, Bool, true, false, cond, ◌==◌, ◌⊎◌, inl, inr, List, [], ◌∷◌, ◌++◌, length, get_or, set, Option, Some, None, option_map, refl, sym, ap, subst, ◌∙◌, eqb-true}
 use Rattle.std.specs.List.{AllByRecursion}
+use Rattle.std.proofs.Math.Seq.{set-append_seam}
+use Rattle.std.proofs.lemmas.List.{get_or_push, length_push}
 use Rattle.std.proofs.lemmas.Bool.{both_ways, eq-eqb, ne_eqb}
 use Rattle.std.proofs.lemmas.Bool.Decides.{nat_tests}
 use Rattle.model.proofs.lists.Each.{each-at}
@@ -79,6 +81,24 @@ place_first q c (d ∷ ds) h =
     ap (λ b. place_of q (cond b (c ∷ ds) (d ∷ put_change c ds))) no.0
     ∙ ap (λ o. cond (d.entity.index == q) (Some 0) (option_map suc o)) (place_first q c ds no.1)
     ∙ place_more (c.entity.index == q) (d.entity.index == q) (place_of q ds) (length ds) (two_indices d.entity.index c.entity.index q no.0)
+
+-- the first change of an index, and another one of it in its place
+module _ (cs : List EntityChange) (d c : EntityChange) (same : c.entity.index ≡ d.entity.index) (first : place_of d.entity.index cs ≡ None) where
+  first_too : place_of c.entity.index cs ≡ None
+  first_too = ap (λ i. place_of i cs) same ∙ first
+
+  pub put_filled : set (put_change d cs) (length cs) c ≡ put_change c cs
+  put_filled = ap (λ ds. set ds (length cs) c) (sym (put_first d cs first)) ∙ set-append_seam cs d [] c ∙ put_first c cs first_too
+
+  pub place_filled : (q : ℕ) → place_of q (set (put_change d cs) (length cs) c) ≡ place_of q (put_change d cs)
+  place_filled q = ap (place_of q) put_filled ∙ place_first q c cs first_too
+      ∙ ap (λ i. cond (i == q) (Some (length cs)) (place_of q cs)) same ∙ sym (place_first q d cs first)
+
+  pub length_first : length (put_change d cs) ≡ length cs + 1
+  length_first = ap length (sym (put_first d cs first)) ∙ length_push cs d
+
+  pub read_first : (x : EntityChange) → get_or (put_change d cs) (length cs) x ≡ d
+  read_first x = ap (λ ds. get_or ds (length cs) x) (sym (put_first d cs first)) ∙ get_or_push cs d x (length cs) refl
 
 pub place_again : (q : ℕ) (c : EntityChange) (cs : List EntityChange) (p : ℕ) → place_of c.entity.index cs ≡ Some p → place_of q (put_change c cs) ≡ place_of q cs
 place_again q c [] p h = absurd (cc)

@@ -19,6 +19,10 @@ abbrev pub is_left_alive : Fate → Bool
 is_left_alive (the.Lives components) = true
 is_left_alive the.Dies = false
 
+-- an entity is left without components
+abbrev pub bare_change : Entity → EntityChange
+bare_change e = record { entity = e; fate = the.Lives (record { items = []; capacity = 4 }) }
+
 -- the place of the change of an index
 abbrev pub place_of : ℕ → List EntityChange → Option ℕ
 place_of index [] = None

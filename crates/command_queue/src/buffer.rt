@@ -13,9 +13,15 @@ use std::alloc::{AllocError, Global};
 use std::marker::Model;
 
 /// The commands that one system issued, in order of issue. Contracts see them by the numbers of kinds and the words of components.
-#[derive(Drop)]
 pub struct CommandBuffer {
     commands: Vec<Command>,
+}
+
+// One function drops it wherever it is let go.
+impl Drop for CommandBuffer {
+    fn drop(self) {
+        let CommandBuffer { commands: _ } = self;
+    }
 }
 
 impl Model for CommandBuffer {

@@ -10,12 +10,13 @@ ghost use Rattle.model.specs.shown.Outcome.Command.{Insert, Remove, Despawn};
 ghost use Rattle.archetype_store.specs.Layout.{AreAllHome};
 ghost use Rattle.archetype_store.specs.Changes.{AreOfOtherIndices};
 ghost use Rattle.command_queue.specs.Commands.{command_of, index_in};
-ghost use Rattle.command_queue.specs.Pending.{place_of, put_change, AreInTurn, ArePlaced, IsNoted, IsLast, IsTold, IsPending, target_of, Stands, IsOpen, CanSpawn};
+ghost use Rattle.command_queue.specs.Pending.{bare_change, place_of, put_change, AreInTurn, ArePlaced, IsNoted, IsLast, IsTold, IsPending, target_of, Stands, IsOpen, CanSpawn};
 
 use crate::command::Command;
-use crate::rows::{insert_kept, keeps, remove_kept};
+use crate::rows::{fill_kept, insert_kept, keeps, remove_kept};
 use archetype_store::{EntityChange, Fate, World};
 use change_ticks::Tick;
+use column_store::Components;
 use entity_table::Entity;
 use indexmap::IndexMap;
 use kinds::{Kind, Value};
@@ -142,6 +143,23 @@ impl Pending {
         Ok(())
     }
 
+    // Adds the first change of an index: its entity lives, without components.
+    fn add_bare(&mut self, alloc: Global, e: Entity) -> Result<(), AllocError>
+        requires placed { ArePlaced self.old.places self.old.changes.items }
+        requires told { IsTold self.old.places self.old.changes.items e.index }
+        requires first { place_of e.index self.old.changes.items ≡ None }
+        ensures changes { OnOk result (self.new.changes.items ≡ put_change (bare_change e) self.old.changes.items) }
+        ensures placed { OnOk result (ArePlaced self.new.places self.new.changes.items) }
+        ensures passed { self.new.passed_over ≡ self.old.passed_over }
+    {
+        note_place(&mut self.places, e.index, self.changes.len())?;
+        self.changes.push(EntityChange {
+            entity: e,
+            fate: Fate::Lives(Components::new(alloc)),
+        })?;
+        Ok(())
+    }
+
     // Counts a command that is passed over.
     fn pass_over(&mut self)
         ensures changes { self.new.changes ≡ self.old.changes }
@@ -215,8 +233,8 @@ impl Pending {
                 // Proves that the components of a world are of its shape.
                 let _now = world.now();
                 let place = self.changes.len();
-                let fate = Fate::Lives(world.components(alloc, e.index)?);
-                self.add(EntityChange { entity: e, fate })?;
+                self.add_bare(alloc, e)?;
+                fill_kept(&mut self.changes[place], world)?;
                 Ok(Some(place))
             }
         }
@@ -302,8 +320,7 @@ impl Pending {
     {
         match command {
             Command::Spawn(e) => {
-                let fate = Fate::Lives(Vec::new(alloc));
-                self.add(EntityChange { entity: e, fate })?;
+                self.add_bare(alloc, e)?;
                 Ok(())
             }
             Command::Insert(e, value) => self.insert(alloc, world, e, value, tick),

@@ -2,15 +2,31 @@
 
 ghost use Rattle.std.specs.Prelude.{◌≡◌, ◌==◌, ◌&&◌, true, OnOk};
 ghost use Rattle.kinds.specs.Value.{value_number, value_words};
-ghost use Rattle.model.specs.state.Rows.{insert_component, remove_component};
+ghost use Rattle.model.specs.state.Rows.{insert_component, remove_component, row_at};
+ghost use Rattle.archetype_store.specs.Layout.{AreAllHome};
 ghost use Rattle.archetype_store.specs.Changes.{components_left};
 ghost use Rattle.command_queue.specs.Pending.{is_left_alive};
 
 use archetype_store::components::{put_component, take_component};
-use archetype_store::{EntityChange, Fate};
+use archetype_store::{EntityChange, Fate, World};
 use change_ticks::Tick;
 use kinds::Value;
 use std::alloc::AllocError;
+
+// Reads the components that an entity has in a world into those that it is left with.
+pub(crate) fn fill_kept(change: &mut EntityChange, world: &World) -> Result<(), AllocError>
+    requires home { AreAllHome world.now.layout }
+    requires lasts { is_left_alive change.old.fate ≡ true }
+    ensures entity { change.new.entity ≡ change.old.entity }
+    ensures lasts { is_left_alive change.new.fate ≡ true }
+    ensures row { OnOk result (components_left change.new.fate ≡ row_at world.now.state.slots change.old.entity.index) }
+{
+    let index = change.entity.index;
+    match &mut change.fate {
+        Fate::Lives(components) => world.components(index, components),
+        Fate::Dies => unreachable!(),
+    }
+}
 
 // Inserts a component at a tick among those that an entity is left with.
 pub(crate) fn insert_kept(

@@ -26,13 +26,25 @@ use worker_pool::{Mode, Pool};
 
 /// A built schedule with a body for each system, and the state. Contracts see the schedule, the bodies, the state, and whether
 /// the engine is spoiled, as it is once a run stopped by a fault. A body that was lost with a thread is none.
-#[derive(Drop)]
 pub struct Engine<B: Body> {
     built: Built,
     bodies: Bodies<B>,
     state: State,
     deferred: Deferred,
     spoiled: bool,
+}
+
+// One function drops it wherever it is let go.
+impl<B: Body> Drop for Engine<B> {
+    fn drop(self) {
+        let Engine {
+            built: _,
+            bodies: _,
+            state: _,
+            deferred: _,
+            spoiled: _,
+        } = self;
+    }
 }
 
 impl<B: Body> Model for Engine<B> {

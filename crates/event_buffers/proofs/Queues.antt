@@ -1,5 +1,5 @@
 -- The queues of all kinds: one of them changed.
-use Rattle.std.proofs.Common.{◌≡◌, ℕ, zero, suc, List, [], ◌∷◌, set, get_or, refl, ap, Result, Ok, Err, OnOk}
+use Rattle.std.proofs.Common.{◌≡◌, ℕ, zero, suc, List, [], ◌∷◌, set, get_or, refl, ap}
 use Rattle.model.specs.Lists.{update_at}
 
 -- an element changed by number is that element set

@@ -43,15 +43,22 @@ impl EventList {
         }
     }
 
-    // The kept events of a kind from a cursor on.
-    fn unread(alloc: Global, kind: Event, cursor: u64, events: &Events) -> Result<Self, AllocError>
-        ensures { IfOk result (λ list. list ≡ record { kind = event_number kind; values = unread (queue_of events.now (event_number kind)) cursor }) }
+    // Forgets the events, and is of a kind from now on. The room stays.
+    fn reopen(&mut self, kind: Event)
+        ensures { self.new ≡ record { kind = event_number kind; values = [] } }
     {
-        let unread = events.unread(kind, cursor);
-        let mut values = Vec::new(alloc);
-        values.extend_from_slice(unread.older)?;
-        values.extend_from_slice(unread.newer)?;
-        Ok(EventList { kind, values })
+        self.kind = kind;
+        self.values.clear();
+    }
+
+    // Adds the kept events of the kind from a cursor on.
+    fn add_unread(&mut self, cursor: u64, events: &Events) -> Result<(), AllocError>
+        ensures { OnOk result (self.new ≡ record { kind = self.old.kind; values = self.old.values ++ unread (queue_of events.now self.old.kind) cursor }) }
+    {
+        let unread = events.unread(self.kind, cursor);
+        self.values.extend_from_slice(unread.older)?;
+        self.values.extend_from_slice(unread.newer)?;
+        Ok(())
     }
 
     // Whether these are events of a kind.
@@ -78,10 +85,12 @@ impl EventList {
     }
 }
 
-/// Events of some kinds, a list for each, in the order in which the kinds are named. Contracts see the kinds by number, and the lists.
+/// Events of some kinds, a list for each, in the order in which the kinds are named. Contracts see the kinds by number, and the lists. Beside
+/// them stand lists that were, whose room is used again: so who opens it takes no memory once it was opened for as many kinds and events.
 #[derive(Drop)]
 pub struct EventLists {
     lists: Vec<EventList>,
+    spare: Vec<EventList>,
 }
 
 impl Model for EventLists {
@@ -93,32 +102,71 @@ impl Model for EventLists {
 }
 
 impl EventLists {
-    /// An empty list for each of these kinds.
-    pub fn empty(alloc: Global, kinds: &[Event]) -> Result<Self, AllocError>
-        ensures { IfOk result (λ lists. lists ≡ record { kinds = map event_number kinds.now; values = map (λ kind. []) (map event_number kinds.now) }) }
+    /// No list. Allocates nothing.
+    pub fn new(alloc: Global) -> Self
+        ensures { result ≡ record { kinds = []; values = [] } }
     {
-        let mut lists = Vec::with_capacity(alloc, kinds.len())?;
-        for kind in kinds {
-            lists.push(EventList::empty(alloc, *kind))?;
+        EventLists {
+            lists: Vec::new(alloc),
+            spare: Vec::new(alloc),
         }
-        Ok(EventLists { lists })
     }
 
-    /// For each of these kinds what is kept of it from a cursor on, in order. Where there is no cursor, from the first number on.
-    pub fn unread(
+    /// Opens an empty list for each of these kinds, in the room of the lists that were. After an error it is to be opened again.
+    pub fn open_empty(&mut self, alloc: Global, kinds: &[Event]) -> Result<(), AllocError>
+        ensures { OnOk result (self.new ≡ record { kinds = map event_number kinds.now; values = map (λ kind. []) (map event_number kinds.now) }) }
+    {
+        self.put_away(kinds.len())?;
+        for kind in kinds {
+            let list = self.take_list(alloc, *kind);
+            self.lists.push(list)?;
+        }
+        Ok(())
+    }
+
+    /// Opens a list for each of these kinds, in the room of the lists that were: what is kept of the kind from a cursor on, in order. Where
+    /// there is no cursor, from the first number on. After an error it is to be opened again.
+    pub fn open_unread(
+        &mut self,
         alloc: Global,
         kinds: &[Event],
         cursors: &[u64],
         events: &Events,
-    ) -> Result<Self, AllocError>
-        ensures { IfOk result (λ lists. lists ≡ record { kinds = map event_number kinds.now; values = unread_of events.now (map event_number kinds.now) cursors.now }) }
+    ) -> Result<(), AllocError>
+        ensures { OnOk result (self.new ≡ record { kinds = map event_number kinds.now; values = unread_of events.now (map event_number kinds.now) cursors.now }) }
     {
-        let mut lists = Vec::with_capacity(alloc, kinds.len())?;
+        self.put_away(kinds.len())?;
         for (place, kind) in kinds.iter().enumerate() {
-            let cursor = cursor_at(cursors, place);
-            lists.push(EventList::unread(alloc, *kind, cursor, events)?)?;
+            let mut list = self.take_list(alloc, *kind);
+            list.add_unread(cursor_at(cursors, place), events)?;
+            self.lists.push(list)?;
         }
-        Ok(EventLists { lists })
+        Ok(())
+    }
+
+    // Puts every list away, the last first, so that each is taken at its place again. From then on there is room for so many lists, and to put
+    // them away.
+    fn put_away(&mut self, count: usize) -> Result<(), AllocError>
+        ensures { OnOk result (self.new ≡ record { kinds = []; values = [] }) }
+    {
+        while let Some(list) = self.lists.pop() {
+            self.spare.push(list)?;
+        }
+        self.lists.reserve(count)?;
+        self.spare.reserve(count.saturating_sub(self.spare.len()))?;
+        Ok(())
+    }
+
+    // A list without events for a kind: one that was put away last, where there is one.
+    fn take_list(&mut self, alloc: Global, kind: Event) -> EventList
+        ensures list { result ≡ record { kind = event_number kind; values = [] } }
+        ensures lists { self.new ≡ self.old }
+    {
+        let Some(mut list) = self.spare.pop() else {
+            return EventList::empty(alloc, kind);
+        };
+        list.reopen(kind);
+        list
     }
 
     /// The events of a kind, by its first list. None where it has no list.

@@ -25,7 +25,6 @@ use std::marker::Model;
 /// What one run of a schedule has accepted. Contracts speak of each history for which a core stands, by `Stands`: such a
 /// history is lawful, and has the latest step first. Beside it stand the kind sets that the run records, if it does: a core doesn't keep
 /// them, but has for each system and condition the systems that meet it by the latest.
-#[derive(Drop)]
 pub struct Core<'a> {
     built: &'a Built,
     begun: NumberSet,
@@ -38,6 +37,25 @@ pub struct Core<'a> {
     left: Counts,
     met: Vec<NumberSet>,
     clashed: Vec<NumberSet>,
+}
+
+// One function drops it wherever it is let go.
+impl<'a> Drop for Core<'a> {
+    fn drop(self) {
+        let Core {
+            built: _,
+            begun: _,
+            over: _,
+            asked: _,
+            yes: _,
+            done: _,
+            from: _,
+            waits: _,
+            left: _,
+            met: _,
+            clashed: _,
+        } = self;
+    }
 }
 
 impl<'a> Model for Core<'a> {

@@ -12,10 +12,16 @@ use std::marker::Model;
 
 /// What is recorded of a run: its steps, and where it records them the kind sets of the living entities, at its opening and after each sync
 /// point. Contracts see the steps with the latest first, as a history, and the lists of kind sets with that of the opening first.
-#[derive(Drop)]
 pub struct Trace {
     steps: Vec<Step>,
     sets: Option<Vec<KindSets>>,
+}
+
+// One function drops it wherever it is let go.
+impl Drop for Trace {
+    fn drop(self) {
+        let Trace { steps: _, sets: _ } = self;
+    }
 }
 
 impl Model for Trace {

@@ -85,13 +85,32 @@ fn taken(
     ensures suits { IfOk result (λ left. Suits script_suits built.now (map Some bodies.new) left.0) }
     ensures meanings { meanings_of_scripts built.now bodies.new ≡ meanings_of_scripts built.now bodies.old }
 {
-    let start = state.copy(alloc)?;
+    if part.is_told {
+        return told_run(alloc, built, bodies, state, trace, part.before);
+    }
     let number = part.before as usize + 1;
     let left = replay_run(alloc, built, bodies, state, trace, number)?;
-    if !part.is_told {
-        return Ok((left, String::new(alloc)));
-    }
-    let told = told_of(alloc, built, bodies, start, trace, part.before)?;
+    Ok((left, String::new(alloc)))
+}
+
+// Takes a run again that is told: from a copy of its state it is taken once more for its worlds.
+fn told_run(
+    alloc: Global,
+    built: &Built,
+    bodies: &mut [ScriptBody],
+    state: State,
+    trace: &Trace,
+    before: u32,
+) -> Result<(State, String), Fault>
+    requires { Suits script_suits built.now (map Some bodies.old) state }
+    ensures replayed { IfOk result (λ left. IsReplayed (recording built.now trace.now.sets) (meanings_of_scripts built.now bodies.old) state trace.now.steps left.0) }
+    ensures told { IfOk result (λ left. string_bytes left.1 ≡ worlds_text built.now (meanings_of_scripts built.now bodies.old) state before trace.now.steps) }
+    ensures suits { IfOk result (λ left. Suits script_suits built.now (map Some bodies.new) left.0) }
+    ensures meanings { meanings_of_scripts built.now bodies.new ≡ meanings_of_scripts built.now bodies.old }
+{
+    let start = state.copy(alloc)?;
+    let left = replay_run(alloc, built, bodies, state, trace, before as usize + 1)?;
+    let told = told_of(alloc, built, bodies, start, trace, before)?;
     Ok((left, told))
 }
 

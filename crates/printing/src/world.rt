@@ -8,7 +8,7 @@ ghost use Rattle.entity_table.specs.Ids.{slot_at};
 ghost use Rattle.printing.specs.WorldText.{words_text, component_text, row_text, entity_line, slot_line, slot_lines, resource_line, lines_of, count_line, printed};
 
 use archetype_store::World;
-use column_store::StampedValue;
+use column_store::{Components, StampedValue};
 use kinds::{Res, Value};
 use std::alloc::{AllocError, Global};
 
@@ -74,7 +74,8 @@ fn push_slot(alloc: Global, text: &mut String, index: u32, world: &World) -> Res
 {
     let slot = world.slot_at(index);
     if slot.is_living() {
-        let components = world.components(alloc, index)?;
+        let mut components = Components::new(alloc);
+        world.components(index, &mut components)?;
         push_entity(text, index, slot.generation(), &components)
     } else {
         Ok(())

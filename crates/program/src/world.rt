@@ -12,7 +12,7 @@ use crate::fault::Fault;
 use archetype_store::components::put_component;
 use archetype_store::{EntityChange, Fate, World};
 use change_ticks::{Clock, Tick};
-use column_store::StampedValue;
+use column_store::Components;
 use entity_table::Entity;
 use kinds::{Res, Value};
 use std::alloc::{AllocError, Global};
@@ -85,10 +85,10 @@ fn changes_of(
 }
 
 // The components of an entity as the store has them: in rising kinds, all added as the file is loaded.
-fn row_of(alloc: Global, values: &[Value]) -> Result<Vec<StampedValue>, AllocError>
+fn row_of(alloc: Global, values: &[Value]) -> Result<Components, AllocError>
     ensures { IfOk result (λ row. map component_of row.items ≡ row_given (map given_of values.now)) }
 {
-    let mut row = Vec::with_capacity(alloc, values.len())?;
+    let mut row = Components::with_capacity(alloc, values.len())?;
     for value in values {
         put_component(&mut row, *value, LOADING)?;
     }

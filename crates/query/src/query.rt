@@ -15,9 +15,15 @@ use std::alloc::{AllocError, Global};
 use std::marker::Model;
 
 /// A query: its terms in order. Contracts see the list of terms, each over the number of its kind.
-#[derive(Drop)]
 pub struct Query {
     terms: SmallVec<Term, 4>,
+}
+
+// One function drops it wherever it is let go.
+impl Drop for Query {
+    fn drop(self) {
+        let Query { terms: _ } = self;
+    }
 }
 
 impl Model for Query {

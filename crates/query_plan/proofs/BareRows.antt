@@ -30,7 +30,7 @@ module _ (last : ℕ) where
   free (Changed k) h = absurd (cc)
   free (AnyOf alternatives) h = refl
 
-  all_free : (query : List Term) → matches query (λ k. false) ≡ true → list_all (passes last []) query ≡ true
+  pub all_free : (query : List Term) → matches query (λ k. false) ≡ true → list_all (passes last []) query ≡ true
   all_free [] h = refl
   all_free (t ∷ ts) h =
       let p = and_parts (admits (λ k. false) t) (matches ts (λ k. false)) h in
@@ -69,7 +69,7 @@ module _ (last : ℕ) where
 
 -- ---- indices, one by one
 
-cond_none : {A : Type 0} (b : Bool) (x : A) → cond b (Some x) None ≡ None → b ≡ false
+pub cond_none : {A : Type 0} (b : Bool) (x : A) → cond b (Some x) None ≡ None → b ≡ false
 cond_none true x h = absurd (cc)
 cond_none false x h = refl
 

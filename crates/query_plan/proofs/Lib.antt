@@ -11,3 +11,4 @@ pub mod Candidates
 pub mod QueryShapes
 pub mod BareRows
 pub mod EveryRow
+pub mod IndexWalks

@@ -1,6 +1,6 @@
 // The filters of a query in one archetype: each a column whose stamps are compared with a last run.
 
-ghost use Rattle.std.specs.Prelude.{◌≡◌, ◌<◌, ℕ, List, true, length, map, slice_get, IfOk, IfSome, IfNone};
+ghost use Rattle.std.specs.Prelude.{◌≡◌, ◌<◌, ◌++◌, ◌∷◌, [], ℕ, List, true, length, map, slice_get, IfOk, IfSome, IfNone};
 ghost use Rattle.std.specs.List.{list_all, AllByRecursion};
 ghost use Rattle.model.specs.state.State.{Component};
 ghost use Rattle.model.specs.shown.Input as input;
@@ -8,12 +8,14 @@ ghost use Rattle.archetype_store.specs.Layout.{archetype_at};
 ghost use Rattle.query.specs.Term.{term_of};
 ghost use Rattle.query_plan.specs.Standing.{IsFilterHome, is_newer};
 ghost use Rattle.query_plan.specs.Filters.{IsFilterOf, AreFiltersOf};
+ghost use Rattle.query_plan.specs.FilterLists.{filters_in};
 
 use archetype_store::World;
 use change_ticks::stamp::newer;
 use column_store::StampedColumn;
 use query::Term;
 use std::alloc::{AllocError, Global};
+use std::slice;
 
 // A filter: of the components of a column those pass that were added, or else changed, after a last run.
 #[derive(Clone, Copy)]
@@ -22,22 +24,62 @@ pub(crate) struct Filter<'a> {
     pub(crate) is_added: bool,
 }
 
-// The filters of these terms among the entities of the archetype of a number.
+// Filters, in order. One alone stands here, so that no list is made for it.
+#[derive(Drop)]
+pub(crate) enum Filters<'a> {
+    Without,
+    One(Filter<'a>),
+    Several(Vec<Filter<'a>>),
+}
+
+impl<'a> Filters<'a> {
+    // The filters.
+    pub(crate) fn as_slice(&self) -> &[Filter<'a>]
+        ensures { result.now ≡ filters_in self.now }
+    {
+        match self {
+            Filters::Without => &[],
+            Filters::One(filter) => slice::from_ref(filter),
+            Filters::Several(filters) => filters.as_slice(),
+        }
+    }
+
+    // The same with one more at the end.
+    fn with(self, alloc: Global, filter: Filter<'a>) -> Result<Self, AllocError>
+        ensures { IfOk result (λ filters. filters_in filters ≡ filters_in self.entry ++ filter.entry ∷ []) }
+    {
+        match self {
+            Filters::Without => Ok(Filters::One(filter)),
+            Filters::One(first) => {
+                let mut filters = Vec::new(alloc);
+                filters.push(first)?;
+                filters.push(filter)?;
+                Ok(Filters::Several(filters))
+            }
+            Filters::Several(mut filters) => {
+                filters.push(filter)?;
+                Ok(Filters::Several(filters))
+            }
+        }
+    }
+}
+
+// The filters of these terms among the entities of the archetype of a number. It allocates only where there are several.
 pub(crate) fn filters_of<'w>(
     alloc: Global,
     terms: &[Term],
     world: &'w World,
     archetype: usize,
-) -> Result<Vec<Filter<'w>>, AllocError>
+) -> Result<Filters<'w>, AllocError>
     requires { AllByRecursion (λ term. IsFilterHome (archetype_at world.now.layout archetype) (term_of term)) terms.now }
-    ensures { IfOk result (λ filters. AreFiltersOf world.now.state.slots (archetype_at world.now.layout archetype).entities (map term_of terms.now) filters.items) }
+    ensures { IfOk result (λ filters. AreFiltersOf world.now.state.slots (archetype_at world.now.layout archetype).entities (map term_of terms.now) (filters_in filters)) }
 {
-    let mut filters = Vec::new(alloc);
+    let mut filters = Filters::Without;
     for term in terms {
         let Some(filter) = filter_of(*term, world, archetype) else {
             continue;
         };
-        filters.push(filter)?;
+        filters = filters.with(alloc, filter)?;
     }
     Ok(filters)
 }

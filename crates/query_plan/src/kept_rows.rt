@@ -23,9 +23,15 @@ enum KeptRows {
 
 /// The rows of a query, which stay as they are whatever becomes of the world. Contracts see a list. Where the rows are all entities of an
 /// archetype there is none: the entities are read where the world has them.
-#[derive(Drop)]
 pub struct Rows {
     kept: KeptRows,
+}
+
+// One function drops it wherever it is let go.
+impl Drop for Rows {
+    fn drop(self) {
+        let Rows { kept: _ } = self;
+    }
 }
 
 impl Model for Rows {
@@ -72,7 +78,8 @@ impl Rows {
 
     /// Gives the buffer of the rows back, where they are listed.
     pub fn give_back(self, room: &mut RowBuffers) {
-        if let KeptRows::Listed(rows) = self.kept {
+        let Rows { kept } = self;
+        if let KeptRows::Listed(rows) = kept {
             room.give(rows);
         }
     }

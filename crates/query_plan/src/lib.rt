@@ -3,6 +3,7 @@
 
 mod archetype_rows;
 mod filter;
+mod index_walk;
 pub mod kept_rows;
 pub mod matched_rows;
 mod merge;

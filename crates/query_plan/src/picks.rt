@@ -13,7 +13,7 @@ ghost use Rattle.query_plan.specs.Picks.{picked_in, picked_of, pick_seen};
 use archetype_store::World;
 use kinds::Kind;
 use query::{Alternative, Presence, Query, Term};
-use std::alloc::{AllocError, Global};
+use std::alloc::AllocError;
 
 /// A column that the rows of a query are in.
 #[derive(Clone, Copy, PartialEq, Eq, Debug)]
@@ -27,17 +27,18 @@ pub struct Pick {
 }
 
 // The columns that the rows of a query are in: of each of these archetypes that the query matches those of the kinds that it touches, in
-// the order of the archetypes and then of the kinds.
+// the order of the archetypes and then of the kinds. They stand in the room of a list.
 pub(crate) fn picks_in(
-    alloc: Global,
     query: &Query,
     world: &World,
     archetypes: &[usize],
+    room: Vec<Pick>,
 ) -> Result<Vec<Pick>, AllocError>
     requires { AllByRecursion (λ n. n < length world.now.layout) archetypes.now }
     ensures { IfOk result (λ picks. map pick_seen picks.items ≡ picked_at query.now world.now.layout archetypes.now) }
 {
-    let mut picks = Vec::new(alloc);
+    let mut picks = room;
+    picks.clear();
     for archetype in archetypes {
         let view = world.archetype(*archetype);
         pick_of(&mut picks, query, *archetype, view.kinds)?;

@@ -1,6 +1,6 @@
 // The plan of a query: its rows, each where it stands, and the columns that they are in.
 
-ghost use Rattle.std.specs.Prelude.{◌≡◌, true, length, map, IfOk};
+ghost use Rattle.std.specs.Prelude.{◌≡◌, true, length, map, IfOk, OnOk};
 ghost use Rattle.std.specs.List.{AllByRecursion};
 ghost use Rattle.model.specs.shown.Input as input;
 ghost use Rattle.column_store.specs.Order.{AreApart};
@@ -21,7 +21,8 @@ use std::alloc::{AllocError, Global};
 /// The plan of a query for an observer with this last run: its rows, in rising index, each with the place where its components are,
 /// and the columns that it picks. Archetypes that the query doesn't match are passed over, and no column is read but those whose stamps its
 /// filters ask for. Where one archetype alone is matched, its rows stand in rising ids and no filter asks for stamps, the rows are told by its
-/// number, and nothing grows with their count; listed rows come in buffers of this room. The columns that it picks are at home.
+/// number, and nothing grows with their count; listed rows come in buffers of this room, and the picks in a list of it. Over several archetypes
+/// they are found by a walk over the indices, where that is likely sooner than to merge those of each. The columns that it picks are at home.
 pub fn plan(
     alloc: Global,
     query: &Query,
@@ -37,8 +38,11 @@ pub fn plan(
     ensures archetypes { IfOk result (λ plan. plan.archetypes ≡ length world.now.layout) }
     ensures apart { IfOk result (λ plan. AllByRecursion (λ a. AreApart a.entities) world.now.layout) }
 {
-    let archetypes = all_archetypes(alloc, world)?;
-    plan_among(alloc, query, world, &archetypes, last_run, room)
+    let mut archetypes = room.take_archetypes(alloc);
+    all_archetypes(world, &mut archetypes)?;
+    let planned = plan_among(alloc, query, world, &archetypes, last_run, room);
+    room.give_archetypes(archetypes);
+    planned
 }
 
 /// The same plan, by the number of the shape of the query: where a world keeps the shape, the archetypes that fit it are all that is looked
@@ -62,22 +66,28 @@ pub fn plan_by(
 {
     // Proves that the kinds of the query have bits.
     let _terms = query.terms();
-    match world.fitting(alloc, shape)? {
-        Some(archetypes) => plan_among(alloc, query, world, &archetypes, last_run, room),
-        None => plan(alloc, query, world, last_run, room),
+    let mut archetypes = room.take_archetypes(alloc);
+    let is_kept = world.fitting(shape, &mut archetypes)?;
+    if !is_kept {
+        room.give_archetypes(archetypes);
+        return plan(alloc, query, world, last_run, room);
     }
+    let planned = plan_among(alloc, query, world, &archetypes, last_run, room);
+    room.give_archetypes(archetypes);
+    planned
 }
 
-// The numbers of all archetypes.
-fn all_archetypes(alloc: Global, world: &World) -> Result<Vec<usize>, AllocError>
-    ensures { IfOk result (λ archetypes. archetypes.items ≡ numbers_where (λ kinds. true) 0 world.now.layout) }
+// Lists the numbers of all archetypes, in a list that is emptied first.
+fn all_archetypes(world: &World, archetypes: &mut Vec<usize>) -> Result<(), AllocError>
+    ensures { OnOk result (archetypes.new.items ≡ numbers_where (λ kinds. true) 0 world.now.layout) }
 {
     let count = world.archetype_count();
-    let mut archetypes = Vec::with_capacity(alloc, count)?;
+    archetypes.clear();
+    archetypes.reserve(count)?;
     for archetype in 0..count {
         archetypes.push(archetype)?;
     }
-    Ok(archetypes)
+    Ok(())
 }
 
 // The plan of a query: the archetypes that it matches are among these.
@@ -104,7 +114,7 @@ fn plan_among(
         return Err(AllocError);
     };
     let rows = rows_in(alloc, query, world, archetypes, last_run, room)?;
-    let picks = picks_in(alloc, query, world, archetypes)?;
+    let picks = picks_in(query, world, archetypes, room.take_picks(alloc))?;
     Ok(Plan {
         rows,
         picks,

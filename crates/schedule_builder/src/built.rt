@@ -25,7 +25,6 @@ use std::marker::Model;
 
 /// A schedule as it was built. Contracts see a `Schedule` of the model; every value meets `IsBuilt`, and no system's parameters
 /// conflict among themselves.
-#[derive(Drop)]
 pub struct Built {
     systems: Vec<System>,
     conditions: Vec<Condition>,
@@ -39,6 +38,26 @@ pub struct Built {
     after: Vec<Successors>,
     waits: Vec<u32>,
     sizes: Vec<u32>,
+}
+
+// One function drops it wherever it is let go.
+impl Drop for Built {
+    fn drop(self) {
+        let Built {
+            systems: _,
+            conditions: _,
+            syncs: _,
+            order: _,
+            silences: _,
+            asked_by: _,
+            clashes: _,
+            before: _,
+            rivals: _,
+            after: _,
+            waits: _,
+            sizes: _,
+        } = self;
+    }
 }
 
 impl Model for Built {

@@ -152,7 +152,7 @@ insert_new-requires c =
     let kind = value_number c.args.value in
     let cell = (rw (c.deref-2.ensures.value, c.number.ensures) at c.find_at.ensures.cell) e here in
     let none = none_seen (λ (s : StampedValue). (component_of s).cell) c.find_at.result _ cell (sym c.is_some.ensures ∙ c.if-is_some.false) in
-    let held = (rw c.deref-3.ensures.value at c.in_ok-components.ensures.row) e here in
+    let held = (rw c.deref-3.ensures.value at c.in_ok-components_at.ensures.row) e here in
     ap (λ o. cell_at (row_or_none o) kind) (sym held) ∙ none
 
 pub lay-requires-2-clause-below : goal.lay-requires-2-clause-below
@@ -167,9 +167,9 @@ lay-requires-2-clause-below c =
     let there = row_there T P N c.requires.whole c.requires.known e p at gen in
     let row : c.index-row.result.now ≡ number_of_row N e.index = get_or_read N e.index c.index-row.result.now (number_within T P N c.requires.whole c.requires.known e.index p at) c.index-row.ensures 0 in
     let here = ap (entity_in_row T p.table) row ∙ there in
-    let held = (rw c.deref-3.ensures.value at c.in_ok-components.ensures.row) e here in
-    subst (λ ss. AreBelow (map stamped_number ss)) (sym c.deref-4.ensures.value)
-    (below_inserted T P e p c.requires.whole c.requires.holder at c.in_ok-components.components.items c.insert_new.new.components.items
+    let held = (rw c.deref-3.ensures.value at c.in_ok-components_at.ensures.row) e here in
+    subst (λ ss. AreBelow (map stamped_number ss)) (sym c.deref-4.ensures)
+    (below_inserted T P e p c.requires.whole c.requires.holder at c.components_at.new.components.items c.insert_new.new.components.items
     c.args.tick (value_number c.args.value) (value_words c.args.value) held c.in_ok-insert_new.ensures.row)
 
 pub returns-clause-ok : goal.returns-clause-ok
@@ -186,10 +186,10 @@ returns-clause-ok c =
     let here = ap (entity_in_row T p.table) row ∙ there in
     let kind = value_number c.args.value in
     let words = value_words c.args.value in
-    let held = (rw c.deref-3.ensures.value at c.in_ok-components.ensures.row) e here in
-    let read = row_read T P e p c.requires.whole c.requires.holder at c.in_ok-components.components.items held in
+    let held = (rw c.deref-3.ensures.value at c.in_ok-components_at.ensures.row) e here in
+    let read = row_read T P e p c.requires.whole c.requires.holder at c.components_at.new.components.items held in
     subst (λ r. OnOk c.lay-2.result (HasRow (archetypes_of T P) e r (archetypes_of c.lay-2.new.tables.items c.lay-2.new.places.items)))
-    (ap (map component_of) c.deref-4.ensures.value ∙ c.in_ok-insert_new.ensures.row ∙ ap (insert_component c.args.tick kind words) (sym read))
+    (ap (map component_of) c.deref-4.ensures ∙ c.in_ok-insert_new.ensures.row ∙ ap (insert_component c.args.tick kind words) (sym read))
     c.lay-2.ensures.ok
 
 pub returns-then-is_some-clause-found : goal.returns-then-is_some-clause-found

@@ -18,8 +18,8 @@ use Rattle.archetype_store.proofs.lay.remove_in.Goals as goal
 pub components_at-requires-clause-home : goal.components_at-requires-clause-home
 components_at-requires-clause-home c = subst AreHome (sym c.deref-3.ensures.value) (owned_are_home c.args.tables.now.items c.requires.owned)
 
-pub index-requires : goal.index-requires
-index-requires c =
+pub index-row-requires : goal.index-row-requires
+index-row-requires c =
     let T = c.args.tables.now.items in
     let P = c.args.places.now.items in
     let N = c.args.numbers.now.items in
@@ -38,9 +38,9 @@ components_at-requires-clause-there c =
     let at = rw c.deref.ensures.value at (sym c.place_at.ensures ∙ c.in-Some.is) in
     let gen = subst (λ o. IsHolder e.generation (holder_in o)) at c.requires.holder in
     let there = row_there T P N c.requires.whole c.requires.known e p at gen in
-    let row : c.index.result.now ≡ number_of_row N e.index = get_or_read N e.index c.index.result.now (number_within T P N c.requires.whole c.requires.known e.index p at) c.index.ensures 0 in
+    let row : c.index-row.result.now ≡ number_of_row N e.index = get_or_read N e.index c.index-row.result.now (number_within T P N c.requires.whole c.requires.known e.index p at) c.index-row.ensures 0 in
     let here = ap (entity_in_row T p.table) row ∙ there in
-    ap (λ ts. is_some (entity_in_row ts p.table c.index.result.now)) c.deref-3.ensures.value ∙ ap is_some here
+    ap (λ ts. is_some (entity_in_row ts p.table c.index-row.result.now)) c.deref-3.ensures.value ∙ ap is_some here
 
 pub returns-then-kind_count_at-eq1-clause-found : goal.returns-then-kind_count_at-eq1-clause-found
 returns-then-kind_count_at-eq1-clause-found c = found_shapes c.args.tables.now.items c.clear_in.new.tables.items c.args.index.now c.clear_in.ensures.shapes c.requires.found
@@ -76,12 +76,12 @@ take_out-requires c =
     let at = rw c.deref.ensures.value at (sym c.place_at.ensures ∙ c.in-Some.is) in
     let gen = subst (λ o. IsHolder e.generation (holder_in o)) at c.requires.holder in
     let there = row_there T P N c.requires.whole c.requires.known e p at gen in
-    let row : c.index.result.now ≡ number_of_row N e.index = get_or_read N e.index c.index.result.now (number_within T P N c.requires.whole c.requires.known e.index p at) c.index.ensures 0 in
+    let row : c.index-row.result.now ≡ number_of_row N e.index = get_or_read N e.index c.index-row.result.now (number_within T P N c.requires.whole c.requires.known e.index p at) c.index-row.ensures 0 in
     let here = ap (entity_in_row T p.table) row ∙ there in
     let tables = c.args.tables.now.items in
     let places = c.args.places.now.items in
-    let held = (rw c.deref-3.ensures.value at c.in_ok-components.ensures.row) e here in
-    let read = row_read tables places c.args.e c.in-Some.place c.requires.whole c.requires.holder at c.in_ok-components.components.items held in
+    let held = (rw c.deref-3.ensures.value at c.in_ok-components_at.ensures.row) e here in
+    let read = row_read tables places c.args.e c.in-Some.place c.requires.whole c.requires.holder at c.components_at.new.components.items held in
     subst (λ r. IsSome (cell_at r c.args.number)) read c.requires.there
 
 pub lay-requires-clause-below : goal.lay-requires-clause-below
@@ -94,13 +94,13 @@ lay-requires-clause-below c =
     let at = rw c.deref.ensures.value at (sym c.place_at.ensures ∙ c.in-Some.is) in
     let gen = subst (λ o. IsHolder e.generation (holder_in o)) at c.requires.holder in
     let there = row_there T P N c.requires.whole c.requires.known e p at gen in
-    let row : c.index.result.now ≡ number_of_row N e.index = get_or_read N e.index c.index.result.now (number_within T P N c.requires.whole c.requires.known e.index p at) c.index.ensures 0 in
+    let row : c.index-row.result.now ≡ number_of_row N e.index = get_or_read N e.index c.index-row.result.now (number_within T P N c.requires.whole c.requires.known e.index p at) c.index-row.ensures 0 in
     let here = ap (entity_in_row T p.table) row ∙ there in
     let tables = c.args.tables.now.items in
     let places = c.args.places.now.items in
-    let held = (rw c.deref-3.ensures.value at c.in_ok-components.ensures.row) e here in
-    subst (λ ss. AreBelow (map stamped_number ss)) (sym c.deref-4.ensures.value)
-    (below_removed tables places c.args.e c.in-Some.place c.requires.whole c.requires.holder at c.in_ok-components.components.items c.take_out.new.components.items c.args.number held c.take_out.ensures.row)
+    let held = (rw c.deref-3.ensures.value at c.in_ok-components_at.ensures.row) e here in
+    subst (λ ss. AreBelow (map stamped_number ss)) (sym c.deref-4.ensures)
+    (below_removed tables places c.args.e c.in-Some.place c.requires.whole c.requires.holder at c.components_at.new.components.items c.take_out.new.components.items c.args.number held c.take_out.ensures.row)
 
 pub returns-clause-ok : goal.returns-clause-ok
 returns-clause-ok c =
@@ -112,12 +112,12 @@ returns-clause-ok c =
     let at = rw c.deref.ensures.value at (sym c.place_at.ensures ∙ c.in-Some.is) in
     let gen = subst (λ o. IsHolder e.generation (holder_in o)) at c.requires.holder in
     let there = row_there T P N c.requires.whole c.requires.known e p at gen in
-    let row : c.index.result.now ≡ number_of_row N e.index = get_or_read N e.index c.index.result.now (number_within T P N c.requires.whole c.requires.known e.index p at) c.index.ensures 0 in
+    let row : c.index-row.result.now ≡ number_of_row N e.index = get_or_read N e.index c.index-row.result.now (number_within T P N c.requires.whole c.requires.known e.index p at) c.index-row.ensures 0 in
     let here = ap (entity_in_row T p.table) row ∙ there in
     let tables = c.args.tables.now.items in
     let places = c.args.places.now.items in
-    let held = (rw c.deref-3.ensures.value at c.in_ok-components.ensures.row) e here in
-    let read = row_read tables places c.args.e c.in-Some.place c.requires.whole c.requires.holder at c.in_ok-components.components.items held in
+    let held = (rw c.deref-3.ensures.value at c.in_ok-components_at.ensures.row) e here in
+    let read = row_read tables places c.args.e c.in-Some.place c.requires.whole c.requires.holder at c.components_at.new.components.items held in
     subst (λ r. OnOk c.lay.result (HasRow (archetypes_of tables places) c.args.e r (archetypes_of c.lay.new.tables.items c.lay.new.places.items)))
-    (ap (map component_of) c.deref-4.ensures.value ∙ c.take_out.ensures.row ∙ ap (remove_component c.args.number) (sym read))
+    (ap (map component_of) c.deref-4.ensures ∙ c.take_out.ensures.row ∙ ap (remove_component c.args.number) (sym read))
     c.lay.ensures.ok

@@ -1,4 +1,5 @@
 use Rattle.std.proofs.Common.{◌≡◌, ℕ, List, Option, refl, sym, ap, ◌∙◌, subst}
+use Rattle.std.proofs.lemmas.Bool.{false≢true}
 use denote.Param.Send.{sendable}
 use Rattle.model.specs.state.Agreement.{AgreesWithAll}
 use Rattle.model.specs.state.State.{State}
@@ -62,6 +63,13 @@ returns-in_err-traces-clause-stopped g c =
     handed_on (StopsAs there width value.schedule bodies times value.state) c.from_residual.result (fault_of told) c.from_residual.ensures.1
     (stops_told there width value.schedule bodies times value.state told stopped
     (stops_up there (IsWideStopped width inside.built (meanings meaning inside.built c.replace-bodies.result) times c.into_open-state.result.state) (IsWideStopped width value.schedule bodies times value.state) told wide c.in_err-traces.ensures.stopped))
+
+-- none of its stops is told as an engine that is spoiled, and it was not
+pub returns-in_err-traces-clause-spoiled : goal.returns-in_err-traces-clause-spoiled
+returns-in_err-traces-clause-spoiled g c =
+    let told = told_unspoiled c.from_residual.result c.in_err-traces.field-0.0 c.from_residual.ensures.1 in
+    let same = ap (λ (v : EngineValue g.row.B.Denot). v.spoiled) c.engine.view_is in
+    (λ e. absurd (told e), λ was. absurd (false≢true (sym c.if-engine.false ∙ (same ∙ was))))
 
 pub returns-in_err-traces-clause-unchanged : goal.returns-in_err-traces-clause-unchanged
 returns-in_err-traces-clause-unchanged g c = λ e. absurd (told_unspoiled c.from_residual.result c.in_err-traces.field-0.0 c.from_residual.ensures.1 e)

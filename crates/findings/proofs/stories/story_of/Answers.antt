@@ -13,12 +13,11 @@ use Rattle.findings.proofs.stories.story_of.Goals as goal
 pub loop-trace-init : goal.loop-trace-init
 loop-trace-init c = record {
   count = refl;
-  suits = subst (λ (x : State). Suits script_suits c.args.built.now (map Some c.args.bodies.now) x) (sym c.first.view_is) (fitting_suit c.args.built.now c.args.bodies.now c.args.first c.requires.fitting c.requires.memories);
+  suits = fitting_suit c.args.built.now c.args.bodies.now c.args.first c.requires.fitting c.requires.memories;
   meant = refl;
   rest = λ whole h.
       let text : string_bytes c.writeln.new.self ≡ count_text (length c.args.traces.now) = c.in_ok-writeln.ensures.bytes ∙ ap (λ (xs : List ℕ). xs ++ count_text (length c.args.traces.now)) c.new-text.ensures.bytes in
-      subst (λ (words : List ℕ). IsStory c.args.built.now (meanings_of_scripts c.args.built.now c.args.bodies.now) c.args.asked 0 c.args.first c.args.traces.now words whole) text
-      (subst (λ (x : State). IsStory c.args.built.now (meanings_of_scripts c.args.built.now c.args.bodies.now) c.args.asked 0 x c.args.traces.now (string_bytes c.writeln.new.self) whole) c.first.view_is h);
+      subst (λ (words : List ℕ). IsStory c.args.built.now (meanings_of_scripts c.args.built.now c.args.bodies.now) c.args.asked 0 c.args.first c.args.traces.now words whole) text h;
 }
 
 -- one run more

@@ -1,5 +1,5 @@
 use Rattle.std.proofs.Common.{◌≡◌, is_some, refl, arith, Some, None, map, sym, ap, ◌∙◌}
-use Rattle.std.proofs.lemmas.Result.{IfOk-weaker}
+use Rattle.std.proofs.lemmas.Result.{on_ok_weaker}
 use Rattle.archetype_store.specs.Row.{component_of}
 use Rattle.archetype_store.specs.Tables.{row_or_none}
 use Rattle.archetype_store.specs.Archetypes.{ArchetypesValue, row_of, place_of, row_in}
@@ -25,7 +25,7 @@ returns-in-None c =
     let tables = c.self.inside.tables.items in
     let places = c.self.inside.places.items in
     let none : place_of places c.args.index ≡ None = rw c.deref.ensures.value at (sym c.place_at.ensures ∙ c.in-None.is) in
-    ap (map component_of) c.new.ensures.items
+    ap (map component_of) c.clear.ensures.items
     ∙ sym (ap (λ (v : ArchetypesValue). row_of v.rows c.args.index) (sym c.self.view_is) ∙ row_seen tables places c.args.index ∙ ap (row_in tables c.args.index) none)
 
 pub index-row-requires : goal.index-row-requires
@@ -60,4 +60,4 @@ returns-in-Some c =
     let here = ap (entity_in_row tables c.in-Some.place.table) row_is ∙ there in
     let row = ap (λ (v : ArchetypesValue). row_of v.rows c.args.index) (sym c.self.view_is) ∙ row_seen tables places c.args.index ∙ ap (row_in tables c.args.index) at in
     let read = rw c.deref-in-Some.ensures.value at c.components_at.ensures.row in
-    IfOk-weaker c.components_at.result _ _ (λ ss held. sym (row ∙ ap row_or_none (held e here))) read
+    on_ok_weaker c.components_at.result (λ held. sym (row ∙ ap row_or_none (held e here))) read

@@ -1,5 +1,5 @@
 use Rattle.std.proofs.Common.{sym, ap, ◌∙◌}
-use Rattle.std.proofs.lemmas.Result.{IfOk-weaker}
+use Rattle.std.proofs.lemmas.Result.{on_ok_weaker}
 use Rattle.model.specs.state.Rows.{row_at}
 use Rattle.archetype_store.specs.Slots.{SlotsValue}
 use Rattle.archetype_store.proofs.SlotRows.{row_at_slots}
@@ -8,4 +8,4 @@ use Rattle.archetype_store.proofs.slots.Slots.components.Goals as goal
 pub returns : goal.returns
 returns c =
     let row = sym (row_at_slots c.self.inside.book c.self.inside.archetypes c.self.invariant c.args.index) ∙ ap (λ slots. row_at slots c.args.index) (ap (λ (v : SlotsValue). v.slots) c.self.view_is) in
-    IfOk-weaker c.components.result _ _ (λ ss read. read ∙ row) c.components.ensures
+    on_ok_weaker c.components.result (λ read. read ∙ row) c.components.ensures

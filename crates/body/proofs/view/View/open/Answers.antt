@@ -18,8 +18,8 @@ returns-clause-shown c = λ state w es.
     let params = c.args.params.now in
     let memory = c.args.memory.now in
     let world = c.args.world.now.state in
-    let unread = ap (λ (x : ListsValue). x.values) c.in_ok-unread.ensures ∙ ap₂ (λ ks cs. unread_of c.args.events.now ks cs) c.reads.ensures c.cursors.ensures in
-    seen_over-shown params memory c.args.events.now world c.args.tick c.open_queries.new.opened.items c.open-2.new.self c.in_ok-unread.unread c.in_ok-sent.sent c.«open».new.self
+    let unread = ap (λ (x : ListsValue). x.values) c.in_ok-open_unread.ensures ∙ ap₂ (λ ks cs. unread_of c.args.events.now ks cs) c.reads.ensures c.cursors.ensures in
+    seen_over-shown params memory c.args.events.now world c.args.tick c.open_queries.new.opened.items c.open-2.new.self c.open_unread.new.self c.open_empty.new.self c.«open».new.self
     (subst (λ (qs : List (List Term)). map (λ (s : Sheet). s.rows) c.open_queries.new.opened.items ≡ map (λ query. rows_of query memory.last_run world.slots) qs) c.queries.ensures.queries (rw c.last_run.ensures at c.in_ok-open_queries.ensures.rows))
     c.open-2.ensures unread state w es
     ∙ ap (λ (x : IssuedSeen). shown params memory state x.granted) c.in_ok-open.ensures
@@ -29,7 +29,7 @@ returns-clause-params c = λ i. record {
   queries = (c.in_ok-open_queries.ensures.terms ∙ c.queries.ensures.queries) i;
   res = ap (λ (x : ValuesSeen). x.res) c.open-2.ensures i;
   res_mut = ap (λ (x : ValuesSeen). x.res_mut) c.open-2.ensures i;
-  reads = (ap (λ (x : ListsValue). x.kinds) c.in_ok-unread.ensures ∙ c.reads.ensures) i;
-  writes = (ap (λ (x : ListsValue). x.kinds) c.in_ok-sent.ensures ∙ c.writes.ensures) i;
+  reads = (ap (λ (x : ListsValue). x.kinds) c.in_ok-open_unread.ensures ∙ c.reads.ensures) i;
+  writes = (ap (λ (x : ListsValue). x.kinds) c.in_ok-open_empty.ensures ∙ c.writes.ensures) i;
   spawns = ap (λ (x : IssuedSeen). x.spawns) c.in_ok-open.ensures i;
 }

@@ -8,7 +8,7 @@ use Rattle.column_store.specs.Inside.{IsAtHome}
 use Rattle.column_store.proofs.Edited.{all_home}
 use Rattle.column_store.proofs.Tables.{table-alike, table-owned, alike_room}
 use Rattle.column_store.proofs.Kept.{kept-columns}
-use Rattle.column_store.proofs.Roomy.{no_room}
+use Rattle.column_store.proofs.Roomy.{no_spare}
 use Rattle.column_store.proofs.table.Table.own.Goals as goal
 
 pub own_each-requires : goal.own_each-requires
@@ -23,7 +23,7 @@ invariant_of-self c =
     let same : length c.own_each.new.columns ≡ c.self.inside.columns.len = (let a = c.own_each.auto.columns in let v = c.self.inside.columns.ok.0 in omega (arith, c.deref_mut.ensures.len)) in
     let alike = rw c.deref_mut.ensures.value at c.own_each.ensures.alike in
     rw (with_items_is c.self.inside.columns c.own_each.new.columns same)
-    (no_room ns es c.own_each.new.columns (kept-columns ns es.list c.self.inside.columns.items c.own_each.new.columns alike.columns c.self.invariant.table))
+    (no_spare ns es c.own_each.new.columns (kept-columns ns es.list c.self.inside.columns.items c.own_each.new.columns alike.columns c.self.invariant.kept.table))
 
 pub returns-clause-ok : goal.returns-clause-ok
 returns-clause-ok c =

@@ -7,7 +7,7 @@ use Rattle.column_store.specs.Table.{TableValue, is_owned}
 use Rattle.column_store.specs.Inside.{replace_all, AllRenew}
 use Rattle.column_store.proofs.Columns.{length-rows_of}
 use Rattle.column_store.proofs.Edited.{renews_row, renewed_table, renewed_kept}
-use Rattle.column_store.proofs.Roomy.{renewed_room}
+use Rattle.column_store.proofs.Roomy.{renewed_room, with_spare}
 use Rattle.column_store.proofs.table.Table.renew.Goals as goal
 
 pub replace_row-requires : goal.replace_row-requires
@@ -19,7 +19,7 @@ replace_row-requires c =
     let owned = subst (λ (t : TableValue). list_all is_owned t.standings ≡ true) (sym c.self.view_is) c.requires.owned in
     let kinds = c.requires.kinds ∙ ap (λ (t : TableValue). t.kinds) (sym c.self.view_is) in
     subst (λ columns. AllRenew c.args.row columns c.args.components.now) (sym c.deref_mut.ensures.value)
-    (renews_row ns es ps c.args.components.now c.self.invariant.table owned kinds c.args.row within)
+    (renews_row ns es ps c.args.components.now c.self.invariant.kept.table owned kinds c.args.row within)
 
 pub invariant_of-self : goal.invariant_of-self
 invariant_of-self c =
@@ -30,8 +30,9 @@ invariant_of-self c =
     let columns = c.replace_row.ensures ∙ ap (λ qs. replace_all c.args.row qs (map stamped_cell ss)) c.deref_mut.ensures.value in
     let same : length c.replace_row.new.columns ≡ c.self.inside.columns.len = (let a = c.replace_row.auto.columns in let v = c.self.inside.columns.ok.0 in omega (arith, c.deref_mut.ensures.len)) in
     rw (with_items_is c.self.inside.columns c.replace_row.new.columns same)
-    (renewed_room ns es es ps c.replace_row.new.columns c.self.inside.room c.self.invariant
-    (renewed_kept ns es.list ps c.replace_row.new.columns c.args.row ss columns c.self.invariant.table) c.args.row (map stamped_cell ss) refl columns)
+    (with_spare _ _ _ c.self.inside.spare c.self.inside.room
+    (renewed_room ns es es ps c.replace_row.new.columns c.self.inside.spare c.self.invariant.kept
+    (renewed_kept ns es.list ps c.replace_row.new.columns c.args.row ss columns c.self.invariant.kept.table) c.args.row (map stamped_cell ss) refl columns) c.self.invariant.asked)
 
 pub returns : goal.returns
 returns c =
@@ -43,4 +44,4 @@ returns c =
     let columns = c.replace_row.ensures ∙ ap (λ qs. replace_all c.args.row qs (map stamped_cell ss)) c.deref_mut.ensures.value in
     let same : length c.replace_row.new.columns ≡ c.self.inside.columns.len = (let a = c.replace_row.auto.columns in let v = c.self.inside.columns.ok.0 in omega (arith, c.deref_mut.ensures.len)) in
     rw (with_items_is c.self.inside.columns c.replace_row.new.columns same, ← c.self.view_is)
-    (ap (λ (t : TableValue). record t { room = c.self.inside.room }) (renewed_table ns es.list ps c.replace_row.new.columns c.args.row ss columns c.self.invariant.table kinds))
+    (ap (λ (t : TableValue). record t { room = c.self.inside.room }) (renewed_table ns es.list ps c.replace_row.new.columns c.args.row ss columns c.self.invariant.kept.table kinds))

@@ -7,7 +7,7 @@ use Rattle.column_store.specs.Table.{TableValue, is_owned}
 use Rattle.column_store.specs.Inside.{table_of, HasRoom, IsOwned, IsTable, AreRoomier}
 use Rattle.column_store.proofs.Edited.{all_owned}
 use Rattle.column_store.proofs.Kept.{kept-seen, roomier-seen}
-use Rattle.column_store.proofs.Roomy.{roomier_room, reserved_room}
+use Rattle.column_store.proofs.Roomy.{roomier_room, reserved_room, with_spare}
 use Rattle.column_store.proofs.Tables.{table-seen}
 use Rattle.column_store.proofs.table.Table.reserve.Goals as goal
 
@@ -28,9 +28,10 @@ invariant_of-self-in_err-reserve_rows c =
     let same : length c.reserve_rows.new.columns ≡ c.self.inside.columns.len = (let a = c.reserve_rows.auto.columns in let v = c.self.inside.columns.ok.0 in omega (arith, c.deref_mut.ensures.len)) in
     let roomier = subst (λ qs. AreRoomier qs c.reserve_rows.new.columns) c.deref_mut.ensures.value c.reserve_rows.ensures.roomier in
     let list = ap (λ (v : EntityListValue). v.list) c.reserve.ensures.same in
-    let table = subst (λ xs. IsTable ns xs c.reserve_rows.new.columns) (sym list) (kept-seen ns es.list ps c.reserve_rows.new.columns (roomier-seen ps c.reserve_rows.new.columns roomier) c.self.invariant.table) in
+    let table = subst (λ xs. IsTable ns xs c.reserve_rows.new.columns) (sym list) (kept-seen ns es.list ps c.reserve_rows.new.columns (roomier-seen ps c.reserve_rows.new.columns roomier) c.self.invariant.kept.table) in
     rw (with_items_is c.self.inside.columns c.reserve_rows.new.columns same)
-    (roomier_room ns es c.reserve.new.self ps c.reserve_rows.new.columns c.self.inside.room c.self.invariant table list c.reserve.ensures.room roomier)
+    (with_spare _ _ _ c.self.inside.spare c.self.inside.room
+    (roomier_room ns es c.reserve.new.self ps c.reserve_rows.new.columns c.self.inside.spare c.self.invariant.kept table list c.reserve.ensures.room roomier) c.self.invariant.asked)
 
 pub returns-in_err-reserve_rows-clause-err : goal.returns-in_err-reserve_rows-clause-err
 returns-in_err-reserve_rows-clause-err c =
@@ -49,16 +50,17 @@ invariant_of-self-2 c =
     let ns = map kind_number c.self.inside.kinds.items in
     let es = c.self.inside.entities in
     let ps = c.self.inside.columns.items in
-    let room = c.in-Some.room in
+    let spare = c.max-spare.result in
     let same : length c.reserve_rows.new.columns ≡ c.self.inside.columns.len = (let a = c.reserve_rows.auto.columns in let v = c.self.inside.columns.ok.0 in omega (arith, c.deref_mut.ensures.len)) in
     let roomier = subst (λ qs. AreRoomier qs c.reserve_rows.new.columns) c.deref_mut.ensures.value c.reserve_rows.ensures.roomier in
     let list = ap (λ (v : EntityListValue). v.list) c.reserve.ensures.same in
-    let table = subst (λ xs. IsTable ns xs c.reserve_rows.new.columns) (sym list) (kept-seen ns es.list ps c.reserve_rows.new.columns (roomier-seen ps c.reserve_rows.new.columns roomier) c.self.invariant.table) in
-    let count = ap length c.as_slice-count.ensures.entities in
+    let table = subst (λ xs. IsTable ns xs c.reserve_rows.new.columns) (sym list) (kept-seen ns es.list ps c.reserve_rows.new.columns (roomier-seen ps c.reserve_rows.new.columns roomier) c.self.invariant.kept.table) in
+    let count = ap length (c.as_slice-count.ensures.entities ∙ sym list) in
     rw (with_items_is c.self.inside.columns c.reserve_rows.new.columns same)
-    (reserved_room ns c.reserve.new.self c.reserve_rows.new.columns room table
-    (subst (λ xs. length xs + room ≤ c.reserve.new.self.room) (sym list) c.in_ok-reserve.ensures.ok)
-    (subst (λ n. AllByRecursion (HasRoom (n + room)) c.reserve_rows.new.columns) count c.in_ok-reserve_rows.ensures.ok))
+    (with_spare _ _ _ spare c.in-Some.room
+    (reserved_room ns c.reserve.new.self c.reserve_rows.new.columns spare table
+    (subst (λ xs. length xs + spare ≤ c.reserve.new.self.room) (sym list) c.in_ok-reserve.ensures.ok)
+    (subst (λ n. AllByRecursion (HasRoom (n + spare)) c.reserve_rows.new.columns) count c.in_ok-reserve_rows.ensures.ok)) (let most = c.max-spare.ensures in omega (arith, most)))
 
 pub returns-clause-ok : goal.returns-clause-ok
 returns-clause-ok c =

@@ -6,7 +6,7 @@ use Rattle.column_store.specs.Table.{TableValue, is_owned}
 use Rattle.column_store.specs.Inside.{swap_out_in, OwnsRow}
 use Rattle.column_store.proofs.Columns.{length-rows_of}
 use Rattle.column_store.proofs.Edited.{all_owned, owned_rows, swapped_table, swapped_kept}
-use Rattle.column_store.proofs.Roomy.{swapped_room}
+use Rattle.column_store.proofs.Roomy.{swapped_room, with_spare}
 use Rattle.column_store.proofs.table.Table.swap_remove.Goals as goal
 
 pub swap_remove-requires : goal.swap_remove-requires
@@ -19,7 +19,7 @@ swap_remove_row-requires c =
     let ps = c.self.inside.columns.items in
     let within = subst (λ n. c.args.row < n) (ap (λ (t : TableValue). length t.rows) (sym c.self.view_is) ∙ length-rows_of es ps) c.requires.within in
     let owned = subst (λ (t : TableValue). list_all is_owned t.standings ≡ true) (sym c.self.view_is) c.requires.owned in
-    subst (AllByRecursion (OwnsRow c.args.row)) (sym c.deref_mut.ensures.value) (owned_rows (length es) c.args.row ps within c.self.invariant.table.of_length (all_owned ps owned))
+    subst (AllByRecursion (OwnsRow c.args.row)) (sym c.deref_mut.ensures.value) (owned_rows (length es) c.args.row ps within c.self.invariant.kept.table.of_length (all_owned ps owned))
 
 pub invariant_of-self : goal.invariant_of-self
 invariant_of-self c =
@@ -30,9 +30,10 @@ invariant_of-self c =
     let columns = c.swap_remove_row.ensures ∙ ap (map (swap_out_in c.args.row)) c.deref_mut.ensures.value in
     let same : length c.swap_remove_row.new.columns ≡ c.self.inside.columns.len = (let a = c.swap_remove_row.auto.columns in let v = c.self.inside.columns.ok.0 in omega (arith, c.deref_mut.ensures.len)) in
     rw (with_items_is c.self.inside.columns c.swap_remove_row.new.columns same)
-    (swapped_room ns es c.swap_remove.new.self ps c.swap_remove_row.new.columns c.self.inside.room c.self.invariant
-    (swapped_kept ns es.list c.swap_remove.new.self.list ps c.swap_remove_row.new.columns c.self.invariant.table c.args.row within c.swap_remove.ensures.list columns)
-    c.args.row within c.swap_remove.ensures.list c.swap_remove.ensures.room columns)
+    (with_spare _ _ _ c.self.inside.spare c.self.inside.room
+    (swapped_room ns es c.swap_remove.new.self ps c.swap_remove_row.new.columns c.self.inside.spare c.self.invariant.kept
+    (swapped_kept ns es.list c.swap_remove.new.self.list ps c.swap_remove_row.new.columns c.self.invariant.kept.table c.args.row within c.swap_remove.ensures.list columns)
+    c.args.row within c.swap_remove.ensures.list c.swap_remove.ensures.room columns) c.self.invariant.asked)
 
 pub returns : goal.returns
 returns c =
@@ -43,4 +44,4 @@ returns c =
     let columns = c.swap_remove_row.ensures ∙ ap (map (swap_out_in c.args.row)) c.deref_mut.ensures.value in
     let same : length c.swap_remove_row.new.columns ≡ c.self.inside.columns.len = (let a = c.swap_remove_row.auto.columns in let v = c.self.inside.columns.ok.0 in omega (arith, c.deref_mut.ensures.len)) in
     rw (with_items_is c.self.inside.columns c.swap_remove_row.new.columns same, ← c.self.view_is)
-    (ap (λ (t : TableValue). record t { room = c.self.inside.room }) (swapped_table ns es.list c.swap_remove.new.self.list ps c.swap_remove_row.new.columns c.self.invariant.table c.args.row within c.swap_remove.ensures.list columns))
+    (ap (λ (t : TableValue). record t { room = c.self.inside.room }) (swapped_table ns es.list c.swap_remove.new.self.list ps c.swap_remove_row.new.columns c.self.invariant.kept.table c.args.row within c.swap_remove.ensures.list columns))

@@ -4,7 +4,7 @@ use Rattle.kinds.specs.Kind.{kind_number}
 use Rattle.column_store.specs.Table.{TableValue}
 use Rattle.column_store.specs.Inside.{room_of}
 use Rattle.column_store.proofs.Columns.{length-rows_of}
-use Rattle.column_store.proofs.Roomy.{written_room}
+use Rattle.column_store.proofs.Roomy.{written_room, with_spare}
 use Rattle.column_store.proofs.table.Table.write.Goals as goal
 
 pub write_in-requires-clause-within : goal.write_in-requires-clause-within
@@ -19,4 +19,5 @@ invariant_of-self c =
     let same : length c.write_in.new.columns ≡ c.self.inside.columns.len = (let a = c.write_in.auto.columns in let v = c.self.inside.columns.ok.0 in omega (arith, c.deref_mut.ensures.len)) in
     let kept = rw (c.deref.ensures.value, c.as_slice.ensures.entities) at c.write_in.ensures.table in
     rw (with_items_is c.self.inside.columns c.write_in.new.columns same)
-    (written_room ns es es c.self.inside.columns.items c.write_in.new.columns c.self.inside.room c.self.invariant kept refl (c.write_in.ensures.rooms ∙ ap (map room_of) c.deref_mut.ensures.value))
+    (with_spare _ _ _ c.self.inside.spare c.self.inside.room
+    (written_room ns es es c.self.inside.columns.items c.write_in.new.columns c.self.inside.spare c.self.invariant.kept kept refl (c.write_in.ensures.rooms ∙ ap (map room_of) c.deref_mut.ensures.value)) c.self.invariant.asked)
