@@ -149,6 +149,9 @@ impl EventLists {
     fn put_away(&mut self, count: usize) -> Result<(), AllocError>
         ensures { OnOk result (self.new ≡ record { kinds = []; values = [] }) }
     {
+        if count == 0 && self.lists.is_empty() {
+            return Ok(());
+        }
         while let Some(list) = self.lists.pop() {
             self.spare.push(list)?;
         }
