@@ -20,12 +20,21 @@ use smallvec::SmallVec;
 use std::alloc::{AllocError, Global};
 
 /// What a query touches, and what it asks of the kinds of an entity.
-#[derive(Drop)]
 pub(crate) struct Footprint {
     /// What its terms but the `or` terms name.
     pub(crate) words: Words,
     /// The alternatives of its `or` terms, term by term.
     pub(crate) choices: SmallVec<Alternatives, 1>,
+}
+
+// One function drops it wherever it is let go.
+impl Drop for Footprint {
+    fn drop(self) {
+        let Footprint {
+            words: _,
+            choices: _,
+        } = self;
+    }
 }
 
 /// The kinds that a query touches, writes, requires and excludes: in each word the bits of their numbers.

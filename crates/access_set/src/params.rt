@@ -18,7 +18,6 @@ use std::marker::Model;
 /// The parameters of a system: its queries, the resources that it reads (`Res`) and writes (`ResMut`), the events that it reads
 /// and writes, and how many ids it is granted at a start where it has Commands. Contracts see the lists, with resources and
 /// event kinds by number.
-#[derive(Drop)]
 pub struct Params {
     queries: Vec<Query>,
     footprints: Vec<Footprint>,
@@ -27,6 +26,21 @@ pub struct Params {
     reads: Vec<Event>,
     writes: Vec<Event>,
     spawns: Option<u32>,
+}
+
+// One function drops it wherever it is let go.
+impl Drop for Params {
+    fn drop(self) {
+        let Params {
+            queries: _,
+            footprints: _,
+            res: _,
+            res_mut: _,
+            reads: _,
+            writes: _,
+            spawns: _,
+        } = self;
+    }
 }
 
 impl Model for Params {
@@ -69,16 +83,42 @@ impl Params {
 
     /// What both touch: the queries, resources and event kinds of the one, then those of the other. The ids are those of the one. Where memory
     /// fails both are dropped.
-    pub fn union(mut self, mut other: Params) -> Result<Self, AllocError>
+    pub fn union(self, other: Params) -> Result<Self, AllocError>
         ensures { IfOk result (λ both. both ≡ union self other) }
     {
-        self.footprints.append(&mut other.footprints)?;
-        self.queries.append(&mut other.queries)?;
-        self.res.append(&mut other.res)?;
-        self.res_mut.append(&mut other.res_mut)?;
-        self.reads.append(&mut other.reads)?;
-        self.writes.append(&mut other.writes)?;
-        Ok(self)
+        let Params {
+            mut queries,
+            mut footprints,
+            mut res,
+            mut res_mut,
+            mut reads,
+            mut writes,
+            spawns,
+        } = self;
+        let Params {
+            queries: mut more_queries,
+            footprints: mut more_footprints,
+            res: mut more_res,
+            res_mut: mut more_res_mut,
+            reads: mut more_reads,
+            writes: mut more_writes,
+            spawns: _,
+        } = other;
+        queries.append(&mut more_queries)?;
+        footprints.append(&mut more_footprints)?;
+        res.append(&mut more_res)?;
+        res_mut.append(&mut more_res_mut)?;
+        reads.append(&mut more_reads)?;
+        writes.append(&mut more_writes)?;
+        Ok(Params {
+            queries,
+            footprints,
+            res,
+            res_mut,
+            reads,
+            writes,
+            spawns,
+        })
     }
 
     /// Adds a query after the others. Where an allocation fails the parameters stay as they were.

@@ -7,7 +7,6 @@ use column_store::{Components, StampedValue};
 use entity_table::Entity;
 
 /// What an entity is left as.
-#[derive(Drop)]
 pub enum Fate {
     /// It lives, with these components, in rising kinds.
     Lives(Components),
@@ -15,13 +14,29 @@ pub enum Fate {
     Dies,
 }
 
+// One function drops it wherever it is let go.
+impl Drop for Fate {
+    fn drop(self) {
+        match self {
+            Fate::Lives(_components) => {}
+            Fate::Dies => {}
+        }
+    }
+}
+
 /// What becomes of an entity that lives, or whose id is granted.
-#[derive(Drop)]
 pub struct EntityChange {
     /// The entity.
     pub entity: Entity,
     /// What it is left as.
     pub fate: Fate,
+}
+
+// One function drops it wherever it is let go.
+impl Drop for EntityChange {
+    fn drop(self) {
+        let EntityChange { entity: _, fate: _ } = self;
+    }
 }
 
 impl EntityChange {

@@ -1,4 +1,5 @@
 pub mod Fitting
 pub mod Partings
+pub mod Scenes
 pub mod StoryRuns
 pub mod Witnesses

@@ -1,3 +1,4 @@
 pub mod Parting
 pub mod Stories
 pub mod Witness
+pub mod Worlds

@@ -6,7 +6,7 @@ use Rattle.model.specs.runs.Replays.{IsReplayed}
 use Rattle.model.specs.shown.Outcome.{BodyMeaning}
 use Rattle.model.specs.state.State.{State}
 use Rattle.model.specs.steps.Schedule.{Schedule, Recorded, recording}
-use Rattle.story.specs.Story.{worlds_text}
+use Rattle.findings.specs.Worlds.{worlds_text}
 
 -- whether the run of this number is asked for: all where none is named
 abbrev pub is_asked : Option ℕ → ℕ → Bool

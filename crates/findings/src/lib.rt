@@ -6,3 +6,4 @@ pub mod listing;
 pub mod stories;
 pub mod telling;
 pub mod witness;
+mod worlds;

@@ -7,8 +7,9 @@ ghost use Rattle.model.specs.runs.Replays.{IsReplayed};
 ghost use Rattle.model.specs.steps.Lawful.{IsLawful};
 ghost use Rattle.model.specs.steps.Schedule.{recording};
 ghost use Rattle.program.specs.Setup.{AreScriptsOf, meanings_of_scripts, script_suits};
-ghost use Rattle.story.specs.Story.{worlds_text};
+ghost use Rattle.findings.specs.Worlds.{worlds_text};
 
+use crate::worlds::worlds_of;
 use body::State;
 use engine::RunFault;
 use executor_core::Trace;
@@ -17,7 +18,6 @@ use program::replaying::replay_run;
 use schedule_builder::Built;
 use script::ScriptBody;
 use std::alloc::Global;
-use story::worlds::worlds_of;
 use trace_checker::ReplayFault;
 
 /// The runs of a trace, taken again one after the other: how many there are, and the world after each sync point of the run that is asked for, counted

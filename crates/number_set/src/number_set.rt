@@ -10,9 +10,15 @@ use std::marker::Model;
 const BITS: u32 = 64;
 
 /// A set of numbers below a bound that is fixed when it is made. Contracts see its words, and its members by `contains`.
-#[derive(Drop)]
 pub struct NumberSet {
     words: Vec<u64>,
+}
+
+// One function drops it wherever it is let go.
+impl Drop for NumberSet {
+    fn drop(self) {
+        let NumberSet { words: _ } = self;
+    }
 }
 
 impl Model for NumberSet {

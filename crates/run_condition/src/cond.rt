@@ -12,9 +12,15 @@ use std::marker::Model;
 
 /// A run condition: what is asked before a system runs. Contracts see the condition of the definitions, with resources and
 /// event kinds by number.
-#[derive(Drop)]
 pub struct Cond {
     tree: Tree,
+}
+
+// One function drops it wherever it is let go.
+impl Drop for Cond {
+    fn drop(self) {
+        let Cond { tree: _ } = self;
+    }
 }
 
 /// A condition and its parts.
@@ -111,8 +117,9 @@ impl Cond {
     pub fn not(alloc: Global, cond: Cond) -> Result<Self, AllocError>
         ensures { IfOk result (λ made. made ≡ Condition.Not cond) }
     {
+        let Cond { tree } = cond;
         Ok(Cond {
-            tree: Tree::Not(Box::new(alloc, cond.tree)?),
+            tree: Tree::Not(Box::new(alloc, tree)?),
         })
     }
 
@@ -120,8 +127,10 @@ impl Cond {
     pub fn and(alloc: Global, left: Cond, right: Cond) -> Result<Self, AllocError>
         ensures { IfOk result (λ made. made ≡ Condition.And left right) }
     {
+        let Cond { tree: left } = left;
+        let Cond { tree: right } = right;
         Ok(Cond {
-            tree: Tree::And(Box::new(alloc, left.tree)?, Box::new(alloc, right.tree)?),
+            tree: Tree::And(Box::new(alloc, left)?, Box::new(alloc, right)?),
         })
     }
 
@@ -129,8 +138,10 @@ impl Cond {
     pub fn or(alloc: Global, left: Cond, right: Cond) -> Result<Self, AllocError>
         ensures { IfOk result (λ made. made ≡ Condition.Or left right) }
     {
+        let Cond { tree: left } = left;
+        let Cond { tree: right } = right;
         Ok(Cond {
-            tree: Tree::Or(Box::new(alloc, left.tree)?, Box::new(alloc, right.tree)?),
+            tree: Tree::Or(Box::new(alloc, left)?, Box::new(alloc, right)?),
         })
     }
 

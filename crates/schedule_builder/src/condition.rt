@@ -10,11 +10,21 @@ use std::alloc::{AllocError, Global};
 use std::marker::Model;
 
 /// A run condition of a built schedule: what it asks, and the systems that it covers. Contracts see these two.
-#[derive(Drop)]
 pub struct Condition {
     cond: Cond,
     access: Params,
     covers: Vec<u32>,
+}
+
+// One function drops it wherever it is let go.
+impl Drop for Condition {
+    fn drop(self) {
+        let Condition {
+            cond: _,
+            access: _,
+            covers: _,
+        } = self;
+    }
 }
 
 impl Model for Condition {

@@ -11,7 +11,6 @@ use std::marker::Model;
 /// A declared item, which is a set, or what a system has besides its parameters: its name, the names of the sets that it is in, those
 /// of the items that it runs before and after, and of those with which it may be ambiguous, and the conditions on which it runs.
 /// Contracts see names by their bytes.
-#[derive(Drop)]
 pub struct ItemDesc {
     name: String,
     inside: Vec<String>,
@@ -21,6 +20,22 @@ pub struct ItemDesc {
     after_ignore_deferred: Vec<String>,
     ambiguous_with: Vec<String>,
     conditions: Vec<Cond>,
+}
+
+// One function drops it wherever it is let go.
+impl Drop for ItemDesc {
+    fn drop(self) {
+        let ItemDesc {
+            name: _,
+            inside: _,
+            before: _,
+            after: _,
+            before_ignore_deferred: _,
+            after_ignore_deferred: _,
+            ambiguous_with: _,
+            conditions: _,
+        } = self;
+    }
 }
 
 impl Model for ItemDesc {
@@ -177,15 +192,31 @@ impl ItemDesc {
     pub fn into_conditions(self) -> Vec<Cond>
         ensures { result.items ≡ self.conditions }
     {
-        self.conditions
+        let ItemDesc {
+            name: _,
+            inside: _,
+            before: _,
+            after: _,
+            before_ignore_deferred: _,
+            after_ignore_deferred: _,
+            ambiguous_with: _,
+            conditions,
+        } = self;
+        conditions
     }
 }
 
 /// A declared system: an item with parameters.
-#[derive(Drop)]
 pub struct SystemDesc {
     item: ItemDesc,
     params: Params,
+}
+
+// One function drops it wherever it is let go.
+impl Drop for SystemDesc {
+    fn drop(self) {
+        let SystemDesc { item: _, params: _ } = self;
+    }
 }
 
 impl Model for SystemDesc {
@@ -267,15 +298,25 @@ impl SystemDesc {
     pub fn into_parts(self) -> (ItemDesc, Params)
         ensures { result ≡ (self.item, self.params) }
     {
-        (self.item, self.params)
+        let SystemDesc { item, params } = self;
+        (item, params)
     }
 }
 
 /// A declared chain: items by name, each of which runs before the next, and whether these orders ignore that commands are deferred.
-#[derive(Drop)]
 pub struct ChainDesc {
     items: Vec<String>,
     ignores_deferred: bool,
+}
+
+// One function drops it wherever it is let go.
+impl Drop for ChainDesc {
+    fn drop(self) {
+        let ChainDesc {
+            items: _,
+            ignores_deferred: _,
+        } = self;
+    }
 }
 
 impl Model for ChainDesc {
@@ -327,11 +368,21 @@ impl ChainDesc {
 
 /// A declared schedule: its sets, its systems and its chains, each in declared order. Sets are items before systems, whichever were
 /// declared first.
-#[derive(Drop)]
 pub struct ScheduleDesc {
     sets: Vec<ItemDesc>,
     systems: Vec<SystemDesc>,
     chains: Vec<ChainDesc>,
+}
+
+// One function drops it wherever it is let go.
+impl Drop for ScheduleDesc {
+    fn drop(self) {
+        let ScheduleDesc {
+            sets: _,
+            systems: _,
+            chains: _,
+        } = self;
+    }
 }
 
 impl Model for ScheduleDesc {
@@ -437,6 +488,11 @@ impl ScheduleDesc {
         ensures sets { result.0.items ≡ self.sets }
         ensures systems { result.1.items ≡ self.systems }
     {
-        (self.sets, self.systems)
+        let ScheduleDesc {
+            sets,
+            systems,
+            chains: _,
+        } = self;
+        (sets, systems)
     }
 }

@@ -6,11 +6,21 @@ use access_set::Params;
 use std::marker::Model;
 
 /// A system of a built schedule: its parameters, the systems with an edge to it, and its level. Contracts see these three.
-#[derive(Drop)]
 pub struct System {
     params: Params,
     predecessors: Vec<u32>,
     level: u32,
+}
+
+// One function drops it wherever it is let go.
+impl Drop for System {
+    fn drop(self) {
+        let System {
+            params: _,
+            predecessors: _,
+            level: _,
+        } = self;
+    }
 }
 
 impl Model for System {
@@ -40,7 +50,16 @@ impl System {
     pub(crate) fn at_level(self, level: u32) -> Self
         ensures { result ≡ record self { level = level } }
     {
-        System { level, ..self }
+        let System {
+            params,
+            predecessors,
+            level: _,
+        } = self;
+        System {
+            params,
+            predecessors,
+            level,
+        }
     }
 
     /// Its parameters.

@@ -10,9 +10,15 @@ use std::alloc::{AllocError, Global};
 use std::marker::Model;
 
 /// The members of an item, by their numbers among the systems, in rising order. Contracts see them.
-#[derive(Drop)]
 pub struct Members {
     numbers: Vec<u32>,
+}
+
+// One function drops it wherever it is let go.
+impl Drop for Members {
+    fn drop(self) {
+        let Members { numbers: _ } = self;
+    }
 }
 
 impl Model for Members {

@@ -1,7 +1,7 @@
 use Rattle.std.proofs.Common.{List, ap₂, ◌∙◌}
 use Rattle.model.specs.shown.Outcome.{BodyMeaning}
 use Rattle.model.specs.state.State.{State}
-use Rattle.story.specs.Story.{worlds_text}
+use Rattle.findings.specs.Worlds.{worlds_text}
 use Rattle.findings.proofs.stories.told_run.Goals as goal
 
 -- the worlds of a copy of the state, by scripts that mean what they meant

@@ -1,7 +1,7 @@
 use Rattle.std.proofs.Common.{rules}
 use Rattle.body.specs.Steps.{store_of}
 use Rattle.body.proofs.Outs.{none-out}
-use Rattle.story.proofs.worlds.worlds_of.Goals as goal
+use Rattle.findings.proofs.worlds.worlds_of.Goals as goal
 
 pub worlds_in-requires-clause-stands : goal.worlds_in-requires-clause-stands
 worlds_in-requires-clause-stands g c κs within = record {

@@ -14,11 +14,11 @@ use Rattle.body.proofs.Outs.{all-home, none-out}
 use Rattle.engine.specs.Deferred.{AreInHand, DeferredValue, IsDeferredFor, run_with}
 use Rattle.engine.specs.Meanings.{Suits, meanings}
 use Rattle.engine.proofs.Remembering.{memories_opened}
-use Rattle.story.specs.Story.{scene_text, worlds_text}
+use Rattle.findings.specs.Worlds.{scene_text, worlds_text}
 use Rattle.trace_checker.proofs.StepsRecording.{known_by}
 use Rattle.trace_checker.proofs.Taking.{known_at}
-use Rattle.story.proofs.Scenes.{fresh_by, given_by, meant_next, told_next, waits_by}
-use Rattle.story.proofs.worlds.worlds_in.Goals as goal
+use Rattle.findings.proofs.Scenes.{fresh_by, given_by, meant_next, told_next, waits_by}
+use Rattle.findings.proofs.worlds.worlds_in.Goals as goal
 
 pub loop-step-init : goal.loop-step-init
 loop-step-init g c =

@@ -1,6 +1,6 @@
 use Rattle.body.specs.Steps.{store_of}
 use Rattle.body.proofs.Outs.{all-home, none-out}
-use Rattle.story.proofs.worlds.told_after.Goals as goal
+use Rattle.findings.proofs.worlds.told_after.Goals as goal
 
 -- all columns of the state are at home
 pub into_state-state-requires : goal.into_state-state-requires

@@ -19,7 +19,7 @@ use Rattle.model.proofs.serial.Recording.{built-recording, given-recording, seri
 use Rattle.model.proofs.shape.GivenIds.{ids-free, ids-serial}
 use Rattle.engine.proofs.Fresh.{serial_fresh}
 use Rattle.trace_checker.proofs.Verdicts.{cut_at, history_next, lawful_at, may_at}
-use Rattle.story.specs.Story.{after_text, scene_text, worlds_text}
+use Rattle.findings.specs.Worlds.{after_text, scene_text, worlds_text}
 
 module _ (s : Schedule) (sets : Option (List (List ℕ))) (bodies : List BodyMeaning) (start : State) (steps : List Step) (i : ℕ) (d : Step) (below : i < length steps) (run : RunState) where
   may : IsLawful (recording s sets) (reverse steps) → May (recording s sets) (reverse (take i steps)) (get_or steps i d)

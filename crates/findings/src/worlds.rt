@@ -6,7 +6,7 @@ ghost use Rattle.body.specs.Steps.{store_of};
 ghost use Rattle.engine.specs.Meanings.{AllKeepWithin, AreFit, Suits, meanings};
 ghost use Rattle.model.specs.steps.Lawful.{IsLawful};
 ghost use Rattle.model.specs.steps.Schedule.{recording};
-ghost use Rattle.story.specs.Story.{head_text, scene_text, worlds_text};
+ghost use Rattle.findings.specs.Worlds.{head_text, scene_text, worlds_text};
 ghost use Rattle.trace_checker.specs.Standing.{StandsBefore};
 
 use body::{Body, State};
@@ -22,7 +22,7 @@ use trace_checker::replay::take;
 /// The worlds after the sync points of a lawful run that comes behind so many, from its opening on: of each the numbers of the run and of the step, and the
 /// sync point, in a line of its own, and then its text, as a world behind the runs before it. The steps are taken as a replay takes them, and neither recorded
 /// answers nor recorded kind sets are compared here.
-pub fn worlds_of<B: Body>(
+pub(crate) fn worlds_of<B: Body>(
     alloc: Global,
     built: &Built,
     bodies: &mut [B],

@@ -2,9 +2,9 @@ use Rattle.std.proofs.Common.{◌≡◌, map, take, reverse, Some, string_bytes}
 use Rattle.engine.specs.Deferred.{run_with}
 use Rattle.engine.specs.Meanings.{meanings}
 use Rattle.model.specs.runs.Meaning.{serial}
-use Rattle.story.specs.Story.{worlds_text}
+use Rattle.findings.specs.Worlds.{worlds_text}
 use Rattle.trace_checker.specs.Standing.{StandsBetween}
-use Rattle.story.proofs.worlds.worlds_in.Given as goal
+use Rattle.findings.proofs.worlds.worlds_in.Given as goal
 
 -- the steps so far are taken, and their worlds are told; the bodies mean what they meant and suit the state, no column is away, and what systems have
 -- deferred is for the schedule, with its ids in hand
