@@ -24,11 +24,18 @@ pub(crate) struct Filter<'a> {
     pub(crate) is_added: bool,
 }
 
-// Filters, in order. One alone stands here, so that no list is made for it.
+// Two filters.
+#[derive(Clone, Copy)]
+pub(crate) struct Pair<'a> {
+    pub(crate) filters: [Filter<'a>; 2],
+}
+
+// Filters, in order. One or two stand here, so that no list is made for them.
 #[derive(Drop)]
 pub(crate) enum Filters<'a> {
     Without,
     One(Filter<'a>),
+    Two(Pair<'a>),
     Several(Vec<Filter<'a>>),
 }
 
@@ -40,6 +47,7 @@ impl<'a> Filters<'a> {
         match self {
             Filters::Without => &[],
             Filters::One(filter) => slice::from_ref(filter),
+            Filters::Two(pair) => &pair.filters,
             Filters::Several(filters) => filters.as_slice(),
         }
     }
@@ -50,9 +58,11 @@ impl<'a> Filters<'a> {
     {
         match self {
             Filters::Without => Ok(Filters::One(filter)),
-            Filters::One(first) => {
-                let mut filters = Vec::new(alloc);
-                filters.push(first)?;
+            Filters::One(first) => Ok(Filters::Two(Pair {
+                filters: [first, filter],
+            })),
+            Filters::Two(pair) => {
+                let mut filters = Vec::from_array(alloc, pair.filters)?;
                 filters.push(filter)?;
                 Ok(Filters::Several(filters))
             }
@@ -64,7 +74,7 @@ impl<'a> Filters<'a> {
     }
 }
 
-// The filters of these terms among the entities of the archetype of a number. It allocates only where there are several.
+// The filters of these terms among the entities of the archetype of a number. It allocates only where there are more than two.
 pub(crate) fn filters_of<'w>(
     alloc: Global,
     terms: &[Term],

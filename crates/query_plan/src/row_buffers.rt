@@ -78,8 +78,8 @@ impl RowBuffers {
         }
     }
 
-    /// Keeps the buffer of places, where they have one.
-    pub(crate) fn give_places(&mut self, places: MatchedRows) {
+    /// Keeps the buffer of places that nobody reads any more, where they have one.
+    pub fn give_places(&mut self, places: MatchedRows) {
         if let MatchedRows::Listed(rows) = places {
             self.give(rows);
         }
