@@ -1,6 +1,6 @@
 // Grants: how many ids are asked for, the lists that they come into, and one grant after the other.
 
-ghost use Rattle.std.specs.Prelude.{◌≡◌, ◌++◌, ◌+◌, ◌-◌, ◌≤◌, [], ◌∷◌, length, map, min, sum, vec_len, vec_capacity, IfOk};
+ghost use Rattle.std.specs.Prelude.{◌≡◌, ◌++◌, ◌+◌, ◌-◌, ◌≤◌, [], ◌∷◌, length, map, min, sum, vec_len, vec_capacity, OnOk};
 ghost use Rattle.model.specs.state.State.{most_indices};
 ghost use Rattle.model.specs.state.Ids as ids;
 ghost use Rattle.model.specs.state.Ids.{vacant_indices, granted_ids};
@@ -22,15 +22,40 @@ pub(crate) fn sum_of(counts: &[u32]) -> usize
     total
 }
 
-/// An empty list for each count, with room for so many ids.
-pub(crate) fn lists_for(alloc: Global, counts: &[u32]) -> Result<Vec<Vec<Entity>>, AllocError>
-    ensures { IfOk result (λ lists. AreRoomy 0 counts.now lists.items) }
+/// Makes these lists ready for the ids of each count: a list for each, empty and with room for so many ids. What was in them is gone. The
+/// lists that are there keep their room, so where that is enough no memory is taken.
+pub(crate) fn make_ready(
+    alloc: Global,
+    counts: &[u32],
+    lists: &mut Vec<Vec<Entity>>,
+) -> Result<(), AllocError>
+    ensures { OnOk result (AreRoomy 0 counts.now lists.new.items) }
 {
-    let mut lists = Vec::with_capacity(alloc, counts.len())?;
-    for count in counts {
-        lists.push_reserved(Vec::with_capacity(alloc, *count as usize)?);
+    make_so_many(alloc, counts.len(), lists)?;
+    for (place, count) in counts.iter().enumerate() {
+        make_empty(&mut lists[place], *count as usize)?;
     }
-    Ok(lists)
+    Ok(())
+}
+
+// Makes them so many lists.
+fn make_so_many(alloc: Global, count: usize, lists: &mut Vec<Vec<Entity>>) -> Result<(), AllocError>
+    ensures { OnOk result (length lists.new.items ≡ count) }
+{
+    lists.truncate(count);
+    for _ in lists.len()..count {
+        lists.push(Vec::new(alloc))?;
+    }
+    Ok(())
+}
+
+// Makes a list empty, with room for so many ids.
+fn make_empty(list: &mut Vec<Entity>, count: usize) -> Result<(), AllocError>
+    ensures empty { list.new.items ≡ [] }
+    ensures room { OnOk result (count ≤ vec_capacity list.new) }
+{
+    list.clear();
+    list.reserve(count)
 }
 
 /// Grants the ids of each count after those of the counts before it, into its list. There is room for all of them.

@@ -11,7 +11,7 @@ ghost use Rattle.entity_table.specs.Ids.{slot_at, lives_at, living_count, IsGran
 
 use crate::entity_meta::EntityMeta;
 use crate::fault::GrantFault;
-use crate::granting::{grant_each, grant_lists, lists_for, sum_of};
+use crate::granting::{grant_each, grant_lists, make_ready, sum_of};
 use crate::min_heap::MinHeap;
 use crate::status::Status;
 use model::Entity;
@@ -156,15 +156,16 @@ impl EntityTable {
     }
 
     /// Grants several numbers of ids at once, as a grant of each after the others would: the least vacant indices, at their
-    /// generations, first those of the first number. It makes the room that `settle`, `release` and `despawn` need later. It is
-    /// refused where fewer indices are left than are asked for in all, and where an allocation fails. After an error nothing has
-    /// changed.
+    /// generations, first those of the first number. They come into a list for each number, in place of what was there: lists that
+    /// are long enough take no memory. It makes the room that `settle`, `release` and `despawn` need later. It is refused where fewer
+    /// indices are left than are asked for in all, and where an allocation fails. After an error nothing of the book has changed.
     pub fn grant_level(
         &mut self,
         alloc: Global,
         counts: &[u32],
-    ) -> Result<Vec<Vec<Entity>>, GrantFault>
-        ensures ok { IfOk result (λ granted. map (λ list. list.items) granted.items ≡ ids.ids_of_each counts.now self.old) }
+        granted: &mut Vec<Vec<Entity>>,
+    ) -> Result<(), GrantFault>
+        ensures ok { OnOk result (map (λ list. list.items) granted.new.items ≡ ids.ids_of_each counts.now self.old) }
         ensures granted { OnOk result (self.new ≡ ids.grant_each counts.now self.old) }
         ensures spent { IsErrOf result GrantFault.IdsSpent ↔ (ids.has_ids_for_each counts.now self.old ≡ false) }
         ensures err { OnErr result (self.new ≡ self.old) }
@@ -174,11 +175,11 @@ impl EntityTable {
         if MOST_INDICES < had.saturating_add(missing) {
             return Err(GrantFault::IdsSpent);
         }
-        let mut granted = lists_for(alloc, counts)?;
+        make_ready(alloc, counts, granted)?;
         self.places.reserve(missing)?;
         self.vacant.make_room(had + missing)?;
-        grant_lists(&mut self.places, &mut self.vacant, &mut granted, counts);
-        Ok(granted)
+        grant_lists(&mut self.places, &mut self.vacant, granted, counts);
+        Ok(())
     }
 
     /// Makes the entity of a granted id live.

@@ -41,9 +41,9 @@ returns-then-saturating_add-gt-MOST_INDICES-clause-spent c =
     rw (← c.self.view_is) (has_ids_for_each-is c.args.counts.now items c.self.invariant.kept.whole.few ∙ has_ids-false (sum c.args.counts.now) items wanted) in
     search rules
 
-pub returns-in_err-granted-clause-spent : goal.returns-in_err-granted-clause-spent
-returns-in_err-granted-clause-spent c =
-    let h = some (goal.at.returns-in_err-granted-clause-spent c).Else-saturating_add-gt-MOST_INDICES in
+pub returns-in_err-make_ready-clause-spent : goal.returns-in_err-make_ready-clause-spent
+returns-in_err-make_ready-clause-spent c =
+    let h = some (goal.at.returns-in_err-make_ready-clause-spent c).Else-saturating_add-gt-MOST_INDICES in
     search rules
 
 pub returns-in_err-reserve-clause-spent : goal.returns-in_err-reserve-clause-spent
