@@ -1,13 +1,15 @@
 -- What the parts of a condition answer, put together.
-use Rattle.std.proofs.Common.{ℕ, zero, suc, ◌<◌, ◌≡◌, Bool, true, false, not, ◌||◌, ◌&&◌, List, [], ◌∷◌, ◌++◌, map, length, get_or, refl, sym, ap, ◌∙◌, subst, arith}
+use Rattle.std.proofs.Common.{ℕ, suc, ◌+◌, ◌<◌, ◌≡◌, Bool, not, ◌||◌, ◌&&◌, List, [], ◌∷◌, ◌++◌, map, refl, sym, ap, ◌∙◌, subst, arith}
 use Rattle.std.specs.List.{AllByRecursion}
-use Rattle.model.specs.Lists.{is_there, head_or, tail_of}
+use Rattle.model.specs.Lists.{is_there}
 use Rattle.model.specs.access.Query.{Term}
 use Rattle.model.specs.access.Condition.{Condition, holds, cursors_after, queries_of}
 use Rattle.model.specs.access.Condition.Condition.{AnyWith, Not, And, Or}
 use Rattle.model.specs.shown.Input.{rows_of}
-use Rattle.model.specs.state.State.{State, World, EventQueue}
-use Rattle.condition_eval.specs.Told.{rows_there, IsMeant, IsAnswer}
+use Rattle.model.specs.state.State.{World, EventQueue}
+use Rattle.run_condition.specs.Tree.{condition_of}
+use Rattle.run_condition.specs.declared.cond.Tree.{Tree}
+use Rattle.condition_eval.specs.Told.{IsMeant}
 
 -- lists of the same entities are both there or both not
 pub there_alike : {A B C : Type 0} (f : A → C) (g : B → C) (xs : List A) (ys : List B) → map f xs ≡ map g ys → is_there xs ≡ is_there ys
@@ -16,50 +18,68 @@ there_alike f g [] (y ∷ ys) e = cc
 there_alike f g (x ∷ xs) [] e = cc
 there_alike f g (x ∷ xs) (y ∷ ys) e = refl
 
--- two lists one after the other are there where one of them is
-pub there_of_two : {A : Type 0} (xs ys : List A) → (is_there xs || is_there ys) ≡ is_there (xs ++ ys)
-there_of_two [] [] = refl
-there_of_two [] (y ∷ ys) = refl
-there_of_two (x ∷ xs) ys = refl
+-- what holds of all of two lists holds of all of each
+pub all_first : {A : Type 0} (P : A → Type 0) (xs ys : List A) → AllByRecursion P (xs ++ ys) → AllByRecursion P xs
+all_first P [] ys all = tt
+all_first P (x ∷ xs) ys all = (all.0, all_first P xs ys all.1)
 
--- what is known of the queries of two conditions is what is known of those of the first, and then of those of the second
-rows_of_two : (world : World) (last_run : ℕ) (first second : List (List Term)) (others : List Bool) →
-    rows_there world last_run (first ++ second) ++ others ≡ rows_there world last_run first ++ (rows_there world last_run second ++ others)
-rows_of_two world last_run [] second others = refl
-rows_of_two world last_run (query ∷ first) second others = ap (λ (xs : List Bool). is_there (rows_of query last_run world.slots) ∷ xs) (rows_of_two world last_run first second others)
+pub all_second : {A : Type 0} (P : A → Type 0) (xs ys : List A) → AllByRecursion P (xs ++ ys) → AllByRecursion P ys
+all_second P [] ys all = all
+all_second P (x ∷ xs) ys all = all_second P xs ys all.1
 
--- both answers
-pub told_both : (c d : Condition) (world : World) (events : List EventQueue) (last_run : ℕ) (cursors middle : List ℕ) (found between rest : List Bool) (one other : Bool) →
-    IsAnswer c world events last_run cursors found one between → middle ≡ cursors_after c cursors → IsAnswer d world events last_run middle between other rest →
-    IsAnswer (And c d) world events last_run cursors found (one && other) rest
-told_both c d world events last_run cursors middle found between rest one other left after right others is =
-    let first = left (rows_there world last_run (queries_of d) ++ others) (is ∙ rows_of_two world last_run (queries_of c) (queries_of d) others) in
-    let second = right others first.1 in
-    ((λ state w e. ap (λ b. b && other) (first.0 state w e) ∙ ap (λ b. holds c last_run cursors state && b) (second.0 state w e ∙ ap (λ (xs : List ℕ). holds d last_run xs state) after)), second.1)
+-- how many parts a condition has, itself among them
+abbrev pub parts : Condition → ℕ
+parts (Not c) = suc (parts c)
+parts (And c d) = suc (parts c + parts d)
+parts (Or c d) = suc (parts c + parts d)
+parts _ = 1
 
-pub told_either : (c d : Condition) (world : World) (events : List EventQueue) (last_run : ℕ) (cursors middle : List ℕ) (found between rest : List Bool) (one other : Bool) →
-    IsAnswer c world events last_run cursors found one between → middle ≡ cursors_after c cursors → IsAnswer d world events last_run middle between other rest →
-    IsAnswer (Or c d) world events last_run cursors found (one || other) rest
-told_either c d world events last_run cursors middle found between rest one other left after right others is =
-    let first = left (rows_there world last_run (queries_of d) ++ others) (is ∙ rows_of_two world last_run (queries_of c) (queries_of d) others) in
-    let second = right others first.1 in
-    ((λ state w e. ap (λ b. b || other) (first.0 state w e) ∙ ap (λ b. holds c last_run cursors state || b) (second.0 state w e ∙ ap (λ (xs : List ℕ). holds d last_run xs state) after)), second.1)
+-- what is within has fewer parts, and what holds of all queries of the whole holds of its
+abbrev pub IsWithin : (List Term → Type 0) → Condition → Condition → Type 0
+IsWithin P inner whole = (parts inner < parts whole) × (AllByRecursion P (queries_of whole) → AllByRecursion P (queries_of inner))
 
--- the other answer
-pub told_not : (c : Condition) (world : World) (events : List EventQueue) (last_run : ℕ) (cursors : List ℕ) (found rest : List Bool) (answer : Bool) →
-    IsAnswer c world events last_run cursors found answer rest → IsAnswer (Not c) world events last_run cursors found (not answer) rest
-told_not c world events last_run cursors found rest answer told others is = let inner = told others is in ((λ state w e. ap not (inner.0 state w e)), inner.1)
+pub inner_of_not : (P : List Term → Type 0) (c : Condition) → IsWithin P c (Not c)
+inner_of_not P c = (omega arith, λ all. all)
 
--- what is known of the first query
-pub told_rows : (query : List Term) (world : World) (events : List EventQueue) (last_run : ℕ) (cursors : List ℕ) (found : List Bool) →
-    IsAnswer (AnyWith query) world events last_run cursors found (head_or false found) (tail_of found)
-told_rows query world events last_run cursors found others is = (
-  (λ state w e. ap (head_or false) is ∙ ap (λ (x : World). head_or false (rows_there x last_run (query ∷ []))) (sym w)),
-  ap tail_of is,
+pub first_of_and : (P : List Term → Type 0) (c d : Condition) → IsWithin P c (And c d)
+first_of_and P c d = (omega arith, all_first P (queries_of c) (queries_of d))
+
+pub second_of_and : (P : List Term → Type 0) (c d : Condition) → IsWithin P d (And c d)
+second_of_and P c d = (omega arith, all_second P (queries_of c) (queries_of d))
+
+pub first_of_or : (P : List Term → Type 0) (c d : Condition) → IsWithin P c (Or c d)
+first_of_or P c d = (omega arith, all_first P (queries_of c) (queries_of d))
+
+pub second_of_or : (P : List Term → Type 0) (c d : Condition) → IsWithin P d (Or c d)
+second_of_or P c d = (omega arith, all_second P (queries_of c) (queries_of d))
+
+-- so it is of what is the same
+pub within_is : (P : List Term → Type 0) (t : ℕ) (inner whole part tree : Tree) → IsWithin P (condition_of inner) (condition_of whole) → part ≡ inner → tree ≡ whole → parts (condition_of tree) ≡ t →
+    AllByRecursion P (queries_of (condition_of tree)) → (parts (condition_of part) < t) × AllByRecursion P (queries_of (condition_of part))
+within_is P t inner whole part tree is same at count all = (
+  subst (λ (x : Tree). parts (condition_of x) < t) (sym same) (subst (λ n. parts (condition_of inner) < n) (sym (ap (λ (x : Tree). parts (condition_of x)) at) ∙ count) is.0),
+  subst (λ (x : Tree). AllByRecursion P (queries_of (condition_of x))) (sym same) (is.1 (subst (λ (x : Tree). AllByRecursion P (queries_of (condition_of x))) at all)),
 )
 
--- what holds of all of a list that was mapped holds of each
-pub all_mapped_at : {A B : Type 0} (P : B → Type 0) (f : A → B) (xs : List A) (i : ℕ) (x : A) → AllByRecursion P (map f xs) → i < length xs → x ≡ get_or xs i x → P (f x)
-all_mapped_at P f [] i x all low is = absurd (omega arith)
-all_mapped_at P f (y ∷ xs) zero x all low is = subst (λ z. P (f z)) (sym is) all.0
-all_mapped_at P f (y ∷ xs) (suc i) x all low is = all_mapped_at P f xs i x all.1 (omega arith) is
+-- both answers
+pub meant_both : (c d : Condition) (world : World) (events : List EventQueue) (last_run : ℕ) (cursors middle : List ℕ) (one other : Bool) →
+    IsMeant c world events last_run cursors one → middle ≡ cursors_after c cursors → IsMeant d world events last_run middle other →
+    IsMeant (And c d) world events last_run cursors (one && other)
+meant_both c d world events last_run cursors middle one other left after right state w e =
+    ap (λ b. b && other) (left state w e) ∙ ap (λ b. holds c last_run cursors state && b) (right state w e ∙ ap (λ (xs : List ℕ). holds d last_run xs state) after)
+
+pub meant_either : (c d : Condition) (world : World) (events : List EventQueue) (last_run : ℕ) (cursors middle : List ℕ) (one other : Bool) →
+    IsMeant c world events last_run cursors one → middle ≡ cursors_after c cursors → IsMeant d world events last_run middle other →
+    IsMeant (Or c d) world events last_run cursors (one || other)
+meant_either c d world events last_run cursors middle one other left after right state w e =
+    ap (λ b. b || other) (left state w e) ∙ ap (λ b. holds c last_run cursors state || b) (right state w e ∙ ap (λ (xs : List ℕ). holds d last_run xs state) after)
+
+-- the other answer
+pub meant_not : (c : Condition) (world : World) (events : List EventQueue) (last_run : ℕ) (cursors : List ℕ) (answer : Bool) →
+    IsMeant c world events last_run cursors answer → IsMeant (Not c) world events last_run cursors (not answer)
+meant_not c world events last_run cursors answer told state w e = ap not (told state w e)
+
+-- whether a query has a row
+pub meant_rows : (query : List Term) (world : World) (events : List EventQueue) (last_run : ℕ) (cursors : List ℕ) (answer : Bool) →
+    answer ≡ is_there (rows_of query last_run world.slots) → IsMeant (AnyWith query) world events last_run cursors answer
+meant_rows query world events last_run cursors answer is state w e = is ∙ ap (λ (x : World). is_there (rows_of query last_run x.slots)) (sym w)
