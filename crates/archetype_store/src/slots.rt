@@ -318,21 +318,22 @@ impl Slots {
         Ok(granted)
     }
 
-    /// Grants several numbers of ids at once: the least vacant indices, at their generations, first those of the first number. After an
-    /// error the slots are as they were.
+    /// Grants several numbers of ids at once: the least vacant indices, at their generations, first those of the first number. They come
+    /// into a list for each number, in place of what was there. After an error the slots are as they were.
     pub fn grant_level(
         &mut self,
         alloc: Global,
         counts: &[u32],
-    ) -> Result<Vec<Vec<Entity>>, GrantFault>
-        ensures ok { IfOk result (λ granted. map (λ list. list.items) granted.items ≡ ids.ids_of_each counts.now self.old.slots) }
+        granted: &mut Vec<Vec<Entity>>,
+    ) -> Result<(), GrantFault>
+        ensures ok { OnOk result (map (λ list. list.items) granted.new.items ≡ ids.ids_of_each counts.now self.old.slots) }
         ensures granted { OnOk result (self.new.slots ≡ ids.grant_each counts.now self.old.slots) }
         ensures spent { IsErrOf result GrantFault.IdsSpent ↔ (ids.has_ids_for_each counts.now self.old.slots ≡ false) }
         ensures layout { self.new.layout ≡ self.old.layout }
         ensures err { OnErr result (self.new ≡ self.old) }
     {
-        let granted = self.book.grant_level(alloc, counts)?;
-        Ok(granted)
+        self.book.grant_level(alloc, counts, granted)?;
+        Ok(())
     }
 
     /// Makes the entity of a granted id live, without components.

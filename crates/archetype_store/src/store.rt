@@ -355,20 +355,22 @@ impl World {
     }
 
     /// Grants several numbers of ids at once, as a grant of each after the others would: the least vacant indices, at their
-    /// generations, first those of the first number. It is refused where fewer indices are left than are asked for in all, and where an
-    /// allocation fails. After an error nothing has changed.
+    /// generations, first those of the first number. They come into a list for each number, in place of what was there: lists that are
+    /// long enough take no memory. It is refused where fewer indices are left than are asked for in all, and where an allocation fails.
+    /// After an error nothing of the world has changed.
     pub fn grant_level(
         &mut self,
         alloc: Global,
         counts: &[u32],
-    ) -> Result<Vec<Vec<Entity>>, GrantFault>
-        ensures ok { IfOk result (λ granted. map (λ list. list.items) granted.items ≡ ids.ids_of_each counts.now self.old.state.slots) }
+        granted: &mut Vec<Vec<Entity>>,
+    ) -> Result<(), GrantFault>
+        ensures ok { OnOk result (map (λ list. list.items) granted.new.items ≡ ids.ids_of_each counts.now self.old.state.slots) }
         ensures granted { OnOk result (self.new.state ≡ with_slots (ids.grant_each counts.now) self.old.state) }
         ensures spent { IsErrOf result GrantFault.IdsSpent ↔ (ids.has_ids_for_each counts.now self.old.state.slots ≡ false) }
         ensures layout { self.new.layout ≡ self.old.layout }
         ensures err { OnErr result (self.new ≡ self.old) }
     {
-        self.slots.grant_level(alloc, counts)
+        self.slots.grant_level(alloc, counts, granted)
     }
 
     /// Makes the entity of a granted id live, without components.
