@@ -1,11 +1,13 @@
 /* Refuses one allocation of a process: the one that REFUSE_AT numbers, counted from 1. Where it does, it creates the file that
-   REFUSE_NOTE names. Loaded in front of the C library by .ci/allocations. */
+   REFUSE_NOTE names. As the process ends, it writes how many allocations were asked for to the file that REFUSE_COUNT names.
+   Loaded in front of the C library by .ci/allocations. */
 #define _GNU_SOURCE
 #include <dlfcn.h>
 #include <errno.h>
 #include <fcntl.h>
 #include <stdatomic.h>
 #include <stddef.h>
+#include <stdio.h>
 #include <stdlib.h>
 #include <unistd.h>
 
@@ -25,6 +27,13 @@ static int is_refused(void) {
     if (file >= 0) close(file);
     errno = ENOMEM;
     return 1;
+}
+
+__attribute__((destructor)) static void tell(void) {
+    const char *name = getenv("REFUSE_COUNT");
+    int file = name ? open(name, O_CREAT | O_TRUNC | O_WRONLY, 0600) : -1;
+    if (file >= 0) dprintf(file, "%ld\n", atomic_load(&calls));
+    if (file >= 0) close(file);
 }
 
 extern void *__libc_malloc(size_t);
