@@ -99,7 +99,7 @@ fn hold_read(
 }
 
 // The columns that a query picks: taken of a world where they are written, else shared by it. They stand in a list of this room, and so do the
-// requests for them and what the world gives. After an error the world is as it was.
+// requests for them and what the world gives. Where it picks none the world is not asked. After an error the world is as it was.
 pub(crate) fn take_picked(
     alloc: Global,
     picks: &[Pick],
@@ -113,6 +113,9 @@ pub(crate) fn take_picked(
     ensures err { OnErr result (world.new ≡ world.old) }
 {
     let mut columns = room.take_columns(alloc);
+    if picks.is_empty() {
+        return Ok(columns);
+    }
     let taken = mem::replace(&mut room.taken, Vec::new(alloc));
     let shared = mem::replace(&mut room.shared, Vec::new(alloc));
     let requests = &mut room.requests;

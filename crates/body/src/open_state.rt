@@ -315,10 +315,11 @@ impl OpenState {
     }
 
     /// What a condition answers of the state, for when it was last asked and what its readers have read. Fails only for a failed allocation.
-    pub fn ask(&self, alloc: Global, condition: usize, cond: &Cond) -> Result<bool, AllocError>
-        requires known { condition < length self.now.state.conditions }
-        requires home { AllByRecursion (λ query. ArePickedHome query self.now.layout) (queries_of cond.now) }
-        ensures { IfOk result (λ answer. answer ≡ holds cond.now (memory_of_condition self.now.state condition).last_run (memory_of_condition self.now.state condition).cursors self.now.state) }
+    pub fn ask(&mut self, alloc: Global, condition: usize, cond: &Cond) -> Result<bool, AllocError>
+        requires known { condition < length self.old.state.conditions }
+        requires home { AllByRecursion (λ query. ArePickedHome query self.old.layout) (queries_of cond.now) }
+        ensures answer { IfOk result (λ answer. answer ≡ holds cond.now (memory_of_condition self.old.state condition).last_run (memory_of_condition self.old.state condition).cursors self.old.state) }
+        ensures same { self.new ≡ self.old }
     {
         let memory = &self.conditions[condition];
         ask(
@@ -328,6 +329,7 @@ impl OpenState {
             &self.events,
             memory.last_run(),
             memory.cursors(),
+            &mut self.room.queries.rows,
         )
     }
 

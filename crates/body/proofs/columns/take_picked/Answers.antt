@@ -1,13 +1,29 @@
-use Rattle.std.proofs.Common.{ℕ, ◌≡◌, ◌++◌, length, map, sym, ap, ◌∙◌, subst, arith}
+use Rattle.std.proofs.Common.{ℕ, ◌≡◌, List, [], ◌++◌, length, map, sym, ap, ◌∙◌, subst, arith}
+use Rattle.std.proofs.lemmas.Bool.{eqb-true}
+use Rattle.std.proofs.lemmas.List.{nil_from_length}
 use Rattle.archetype_store.specs.Layout.{archetype_at}
 use Rattle.archetype_store.specs.Store.{StoreValue}
 use Rattle.query_plan.specs.Picks.{pick_seen}
+use Rattle.query_plan.specs.declared.picks.Pick.{Pick}
+use Rattle.body.specs.declared.view_column.ViewColumn.{ViewColumn}
 use Rattle.body.specs.HeldColumns.{held_seen}
 use Rattle.body.specs.Lent.{lent_of, with_away}
 use Rattle.body.specs.Picked.{own_column, read_column, picked_own, picked_read, AreHeldOf}
 use Rattle.body.proofs.Lendings.{entities_away}
 use Rattle.body.proofs.Pickings.{can_take_own, can_share_read, taken-many, shared-many, away-taken, all-held, lent-held}
 use Rattle.body.proofs.columns.take_picked.Goals as goal
+
+pub returns-then-is_empty-clause-held : goal.returns-then-is_empty-clause-held
+returns-then-is_empty-clause-held c =
+    let w = c.args.world.now in
+    let none = nil_from_length c.args.picks.now (eqb-true _ 0 (sym c.if-is_empty.ensures)) in
+    subst (λ (picks : List Pick). AreHeldOf w (picked_own (map pick_seen picks) ++ picked_read (map pick_seen picks)) (map held_seen c.take_columns-columns.result.items)) (sym none)
+    (subst (λ (columns : List ViewColumn). AreHeldOf w [] (map held_seen columns)) (sym c.take_columns-columns.ensures) tt)
+
+pub returns-then-is_empty-clause-away : goal.returns-then-is_empty-clause-away
+returns-then-is_empty-clause-away c =
+    let w = c.args.world.now in
+    ap (λ (columns : List ViewColumn). let x : StoreValue = record { state = w.state; layout = with_away (lent_of (map held_seen columns)) w.layout } in x) (sym c.take_columns-columns.ensures)
 
 pub share_read-requires : goal.share_read-requires
 share_read-requires c =

@@ -12,6 +12,6 @@ returns-clause-answer c =
     let n = c.args.condition in
     let w = c.args.self.now.state.state in
     let memory = memory_of_condition w n in
-    c.in_ok-answer.ensures
+    c.in_ok-answer.ensures.answer
     ∙ ap (λ (x : Condition). holds x memory.last_run memory.cursors w) (c.cond.ensures ∙ ap (λ (x : ScheduledCondition). x.condition) c.condition-asked.ensures)
     ∙ sym (answer_alike s n w c.args.self.now.deferred ∙ answer_woven s n w)
