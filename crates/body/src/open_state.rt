@@ -209,19 +209,21 @@ impl OpenState {
         self.world.grant(alloc, count)
     }
 
-    /// Grants several numbers of ids at once: the least vacant indices, at their generations, first those of the first number. It is
-    /// refused where fewer indices are left than are asked for in all, and where an allocation fails. After an error nothing has changed.
+    /// Grants several numbers of ids at once: the least vacant indices, at their generations, first those of the first number. They come into a
+    /// list for each number, in place of what was there: lists that are long enough take no memory. It is refused where fewer indices are left
+    /// than are asked for in all, and where an allocation fails. After an error nothing of the state has changed.
     pub fn grant_level(
         &mut self,
         alloc: Global,
         counts: &[u32],
-    ) -> Result<Vec<Vec<Entity>>, GrantFault>
-        ensures ok { IfOk result (λ granted. map (λ list. list.items) granted.items ≡ ids.ids_of_each counts.now self.old.state.world.slots) }
+        granted: &mut Vec<Vec<Entity>>,
+    ) -> Result<(), GrantFault>
+        ensures ok { OnOk result (map (λ list. list.items) granted.new.items ≡ ids.ids_of_each counts.now self.old.state.world.slots) }
         ensures granted { OnOk result (self.new ≡ record { state = with_slots_in (ids.grant_each counts.now self.old.state.world.slots) self.old.state; layout = self.old.layout }) }
         ensures spent { IsErrOf result GrantFault.IdsSpent ↔ (ids.has_ids_for_each counts.now self.old.state.world.slots ≡ false) }
         ensures err { OnErr result (self.new ≡ self.old) }
     {
-        self.world.grant_level(alloc, counts)
+        self.world.grant_level(alloc, counts, granted)
     }
 
     /// Does the commands of the buffers of these numbers at a tick that isn't above the clock: one buffer after the other, each in its order of
