@@ -14,7 +14,7 @@ ghost use Rattle.engine.specs.Deferred.{AreInHand, IsDeferredFor, IsNothingDefer
 ghost use Rattle.engine.specs.Shows.{NoneRunsIn};
 ghost use Rattle.engine.specs.Stops.{CannotSync, LacksTick, StopsBy};
 
-use crate::granting::{Spawners, note_grants, spawners_of};
+use crate::granting::{Spawners, spawners_of};
 use crate::stop::Stop;
 use archetype_store::fault::GrantFault;
 use body::OpenState;
@@ -54,9 +54,18 @@ impl Model for Granted {
     ghost view = { λ g. g.ids.items };
 }
 
+impl Granted {
+    // Takes these ids, and gives its list of before in their place.
+    pub(crate) fn exchange(&mut self, ids: &mut Vec<Entity>)
+        ensures { self.new ≡ ids.old.items }
+    {
+        mem::swap(&mut self.ids, ids);
+    }
+}
+
 /// What the systems of a schedule leave for the sync points of their levels. Contracts see the systems of each level in schedule order, those of
 /// them that have commands with how many ids each is granted, and by system the commands and the ids granted. The room of a buffer is used
-/// again once its commands are done.
+/// again once its commands are done, and that of a list of ids by a later grant.
 #[derive(Drop)]
 pub struct Deferred {
     levels: Vec<Level>,
@@ -159,9 +168,8 @@ impl Deferred {
         if built.syncs() <= level {
             return Ok(());
         }
-        let spawners = &self.spawners[level as usize];
-        let given = state.grant_level(alloc, &spawners.counts)?;
-        note_grants(&mut self.grants, &spawners.systems, given);
+        let spawners = &mut self.spawners[level as usize];
+        spawners.grant(alloc, state, &mut self.grants)?;
         Ok(())
     }
 
