@@ -18,11 +18,11 @@ mod resources;
 mod runs;
 mod store;
 mod threads;
+mod trials;
 mod worlds;
 
 use crate::board::{one_slot, two_hands};
-use crate::commands::{ids_of_level, kept_again, last_id, schedule_order, spent_ids};
-use crate::gates::PATIENCE;
+use crate::commands::{kept_again, last_id, spent_ids};
 use crate::moving::{
     boxed, boxed_on_threads, kept_at_the_last_tick, kept_state, refused_engines, spent_clock,
     stamps,
@@ -31,9 +31,8 @@ use crate::plans::{made_later, put_back};
 use crate::random::random_worlds;
 use crate::resources::{kept_total, three_tallies};
 use crate::store::{buffers, entities, steps, texts, unions};
-use crate::threads::{
-    Wanted, gather, hold_first, judged, meet, meet_over, refuse, refuse_on_threads, repeat, watch,
-};
+use crate::threads::{judged, refuse, refuse_on_threads};
+use crate::trials::TRIALS;
 use std::alloc::Global;
 use std::env;
 use std::io::{self, Write};
@@ -133,83 +132,17 @@ fn boards<R: Threads>(runtime: &R, alloc: Global) -> [Test; 2] {
     ]
 }
 
-// The tests of starts that meet.
-fn starts<R: Threads + Wait + Copy + Send + Sync + 'static>(rt: R, alloc: Global) -> [Test; 4] {
-    let two = gather(alloc, 2, 2, false);
-    let two = judged(rt, alloc, two, Wanted::Met(2));
-    let three = gather(alloc, 3, 3, false);
-    let three = judged(rt, alloc, three, Wanted::Met(3));
-    let many = gather(alloc, 256, 64, false);
-    let many = judged(rt, alloc, many, Wanted::Met(64));
-    let apart = gather(alloc, 2, 2, true);
-    let apart = judged(rt, alloc, apart, Wanted::Met(2));
-    [
-        ("two starts meet", two),
-        ("three starts meet", three),
-        ("sixty-four starts of many meet", many),
-        ("two starts meet, a thread for each", apart),
-    ]
-}
-
-// The tests of bodies that meet.
-fn bodies_that_meet<R: Threads + Wait + Copy + Send + Sync + 'static>(
+// The trials of bodies on threads.
+fn tell_trials<W: Write, R: Threads + Wait + Copy + Send + Sync + 'static>(
     rt: R,
     alloc: Global,
-) -> [Test; 3] {
-    let two = judged(rt, alloc, meet(alloc, 2, 2, PATIENCE), Wanted::Met(2));
-    let three = judged(rt, alloc, meet(alloc, 3, 3, PATIENCE), Wanted::Met(3));
-    let alone = judged(rt, alloc, meet(alloc, 2, 1, 200), Wanted::Met(1));
-    [
-        ("two bodies meet", two),
-        ("three bodies meet", three),
-        ("two bodies do not meet on one thread", alone),
-    ]
-}
-
-// The tests of bodies that meet by what they query.
-fn queries_that_meet<R: Threads + Wait + Copy + Send + Sync + 'static>(
-    rt: R,
-    alloc: Global,
-) -> [Test; 2] {
-    let frozen = "mut Health, with Frozen";
-    let apart = meet_over(alloc, [frozen, "mut Health, with Hidden"], PATIENCE);
-    let apart = judged(rt, alloc, apart, Wanted::Met(2));
-    let shared = meet_over(alloc, [frozen, "read Health"], 200);
-    let shared = judged(rt, alloc, shared, Wanted::Met(1));
-    [
-        ("two bodies meet whose queries share no entity", apart),
-        ("two bodies do not meet whose queries share one", shared),
-    ]
-}
-
-// The tests of gates, and of many runs.
-fn orders<R: Threads + Wait + Copy + Send + Sync + 'static>(rt: R, alloc: Global) -> [Test; 3] {
-    let held = judged(rt, alloc, hold_first(alloc), Wanted::Recorded);
-    let watched = judged(rt, alloc, watch(alloc), Wanted::FivePassed);
-    let repeated = judged(rt, alloc, repeat(alloc), Wanted::Traces(10_000));
-    [
-        ("who ends first comes back first", held),
-        ("a gate stands round each body", watched),
-        ("ten thousand runs on threads", repeated),
-    ]
-}
-
-// The tests of commands under both ends of two starts.
-fn levels<R: Threads + Wait + Copy + Send + Sync + 'static>(rt: R, alloc: Global) -> [Test; 4] {
-    let first = schedule_order(alloc, 1, 2);
-    let first = judged(rt, alloc, first, Wanted::Score(2));
-    let second = schedule_order(alloc, 2, 1);
-    let second = judged(rt, alloc, second, Wanted::Score(2));
-    let first_ids = ids_of_level(alloc, 1, 2);
-    let first_ids = judged(rt, alloc, first_ids, Wanted::IdsInOrder);
-    let second_ids = ids_of_level(alloc, 2, 1);
-    let second_ids = judged(rt, alloc, second_ids, Wanted::IdsInOrder);
-    [
-        ("commands in schedule order, the first start last", first),
-        ("commands in schedule order, the second start last", second),
-        ("ids in schedule order, the first start last", first_ids),
-        ("ids in schedule order, the second start last", second_ids),
-    ]
+    out: &mut W,
+) -> io::Result<()> {
+    for (name, setup, wanted) in &TRIALS {
+        let answer = judged(rt, alloc, *setup, *wanted);
+        tell(out, &[(*name, answer)])?;
+    }
+    Ok(())
 }
 
 // The tests of calls that are taken once more where an allocation fails. Each of their allocations is refused in turn by `.ci/allocations`.
@@ -244,10 +177,6 @@ fn main(rt: HostRuntime) -> io::Result<()> {
     tell(&mut rt.stdout(), &kept(rt.alloc()))?;
     tell(&mut rt.stdout(), &boards(&rt, rt.alloc()))?;
     tell(&mut rt.stdout(), &bodies_on_threads(rt, rt.alloc()))?;
-    tell(&mut rt.stdout(), &starts(rt, rt.alloc()))?;
-    tell(&mut rt.stdout(), &bodies_that_meet(rt, rt.alloc()))?;
-    tell(&mut rt.stdout(), &queries_that_meet(rt, rt.alloc()))?;
-    tell(&mut rt.stdout(), &orders(rt, rt.alloc()))?;
-    tell(&mut rt.stdout(), &levels(rt, rt.alloc()))?;
+    tell_trials(rt, rt.alloc(), &mut rt.stdout())?;
     tell(&mut rt.stdout(), &made_again(rt.alloc()))
 }

@@ -7,6 +7,7 @@ use crate::commands::{has_score, have_spawned};
 use crate::engines::{Systems, TestEngine, params};
 use crate::gates::{Rule, TestGate};
 use crate::runs::{Plan, Ran, run_on_threads, runs_are};
+use crate::trials::Setup;
 use crate::worlds::{empty_world, frozen_and_hidden};
 use access_set::Params;
 use change_ticks::Clock;
@@ -116,14 +117,14 @@ impl Trial {
     }
 }
 
-/// Whether a trial runs, and what is wanted of it is so afterwards. None where there is no trial, or its run stops.
+/// Whether a trial runs that is set up so, and what is wanted of it is so afterwards. None where an allocation fails, or its run stops.
 pub(crate) fn judged<R: Threads + Wait + Copy + Send + Sync + 'static>(
     runtime: R,
     alloc: Global,
-    trial: Option<Trial>,
+    setup: Setup,
     wanted: Wanted,
 ) -> Option<bool> {
-    let mut trial = trial?;
+    let mut trial = setup.trial(alloc)?;
     match trial.run(runtime, alloc) {
         None => Some(trial.is_so(wanted)),
         Some(_fault) => None,
