@@ -186,7 +186,7 @@ pub record IsFieldWritten (tick : ℕ) (terms : List Term) (slots : List (List (
 
 module _ (tick : ℕ) (terms : List Term) (slots : List (List (Option ℕ))) (rows : List Row) (taken : List Column) (n k j place : ℕ) (slot : slot_in slots n k ≡ Some j) where
   -- one row
-  written-once : (columns : List Column) (s : Sheet) (r p : ℕ) (value : ℤ) → IsSheet tick terms slots rows taken columns → sheet_of tick terms slots rows taken columns ≡ s → r < length s.rows → IsAt rows n r p →
+  pub written-once : (columns : List Column) (s : Sheet) (r p : ℕ) (value : ℤ) → IsSheet tick terms slots rows taken columns → sheet_of tick terms slots rows taken columns ≡ s → r < length s.rows → IsAt rows n r p →
       update_at j (with_cell p (field_cell (widths k) tick place value)) columns ≡ update_at j (with_cell p (changed_cell (words_with (widths k) place value (unwrap_or (words_read s.terms (get_or s.rows r no_row).values (get_or s.cells r []) k) [])) tick)) columns
   written-once columns s r p value is seen l at =
       let read = sheet-read tick terms slots rows taken columns is s seen r at.row k l at.row_is in

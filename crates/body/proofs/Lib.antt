@@ -24,6 +24,8 @@ pub mod QueryOpens
 pub mod Outs
 pub mod Counts
 pub mod FieldWords
+pub mod Orders
 pub mod TurnRows
 pub mod FieldRows
+pub mod ListedRows
 pub mod Sent

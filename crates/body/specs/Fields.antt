@@ -55,6 +55,28 @@ with_fields seen q kind place r values = record {
   opening = seen.opening;
 }
 
+-- the same in the rows with these numbers, a value a row
+abbrev pub with_listed_rows : List Term → List ShownRow → ℕ → ℕ → List ℕ → List ℤ → List (List (Option (List ℤ))) → List (List (Option (List ℤ)))
+with_listed_rows terms rows kind place [] values cells = cells
+with_listed_rows terms rows kind place (r ∷ ns) [] cells = cells
+with_listed_rows terms rows kind place (r ∷ ns) (value ∷ more) cells =
+    with_listed_rows terms rows kind place ns more
+    (update_at r (with_words terms kind (words_with (widths kind) place value (unwrap_or (words_read terms (get_or rows r no_row).values (get_or cells r []) kind) []))) cells)
+
+abbrev pub with_listed_fields : Seen → ℕ → ℕ → ℕ → List ℕ → List ℤ → Seen
+with_listed_fields seen q kind place ns values = record {
+  params = seen.params;
+  shown = seen.shown;
+  outcome = record {
+    cells = update_at q (with_listed_rows (query_at seen.params q) (rows_at seen.shown q) kind place ns values) seen.outcome.cells;
+    res_mut = seen.outcome.res_mut;
+    events = seen.outcome.events;
+    commands = seen.outcome.commands;
+    registers = seen.outcome.registers;
+  };
+  opening = seen.opening;
+}
+
 -- ---- the same of a query by its sheet, and of a column
 
 abbrev pub field_seen : Sheet → ℕ → ℕ → ℕ → ℤ
@@ -65,6 +87,15 @@ sheet_with_fields s kind place r values = record {
   terms = s.terms;
   rows = s.rows;
   cells = with_field_rows s.terms s.rows kind place r values s.cells;
+  taken = s.taken;
+  tick = s.tick;
+}
+
+abbrev pub sheet_with_listed_fields : Sheet → ℕ → ℕ → List ℕ → List ℤ → Sheet
+sheet_with_listed_fields s kind place ns values = record {
+  terms = s.terms;
+  rows = s.rows;
+  cells = with_listed_rows s.terms s.rows kind place ns values s.cells;
   taken = s.taken;
   tick = s.tick;
 }

@@ -7,6 +7,7 @@ pub mod HeldColumns
 pub mod Sheet
 pub mod Fields
 pub mod Turns
+pub mod Orders
 pub mod Values
 pub mod SeenOver
 pub mod Together

@@ -1,7 +1,7 @@
 // Rows that stand one after the other in one archetype: their fields are read and written where the columns have them, in one go.
 
-ghost use Rattle.std.specs.Prelude.{◌≡◌, ◌+◌, ◌<◌, ◌≤◌, true, length};
-ghost use Rattle.body.specs.Turns.{AreInTurn};
+ghost use Rattle.std.specs.Prelude.{◌≡◌, ℕ, ◌+◌, ◌<◌, ◌≤◌, true, length, get_or};
+ghost use Rattle.body.specs.Turns.{AreInTurn, AreInTurnAt};
 
 use query_plan::{Row, Rows};
 
@@ -40,6 +40,26 @@ pub(crate) fn in_turn(rows: &Rows, row: usize, most: usize) -> usize
     count
 }
 
+// How many of the rows with these numbers stand in turn, from the first on.
+pub(crate) fn listed_in_turn(rows: &Rows, listed: &[u32]) -> usize
+    requires some { 0 < length listed.now }
+    requires within { (i : ℕ) → i < length listed.now → get_or listed.now i 0 < length rows.now }
+    ensures some { 0 < result }
+    ensures most { result ≤ length listed.now }
+    ensures turn { AreInTurnAt rows.now listed.now result }
+{
+    let first = rows.at(listed[0] as usize);
+    let mut count = 1;
+    while count < listed.len() {
+        let next = rows.at(listed[count] as usize);
+        if !is_behind(first, next, count) {
+            return count;
+        }
+        count += 1;
+    }
+    count
+}
+
 // How many rows are looked at, and how many of them are to stand in turn, one with another.
 const LOOKED_AT: usize = 128;
 
@@ -54,6 +74,21 @@ pub(crate) fn are_in_turns(rows: &Rows) -> bool {
     let mut turns = 0;
     while row < end {
         row += in_turn(rows, row, end - row);
+        turns += 1;
+    }
+    turns <= end / IN_TURN || turns <= 1
+}
+
+// The same of the rows with these numbers.
+pub(crate) fn are_listed_in_turns(rows: &Rows, listed: &[u32]) -> bool
+    requires { (i : ℕ) → i < length listed.now → get_or listed.now i 0 < length rows.now }
+{
+    let count = listed.len();
+    let end = if count < LOOKED_AT { count } else { LOOKED_AT };
+    let mut done = 0;
+    let mut turns = 0;
+    while done < end {
+        done += listed_in_turn(rows, &listed[done..end]);
         turns += 1;
     }
     turns <= end / IN_TURN || turns <= 1

@@ -1,6 +1,6 @@
 // A view: what a system is shown at its start, and its outcome so far, where the columns lie.
 
-ghost use Rattle.std.specs.Prelude.{◌≡◌, ◌↔◌, ◌+◌, ◌<◌, ◌≤◌, ℕ, true, false, [], length, get_or, pos, option_map, is_some, unwrap_or, IsErrOf, IsTrue, OnOk, OnErr};
+ghost use Rattle.std.specs.Prelude.{◌≡◌, ◌↔◌, ◌+◌, ◌<◌, ◌≤◌, ℕ, true, false, [], length, get_or, pos, option_map, is_some, unwrap_or, IfOk, IsErrOf, IsTrue, OnOk, OnErr};
 ghost use Rattle.std.specs.List.{AllByRecursion};
 ghost use Rattle.kinds.specs.Kind.{kind_number};
 ghost use Rattle.kinds.specs.Res.{res_number, event_number};
@@ -17,16 +17,19 @@ ghost use Rattle.model.specs.shown.Overlay.{has_event_numbers, queues_after};
 ghost use Rattle.model.specs.shown.Outcome.Command.{Spawn, Insert, Remove, Despawn};
 ghost use Rattle.query_plan.specs.Standing.{ArePickedHome};
 ghost use Rattle.archetype_store.specs.Overlays.{AreReached};
-ghost use Rattle.body.specs.Fields.{field_read, with_fields};
+ghost use Rattle.body.specs.Fields.{field_read, with_fields, with_listed_fields};
 ghost use Rattle.body.specs.Laid.{world_after};
 ghost use Rattle.body.specs.Lent.{AreLent, lent_in, with_away, with_back};
+ghost use Rattle.body.specs.Orders.{IsOrder};
 ghost use Rattle.body.specs.Out.{IsWrittenBy};
 ghost use Rattle.body.specs.Seen.{query_at, rows_at, row_at, read_at, with_written, resource_read, with_resource, with_register, events_shown, with_emitted, granted_at, with_command};
 
 use crate::closing::put_home;
+use crate::listed_rows::{read_rows, write_rows};
 use crate::memory::Memory;
 use crate::opening::open_queries;
 use crate::room::QueryRoom;
+use crate::row_order::RowOrder;
 use crate::view_commands::ViewCommands;
 use crate::view_query::ViewQuery;
 use crate::view_values::ViewValues;
@@ -39,6 +42,7 @@ use event_buffers::{EventLists, Events, SendFault};
 use kinds::{Component, Event, Fields, Kind, Res, Value};
 use std::alloc::{AllocError, Global};
 use std::marker::Model;
+use std::mem;
 
 /// What a system is shown at its start, and what it writes. Contracts see the parameters, what is shown, the outcome so far, and what it
 /// was opened over.
@@ -49,6 +53,8 @@ pub struct View {
     unread: EventLists,
     sent: EventLists,
     issued: ViewCommands,
+    // The list of the order of rows that was asked for last.
+    order: RowOrder,
 }
 
 // One function drops it wherever it is let go.
@@ -61,6 +67,7 @@ impl Drop for View {
             unread: _,
             sent: _,
             issued: _,
+            order: _,
         } = self;
     }
 }
@@ -87,6 +94,7 @@ impl View {
             unread: EventLists::new(alloc),
             sent: EventLists::new(alloc),
             issued: ViewCommands::blank(alloc),
+            order: RowOrder::new(alloc),
         }
     }
 
@@ -397,6 +405,85 @@ impl View {
     {
         let query = &mut self.queries[query];
         query.write_field(kind, from, place, values);
+    }
+}
+
+impl View {
+    /// Whether the rows of a query stand in turn where they are stored, as far as was looked, so that a field of many is best read and written
+    /// from one row on. Where they do not it is best read and written in their order.
+    pub fn stand_in_turns(&self, query: usize) -> bool
+        requires { query < length self.now.shown.rows }
+    {
+        let query = &self.queries[query];
+        query.stand_in_turns()
+    }
+
+    /// The order in which the rows of a query stand. Its list is that of an order that was given back, if any.
+    pub fn order(&mut self, query: usize) -> Result<RowOrder, AllocError>
+        requires { query < length self.old.shown.rows }
+        ensures order { IfOk result (λ order. IsOrder (length (rows_at self.old.shown query)) order) }
+        ensures same { self.new ≡ self.old }
+    {
+        let mut order = self.take_order();
+        let query = &self.queries[query];
+        query.put_in_order(&mut order)?;
+        Ok(order)
+    }
+
+    // The list of an order.
+    fn take_order(&mut self) -> RowOrder
+        ensures { self.new ≡ self.old }
+    {
+        let none = RowOrder::new(self.order.allocator());
+        mem::replace(&mut self.order, none)
+    }
+
+    /// Keeps an order that is done with, so that the next one has its list.
+    pub fn give_order(&mut self, order: RowOrder)
+        ensures { self.new ≡ self.old }
+    {
+        self.order = order;
+    }
+
+    /// The values of a field of a kind in the rows of a query with these numbers: what was written there, else what is shown. 0 where a row has
+    /// not the kind, where no term of the query fetches it, and where the kind has no such field.
+    pub fn read_rows(
+        &self,
+        query: usize,
+        kind: Kind,
+        place: usize,
+        rows: &[u32],
+        values: &mut [i64],
+    )
+        requires query { query < length self.now.shown.rows }
+        requires room { length values.old ≡ length rows.now }
+        requires rows { (i : ℕ) → i < length rows.now → get_or rows.now i 0 < length (rows_at self.now.shown query) }
+        ensures length { length values.new ≡ length values.old }
+        ensures values { (i : ℕ) → i < length values.old → get_or values.new i (pos 0) ≡ field_read self.now query (get_or rows.now i 0) (kind_number kind) place }
+    {
+        let query = &self.queries[query];
+        read_rows(query, kind, place, rows, values);
+    }
+
+    /// Writes values into a field of a kind in the rows of a query with these numbers, a value a row, one after the other. The query has a `mut`
+    /// term of the kind, and the other field of each component stays.
+    pub fn write_rows(
+        &mut self,
+        query: usize,
+        kind: Kind,
+        place: usize,
+        rows: &[u32],
+        values: &[i64],
+    )
+        requires query { query < length self.old.shown.rows }
+        requires room { length values.now ≡ length rows.now }
+        requires rows { (i : ℕ) → i < length rows.now → get_or rows.now i 0 < length (rows_at self.old.shown query) }
+        requires mut_term { IsTrue (writes (query_at self.old.params query) (kind_number kind)) }
+        requires place { place < widths (kind_number kind) }
+        ensures { self.new ≡ with_listed_fields self.old query (kind_number kind) place rows.now values.now }
+    {
+        let query = &mut self.queries[query];
+        write_rows(query, kind, place, rows, values);
     }
 }
 

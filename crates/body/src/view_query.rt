@@ -1,6 +1,6 @@
 // A query of a view: its rows stand in columns, are read there and written there.
 
-ghost use Rattle.std.specs.Prelude.{◌≡◌, ◌+◌, ◌<◌, ◌≤◌, ℕ, pos, [], ◌∷◌, map, length, take, get_or, option_map, unwrap_or, IfSome, IsTrue};
+ghost use Rattle.std.specs.Prelude.{◌≡◌, ◌+◌, ◌<◌, ◌≤◌, ℕ, pos, [], ◌∷◌, map, length, take, get_or, option_map, unwrap_or, IfSome, IsTrue, OnOk};
 ghost use Rattle.column_store.specs.Cells.{changed_cell};
 ghost use Rattle.kinds.specs.Kind.{kind_number};
 ghost use Rattle.kinds.specs.Components.{widths};
@@ -11,18 +11,21 @@ ghost use Rattle.model.specs.shown.Input.{words_of};
 ghost use Rattle.model.specs.shown.Outcome.{untouched_rows, words_in_query};
 ghost use Rattle.body.specs.Columns.{with_cell, column_after};
 ghost use Rattle.body.specs.HeldColumns.{held_seen, slots_seen};
-ghost use Rattle.body.specs.Fields.{words_with, field_of, field_seen, sheet_with_fields, column_with_fields};
+ghost use Rattle.body.specs.Fields.{words_with, field_of, field_seen, sheet_with_fields, sheet_with_listed_fields, column_with_fields};
+ghost use Rattle.body.specs.Orders.{IsOrder};
 ghost use Rattle.body.specs.Seen.{words_read, with_words, no_row};
 ghost use Rattle.body.specs.Sheet.{slot_in, slot_cell, seen_at, at_slot, row_of, IsPlan, IsReadableAt, IsReadable, IsWritableAt, IsWritable, WritesReach};
 
 use crate::room::QueryRoom;
-use crate::turns::{are_in_turns, in_turn};
+use crate::row_order::RowOrder;
+use crate::turns::{are_in_turns, in_turn, listed_in_turn};
 use crate::view_column::ViewColumn;
 use change_ticks::Tick;
 use entity_table::Entity;
 use kinds::{Component, Fields, Kind, Value};
 use query::Query;
 use query_plan::{Row, Rows};
+use std::alloc::AllocError;
 use std::marker::Model;
 use std::snapshot::Snapshot;
 
@@ -260,6 +263,80 @@ impl ViewQuery {
     {
         let count = in_turn(&self.source.rows, from, values.len());
         let first = self.source.rows.at(from);
+        write_column(
+            &self.source.slots,
+            &mut self.columns,
+            first.archetype as usize,
+            kind,
+            first.place as usize,
+            place,
+            &values[..count],
+            self.source.tick,
+        );
+        count
+    }
+
+    /// Whether many rows stand in turn, as far as was looked.
+    pub fn stand_in_turns(&self) -> bool {
+        self.source.is_in_turns
+    }
+
+    // Makes this the order in which the rows stand.
+    pub(crate) fn put_in_order(&self, order: &mut RowOrder) -> Result<(), AllocError>
+        ensures { OnOk result (IsOrder (length self.now.rows) order.new) }
+    {
+        order.put(&self.source.rows)
+    }
+
+    // The values of the first of the rows with these numbers, those that stand in turn, and how many they are.
+    pub(crate) fn read_listed(
+        &self,
+        kind: Kind,
+        place: usize,
+        listed: &[u32],
+        values: &mut [i64],
+    ) -> usize
+        requires some { 0 < length values.old }
+        requires room { length values.old ≡ length listed.now }
+        requires rows { (i : ℕ) → i < length listed.now → get_or listed.now i 0 < length self.now.rows }
+        ensures length { length values.new ≡ length values.old }
+        ensures some { 0 < result }
+        ensures most { result ≤ length values.old }
+        ensures values { (i : ℕ) → i < result → get_or values.new i (pos 0) ≡ field_seen self.now (get_or listed.now i 0) (kind_number kind) place }
+    {
+        let count = listed_in_turn(&self.source.rows, listed);
+        let first = self.source.rows.at(listed[0] as usize);
+        read_column(
+            &self.source.slots,
+            &self.columns,
+            first.archetype as usize,
+            kind,
+            first.place as usize,
+            place,
+            &mut values[..count],
+        );
+        count
+    }
+
+    // Writes the values of the first of the rows with these numbers, those that stand in turn, and tells how many they are.
+    pub(crate) fn write_listed(
+        &mut self,
+        kind: Kind,
+        place: usize,
+        listed: &[u32],
+        values: &[i64],
+    ) -> usize
+        requires some { 0 < length values.now }
+        requires room { length values.now ≡ length listed.now }
+        requires rows { (i : ℕ) → i < length listed.now → get_or listed.now i 0 < length self.old.rows }
+        requires mut_term { IsTrue (writes self.old.terms (kind_number kind)) }
+        requires place { place < widths (kind_number kind) }
+        ensures some { 0 < result }
+        ensures most { result ≤ length values.now }
+        ensures written { self.new ≡ sheet_with_listed_fields self.old (kind_number kind) place (take result listed.now) (take result values.now) }
+    {
+        let count = listed_in_turn(&self.source.rows, listed);
+        let first = self.source.rows.at(listed[0] as usize);
         write_column(
             &self.source.slots,
             &mut self.columns,

@@ -15,5 +15,7 @@ pub mod Steps
 pub mod Stores
 pub mod OtherRow
 pub mod Follows
+pub mod Orders
 pub mod ColumnCode
+pub mod ListedCode
 pub mod Sources

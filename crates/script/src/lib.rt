@@ -10,6 +10,7 @@ pub mod fault;
 pub mod frame;
 pub mod instruction;
 mod interpreter;
+mod listed_columns;
 pub mod operands;
 pub mod row_plan;
 pub mod script_body;
