@@ -1,17 +1,30 @@
 /* Refuses one allocation of a process: the one that REFUSE_AT numbers, counted from 1. Where it does, it creates the file that
-   REFUSE_NOTE names. As the process ends, it writes how many allocations were asked for to the file that REFUSE_COUNT names.
-   Loaded in front of the C library by .ci/allocations. */
+   REFUSE_NOTE names. How many allocations were asked for stands in the file that REFUSE_COUNT names, as a number of the processor:
+   programs end without the C library's last steps. Loaded in front of the C library by .ci/allocations. */
 #define _GNU_SOURCE
 #include <dlfcn.h>
 #include <errno.h>
 #include <fcntl.h>
 #include <stdatomic.h>
 #include <stddef.h>
-#include <stdio.h>
 #include <stdlib.h>
+#include <sys/mman.h>
 #include <unistd.h>
 
-static atomic_long calls;
+static atomic_long own_calls;
+
+/* Where calls are counted. */
+static atomic_long *calls(void) {
+    static atomic_long *calls;
+    if (calls) return calls;
+    const char *name = getenv("REFUSE_COUNT");
+    int file = name ? open(name, O_CREAT | O_TRUNC | O_RDWR, 0600) : -1;
+    void *there = MAP_FAILED;
+    if (file >= 0 && !ftruncate(file, sizeof *calls)) there = mmap(NULL, sizeof *calls, PROT_READ | PROT_WRITE, MAP_SHARED, file, 0);
+    if (file >= 0) close(file);
+    calls = there == MAP_FAILED ? &own_calls : there;
+    return calls;
+}
 
 static int is_refused(void) {
     static atomic_long at = -1;
@@ -21,19 +34,12 @@ static int is_refused(void) {
         wanted = text ? atol(text) : 0;
         atomic_store(&at, wanted);
     }
-    if (atomic_fetch_add(&calls, 1) + 1 != wanted) return 0;
+    if (atomic_fetch_add(calls(), 1) + 1 != wanted) return 0;
     const char *note = getenv("REFUSE_NOTE");
     int file = note ? open(note, O_CREAT | O_WRONLY, 0600) : -1;
     if (file >= 0) close(file);
     errno = ENOMEM;
     return 1;
-}
-
-__attribute__((destructor)) static void tell(void) {
-    const char *name = getenv("REFUSE_COUNT");
-    int file = name ? open(name, O_CREAT | O_TRUNC | O_WRONLY, 0600) : -1;
-    if (file >= 0) dprintf(file, "%ld\n", atomic_load(&calls));
-    if (file >= 0) close(file);
 }
 
 extern void *__libc_malloc(size_t);
