@@ -1,6 +1,6 @@
 -- A field that is written in many rows of a query.
 use Rattle.std.proofs.Common.{◌≡◌, ℕ, zero, suc, ◌+◌, ◌-◌, ◌<◌, ◌≤◌, true, ℤ, List, [], ◌∷◌, ◌++◌, length, get_or, map, slice_get, take, drop, Option, Some, None, option_map, unwrap_or, refl, sym, ap, ap₂, ◌∙◌, subst, arith}
-use Rattle.std.proofs.lemmas.Option.{slice_get-get_or, slice_get_within}
+use Rattle.std.proofs.lemmas.Option.{slice_get_within}
 use Rattle.std.proofs.lemmas.List.{drop_more, length-map, get_or_default, take-append-drop, drop-drop, length-drop, length-take-le}
 use Rattle.model.specs.Lists.{update_at}
 use Rattle.model.specs.state.State.{Cell}
@@ -11,8 +11,12 @@ use Rattle.column_store.specs.Cells.{changed_cell}
 use Rattle.query_plan.specs.declared.row.Row.{Row}
 use Rattle.body.specs.declared.view_column.ViewColumn.{ViewColumn}
 use Rattle.body.specs.Columns.{Column, cell_in, with_cell}
-use Rattle.body.specs.HeldColumns.{held_seen}
-use Rattle.body.specs.Fields.{other_place, words_with, field_of, field_seen, field_cell, column_with_fields, with_field_rows, sheet_with_fields}
+use Rattle.body.specs.HeldColumns.{column_in, is_own, held_seen}
+use Rattle.column_store.specs.Column.{ColumnCells}
+use Rattle.column_store.specs.Fields.{with_field_cells}
+use Rattle.body.specs.declared.view_column.ColumnAccess.{ColumnAccess}
+use Rattle.body.specs.declared.view_column.ColumnAccess.TheVariants.{Written}
+use Rattle.body.specs.Fields.{words_with, field_of, field_seen, field_cell, column_with_fields, with_field_rows, sheet_with_fields}
 use Rattle.body.specs.Turns.{AreInTurn}
 use Rattle.body.specs.Seen.{words_read, with_words, no_row}
 use Rattle.body.specs.Sheet.{slot_in, slot_cell, seen_at, at_slot, Sheet, sheet_of, IsSheet, IsReadableAt, IsWritableAt}
@@ -27,32 +31,31 @@ cells-alike (c ∷ cs) zero i f g h =
     ap (λ (cells : List Cell). let x : Column = record { archetype = c.archetype; entities = c.entities; is_written = c.is_written; kind = c.kind; cells = cells; room = c.room } in x ∷ cs) (update-as f g c.cells i h)
 cells-alike (c ∷ cs) (suc j) i f g h = ap (λ xs. c ∷ xs) (cells-alike cs j i f g h)
 
--- ---- one value more
-
-pub field-set : (width tick place at : ℕ) (value v : ℤ) (column new : Column) (old words : List ℤ) → v ≡ value → new ≡ with_cell at (changed_cell words tick) column → words ≡ words_with width place v old →
-    option_map (λ (c : Cell). c.words) (slice_get column.cells at) ≡ Some old → new ≡ with_cell at (field_cell width tick place value) column
-field-set width tick place at value v column new old words read e made is =
-    e
-    ∙ ap (λ (cells : List Cell). let x : Column = record { archetype = column.archetype; entities = column.entities; is_written = column.is_written; kind = column.kind; cells = cells; room = column.room } in x)
-    (update-as (changed_cell words tick) (field_cell width tick place value) column.cells at
-    (λ c there. ap (λ ws. let x : Cell = record { words = ws; added = c.added; changed = tick } in x)
-    (made ∙ ap₂ (words_with width place) read (sym (same-some c.words old (sym (ap (option_map (λ (c : Cell). c.words)) there) ∙ is))))))
+-- ---- a field of a column
 
 -- the word that is read of a cell
 pub word-read : (o : Option Cell) (place : ℕ) (w v : ℤ) → v ≡ w → option_map (λ (c : Cell). word_at c.words place) o ≡ Some w → v ≡ field_of place (words_of o)
 word-read None place w v e h = absurd (cc)
 word-read (Some c) place w v e h = e ∙ sym (same-some (word_at c.words place) w h)
 
--- the same where the other word is told
-pub field-put : (width tick place at : ℕ) (value v : ℤ) (column new : Column) (words : List ℤ) (other : ℤ) → at < length column.cells → v ≡ value → new ≡ with_cell at (changed_cell words tick) column →
-    ((old : List ℤ) → other ≡ word_at old (other_place place) → words ≡ words_with width place v old) →
-    other ≡ field_of (other_place place) (words_of (slice_get column.cells at)) → new ≡ with_cell at (field_cell width tick place value) column
-field-put width tick place at value v column new words other within read e made told =
-    let none : Cell = record { words = []; added = 0; changed = 0 } in
-    let cell = get_or column.cells at none in
-    let there : slice_get column.cells at ≡ Some cell = slice_get-get_or column.cells at none within in
-    field-set width tick place at value v column new cell.words words read e
-    (made cell.words (told ∙ ap (λ o. field_of (other_place place) (words_of o)) there)) (ap (option_map (λ (c : Cell). c.words)) there)
+-- what a column's cells become is what it becomes
+pub column-fields : (width tick place from : ℕ) (values : List ℤ) (c : Column) →
+    (let written : Column = record { archetype = c.archetype; entities = c.entities; is_written = c.is_written; kind = c.kind; cells = with_field_cells width tick place from values c.cells; room = c.room } in written)
+    ≡ column_with_fields width tick place from values c
+column-fields width tick place from [] c = refl
+column-fields width tick place from (value ∷ more) c = column-fields width tick place (suc from) more (with_cell from (field_cell width tick place value) c)
+
+-- a column of a query whose own components are written
+pub written-fields : (h : ViewColumn) (column new : ColumnCells) (k tick place from : ℕ) (values : List ℤ) → h.cells ≡ Written column →
+    new ≡ record { kind = column.kind; cells = with_field_cells (widths column.kind) tick place from values column.cells; room = column.room } → (held_seen h).kind ≡ k →
+    held_seen (record { archetype = h.archetype; cells = Written new; world = h.world }) ≡ column_with_fields (widths k) tick place from values (held_seen h)
+written-fields h column new k tick place from values is e kind =
+    ap (λ (c : ColumnCells). held_seen (record { archetype = h.archetype; cells = Written c; world = h.world })) e
+    ∙ ap (λ (a : ColumnAccess). let seen = held_seen h in let cells = column_in a in
+    let written : Column = record { archetype = seen.archetype; entities = seen.entities; is_written = is_own a; kind = cells.kind; cells = with_field_cells (widths cells.kind) tick place from values cells.cells; room = cells.room } in written) (sym is)
+    ∙ ap (λ n. let seen = held_seen h in
+    let written : Column = record { archetype = seen.archetype; entities = seen.entities; is_written = seen.is_written; kind = seen.kind; cells = with_field_cells (widths n) tick place from values seen.cells; room = seen.room } in written) kind
+    ∙ column-fields (widths k) tick place from values (held_seen h)
 
 -- ---- a field of a row of columns
 
@@ -73,12 +76,6 @@ pub field-told : (slots : List (List (Option ℕ))) (columns news : List Column)
     news ≡ at_slot (slot_in slots row.archetype k) (with_cell row.place (changed_cell (words_with width place value (unwrap_or (words_of (seen_at slots columns row k)) [])) tick)) columns
 field-told slots columns news row k width tick place value v same e =
     e ∙ ap (λ x. at_slot (slot_in slots row.archetype k) (with_cell row.place (changed_cell (words_with width place x (unwrap_or (words_of (seen_at slots columns row k)) [])) tick)) columns) same
-
-pub column-more : (width tick place from i : ℕ) (values : List ℤ) (d v : ℤ) (now new last : Column) → i < length values → v ≡ get_or values i d → new ≡ with_cell (from + i) (field_cell width tick place v) now →
-    column_with_fields width tick place (from + i) (drop i values) now ≡ last → column_with_fields width tick place (from + (i + 1)) (drop (i + 1) values) new ≡ last
-column-more width tick place from i values d v now new last l read e h =
-    ap₂ (λ a c. column_with_fields width tick place a (drop (i + 1) values) c) (let n : from + (i + 1) ≡ suc (from + i) = omega arith in n) (e ∙ ap (λ x. with_cell (from + i) (field_cell width tick place x) now) read)
-    ∙ sym (ap (λ vs. column_with_fields width tick place (from + i) vs now) (drop_more values i d l)) ∙ h
 
 pub sheet-more : (k place from i : ℕ) (values : List ℤ) (d v : ℤ) (now new last : Sheet) → i < length values → v ≡ get_or values i d → new ≡ sheet_with_fields now k place (from + i) (v ∷ []) →
     sheet_with_fields now k place (from + i) (drop i values) ≡ last → sheet_with_fields new k place (from + (i + 1)) (drop (i + 1) values) ≡ last

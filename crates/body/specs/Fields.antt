@@ -1,28 +1,13 @@
--- Fields of components: the words of one with a field replaced, and those of the rows of a query, many rows at once.
-use Rattle.std.specs.Prelude.{ℕ, zero, suc, ℤ, pos, ◌==◌, cond, List, [], ◌∷◌, get_or, Option, unwrap_or}
-use Rattle.model.specs.Lists.{head_or, tail_of, update_at}
-use Rattle.model.specs.state.State.{Cell}
+-- Fields of the components in the rows of a query, many rows at once.
+use Rattle.std.specs.Prelude.{ℕ, suc, ℤ, List, [], ◌∷◌, get_or, Option, unwrap_or}
+use Rattle.model.specs.Lists.{update_at}
 use Rattle.model.specs.access.Query.{Term}
 use Rattle.model.specs.shown.Input.{ShownRow}
 use Rattle.kinds.specs.Components.{widths, word_at}
+pub use Rattle.column_store.specs.Fields.{words_of_width, words_with, field_cell}
 use Rattle.body.specs.Columns.{Column, with_cell}
 use Rattle.body.specs.Seen.{Seen, words_read, with_words, query_at, rows_at, read_at, no_row}
 use Rattle.body.specs.Sheet.{Sheet}
-
--- the words of a kind of this width, 0 where there are none
-abbrev pub words_of_width : ℕ → List ℤ → List ℤ
-words_of_width zero words = []
-words_of_width (suc n) words = head_or (pos 0) words ∷ words_of_width n (tail_of words)
-
--- the same with the word at a place replaced
-abbrev pub words_with : ℕ → ℕ → ℤ → List ℤ → List ℤ
-words_with zero place value words = []
-words_with (suc n) zero value words = value ∷ words_of_width n (tail_of words)
-words_with (suc n) (suc place) value words = head_or (pos 0) words ∷ words_with n place value (tail_of words)
-
--- the other of two places
-abbrev pub other_place : ℕ → ℕ
-other_place place = cond (place == 0) 1 0
 
 -- the field of a component that is there, else 0
 abbrev pub field_of : ℕ → Option (List ℤ) → ℤ
@@ -100,10 +85,7 @@ sheet_with_listed_fields s kind place ns values = record {
   tick = s.tick;
 }
 
--- a cell with a field replaced at a tick, and a column with these values in a field of its cells, from one on
-abbrev pub field_cell : ℕ → ℕ → ℕ → ℤ → Cell → Cell
-field_cell width tick place value c = record { words = words_with width place value c.words; added = c.added; changed = tick }
-
+-- a column with these values in a field of its cells, from one on
 abbrev pub column_with_fields : ℕ → ℕ → ℕ → ℕ → List ℤ → Column → Column
 column_with_fields width tick place i [] c = c
 column_with_fields width tick place i (value ∷ more) c = column_with_fields width tick place (suc i) more (with_cell i (field_cell width tick place value) c)

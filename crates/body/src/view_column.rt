@@ -1,6 +1,6 @@
 // The columns that a query of a view holds: its own where it writes, shared ones where it reads.
 
-ghost use Rattle.std.specs.Prelude.{◌≡◌, ◌+◌, ◌<◌, ◌≤◌, ℕ, pos, true, Some, length, take, get_or, slice_get, option_map};
+ghost use Rattle.std.specs.Prelude.{◌≡◌, ◌+◌, ◌<◌, ◌≤◌, ℕ, pos, true, Some, length, get_or, slice_get, option_map};
 ghost use Rattle.column_store.specs.Cells.{changed_cell};
 ghost use Rattle.kinds.specs.Kind.{kind_number};
 ghost use Rattle.kinds.specs.Components.{widths};
@@ -10,7 +10,6 @@ ghost use Rattle.body.specs.Columns.{with_cell};
 ghost use Rattle.body.specs.Fields.{field_of, field_cell, column_with_fields};
 ghost use Rattle.body.specs.HeldColumns.{column_in, held_seen};
 
-use crate::field_words::{other_of, with_field};
 use archetype_store::World;
 use change_ticks::Tick;
 use column_store::StampedColumn;
@@ -85,36 +84,13 @@ impl ViewColumn {
         }
     }
 
-    // Replaces the fields of the component at a place by the first ones of two words. It counts as changed at this tick.
-    fn set_words(&mut self, place: usize, pair: [i64; 2], tick: Tick)
-        requires written { (held_seen self.old).is_written ≡ true }
-        requires within { place < length (held_seen self.old).cells }
-        ensures { held_seen self.new ≡ with_cell place (changed_cell (take (widths (held_seen self.old).kind) pair) tick) (held_seen self.old) }
-    {
-        match &mut self.cells {
-            ColumnAccess::Written(column) => column.write_words(place, pair, tick),
-            ColumnAccess::Read(_) => unreachable!(),
-        }
-    }
-
-    // How many components there are.
-    fn len(&self) -> usize
-        ensures { result ≡ length (held_seen self.now).cells }
-    {
-        self.column().len()
-    }
-
     // The values of a field of the components from a place on, as many as there is room for.
     pub(crate) fn read_field(&self, from: usize, place: usize, values: &mut [i64])
         requires { from + length values.old ≤ length (held_seen self.now).cells }
         ensures length { length values.new ≡ length values.old }
         ensures values { (i : ℕ) → i < length values.old → get_or values.new i (pos 0) ≡ field_of place (words_of (slice_get (held_seen self.now).cells (from + i))) }
     {
-        // Proves that places fit.
-        let _count = self.len();
-        for i in 0..values.len() {
-            values[i] = self.word(from + i, place);
-        }
+        self.column().read_field(from, place, values);
     }
 
     // Replaces a field of the component at a place, which counts as changed at this tick.
@@ -125,8 +101,7 @@ impl ViewColumn {
         requires place { place < widths (kind_number kind) }
         ensures { held_seen self.new ≡ with_cell at (field_cell (widths (kind_number kind)) tick place value) (held_seen self.old) }
     {
-        let other = self.word(at, other_of(place));
-        self.set_words(at, with_field(kind, other, place, value), tick);
+        self.write_field(kind, at, place, &[value], tick);
     }
 
     // Replaces a field of the components from a place on by these values, a value a component. They count as changed at this tick.
@@ -144,10 +119,9 @@ impl ViewColumn {
         requires place { place < widths (kind_number kind) }
         ensures { held_seen self.new ≡ column_with_fields (widths (kind_number kind)) tick place from values.now (held_seen self.old) }
     {
-        // Proves that places fit.
-        let _count = self.len();
-        for i in 0..values.len() {
-            self.set_field(from + i, kind, place, values[i], tick);
+        match &mut self.cells {
+            ColumnAccess::Written(column) => column.write_field(from, place, values, tick),
+            ColumnAccess::Read(_) => unreachable!(),
         }
     }
 }

@@ -1,6 +1,7 @@
 pub mod Swapped
 pub mod Lists
 pub mod Cells
+pub mod Fields
 pub mod Wide
 pub mod Ordered
 pub mod Rising

@@ -4,6 +4,7 @@ pub mod Packed
 pub mod Words
 pub mod Held
 pub mod Cells
+pub mod Fields
 pub mod Order
 pub mod RowOrder
 pub mod Places

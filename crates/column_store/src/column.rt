@@ -1,14 +1,15 @@
 // A column without stamps: the components of one kind, packed by their shape.
 
-ghost use Rattle.std.specs.Prelude.{◌≡◌, ◌+◌, ◌<◌, ◌≤◌, ◌++◌, ◌∷◌, [], map, option_map, Some, length, slice_get, slice_set, take, IfOk, OnOk};
+ghost use Rattle.std.specs.Prelude.{◌≡◌, ◌+◌, ◌<◌, ◌≤◌, ◌++◌, ◌∷◌, ℕ, pos, [], map, option_map, Some, length, get_or, slice_get, slice_set, IfOk, OnOk};
 ghost use Rattle.std.specs.List.{AllByRecursion};
 ghost use Rattle.kinds.specs.Kind.{kind_number};
 ghost use Rattle.kinds.specs.Components.{widths, word_at};
 ghost use Rattle.kinds.specs.Value.{value_number, value_words};
+ghost use Rattle.column_store.specs.Fields.{with_field_words};
 ghost use Rattle.column_store.specs.Swapped.{swap_removed};
 
 use crate::packed::{Amount, Mark, Packed, Pair};
-use crate::packs::{copied, push_in, reserve_in, set_in, set_words_in, swap_remove_in};
+use crate::packs::{copied, push_in, read_in, reserve_in, set_in, swap_remove_in, write_in};
 use kinds::{Component, Fields, Kind, Shape, Value};
 use std::alloc::{AllocError, Global};
 use std::marker::Model;
@@ -147,15 +148,29 @@ impl Column {
         }
     }
 
-    // Replaces the fields of the component at a place by the first ones of two words.
-    pub(crate) fn set_words(&mut self, place: usize, pair: [i64; 2])
-        requires { place < length self.old.words }
-        ensures { self.new ≡ record self.old { words = slice_set self.old.words place (take (widths self.old.kind) pair) } }
+    // The words of a field of the components from a place on, as many as there is room for: 0 where the kind has no such field.
+    pub(crate) fn read_field(&self, from: usize, field: usize, values: &mut [i64])
+        requires { from + length values.old ≤ length self.now.words }
+        ensures length { length values.new ≡ length values.old }
+        ensures values { (i : ℕ) → i < length values.old → option_map (λ ws. word_at ws field) (slice_get self.now.words (from + i)) ≡ Some (get_or values.new i (pos 0)) }
+    {
+        match &self.packs {
+            Packs::Marks(items) => read_in(items, from, field, values),
+            Packs::Amounts(items) => read_in(items, from, field, values),
+            Packs::Pairs(items) => read_in(items, from, field, values),
+        }
+    }
+
+    // Replaces a field of the components from a place on by these values, a value a component.
+    pub(crate) fn write_field(&mut self, from: usize, field: usize, values: &[i64])
+        requires field { field < widths self.old.kind }
+        requires within { from + length values.now ≤ length self.old.words }
+        ensures { self.new ≡ record self.old { words = with_field_words (widths self.old.kind) field from values.now self.old.words } }
     {
         match &mut self.packs {
-            Packs::Marks(items) => set_words_in(items, place, pair),
-            Packs::Amounts(items) => set_words_in(items, place, pair),
-            Packs::Pairs(items) => set_words_in(items, place, pair),
+            Packs::Marks(items) => write_in(items, from, field, values),
+            Packs::Amounts(items) => write_in(items, from, field, values),
+            Packs::Pairs(items) => write_in(items, from, field, values),
         }
     }
 

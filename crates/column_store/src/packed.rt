@@ -1,8 +1,9 @@
 // What a column holds for a row: the fields of a component, with no word more than its kind has.
 
-ghost use Rattle.std.specs.Prelude.{◌≡◌, ℕ, ℤ, List, length, take, refl};
+ghost use Rattle.std.specs.Prelude.{◌≡◌, ◌<◌, ℕ, ℤ, List, length, refl};
 ghost use Rattle.kinds.specs.Components.{widths, word_at, one_word, two_words, no_words};
 ghost use Rattle.kinds.specs.Value.{value_number, value_words};
+ghost use Rattle.column_store.specs.Fields.{words_with};
 ghost use Rattle.column_store.specs.Packed.{mark_words, amount_words, pair_words};
 
 use kinds::{Fields, Value};
@@ -18,10 +19,6 @@ pub(crate) trait Packed: Copy {
         requires { widths (value_number value) ≡ WIDTH }
         ensures { words result ≡ value_words value };
 
-    // The first ones of two words.
-    fn packed(pair: [i64; 2]) -> Self
-        ensures { words result ≡ take WIDTH pair };
-
     // As words, in order.
     fn fields(self) -> Fields
         ensures { result ≡ words self };
@@ -29,6 +26,11 @@ pub(crate) trait Packed: Copy {
     // The word of a field, 0 where there is no such field.
     fn word(self, field: usize) -> i64
         ensures { result ≡ word_at (words self) field };
+
+    // The same with the word of a field replaced.
+    fn with_word(self, field: usize, value: i64) -> Self
+        requires { field < WIDTH }
+        ensures { words result ≡ words_with WIDTH field value (words self) };
 
     ghost same_width: { (p : Self) → length (words p) ≡ WIDTH };
 }
@@ -63,16 +65,16 @@ impl Packed for Mark {
         Mark
     }
 
-    fn packed(_pair: [i64; 2]) -> Self {
-        Mark
-    }
-
     fn fields(self) -> Fields {
         Fields::none()
     }
 
     fn word(self, _field: usize) -> i64 {
         0
+    }
+
+    fn with_word(self, _field: usize, _value: i64) -> Self {
+        self
     }
 }
 
@@ -90,10 +92,6 @@ impl Packed for Amount {
         Amount { v: list[0] }
     }
 
-    fn packed(pair: [i64; 2]) -> Self {
-        Amount { v: pair[0] }
-    }
-
     fn fields(self) -> Fields {
         Fields::one(self.v)
     }
@@ -103,6 +101,10 @@ impl Packed for Amount {
             0 => self.v,
             _ => 0,
         }
+    }
+
+    fn with_word(self, _field: usize, value: i64) -> Self {
+        Amount { v: value }
     }
 }
 
@@ -123,13 +125,6 @@ impl Packed for Pair {
         }
     }
 
-    fn packed(pair: [i64; 2]) -> Self {
-        Pair {
-            x: pair[0],
-            y: pair[1],
-        }
-    }
-
     fn fields(self) -> Fields {
         Fields::two(self.x, self.y)
     }
@@ -139,6 +134,20 @@ impl Packed for Pair {
             0 => self.x,
             1 => self.y,
             _ => 0,
+        }
+    }
+
+    fn with_word(self, field: usize, value: i64) -> Self {
+        if field == 0 {
+            Pair {
+                x: value,
+                y: self.y,
+            }
+        } else {
+            Pair {
+                x: self.x,
+                y: value,
+            }
         }
     }
 }

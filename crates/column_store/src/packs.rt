@@ -1,8 +1,9 @@
 // Lists of packed components, and what is done to one: written once for every shape.
 
-ghost use Rattle.std.specs.Prelude.{◌≡◌, ◌+◌, ◌<◌, ◌≤◌, ◌++◌, ◌∷◌, [], map, length, slice_set, take, vec_capacity, IfOk, OnOk};
-ghost use Rattle.kinds.specs.Components.{widths};
+ghost use Rattle.std.specs.Prelude.{◌≡◌, ◌+◌, ◌<◌, ◌≤◌, ◌++◌, ◌∷◌, ℕ, pos, [], map, option_map, Some, length, get_or, slice_get, slice_set, vec_capacity, IfOk, OnOk};
+ghost use Rattle.kinds.specs.Components.{widths, word_at};
 ghost use Rattle.kinds.specs.Value.{value_number, value_words};
+ghost use Rattle.column_store.specs.Fields.{with_field_words};
 ghost use Rattle.column_store.specs.Swapped.{swap_removed};
 
 use crate::packed::Packed;
@@ -27,14 +28,32 @@ pub(crate) fn set_in<P: Packed>(items: &mut Vec<P>, place: usize, value: Value)
     items[place] = P::of(value);
 }
 
-// Replaces the fields of the component at a place by the first ones of two words.
-#[tactic(auto, using(crate::proofs::Lists::edits))]
-pub(crate) fn set_words_in<P: Packed>(items: &mut Vec<P>, place: usize, pair: [i64; 2])
-    requires { place < length items.old.items }
-    ensures words { map P.words items.new.items ≡ slice_set (map P.words items.old.items) place (take P.WIDTH pair) }
+// The words of a field of the components from a place on, as many as there is room for: 0 where there is no such field.
+pub(crate) fn read_in<P: Packed>(items: &[P], from: usize, field: usize, values: &mut [i64])
+    requires { from + length values.old ≤ length items.now }
+    ensures length { length values.new ≡ length values.old }
+    ensures values { (i : ℕ) → i < length values.old → option_map (λ ws. word_at ws field) (slice_get (map P.words items.now) (from + i)) ≡ Some (get_or values.new i (pos 0)) }
+{
+    // Proves that places fit.
+    let _count = items.len();
+    for i in 0..values.len() {
+        values[i] = items[from + i].word(field);
+    }
+}
+
+// Replaces a field of the components from a place on by these values, a value a component.
+pub(crate) fn write_in<P: Packed>(items: &mut Vec<P>, from: usize, field: usize, values: &[i64])
+    requires field { field < P.WIDTH }
+    requires within { from + length values.now ≤ length items.old.items }
+    ensures words { map P.words items.new.items ≡ with_field_words P.WIDTH field from values.now (map P.words items.old.items) }
     ensures room { vec_capacity items.new ≡ vec_capacity items.old }
 {
-    items[place] = P::packed(pair);
+    // Proves that places fit.
+    let _count = items.len();
+    for i in 0..values.len() {
+        let place = from + i;
+        items[place] = items[place].with_word(field, values[i]);
+    }
 }
 
 // Adds a component at the end, where there is room.

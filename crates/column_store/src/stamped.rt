@@ -1,12 +1,13 @@
 // A column with the stamps of its components.
 
-ghost use Rattle.std.specs.Prelude.{◌≡◌, ◌+◌, ◌<◌, ◌≤◌, ◌++◌, ◌∷◌, [], Some, length, slice_get, take, option_map, IfOk, OnOk};
+ghost use Rattle.std.specs.Prelude.{◌≡◌, ◌+◌, ◌<◌, ◌≤◌, ◌++◌, ◌∷◌, ℕ, pos, [], Some, length, get_or, slice_get, option_map, vec_capacity, IfOk, OnOk};
 ghost use Rattle.std.specs.List.{AllByRecursion};
 ghost use Rattle.kinds.specs.Kind.{kind_number};
 ghost use Rattle.kinds.specs.Value.{value_number, value_words};
 ghost use Rattle.kinds.specs.Components.{widths, word_at};
 ghost use Rattle.model.specs.Lists.{update_at};
 ghost use Rattle.column_store.specs.Cells.{stamped_number, stamped_cell, stamp_of, changed_cell};
+ghost use Rattle.column_store.specs.Fields.{with_field_cells, changed_stamps};
 ghost use Rattle.column_store.specs.Swapped.{swap_removed};
 
 use crate::column::Column;
@@ -177,14 +178,24 @@ impl StampedColumn {
         self.stamps[place].changed = tick;
     }
 
-    /// Replaces the fields of the component at a place by the first ones of two words: as many as the kind has. It counts as changed at this
-    /// tick.
-    pub fn write_words(&mut self, place: usize, pair: [i64; 2], tick: Tick)
-        requires { place < length self.old.cells }
-        ensures { self.new ≡ record self.old { cells = update_at place (changed_cell (take (widths self.old.kind) pair) tick) self.old.cells } }
+    /// The words of a field of the components from a place on, as many as there is room for: 0 where the kind has no such field.
+    pub fn read_field(&self, from: usize, field: usize, values: &mut [i64])
+        requires { from + length values.old ≤ length self.now.cells }
+        ensures length { length values.new ≡ length values.old }
+        ensures values { (i : ℕ) → i < length values.old → option_map (λ c. word_at c.words field) (slice_get self.now.cells (from + i)) ≡ Some (get_or values.new i (pos 0)) }
     {
-        self.column.set_words(place, pair);
-        self.stamps[place].changed = tick;
+        self.column.read_field(from, field, values);
+    }
+
+    /// Replaces a field of the components from a place on by these values, a value a component. They count as changed at this tick, also where a
+    /// value stays.
+    pub fn write_field(&mut self, from: usize, field: usize, values: &[i64], tick: Tick)
+        requires field { field < widths self.old.kind }
+        requires within { from + length values.now ≤ length self.old.cells }
+        ensures { self.new ≡ record self.old { cells = with_field_cells (widths self.old.kind) tick field from values.now self.old.cells } }
+    {
+        self.column.write_field(from, field, values);
+        mark_changed(&mut self.stamps, from, values.len(), tick);
     }
 
     /// Replaces the component at a place by one of the column's kind, with the stamp of that.
@@ -224,5 +235,18 @@ impl StampedColumn {
     {
         self.column.reserve(further)?;
         self.stamps.reserve(further)
+    }
+}
+
+// So many stamps from one on say that their components were changed at this tick.
+fn mark_changed(stamps: &mut Vec<Stamp>, from: usize, count: usize, tick: Tick)
+    requires { from + count ≤ length stamps.old.items }
+    ensures stamps { stamps.new.items ≡ changed_stamps tick from count stamps.old.items }
+    ensures room { vec_capacity stamps.new ≡ vec_capacity stamps.old }
+{
+    // Proves that places fit.
+    let _count = stamps.len();
+    for i in 0..count {
+        stamps[from + i].changed = tick;
     }
 }
