@@ -211,7 +211,7 @@ module _ (tick : ℕ) (terms : List Term) (slots : List (List (Option ℕ))) (ro
       let rest : suc r + length more ≤ length s.rows = omega arith in
       let later : (i : ℕ) → i < length more → IsAt rows n (suc r + i) (suc p + i) = λ i m.
       subst (λ a. IsAt rows n a (suc p + i)) (let a : r + suc i ≡ suc r + i = omega arith in a) (subst (IsAt rows n (r + suc i)) (let a : p + suc i ≡ suc p + i = omega arith in a) (turn (suc i) (omega arith))) in
-      let done = field-written middle news (record { terms = s.terms; rows = s.rows; cells = update_at r (with_words s.terms k words) s.cells; taken = s.taken; tick = s.tick }) (suc r) (suc p) more after now rest later w
+      let done = field-written middle news (record { terms = s.terms; rows = s.rows; cells = update_at r (with_words s.terms k words) s.cells; taken = s.taken; tick = s.tick; places = s.places }) (suc r) (suc p) more after now rest later w
       (e ∙ sym (update-twice (column_with_fields (widths k) tick place (suc p) more) (with_cell p (field_cell (widths k) tick place value)) columns j)) in
       record { sheet = done.sheet; seen = done.seen }
 
@@ -244,6 +244,6 @@ sheet-further k place from i n m values now new last at l e h =
     let long : length (take n (drop i values)) ≡ n = length-take-le n (drop i values) (let d = length-drop i values in omega arith) in
     let parts : drop i values ≡ take n (drop i values) ++ drop m values = sym (take-append-drop n (drop i values)) ∙ ap (λ ys. take n (drop i values) ++ ys) (drop-drop n i values ∙ ap (λ a. drop a values) (let same : i + n ≡ m = omega arith in same)) in
     ap (λ (s : Sheet). sheet_with_fields s k place (from + m) (drop m values)) e
-    ∙ sym (ap (λ (cells : List (List (Option (List ℤ)))). let x : Sheet = record { terms = now.terms; rows = now.rows; cells = cells; taken = now.taken; tick = now.tick } in x)
+    ∙ sym (ap (λ (cells : List (List (Option (List ℤ)))). let x : Sheet = record { terms = now.terms; rows = now.rows; cells = cells; taken = now.taken; tick = now.tick; places = now.places } in x)
     (rows-then now.terms now.rows k place (from + i) (from + m) (take n (drop i values)) (drop m values) now.cells (omega arith)))
     ∙ ap (sheet_with_fields now k place (from + i)) (sym parts) ∙ h

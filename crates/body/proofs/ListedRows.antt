@@ -15,7 +15,7 @@ use Rattle.body.specs.Sheet.{slot_in, at_slot, Sheet, sheet_of, IsSheet, IsWrita
 use Rattle.body.specs.Turns.{AreInTurnAt}
 use Rattle.body.proofs.Gets.{update-twice, update-id}
 use Rattle.body.proofs.FieldRows.{IsAt, turn-writable, written-once}
-use Rattle.body.proofs.SheetCalls.{sheet-after, sheet-set}
+use Rattle.body.proofs.SheetCalls.{rows-within, sheet-after, sheet-set}
 
 -- ---- rows that stand in turn
 
@@ -54,6 +54,14 @@ listed-turn rows ns count first turn is within i l =
       place_is = p.1 ∙ ap (λ (x : Row). x.place + i) (sym is);
     }
 
+-- so is each of some rows of a query that stand in turn
+pub query-turn : (tick : ℕ) (terms : List Term) (slots : List (List (Option ℕ))) (rows : List Row) (taken columns : List Column) → IsSheet tick terms slots rows taken columns → (s : Sheet) → sheet_of tick terms slots rows taken columns ≡ s →
+    (ns : List ℕ) (first : Row) → AreInTurnAt s.places ns (length ns) → first ≡ get_or rows (get_or ns 0 0) first → ((i : ℕ) → i < length ns → get_or ns i 0 < length s.rows) →
+    (i : ℕ) → i < length ns → IsAt rows first.archetype (get_or ns i 0) (first.place + i)
+query-turn tick terms slots rows taken columns is s seen ns first turn told within =
+    listed-turn rows ns (length ns) first (subst (λ rs. AreInTurnAt rs ns (length ns)) (sym (ap (λ (x : Sheet). x.places) seen)) turn) told
+    (λ i l. rows-within tick terms slots rows taken columns is s seen (get_or ns i 0) (within i l))
+
 -- ---- a field that is written in them
 
 pub record IsListedWritten (tick : ℕ) (terms : List Term) (slots : List (List (Option ℕ))) (rows : List Row) (taken news : List Column) (s : Sheet) (k place : ℕ) (ns : List ℕ) (values : List ℤ) : Type 0 where
@@ -84,7 +92,7 @@ module _ (tick : ℕ) (terms : List Term) (slots : List (List (Option ℕ))) (ro
       let rest : length more ≤ length ns = omega arith in
       let later : (i : ℕ) → i < length more → IsAt rows n (get_or ns i 0) (suc p + i) = λ i m.
       subst (IsAt rows n (get_or ns i 0)) (let a : p + suc i ≡ suc p + i = omega arith in a) (turn (suc i) (omega arith)) in
-      let done = written-in-turn middle news (record { terms = s.terms; rows = s.rows; cells = update_at r (with_words s.terms k words) s.cells; taken = s.taken; tick = s.tick }) ns (suc p) more after now rest (λ i m. l (suc i) (omega arith)) later w
+      let done = written-in-turn middle news (record { terms = s.terms; rows = s.rows; cells = update_at r (with_words s.terms k words) s.cells; taken = s.taken; tick = s.tick; places = s.places }) ns (suc p) more after now rest (λ i m. l (suc i) (omega arith)) later w
       (e ∙ sym (update-twice (column_with_fields (widths k) tick place (suc p) more) (with_cell p (field_cell (widths k) tick place value)) columns j)) in
       record { sheet = done.sheet; seen = done.seen }
 
@@ -108,26 +116,7 @@ listed-written tick terms slots rows taken columns news is s seen n k place p ns
     at None is_none ms (v ∷ vs) short within there changed =
         absurd (subst (λ o. IsWritableAt o columns k (p + 0)) is_none (turn-writable tick terms slots rows taken columns is s seen n k (get_or ms 0 0) (p + 0) (within 0 (omega arith)) (there 0 (omega arith)) w))
 
--- ---- values that are written in two goes
-
-listed-then : (terms : List Term) (rows : List ShownRow) (k place : ℕ) (ns ms : List ℕ) (xs ys : List ℤ) (cells : List (List (Option (List ℤ)))) → length ns ≡ length xs →
-    with_listed_rows terms rows k place (ns ++ ms) (xs ++ ys) cells ≡ with_listed_rows terms rows k place ms ys (with_listed_rows terms rows k place ns xs cells)
-listed-then terms rows k place [] ms [] ys cells e = refl
-listed-then terms rows k place [] ms (x ∷ xs) ys cells e = absurd (omega arith)
-listed-then terms rows k place (r ∷ ns) ms [] ys cells e = absurd (omega arith)
-listed-then terms rows k place (r ∷ ns) ms (x ∷ xs) ys cells e = listed-then terms rows k place ns ms xs ys _ (omega arith)
-
-parts : {A : Type 0} (i n m : ℕ) (xs : List A) → m ≡ i + n → drop i xs ≡ take n (drop i xs) ++ drop m xs
-parts i n m xs e = sym (take-append-drop n (drop i xs)) ∙ ap (λ ys. take n (drop i xs) ++ ys) (drop-drop n i xs ∙ ap (λ a. drop a xs) (sym e))
-
-pub listed-further : (k place i n m : ℕ) (ns : List ℕ) (values : List ℤ) (now new last : Sheet) → m ≡ i + n → i + n ≤ length values → length values ≡ length ns →
-    new ≡ sheet_with_listed_fields now k place (take n (drop i ns)) (take n (drop i values)) →
-    sheet_with_listed_fields now k place (drop i ns) (drop i values) ≡ last → sheet_with_listed_fields new k place (drop m ns) (drop m values) ≡ last
-listed-further k place i n m ns values now new last at l room e h =
-    let long : length (take n (drop i values)) ≡ n = length-take-le n (drop i values) (let d = length-drop i values in omega arith) in
-    let many : length (take n (drop i ns)) ≡ n = length-take-le n (drop i ns) (let d = length-drop i ns in omega arith) in
-    ap (λ (s : Sheet). sheet_with_listed_fields s k place (drop m ns) (drop m values)) e
-    ∙ sym (ap (λ (cells : List (List (Option (List ℤ)))). let x : Sheet = record { terms = now.terms; rows = now.rows; cells = cells; taken = now.taken; tick = now.tick } in x)
-    (listed-then now.terms now.rows k place (take n (drop i ns)) (drop m ns) (take n (drop i values)) (drop m values) now.cells (many ∙ sym long)))
-    ∙ ap (λ ms. sheet_with_listed_fields now k place ms (take n (drop i values) ++ drop m values)) (sym (parts i n m ns at))
-    ∙ ap (sheet_with_listed_fields now k place (drop i ns)) (sym (parts i n m values at)) ∙ h
+-- in no rows
+pub nothing-listed : (k place : ℕ) (ns : List ℕ) (values : List ℤ) (s : Sheet) → length ns ≡ 0 → s ≡ sheet_with_listed_fields s k place ns values
+nothing-listed k place [] values s e = refl
+nothing-listed k place (n ∷ ns) values s e = absurd (omega arith)

@@ -77,11 +77,11 @@ module _ (tick : ℕ) (terms : List Term) (slots : List (List (Option ℕ))) (ro
         (sheet-written tick terms slots rows taken columns is r row k slot.0 words (row-there r row within row_is) (written-term k mut_term) slot.1)
 
     -- what is written in a row
-    pub sheet-set : sheet_of tick terms slots rows taken news ≡ record { terms = s.terms; rows = s.rows; cells = update_at r (with_words s.terms k words) s.cells; taken = s.taken; tick = s.tick }
+    pub sheet-set : sheet_of tick terms slots rows taken news ≡ record { terms = s.terms; rows = s.rows; cells = update_at r (with_words s.terms k words) s.cells; taken = s.taken; tick = s.tick; places = s.places }
     sheet-set =
         let slot = slot-of in
         let first = sheet_of tick terms slots rows taken columns in
-        let made = λ (cells : List (List (Option (List ℤ)))). (let x : Sheet = record { terms = first.terms; rows = first.rows; cells = cells; taken = first.taken; tick = first.tick } in x) in
+        let made = λ (cells : List (List (Option (List ℤ)))). (let x : Sheet = record { terms = first.terms; rows = first.rows; cells = cells; taken = first.taken; tick = first.tick; places = first.places } in x) in
         ap (λ cs. sheet_of tick terms slots rows taken cs) (news-are slot.0 slot.1)
         ∙ ap made (cells-written tick terms slots rows taken columns is r row k slot.0 words (row-there r row within row_is) (written-term k mut_term) slot.1)
-        ∙ ap (λ (x : Sheet). let y : Sheet = record { terms = x.terms; rows = x.rows; cells = update_at r (with_words x.terms k words) x.cells; taken = x.taken; tick = x.tick } in y) seen
+        ∙ ap (λ (x : Sheet). let y : Sheet = record { terms = x.terms; rows = x.rows; cells = update_at r (with_words x.terms k words) x.cells; taken = x.taken; tick = x.tick; places = x.places } in y) seen

@@ -1,11 +1,11 @@
 -- Rows that stand in turn, one after the other.
-use Rattle.std.proofs.Common.{◌≡◌, ℕ, ◌+◌, ◌<◌, ◌≤◌, inl, inr, List, length, get_or, sym, ap, ◌∙◌, arith}
+use Rattle.std.proofs.Common.{◌≡◌, ℕ, ◌+◌, ◌<◌, ◌≤◌, inl, inr, List, length, get_or, take, sym, ap, ◌∙◌, arith}
 use Rattle.std.proofs.lemmas.Bool.{cases_lt}
-use Rattle.std.proofs.lemmas.List.{get_or_default}
+use Rattle.std.proofs.lemmas.List.{get_or_default, get_or-take, length-take}
 use Rattle.std.proofs.lemmas.Option.{slice_get-get_or}
 use Rattle.query_plan.specs.declared.row.Row.{Row}
 use Rattle.query_plan.specs.Places.{AreEvery}
-use Rattle.body.specs.Turns.{AreInTurn}
+use Rattle.body.specs.Turns.{AreInTurn, AreInTurnAt}
 
 -- all of an archetype
 pub every-turn : (rows : List Row) (n r count : ℕ) → AreEvery n rows → r + count ≤ length rows → AreInTurn rows r count
@@ -34,3 +34,16 @@ more-turn rows r count first next turn within is_first is_next archetype place i
         ap (λ (x : Row). x.place) a ∙ place ∙ ap (λ k. first.place + k) (sym last) ∙ ap (λ (x : Row). x.place + i) (sym b),
       )
 ]
+
+-- ---- rows by their numbers
+
+-- the first ones of rows that stand in turn
+pub turn-front : (rows : List Row) (ns : List ℕ) (m n : ℕ) → AreInTurnAt rows (take m ns) n → n ≤ m → AreInTurnAt rows (take n ns) (length (take n ns))
+turn-front rows ns m n turn few i d l =
+    let short : i < n = omega (arith, length-take n ns) in
+    let p = turn i d short in
+    let same : get_or (take n ns) i 0 ≡ get_or (take m ns) i 0 = get_or-take n ns i 0 short ∙ sym (get_or-take m ns i 0 (omega arith)) in
+    let first : get_or (take n ns) 0 0 ≡ get_or (take m ns) 0 0 = get_or-take n ns 0 0 (omega arith) ∙ sym (get_or-take m ns 0 0 (omega arith)) in (
+      ap (λ r. (get_or rows r d).archetype) same ∙ p.0 ∙ sym (ap (λ r. (get_or rows r d).archetype) first),
+      ap (λ r. (get_or rows r d).place) same ∙ p.1 ∙ sym (ap (λ r. (get_or rows r d).place + i) first),
+    )

@@ -24,7 +24,7 @@ query-within tick qs values unread sent issued seen q e l = let a = ap (λ (s : 
 -- a view over columns with other cells of a query, which its terms, its rows and its cells determine
 pub seen_over-cells : (tick : ℕ) (qs us : List Sheet) (values : ValuesSeen) (unread sent : ListsValue) (issued : IssuedSeen) (q : ℕ) (f : List Term → List ShownRow → List (List (Option (List ℤ))) → List (List (Option (List ℤ)))) (d new : Sheet) →
     q < length qs → us ≡ set qs q new →
-    new ≡ (let s = get_or qs q d in record { terms = s.terms; rows = s.rows; cells = f s.terms s.rows s.cells; taken = s.taken; tick = s.tick }) →
+    new ≡ (let s = get_or qs q d in record { terms = s.terms; rows = s.rows; cells = f s.terms s.rows s.cells; taken = s.taken; tick = s.tick; places = s.places }) →
     seen_over tick us values unread sent issued ≡ (let seen = seen_over tick qs values unread sent issued in let o = seen.outcome in record {
       params = seen.params;
       shown = seen.shown;
@@ -49,12 +49,13 @@ seen_over-cells tick qs us values unread sent issued q f d new l e n =
       opening = record {
         taken = map-set_same (λ (s : Sheet). s.taken) qs q new d (ap (λ (s : Sheet). s.taken) n) i;
         tick = tick;
+        places = map-set_same (λ (s : Sheet). s.places) qs q new d (ap (λ (s : Sheet). s.places) n) i;
       };
     })
 
 -- with words written
 pub seen_over-written : (tick : ℕ) (qs us : List Sheet) (values : ValuesSeen) (unread sent : ListsValue) (issued : IssuedSeen) (q r k : ℕ) (w : List ℤ) (d new : Sheet) → q < length qs → us ≡ set qs q new →
-    new ≡ (let s = get_or qs q d in record { terms = s.terms; rows = s.rows; cells = update_at r (with_words s.terms k w) s.cells; taken = s.taken; tick = s.tick }) →
+    new ≡ (let s = get_or qs q d in record { terms = s.terms; rows = s.rows; cells = update_at r (with_words s.terms k w) s.cells; taken = s.taken; tick = s.tick; places = s.places }) →
     seen_over tick us values unread sent issued ≡ with_written (seen_over tick qs values unread sent issued) q r k w
 seen_over-written tick qs us values unread sent issued q r k w d new l e n = seen_over-cells tick qs us values unread sent issued q (λ terms rows. update_at r (with_words terms k w)) d new l e n
 

@@ -74,6 +74,7 @@ sheet_with_fields s kind place r values = record {
   cells = with_field_rows s.terms s.rows kind place r values s.cells;
   taken = s.taken;
   tick = s.tick;
+  places = s.places;
 }
 
 abbrev pub sheet_with_listed_fields : Sheet → ℕ → ℕ → List ℕ → List ℤ → Sheet
@@ -83,6 +84,7 @@ sheet_with_listed_fields s kind place ns values = record {
   cells = with_listed_rows s.terms s.rows kind place ns values s.cells;
   taken = s.taken;
   tick = s.tick;
+  places = s.places;
 }
 
 -- a column with these values in a field of its cells, from one on

@@ -10,14 +10,16 @@ use Rattle.model.specs.shown.Input.{ShownRow, Shown}
 use Rattle.model.specs.declared.entities.Entity.{Entity}
 use Rattle.model.specs.shown.Outcome.{Command, Outcome, words_in_row, value_written, events_sent}
 use Rattle.event_buffers.specs.Lists.{with_event}
+use Rattle.query_plan.specs.declared.row.Row.{Row}
 use Rattle.body.specs.Columns.{Column}
 use Rattle.body.specs.Issued.{granted_in}
 
--- what a view was opened over: the columns of each query as they were taken, and the tick at which what is written there counts as
--- changed. For who opens and closes a view: a body's meaning doesn't take it
+-- what a view was opened over: the columns of each query as they were taken, the tick at which what is written there counts as changed, and
+-- where the rows of each query stand. A body's meaning doesn't take it
 pub record Opening : Type 0 where
   pub taken : List (List Column)
   pub tick : ℕ
+  pub places : List (List Row)
 
 -- a view: the parameters of a system, what it is shown, the outcome so far, and what it was opened over
 pub record Seen : Type 0 where
@@ -52,6 +54,10 @@ query_at params q = get_or params.queries q []
 
 abbrev pub rows_at : Shown → ℕ → List ShownRow
 rows_at shown q = get_or shown.rows q []
+
+-- where the rows of a query stand
+abbrev pub places_at : Opening → ℕ → List Row
+places_at opening q = get_or opening.places q []
 
 -- what stands for a row past the end
 abbrev pub no_row : ShownRow

@@ -14,7 +14,7 @@ seen_over tick queries values unread sent issued = record {
   params = record { queries = map (λ (q : Sheet). q.terms) queries; res = values.res; res_mut = values.res_mut; reads = unread.kinds; writes = sent.kinds; spawns = issued.spawns };
   shown = record { rows = map (λ (q : Sheet). q.rows) queries; res = values.res_shown; res_mut = values.res_mut_shown; unread = unread.values; registers = values.registers_shown; granted = issued.granted };
   outcome = record { cells = map (λ (q : Sheet). q.cells) queries; res_mut = values.written; events = sent.values; commands = issued.commands; registers = values.registers };
-  opening = record { taken = map (λ (q : Sheet). q.taken) queries; tick = tick };
+  opening = record { taken = map (λ (q : Sheet). q.taken) queries; tick = tick; places = map (λ (q : Sheet). q.places) queries };
 }
 
 -- the queries of a view write at its tick, and none of them in the columns of another

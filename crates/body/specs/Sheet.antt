@@ -58,13 +58,15 @@ written_in words (t ∷ ts) = words_for (written t) words ∷ written_in (withou
 abbrev pub written_of : ℕ → List (List (Option ℕ)) → List Column → List Term → Row → List (Option (List ℤ))
 written_of tick slots columns terms row = written_in (λ kind. words_at tick (seen_at slots columns row kind)) terms
 
--- a query of a view: its terms, its rows, what was written in each, its columns as they were taken, and the tick of its writes
+-- a query of a view: its terms, its rows, what was written in each, its columns as they were taken, the tick of its writes, and where its rows
+-- stand
 pub record Sheet : Type 0 where
   pub terms : List Term
   pub rows : List ShownRow
   pub cells : List (List (Option (List ℤ)))
   pub taken : List Column
   pub tick : ℕ
+  pub places : List Row
 
 abbrev pub sheet_of : ℕ → List Term → List (List (Option ℕ)) → List Row → List Column → List Column → Sheet
 sheet_of tick terms slots rows taken columns = record {
@@ -73,6 +75,7 @@ sheet_of tick terms slots rows taken columns = record {
   cells = map (written_of tick slots columns terms) rows;
   taken = taken;
   tick = tick;
+  places = rows;
 }
 
 -- ---- what a query opens over

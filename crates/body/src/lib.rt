@@ -4,7 +4,6 @@
 mod closing;
 mod columns;
 pub mod field_words;
-mod listed_rows;
 pub mod memory;
 pub mod open_state;
 mod opening;

@@ -22,10 +22,10 @@ ghost use Rattle.body.specs.Laid.{world_after};
 ghost use Rattle.body.specs.Lent.{AreLent, lent_in, with_away, with_back};
 ghost use Rattle.body.specs.Orders.{IsOrder};
 ghost use Rattle.body.specs.Out.{IsWrittenBy};
-ghost use Rattle.body.specs.Seen.{query_at, rows_at, row_at, read_at, with_written, resource_read, with_resource, with_register, events_shown, with_emitted, granted_at, with_command};
+ghost use Rattle.body.specs.Turns.{AreInTurnAt};
+ghost use Rattle.body.specs.Seen.{query_at, rows_at, places_at, row_at, read_at, with_written, resource_read, with_resource, with_register, events_shown, with_emitted, granted_at, with_command};
 
 use crate::closing::put_home;
-use crate::listed_rows::{read_rows, write_rows};
 use crate::memory::Memory;
 use crate::opening::open_queries;
 use crate::room::QueryRoom;
@@ -445,8 +445,22 @@ impl View {
         self.order = order;
     }
 
-    /// The values of a field of a kind in the rows of a query with these numbers: what was written there, else what is shown. 0 where a row has
-    /// not the kind, where no term of the query fetches it, and where the kind has no such field.
+    /// How many of the rows of a query with these numbers stand in turn, from the first on: each at the place behind that of the one before, in
+    /// one archetype.
+    pub fn turn(&self, query: usize, rows: &[u32]) -> usize
+        requires query { query < length self.now.shown.rows }
+        requires some { 0 < length rows.now }
+        requires rows { (i : ℕ) → i < length rows.now → get_or rows.now i 0 < length (rows_at self.now.shown query) }
+        ensures some { 0 < result }
+        ensures most { result ≤ length rows.now }
+        ensures turn { AreInTurnAt (places_at self.now.opening query) rows.now result }
+    {
+        let query = &self.queries[query];
+        query.turn(rows)
+    }
+
+    /// The values of a field of a kind in the rows of a query with these numbers, which stand in turn: what was written there, else what is
+    /// shown. 0 where a row has not the kind, where no term of the query fetches it, and where the kind has no such field.
     pub fn read_rows(
         &self,
         query: usize,
@@ -458,14 +472,15 @@ impl View {
         requires query { query < length self.now.shown.rows }
         requires room { length values.old ≡ length rows.now }
         requires rows { (i : ℕ) → i < length rows.now → get_or rows.now i 0 < length (rows_at self.now.shown query) }
+        requires turn { AreInTurnAt (places_at self.now.opening query) rows.now (length rows.now) }
         ensures length { length values.new ≡ length values.old }
         ensures values { (i : ℕ) → i < length values.old → get_or values.new i (pos 0) ≡ field_read self.now query (get_or rows.now i 0) (kind_number kind) place }
     {
         let query = &self.queries[query];
-        read_rows(query, kind, place, rows, values);
+        query.read_rows(kind, place, rows, values);
     }
 
-    /// Writes values into a field of a kind in the rows of a query with these numbers, a value a row, one after the other. The query has a `mut`
+    /// Writes values into a field of a kind in the rows of a query with these numbers, which stand in turn, a value a row. The query has a `mut`
     /// term of the kind, and the other field of each component stays.
     pub fn write_rows(
         &mut self,
@@ -478,12 +493,13 @@ impl View {
         requires query { query < length self.old.shown.rows }
         requires room { length values.now ≡ length rows.now }
         requires rows { (i : ℕ) → i < length rows.now → get_or rows.now i 0 < length (rows_at self.old.shown query) }
+        requires turn { AreInTurnAt (places_at self.old.opening query) rows.now (length rows.now) }
         requires mut_term { IsTrue (writes (query_at self.old.params query) (kind_number kind)) }
         requires place { place < widths (kind_number kind) }
         ensures { self.new ≡ with_listed_fields self.old query (kind_number kind) place rows.now values.now }
     {
         let query = &mut self.queries[query];
-        write_rows(query, kind, place, rows, values);
+        query.write_rows(kind, place, rows, values);
     }
 }
 

@@ -14,6 +14,7 @@ ghost use Rattle.body.specs.HeldColumns.{held_seen, slots_seen};
 ghost use Rattle.body.specs.Fields.{words_with, field_of, field_seen, sheet_with_fields, sheet_with_listed_fields, column_with_fields};
 ghost use Rattle.body.specs.Orders.{IsOrder};
 ghost use Rattle.body.specs.Seen.{words_read, with_words, no_row};
+ghost use Rattle.body.specs.Turns.{AreInTurnAt};
 ghost use Rattle.body.specs.Sheet.{slot_in, slot_cell, seen_at, at_slot, row_of, IsPlan, IsReadableAt, IsReadable, IsWritableAt, IsWritable, WritesReach};
 
 use crate::room::QueryRoom;
@@ -288,23 +289,29 @@ impl ViewQuery {
         order.put(&self.source.rows)
     }
 
-    // The values of the first of the rows with these numbers, those that stand in turn, and how many they are.
-    pub(crate) fn read_listed(
-        &self,
-        kind: Kind,
-        place: usize,
-        listed: &[u32],
-        values: &mut [i64],
-    ) -> usize
-        requires some { 0 < length values.old }
+    // How many of the rows with these numbers stand in turn, from the first on.
+    pub(crate) fn turn(&self, listed: &[u32]) -> usize
+        requires some { 0 < length listed.now }
+        requires rows { (i : ℕ) → i < length listed.now → get_or listed.now i 0 < length self.now.rows }
+        ensures some { 0 < result }
+        ensures most { result ≤ length listed.now }
+        ensures turn { AreInTurnAt self.now.places listed.now result }
+    {
+        listed_in_turn(&self.source.rows, listed)
+    }
+
+    // The values of a field of a kind of the rows with these numbers, which stand in turn.
+    pub(crate) fn read_rows(&self, kind: Kind, place: usize, listed: &[u32], values: &mut [i64])
         requires room { length values.old ≡ length listed.now }
         requires rows { (i : ℕ) → i < length listed.now → get_or listed.now i 0 < length self.now.rows }
+        requires turn { AreInTurnAt self.now.places listed.now (length listed.now) }
         ensures length { length values.new ≡ length values.old }
-        ensures some { 0 < result }
-        ensures most { result ≤ length values.old }
-        ensures values { (i : ℕ) → i < result → get_or values.new i (pos 0) ≡ field_seen self.now (get_or listed.now i 0) (kind_number kind) place }
+        ensures values { (i : ℕ) → i < length values.old → get_or values.new i (pos 0) ≡ field_seen self.now (get_or listed.now i 0) (kind_number kind) place }
     {
-        let count = listed_in_turn(&self.source.rows, listed);
+        let count = listed.len();
+        if count == 0 {
+            return;
+        }
         let first = self.source.rows.at(listed[0] as usize);
         read_column(
             &self.source.slots,
@@ -313,29 +320,23 @@ impl ViewQuery {
             kind,
             first.place as usize,
             place,
-            &mut values[..count],
+            values,
         );
-        count
     }
 
-    // Writes the values of the first of the rows with these numbers, those that stand in turn, and tells how many they are.
-    pub(crate) fn write_listed(
-        &mut self,
-        kind: Kind,
-        place: usize,
-        listed: &[u32],
-        values: &[i64],
-    ) -> usize
-        requires some { 0 < length values.now }
+    // Writes values into a field of a kind of the rows with these numbers, which stand in turn, a value a row.
+    pub(crate) fn write_rows(&mut self, kind: Kind, place: usize, listed: &[u32], values: &[i64])
         requires room { length values.now ≡ length listed.now }
         requires rows { (i : ℕ) → i < length listed.now → get_or listed.now i 0 < length self.old.rows }
+        requires turn { AreInTurnAt self.old.places listed.now (length listed.now) }
         requires mut_term { IsTrue (writes self.old.terms (kind_number kind)) }
         requires place { place < widths (kind_number kind) }
-        ensures some { 0 < result }
-        ensures most { result ≤ length values.now }
-        ensures written { self.new ≡ sheet_with_listed_fields self.old (kind_number kind) place (take result listed.now) (take result values.now) }
+        ensures { self.new ≡ sheet_with_listed_fields self.old (kind_number kind) place listed.now values.now }
     {
-        let count = listed_in_turn(&self.source.rows, listed);
+        let count = listed.len();
+        if count == 0 {
+            return;
+        }
         let first = self.source.rows.at(listed[0] as usize);
         write_column(
             &self.source.slots,
@@ -344,10 +345,9 @@ impl ViewQuery {
             kind,
             first.place as usize,
             place,
-            &values[..count],
+            values,
             self.source.tick,
         );
-        count
     }
 
     /// Gives the columns back: each as it was taken, with what was written laid over it. Its other lists go to this room.

@@ -12,7 +12,7 @@ use Rattle.calls.specs.Bodies.{total, read_over, answered, tallied, refused_at_o
 
 -- a view with this outcome
 abbrev view_of : Params → Shown → Outcome → Seen
-view_of params shown o = record { params = params; shown = shown; outcome = o; opening = record { taken = []; tick = 0 } }
+view_of params shown o = record { params = params; shown = shown; outcome = o; opening = record { taken = []; tick = 0; places = [] } }
 
 pub tallied_keeps : (params : Params) → KeepsWithin params (λ seen. Ok (tallied params seen))
 tallied_keeps params = keeps_ok params (tallied params) (λ seen can.

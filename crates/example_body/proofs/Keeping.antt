@@ -15,7 +15,7 @@ use Rattle.example_body.proofs.Rows.{moved_to, step, began, ended}
 IsWithin-moved_to : (params : Params) (seen : Shown) (n : ℕ) → n ≤ length (rows_at seen 0) → length seen.rows ≡ length params.queries → length seen.registers ≡ register_count → IsWithin widths params seen (moved_to params seen (untouched params seen) n)
 IsWithin-moved_to params seen zero l h r = subst (IsWithin widths params seen) (began params seen (untouched params seen) refl) (IsWithin-untouched params seen h r)
 IsWithin-moved_to params seen (suc n) l h r =
-    let view : Seen = record { params = params; shown = seen; outcome = moved_to params seen (untouched params seen) n; opening = record { taken = []; tick = 0 } } in
+    let view : Seen = record { params = params; shown = seen; outcome = moved_to params seen (untouched params seen) n; opening = record { taken = []; tick = 0; places = [] } } in
     subst (IsWithin widths params seen) (step params seen (untouched params seen) n (omega arith) ∙ ap (moved_to params seen (untouched params seen)) (let e : n + 1 ≡ suc n = omega arith in e))
     (IsWithin-with_written view 0 n position (moved (read_at view 0 n position) (read_at view 0 n velocity)) refl (IsWithin-moved_to params seen n (omega arith) h r))
 

@@ -54,4 +54,5 @@ returns c =
       cells = update_at c.args.row (with_words s.terms k (words_with (widths k) c.args.place c.args.value (unwrap_or o []))) s.cells;
       taken = s.taken;
       tick = s.tick;
+      places = s.places;
     } in x) (sheet-read p.tick terms slots p.rows taken columns c.self.invariant s c.self.view_is c.args.row c.at-at.result k c.requires.row c.at-at.ensures)
