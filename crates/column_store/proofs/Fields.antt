@@ -98,3 +98,14 @@ read-more w items from i field x v values within room is e h k l = go (cases_eq 
 -- all values are written
 pub all-written : (width field from i : ℕ) (values : List ℤ) (ws last : List (List ℤ)) → length values ≤ i → with_field_words width field from (drop i values) ws ≡ last → ws ≡ last
 all-written width field from i values ws last l e = sym (ap (λ vs. with_field_words width field from vs ws) (drop_all i values l)) ∙ e
+
+-- ---- a field that a component has not
+
+pub amount_kept : (field : ℕ) (v value : ℤ) → field ≢ 0 → v ∷ [] ≡ words_with 1 field value (v ∷ [])
+amount_kept zero v value d = absurd (d refl)
+amount_kept (suc field) v value d = refl
+
+pub pair_kept : (field : ℕ) (x y value : ℤ) → field ≢ 0 → field ≢ 1 → x ∷ y ∷ [] ≡ words_with 2 field value (x ∷ y ∷ [])
+pair_kept zero x y value d e = absurd (d refl)
+pair_kept (suc zero) x y value d e = absurd (e refl)
+pair_kept (suc (suc field)) x y value d e = refl

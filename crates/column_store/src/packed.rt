@@ -1,6 +1,6 @@
 // What a column holds for a row: the fields of a component, with no word more than its kind has.
 
-ghost use Rattle.std.specs.Prelude.{◌≡◌, ◌<◌, ℕ, ℤ, List, length, refl};
+ghost use Rattle.std.specs.Prelude.{◌≡◌, ℕ, ℤ, List, length, refl};
 ghost use Rattle.kinds.specs.Components.{widths, word_at, one_word, two_words, no_words};
 ghost use Rattle.kinds.specs.Value.{value_number, value_words};
 ghost use Rattle.column_store.specs.Fields.{words_with};
@@ -27,9 +27,8 @@ pub(crate) trait Packed: Copy {
     fn word(self, field: usize) -> i64
         ensures { result ≡ word_at (words self) field };
 
-    // The same with the word of a field replaced.
+    // The same with the word of a field replaced, if there is such a field.
     fn with_word(self, field: usize, value: i64) -> Self
-        requires { field < WIDTH }
         ensures { words result ≡ words_with WIDTH field value (words self) };
 
     ghost same_width: { (p : Self) → length (words p) ≡ WIDTH };
@@ -103,8 +102,12 @@ impl Packed for Amount {
         }
     }
 
-    fn with_word(self, _field: usize, value: i64) -> Self {
-        Amount { v: value }
+    #[tactic(auto, using(crate::proofs::Fields::amount_kept))]
+    fn with_word(self, field: usize, value: i64) -> Self {
+        match field {
+            0 => Amount { v: value },
+            _ => self,
+        }
     }
 }
 
@@ -137,17 +140,18 @@ impl Packed for Pair {
         }
     }
 
+    #[tactic(auto, using(crate::proofs::Fields::pair_kept))]
     fn with_word(self, field: usize, value: i64) -> Self {
-        if field == 0 {
-            Pair {
+        match field {
+            0 => Pair {
                 x: value,
                 y: self.y,
-            }
-        } else {
-            Pair {
+            },
+            1 => Pair {
                 x: self.x,
                 y: value,
-            }
+            },
+            _ => self,
         }
     }
 }

@@ -43,8 +43,7 @@ pub(crate) fn read_in<P: Packed>(items: &[P], from: usize, field: usize, values:
 
 // Replaces a field of the components from a place on by these values, a value a component.
 pub(crate) fn write_in<P: Packed>(items: &mut Vec<P>, from: usize, field: usize, values: &[i64])
-    requires field { field < P.WIDTH }
-    requires within { from + length values.now ≤ length items.old.items }
+    requires { from + length values.now ≤ length items.old.items }
     ensures words { map P.words items.new.items ≡ with_field_words P.WIDTH field from values.now (map P.words items.old.items) }
     ensures room { vec_capacity items.new ≡ vec_capacity items.old }
 {
