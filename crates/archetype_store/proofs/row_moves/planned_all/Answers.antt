@@ -26,3 +26,21 @@ loop-change-preserved c =
           (λ m plan. planned_kept T T' P P' m c.planned.ensures.grown c.planned.ensures.same c.planned.ensures.longer plan) c.loop-change.rows.items i.planned)
           (c.in_ok-planned.ensures.planned, tt));
     }
+
+pub planned-requires-clause-found : goal.planned-requires-clause-found
+planned-requires-clause-found c = c.loop-change.invariant.found
+
+pub planned-requires-clause-shaped : goal.planned-requires-clause-shaped
+planned-requires-clause-shaped c = c.loop-change.invariant.grown.shaped
+
+pub planned-requires-clause-unlike : goal.planned-requires-clause-unlike
+planned-requires-clause-unlike c = c.loop-change.invariant.grown.unlike
+
+pub planned-requires-clause-known : goal.planned-requires-clause-known
+planned-requires-clause-known c = c.loop-change.invariant.known
+
+pub returns-in_err-planned-clause-grown : goal.returns-in_err-planned-clause-grown
+returns-in_err-planned-clause-grown c = grown_trans c.args.tables.now.items c.loop-change.tables.items c.planned.new.tables.items c.loop-change.invariant.grown c.planned.ensures.grown
+
+pub returns-in_err-planned-clause-same : goal.returns-in_err-planned-clause-same
+returns-in_err-planned-clause-same c = λ k. c.planned.ensures.same k ∙ c.loop-change.invariant.same k
