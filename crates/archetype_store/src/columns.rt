@@ -6,7 +6,7 @@ use std::alloc::Global;
 use std::sync::Arc;
 
 /// Which column: that of a kind of the archetype of a number, among those with entities.
-#[derive(Clone, Copy, PartialEq, Eq, Debug)]
+#[derive(Clone, Copy)]
 pub struct ColumnAt {
     /// The number of the archetype.
     pub archetype: usize,

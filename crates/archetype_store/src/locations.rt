@@ -15,7 +15,7 @@ pub(crate) struct EntityLocation {
 }
 
 /// Where the components of an entity are: in which archetype, and at which place.
-#[derive(Clone, Copy, PartialEq, Eq, Debug)]
+#[derive(Clone, Copy)]
 pub struct RowPlace {
     /// The entity.
     pub entity: Entity,

@@ -14,7 +14,7 @@ use kinds::Res;
 use std::marker::Model;
 
 // A resource: its value, and when it was last changed.
-#[derive(Clone, Copy, PartialEq, Eq, Debug)]
+#[derive(Clone, Copy)]
 struct Resource {
     value: i64,
     changed: Tick,

@@ -19,7 +19,7 @@ use std::default::MadeWith;
 use std::marker::Model;
 
 /// A component of any kind, with its stamp.
-#[derive(Clone, Copy, PartialEq, Eq, Debug)]
+#[derive(Clone, Copy, PartialEq, Eq)]
 pub struct StampedValue {
     /// The component.
     pub value: Value,

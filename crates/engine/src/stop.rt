@@ -11,7 +11,7 @@ use event_buffers::SendFault;
 use std::alloc::{AllocError, AllocFailed};
 
 /// Why a step of a run stops it. A run tells of it by a `RunFault`.
-#[derive(Clone, Copy, PartialEq, Eq, Debug)]
+#[derive(Clone, Copy)]
 pub enum Stop {
     /// An allocation failed.
     Memory,

@@ -9,7 +9,7 @@ ghost use Rattle.engine.specs.Stage.{IsTurn};
 use executor_core::{Core, Ready, Step};
 
 /// What a coordinator does next.
-#[derive(Clone, Copy, PartialEq, Eq, Debug)]
+#[derive(Clone, Copy)]
 pub enum Turn {
     /// Does what is ready.
     Take(Ready),

@@ -1,7 +1,7 @@
 // What an index can be.
 
 /// What an index of the id book is.
-#[derive(Clone, Copy, PartialEq, Eq, Debug)]
+#[derive(Clone, Copy, PartialEq, Eq)]
 pub enum Status {
     /// It can be granted.
     Vacant,

@@ -16,7 +16,7 @@ use query::{Alternative, Presence, Query, Term};
 use std::alloc::AllocError;
 
 /// A column that the rows of a query are in.
-#[derive(Clone, Copy, PartialEq, Eq, Debug)]
+#[derive(Clone, Copy, PartialEq, Eq)]
 pub struct Pick {
     /// The number of its archetype among those that have entities, from 0.
     pub archetype: usize,

@@ -3,7 +3,7 @@
 use entity_table::Entity;
 
 /// A row of a query. Contracts call a row without components one of the archetype after the last, at the place of its index.
-#[derive(Clone, Copy, PartialEq, Eq, Debug)]
+#[derive(Clone, Copy, PartialEq, Eq)]
 pub struct Row {
     /// The entity of the row.
     pub entity: Entity,

@@ -57,7 +57,7 @@ impl<T: Drop> From<AllocFailed<T>> for TextFault {
 }
 
 /// What was begun in a text that tells kind sets, and waits for them.
-#[derive(Clone, Copy, PartialEq, Eq, Debug)]
+#[derive(Clone, Copy)]
 pub enum Due {
     /// Nothing.
     Nothing,
