@@ -331,11 +331,21 @@ fn bounded<'a>(alloc: Global, taken: &Taken) -> Arg<'a> {
     }
 }
 
+// One argument more.
+fn add_bounded<'a>(
+    alloc: Global,
+    taken: &Taken,
+    args: &mut Vec<Arg<'a>>,
+) -> Result<(), AllocError> {
+    args.push(bounded(alloc, taken))?;
+    Ok(())
+}
+
 // The arguments of a command.
 fn arguments<'a>(alloc: Global, takes: &[Taken]) -> Result<Vec<Arg<'a>>, AllocError> {
     let mut args = Vec::new(alloc);
     for taken in takes {
-        args.push(bounded(alloc, taken))?;
+        add_bounded(alloc, taken, &mut args)?;
     }
     Ok(args)
 }
@@ -346,11 +356,22 @@ fn told<'a>(alloc: Global, verb: &Verb) -> Result<Command<'a>, AllocError> {
     Command::new(alloc, verb.name).about(verb.about).args(args)
 }
 
+// One command more.
+fn add_told<'a>(
+    alloc: Global,
+    verb: &Verb,
+    commands: &mut Vec<Command<'a>>,
+) -> Result<(), AllocError> {
+    let command = told(alloc, verb)?;
+    commands.push(command)?;
+    Ok(())
+}
+
 // The commands.
 fn commands<'a>(alloc: Global) -> Result<Vec<Command<'a>>, AllocError> {
     let mut commands = Vec::new(alloc);
     for verb in &VERBS {
-        commands.push(told(alloc, verb)?)?;
+        add_told(alloc, verb, &mut commands)?;
     }
     Ok(commands)
 }
