@@ -370,17 +370,21 @@ fn add_told<'a>(
 // The commands.
 fn commands<'a>(alloc: Global) -> Result<Vec<Command<'a>>, AllocError> {
     let mut commands = Vec::new(alloc);
-    for verb in &VERBS {
+    for verb in VERBS.as_slice() {
         add_told(alloc, verb, &mut commands)?;
     }
     Ok(commands)
 }
 
-// What the program takes.
-fn command<'a>(alloc: Global) -> Result<Command<'a>, AllocError> {
+// The program with its commands.
+fn unnamed<'a>(alloc: Global) -> Result<Command<'a>, AllocError> {
     let commands = commands(alloc)?;
     Command::new(alloc, "ecsrun")
         .subcommand_required(true)
-        .subcommands(commands)?
-        .bin_name("ecsrun")
+        .subcommands(commands)
+}
+
+// What the program takes.
+fn command<'a>(alloc: Global) -> Result<Command<'a>, AllocError> {
+    unnamed(alloc)?.bin_name("ecsrun")
 }
