@@ -3,9 +3,11 @@
 ghost use Rattle.std.specs.Prelude.{◌≡◌, IfOk};
 ghost use Rattle.command_line.specs.Args.{IsWithin, is_recorded, line_status_of, line_text_of};
 
+use clap::builder::ValueParser;
 use clap::error::ErrorKind;
-use clap::{Arg, ArgMatches, Command, Error, value_parser};
+use clap::{Arg, ArgMatches, Command, Error};
 use std::alloc::{AllocError, Global};
+use std::convert::AsStr;
 
 /// The work that a command line asks for.
 #[derive(Clone, Copy, PartialEq, Eq, Debug)]
@@ -70,6 +72,88 @@ const MOST_WORKERS: u8 = 64;
 
 const COMMANDS: [&str; 4] = ["run", "check", "replay", "ambiguities"];
 
+// What the parser is told of an argument.
+struct Taken {
+    id: &'static str,
+    // Its long name, of an option.
+    long: &'static str,
+    // What help calls its value.
+    value: &'static str,
+    help: &'static str,
+    // The most that it may be, of a number.
+    most: Option<i64>,
+}
+
+// What the parser is told of a command.
+struct Verb {
+    name: &'static str,
+    about: &'static str,
+    takes: &'static [Taken],
+}
+
+const FILE: Taken = Taken {
+    id: "file",
+    long: "",
+    value: "FILE",
+    help: "the program file",
+    most: None,
+};
+
+const TIMES: Taken = Taken {
+    id: "times",
+    long: "times",
+    value: "N",
+    help: "how many runs, 0 to 1000000, 1 if left out",
+    most: Some(1_000_000),
+};
+
+const WORKERS: Taken = Taken {
+    id: "workers",
+    long: "workers",
+    value: "W",
+    help: "how many worker threads, 0 to 64, 0 (one thread) if left out",
+    most: Some(64),
+};
+
+const RECORD: Taken = Taken {
+    id: "record",
+    long: "trace",
+    value: "OUT",
+    help: "the file in which the steps of the runs are recorded; none if left out",
+    most: None,
+};
+
+const TRACE: Taken = Taken {
+    id: "trace",
+    long: "",
+    value: "TRACE",
+    help: "the file of recorded runs",
+    most: None,
+};
+
+const VERBS: [Verb; 4] = [
+    Verb {
+        name: "run",
+        about: "runs the schedule of a program file and prints the world",
+        takes: &[FILE, TIMES, WORKERS, RECORD],
+    },
+    Verb {
+        name: "check",
+        about: "prints what the schedule of a program file says of recorded runs",
+        takes: &[FILE, TRACE],
+    },
+    Verb {
+        name: "replay",
+        about: "takes the recorded runs of a program file again, on one thread, and prints the world",
+        takes: &[FILE, TRACE],
+    },
+    Verb {
+        name: "ambiguities",
+        about: "prints which systems of a program file race",
+        takes: &[FILE],
+    },
+];
+
 impl<'a> Args<'a> {
     /// Reads the words of a command line, of which the first is the program's own name: `run FILE [--times N] [--workers W] [--trace OUT]`,
     /// where N is from 0 to 1,000,000, and 1 if it is left out, and W from 0 to 64, and 0 if it is left out; `check FILE TRACE`;
@@ -78,12 +162,9 @@ impl<'a> Args<'a> {
         ensures { IfOk result (λ args. IsWithin args.work) }
     {
         if asks_for_help(words) {
-            return Err(help_for(alloc, words)?);
+            return Err(help_for(alloc, words));
         }
-        match command(alloc)?.try_get_matches_from(words) {
-            Ok(matches) => Args::of_matches(alloc, &matches),
-            Err(error) => Err(LineFault::of(alloc, &error)),
-        }
+        Args::of_matches(alloc, &matches_of(alloc, words)?)
     }
 
     // The work that the matches of a line ask for.
@@ -196,18 +277,28 @@ pub fn asks_for_help(words: &[String]) -> bool {
 }
 
 // The help for the command that some words name, or for the program where they name none.
-fn help_for(alloc: Global, words: &[String]) -> Result<LineFault, AllocError> {
-    let mut asked = Vec::new(alloc);
-    asked.push("ecsrun")?;
-    if let Some(name) = words.get(1) {
-        if COMMANDS.contains(&name.as_str()) {
-            asked.push(name.as_str())?;
+fn help_for(alloc: Global, words: &[String]) -> LineFault {
+    match words.get(1) {
+        Some(name) if COMMANDS.contains(&name.as_str()) => {
+            help_of(alloc, &["ecsrun", name.as_str(), "--help"])
         }
+        _ => help_of(alloc, &["ecsrun", "--help"]),
     }
-    asked.push("--help")?;
-    match command(alloc)?.try_get_matches_from(asked.as_slice()) {
-        Ok(_) => Ok(LineFault::usage(alloc, "error: no help is there\n")),
-        Err(error) => Ok(LineFault::of(alloc, &error)),
+}
+
+// The help that a line asks for.
+fn help_of(alloc: Global, words: &[&str]) -> LineFault {
+    match matches_of(alloc, words) {
+        Ok(_) => LineFault::usage(alloc, "error: no help is there\n"),
+        Err(fault) => fault,
+    }
+}
+
+// What the parser finds in a line.
+fn matches_of<'a, S: AsStr>(alloc: Global, words: &'a [S]) -> Result<ArgMatches<'a>, LineFault> {
+    match command(alloc)?.try_get_matches_from(words) {
+        Ok(matches) => Ok(matches),
+        Err(error) => Err(LineFault::of(alloc, &error)),
     }
 }
 
@@ -219,98 +310,81 @@ pub fn has_plus(matches: &ArgMatches<'_>, name: &str) -> bool {
     }
 }
 
-// The path of the program file.
-fn file<'a>(alloc: Global) -> Arg<'a> {
-    Arg::new(alloc, "file")
-        .value_name("FILE")
-        .required(true)
-        .help("the program file")
+// An argument as the parser is told it. One without a long name is by its place, and has to be given.
+fn argument<'a>(alloc: Global, taken: &Taken) -> Arg<'a> {
+    let arg = Arg::new(alloc, taken.id)
+        .value_name(taken.value)
+        .help(taken.help);
+    if taken.long.is_empty() {
+        arg.required(true)
+    } else {
+        arg.long(taken.long)
+    }
 }
 
-// How many runs there are.
-fn times<'a>(alloc: Global) -> Arg<'a> {
-    Arg::new(alloc, "times")
-        .long("times")
-        .value_name("N")
-        .value_parser(value_parser!(u32).range(0..=1_000_000))
-        .help("how many runs, 0 to 1000000, 1 if left out")
+// An argument, whose value is a number where it has a most.
+fn bounded<'a>(alloc: Global, taken: &Taken) -> Arg<'a> {
+    let arg = argument(alloc, taken);
+    match taken.most {
+        Some(most) => arg.value_parser(ValueParser::Signed(0, most)),
+        None => arg,
+    }
 }
 
-// How many workers there are.
-fn workers<'a>(alloc: Global) -> Arg<'a> {
-    Arg::new(alloc, "workers")
-        .long("workers")
-        .value_name("W")
-        .value_parser(value_parser!(u8).range(0..=64))
-        .help("how many worker threads, 0 to 64, 0 (one thread) if left out")
+// One argument more.
+fn add_bounded<'a>(
+    alloc: Global,
+    taken: &Taken,
+    args: &mut Vec<Arg<'a>>,
+) -> Result<(), AllocError> {
+    args.push(bounded(alloc, taken))?;
+    Ok(())
 }
 
-// The path of the record.
-fn record<'a>(alloc: Global) -> Arg<'a> {
-    Arg::new(alloc, "record")
-        .long("trace")
-        .value_name("OUT")
-        .help("the file in which the steps of the runs are recorded; none if left out")
+// The arguments of a command.
+fn arguments<'a>(alloc: Global, takes: &[Taken]) -> Result<Vec<Arg<'a>>, AllocError> {
+    let mut args = Vec::new(alloc);
+    for taken in takes {
+        add_bounded(alloc, taken, &mut args)?;
+    }
+    Ok(args)
 }
 
-// What `run` takes.
-fn run<'a>(alloc: Global) -> Result<Command<'a>, AllocError> {
-    Command::new(alloc, "run")
-        .about("runs the schedule of a program file and prints the world")
-        .arg(file(alloc))?
-        .arg(times(alloc))?
-        .arg(workers(alloc))?
-        .arg(record(alloc))
+// A command as the parser is told it.
+fn told<'a>(alloc: Global, verb: &Verb) -> Result<Command<'a>, AllocError> {
+    let args = arguments(alloc, verb.takes)?;
+    Command::new(alloc, verb.name).about(verb.about).args(args)
 }
 
-// The path of the trace.
-fn trace<'a>(alloc: Global) -> Arg<'a> {
-    Arg::new(alloc, "trace")
-        .value_name("TRACE")
-        .required(true)
-        .help("the file of recorded runs")
+// One command more.
+fn add_told<'a>(
+    alloc: Global,
+    verb: &Verb,
+    commands: &mut Vec<Command<'a>>,
+) -> Result<(), AllocError> {
+    let command = told(alloc, verb)?;
+    commands.push(command)?;
+    Ok(())
 }
 
-// What `check` takes.
-fn check<'a>(alloc: Global) -> Result<Command<'a>, AllocError> {
-    Command::new(alloc, "check")
-        .about("prints what the schedule of a program file says of recorded runs")
-        .arg(file(alloc))?
-        .arg(trace(alloc))
+// The commands.
+fn commands<'a>(alloc: Global) -> Result<Vec<Command<'a>>, AllocError> {
+    let mut commands = Vec::new(alloc);
+    for verb in VERBS.as_slice() {
+        add_told(alloc, verb, &mut commands)?;
+    }
+    Ok(commands)
 }
 
-// What `replay` takes.
-fn replay<'a>(alloc: Global) -> Result<Command<'a>, AllocError> {
-    Command::new(alloc, "replay")
-        .about(
-            "takes the recorded runs of a program file again, on one thread, and prints the world",
-        )
-        .arg(file(alloc))?
-        .arg(trace(alloc))
-}
-
-// What `ambiguities` takes.
-fn ambiguities<'a>(alloc: Global) -> Result<Command<'a>, AllocError> {
-    Command::new(alloc, "ambiguities")
-        .about("prints which systems of a program file race")
-        .arg(file(alloc))
-}
-
-// The program with one command more.
-fn with_command<'a>(
-    program: Command<'a>,
-    command: Result<Command<'a>, AllocError>,
-) -> Result<Command<'a>, AllocError> {
-    program.subcommand(command?)
+// The program with its commands.
+fn unnamed<'a>(alloc: Global) -> Result<Command<'a>, AllocError> {
+    let commands = commands(alloc)?;
+    Command::new(alloc, "ecsrun")
+        .subcommand_required(true)
+        .subcommands(commands)
 }
 
 // What the program takes.
 fn command<'a>(alloc: Global) -> Result<Command<'a>, AllocError> {
-    let program = Command::new(alloc, "ecsrun")
-        .bin_name("ecsrun")?
-        .subcommand_required(true);
-    let program = with_command(program, run(alloc))?;
-    let program = with_command(program, check(alloc))?;
-    let program = with_command(program, replay(alloc))?;
-    with_command(program, ambiguities(alloc))
+    unnamed(alloc)?.bin_name("ecsrun")
 }

@@ -1,9 +1,11 @@
 // The command line.
 
-use clap::{Arg, ArgMatches, Command, value_parser};
+use clap::builder::ValueParser;
+use clap::{Arg, ArgMatches, Command};
 use command_line::LineFault;
 use command_line::args::{asks_for_help, has_plus};
 use std::alloc::{AllocError, Global};
+use std::convert::AsStr;
 
 /// What is asked for.
 #[derive(Clone, Copy, PartialEq, Eq, Debug)]
@@ -35,16 +37,80 @@ pub struct Args<'a> {
 
 const COMMANDS: [&str; 5] = ["schedule", "lanes", "races", "diverge", "steps"];
 
+// What the parser is told of a path that is to be given.
+struct Taken {
+    id: &'static str,
+    // What help calls it.
+    value: &'static str,
+    help: &'static str,
+}
+
+// What the parser is told of a command.
+struct Verb {
+    name: &'static str,
+    about: &'static str,
+    takes: &'static [Taken],
+    takes_run: bool,
+}
+
+const FILE: Taken = Taken {
+    id: "file",
+    value: "FILE",
+    help: "the program file",
+};
+
+const TRACE: Taken = Taken {
+    id: "trace",
+    value: "TRACE",
+    help: "the file of recorded runs",
+};
+
+const OTHER: Taken = Taken {
+    id: "other",
+    value: "OTHER",
+    help: "the file of other recorded runs",
+};
+
+const VERBS: [Verb; 5] = [
+    Verb {
+        name: "schedule",
+        about: "draws the schedule of a program file, as SVG: ecsview schedule arena.toml > arena.svg",
+        takes: &[FILE],
+        takes_run: false,
+    },
+    Verb {
+        name: "lanes",
+        about: "draws recorded runs, what ran beside what, as SVG: ecsview lanes arena.toml arena.trace > lanes.svg",
+        takes: &[FILE, TRACE],
+        takes_run: false,
+    },
+    Verb {
+        name: "races",
+        about: "prints two lists of a run for each pair that races, and the worlds that they leave: ecsview races arena.toml",
+        takes: &[FILE],
+        takes_run: false,
+    },
+    Verb {
+        name: "diverge",
+        about: "prints where two traces part: ecsview diverge arena.toml here.trace there.trace",
+        takes: &[FILE, TRACE, OTHER],
+        takes_run: false,
+    },
+    Verb {
+        name: "steps",
+        about: "prints the world after each sync point of recorded runs: ecsview steps arena.toml arena.trace --run 2",
+        takes: &[FILE, TRACE],
+        takes_run: true,
+    },
+];
+
 impl<'a> Args<'a> {
     /// Reads the words of a command line, of which the first is the program's own name.
     pub fn read(alloc: Global, words: &'a [String]) -> Result<Args<'a>, LineFault> {
         if asks_for_help(words) {
-            return Err(help_for(alloc, words)?);
+            return Err(help_for(alloc, words));
         }
-        match command(alloc)?.try_get_matches_from(words) {
-            Ok(matches) => Args::of_matches(alloc, &matches),
-            Err(error) => Err(LineFault::of(alloc, &error)),
-        }
+        Args::of_matches(alloc, &matches_of(alloc, words)?)
     }
 
     // The work that the matches of a line ask for.
@@ -87,74 +153,37 @@ impl<'a> Args<'a> {
 }
 
 // The help for the command that some words name, or for the program where they name none.
-fn help_for(alloc: Global, words: &[String]) -> Result<LineFault, AllocError> {
-    let mut asked = Vec::new(alloc);
-    asked.push("ecsview")?;
-    if let Some(name) = words.get(1) {
-        if COMMANDS.contains(&name.as_str()) {
-            asked.push(name.as_str())?;
+fn help_for(alloc: Global, words: &[String]) -> LineFault {
+    match words.get(1) {
+        Some(name) if COMMANDS.contains(&name.as_str()) => {
+            help_of(alloc, &["ecsview", name.as_str(), "--help"])
         }
+        _ => help_of(alloc, &["ecsview", "--help"]),
     }
-    asked.push("--help")?;
-    match command(alloc)?.try_get_matches_from(asked.as_slice()) {
-        Ok(_) => Ok(LineFault::usage(alloc, "error: no help is there\n")),
-        Err(error) => Ok(LineFault::of(alloc, &error)),
+}
+
+// The help that a line asks for.
+fn help_of(alloc: Global, words: &[&str]) -> LineFault {
+    match matches_of(alloc, words) {
+        Ok(_) => LineFault::usage(alloc, "error: no help is there\n"),
+        Err(fault) => fault,
+    }
+}
+
+// What the parser finds in a line.
+fn matches_of<'a, S: AsStr>(alloc: Global, words: &'a [S]) -> Result<ArgMatches<'a>, LineFault> {
+    match command(alloc)?.try_get_matches_from(words) {
+        Ok(matches) => Ok(matches),
+        Err(error) => Err(LineFault::of(alloc, &error)),
     }
 }
 
 // A path that is to be given.
-fn path<'a>(alloc: Global, id: &'a str, name: &'a str, help: &'a str) -> Arg<'a> {
-    Arg::new(alloc, id)
-        .value_name(name)
+fn path<'a>(alloc: Global, taken: &Taken) -> Arg<'a> {
+    Arg::new(alloc, taken.id)
+        .value_name(taken.value)
         .required(true)
-        .help(help)
-}
-
-// The path of the program file.
-fn file<'a>(alloc: Global) -> Arg<'a> {
-    path(alloc, "file", "FILE", "the program file")
-}
-
-// The path of the trace.
-fn trace<'a>(alloc: Global) -> Arg<'a> {
-    path(alloc, "trace", "TRACE", "the file of recorded runs")
-}
-
-// What `schedule` takes.
-fn schedule<'a>(alloc: Global) -> Result<Command<'a>, AllocError> {
-    Command::new(alloc, "schedule")
-        .about(
-            "draws the schedule of a program file, as SVG: ecsview schedule arena.toml > arena.svg",
-        )
-        .arg(file(alloc))
-}
-
-// What `lanes` takes.
-fn lanes<'a>(alloc: Global) -> Result<Command<'a>, AllocError> {
-    Command::new(alloc, "lanes")
-        .about(
-            "draws recorded runs, what ran beside what, as SVG: ecsview lanes arena.toml arena.trace > lanes.svg",
-        )
-        .arg(file(alloc))?
-        .arg(trace(alloc))
-}
-
-// What `races` takes.
-fn races<'a>(alloc: Global) -> Result<Command<'a>, AllocError> {
-    Command::new(alloc, "races")
-        .about(
-            "prints two lists of a run for each pair that races, and the worlds that they leave: ecsview races arena.toml",
-        )
-        .arg(file(alloc))
-}
-
-// What `diverge` takes.
-fn diverge<'a>(alloc: Global) -> Result<Command<'a>, AllocError> {
-    Command::new(alloc, "diverge")
-        .about("prints where two traces part: ecsview diverge arena.toml here.trace there.trace")
-        .arg(file(alloc))?
-        .arg(trace(alloc))?
-        .arg(path(alloc, "other", "OTHER", "the file of other recorded runs"))
+        .help(taken.help)
 }
 
 // The run that is told.
@@ -162,37 +191,69 @@ fn run<'a>(alloc: Global) -> Arg<'a> {
     Arg::new(alloc, "run")
         .long("run")
         .value_name("N")
-        .value_parser(value_parser!(u32).range(1..))
+        .value_parser(ValueParser::Signed(1, 4_294_967_295))
         .help("the run that is told, from 1; all if left out")
 }
 
-// What `steps` takes.
-fn steps<'a>(alloc: Global) -> Result<Command<'a>, AllocError> {
-    Command::new(alloc, "steps")
-        .about(
-            "prints the world after each sync point of recorded runs: ecsview steps arena.toml arena.trace --run 2",
-        )
-        .arg(file(alloc))?
-        .arg(trace(alloc))?
-        .arg(run(alloc))
+// One path more.
+fn add_path<'a>(alloc: Global, taken: &Taken, args: &mut Vec<Arg<'a>>) -> Result<(), AllocError> {
+    args.push(path(alloc, taken))?;
+    Ok(())
 }
 
-// The program with one command more.
-fn with_command<'a>(
-    program: Command<'a>,
-    command: Result<Command<'a>, AllocError>,
-) -> Result<Command<'a>, AllocError> {
-    program.subcommand(command?)
+// The run, of a command that takes one.
+fn add_run<'a>(alloc: Global, takes_run: bool, args: &mut Vec<Arg<'a>>) -> Result<(), AllocError> {
+    if takes_run {
+        args.push(run(alloc))?;
+    }
+    Ok(())
+}
+
+// The arguments of a command.
+fn arguments<'a>(alloc: Global, verb: &Verb) -> Result<Vec<Arg<'a>>, AllocError> {
+    let mut args = Vec::new(alloc);
+    for taken in verb.takes {
+        add_path(alloc, taken, &mut args)?;
+    }
+    add_run(alloc, verb.takes_run, &mut args)?;
+    Ok(args)
+}
+
+// A command as the parser is told it.
+fn told<'a>(alloc: Global, verb: &Verb) -> Result<Command<'a>, AllocError> {
+    let args = arguments(alloc, verb)?;
+    Command::new(alloc, verb.name).about(verb.about).args(args)
+}
+
+// One command more.
+fn add_told<'a>(
+    alloc: Global,
+    verb: &Verb,
+    commands: &mut Vec<Command<'a>>,
+) -> Result<(), AllocError> {
+    let command = told(alloc, verb)?;
+    commands.push(command)?;
+    Ok(())
+}
+
+// The commands.
+fn commands<'a>(alloc: Global) -> Result<Vec<Command<'a>>, AllocError> {
+    let mut commands = Vec::new(alloc);
+    for verb in VERBS.as_slice() {
+        add_told(alloc, verb, &mut commands)?;
+    }
+    Ok(commands)
+}
+
+// The program with its commands.
+fn unnamed<'a>(alloc: Global) -> Result<Command<'a>, AllocError> {
+    let commands = commands(alloc)?;
+    Command::new(alloc, "ecsview")
+        .subcommand_required(true)
+        .subcommands(commands)
 }
 
 // What the program takes.
 fn command<'a>(alloc: Global) -> Result<Command<'a>, AllocError> {
-    let program = Command::new(alloc, "ecsview")
-        .bin_name("ecsview")?
-        .subcommand_required(true);
-    let program = with_command(program, schedule(alloc))?;
-    let program = with_command(program, lanes(alloc))?;
-    let program = with_command(program, races(alloc))?;
-    let program = with_command(program, diverge(alloc))?;
-    with_command(program, steps(alloc))
+    unnamed(alloc)?.bin_name("ecsview")
 }

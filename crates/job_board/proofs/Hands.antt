@@ -1,5 +1,5 @@
 -- What a hand knows, as it looks at a slot and takes the job there.
-use Rattle.std.proofs.Common.{◌≡◌, ◌≢◌, ℕ, ◌<◌, ◌≤◌, ◌^◌, List, [], ◌∷◌, length, sym, refl, ap, ◌∙◌, subst, inr, arith, Some, None}
+use Rattle.std.proofs.Common.{◌≡◌, ◌≢◌, ℕ, ◌<◌, ◌≤◌, ◌^◌, List, [], ◌∷◌, ◌++◌, length, sym, refl, ap, ◌∙◌, subst, inr, arith, Some, None}
 use mathlib.Core.Option.{some}
 use Rattle.atomic_table.specs.Table.{rest}
 use Rattle.atomic_table.proofs.Lists.{at_last}
@@ -11,7 +11,7 @@ use Rattle.job_board.specs.Board.{Slot}
 use Rattle.job_board.specs.Plays.{Seated, IsNew}
 use Rattle.job_board.specs.Held.{IsBasket, HoldsEmpty}
 use Rattle.job_board.proofs.Baskets.{basket_takes, basket_room, front_given, front_done}
-use Rattle.job_board.proofs.Contents.{one_job, one_top, top_again, reads_more}
+use Rattle.job_board.proofs.Contents.{one_job, one_top, top_again, reads_more, reads_then}
 
 module _ {J O : Type 0} (slots : ℕ) (held : List (ℕ × ℕ)) (me me' : Seated J O) (gained : List (ℕ × ℕ)) (read : me' ≡ (having_read me.0 gained, me.1)) where
   pub read_holds : HoldsEmpty held me.1 → HoldsEmpty held me'.1
@@ -75,3 +75,9 @@ module _ {J O : Type 0} (slots : ℕ) (held less : List (ℕ × ℕ)) (x : ℕ �
 
     pub done_basket : IsBasket slots held me.0 → IsBasket slots less me'.0
     done_basket b = subst (λ (m : Seated J O). IsBasket slots less m.0) (sym done_is) (front_done slots held less x popped me.0 n k is b)
+
+-- after looks, a job was taken
+pub taken_after : {J O : Type 0} (v v' w : View J O) (a b : List (ℕ × ℕ)) (n slot : ℕ) (j : J) → v' ≡ having_read v a
+    → (w ≡ after_take (having_read v' b) n slot j) × HasJob w n slot j
+    → (gained : List (ℕ × ℕ)) × (slot : ℕ) × (w ≡ after_take (having_read v gained) n slot j) × HasJob w n slot j
+taken_after {J} {O} v v' w a b n slot j e t = (a ++ b, slot, t.0 ∙ ap {B = View J O} (λ (u : View J O). after_take u n slot j) (reads_then v v' (having_read v' b) a b e refl), t.1)

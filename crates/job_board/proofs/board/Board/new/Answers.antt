@@ -20,3 +20,9 @@ loop-made-preserved g c = let inv = c.loop-made.invariant in let items = c.push_
   λ at h e. ⊎_elim (λ old. inv.2 at h old) (λ t. subst (λ z. (hand_table z ≡ (arc_value c.in_ok-board.board).shared.table_id) × (hand_slots z ≡ c.args.slots) × ((hand_view z).taken ≡ []) × ((hand_view z).done ≡ [])) t.1
       (of.slots.1 ∙ ap (λ z. z.shared.table_id) c.in_ok-words-2.ensures, of.slots.0, of.view.0, of.view.1)) (at_end c.loop-made.all.items hand h at (subst (λ l. get_elem? l at ≡ some h) items e)),
 )
+
+pub returns-clause-lead : goal.returns-clause-lead
+returns-clause-lead g c = let lead = c.in_ok-lead.ensures in (lead.slots.0, lead.view.0, lead.view.1, lead.view.2)
+
+pub returns-clause-hands : goal.returns-clause-hands
+returns-clause-hands g c = λ at h e. let old = c.loop-made.invariant.2 at h e in (old.0 ∙ sym c.in_ok-lead.ensures.slots.1, old.1, old.2, old.3)

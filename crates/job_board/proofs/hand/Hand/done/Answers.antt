@@ -1,6 +1,6 @@
 use Rattle.std.proofs.Common.{rules, ◌≡◌, ◌<◌, ◌∙◌, ℕ, sym, ap, subst}
 use lib.ListN.{get_elem?}
-use Rattle.job_board.specs.Views.{HasJob}
+use Rattle.job_board.specs.Views.{HasJob, after_done}
 use Rattle.job_board.proofs.Moves.{gives_outcome}
 use Rattle.job_board.proofs.Baskets.{front_is}
 use Rattle.job_board.proofs.Hands.{outcome_there, done_holds, done_basket}
@@ -32,3 +32,6 @@ invariant_of-self g c = let it = c.raise.new.self in let less = c.pop_front.new.
       basket = done_basket it.slots it.held.items less front popped it.seat.me c.exchange.new.seat.me c.swap.new.seat.me c.args.number c.in-Some.slot c.args.outcome same now given it.basket;
       roomy = search rules;
     }
+
+pub returns-clause-done : goal.returns-clause-done
+returns-clause-done g c = ap (λ m. m.0) (c.swap.ensures.2 c.args.number c.word-word.ensures) ∙ ap (λ m. after_done m.0 c.args.number) c.exchange.ensures.3 ∙ ap (λ v. after_done v c.args.number) c.raise.ensures.view
