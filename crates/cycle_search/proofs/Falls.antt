@@ -1,5 +1,5 @@
 -- Ranks that fall along orders: one more of them, and what they rule out.
-use Rattle.std.proofs.Common.{◌≡◌, ◌≢◌, ℕ, ◌<◌, ◌+◌, inl, inr, Bool, true, false, List, length, get_or, Option, Some, None, is_none, is_some, not, cond, refl, arith, subst, sym, ap, ◌∙◌}
+use Rattle.std.proofs.Common.{◌≡◌, ◌≢◌, ℕ, ◌<◌, ◌≤◌, ◌+◌, inl, inr, Bool, true, false, List, length, get_or, Option, Some, None, is_none, is_some, not, cond, refl, arith, subst, sym, ap, ◌∙◌}
 use Rattle.std.proofs.Math.ListN.{set}
 use Rattle.std.specs.List.{count_by}
 use Rattle.std.proofs.lemmas.List.{get_or-set_same, get_or-set_other, get_or_default, length-set}
@@ -61,6 +61,12 @@ count_less ranks level item l e =
     let step : count_by is_none (set ranks item (Some level)) + f (get_or ranks item None) ≡ count_by is_none ranks + 0 = sum_by-set f ranks item (Some level) None l in
     let one : f (get_or ranks item None) ≡ 1 = ap f e in
     omega arith
+
+pub count_fewer : (ranks : List (Option ℕ)) (level item : ℕ) → item < length ranks → height_of ranks item ≡ None → count_by is_none (set ranks item (Some level)) < count_by is_none ranks
+count_fewer ranks level item l e = let less = count_less ranks level item l e in omega arith
+
+pub ranked_higher : (orders : List Order) (ranks : List (Option ℕ)) (level more : ℕ) → level ≤ more → IsRanked orders ranks level → IsRanked orders ranks more
+ranked_higher orders ranks level more high r = record { falling = r.falling; below = λ n height e. let low = r.below n height e in omega arith }
 
 -- ---- which item follows, by one more order
 

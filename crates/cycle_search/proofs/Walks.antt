@@ -11,7 +11,7 @@ use Rattle.model.specs.declarations.Walks.{IsOnceEach, IsWalk}
 use Rattle.cycle_search.specs.declared.order.Order.{Order}
 use Rattle.cycle_search.specs.Orders.{IsBetween}
 use Rattle.cycle_search.specs.Cycles.{IsStep, IsRankable, height_of, IsAbove, IsRanked, PointsOn, IsStuck, GoesOn, IsRound, BeginsLeast}
-use Rattle.model.proofs.lists.Bools.{or_assoc, or_false}
+use Rattle.model.proofs.lists.Bools.{or_false}
 use Rattle.model.proofs.lists.Places.{has-append}
 
 -- ---- what a list has

@@ -10,7 +10,7 @@ use crate::shape::Shape;
 use std::fmt;
 
 /// A kind of components. No two have one number, and numbers rise from 0. Printed as its name.
-#[derive(Clone, Copy, PartialEq, Eq, Debug)]
+#[derive(Clone, Copy, PartialEq, Eq)]
 pub enum Kind {
     /// A place, with the fields `x` and `y`.
     Position,
@@ -172,29 +172,20 @@ impl Kind {
     pub fn named(word: &str) -> Option<Kind>
         ensures { Reads IsKind word.now result }
     {
-        match word {
-            "Position" => Some(Kind::Position),
-            "Velocity" => Some(Kind::Velocity),
-            "Health" => Some(Kind::Health),
-            "Damage" => Some(Kind::Damage),
-            "Team" => Some(Kind::Team),
-            "Timer" => Some(Kind::Timer),
-            "Score" => Some(Kind::Score),
-            "Energy" => Some(Kind::Energy),
-            "Charge" => Some(Kind::Charge),
-            "Target" => Some(Kind::Target),
-            "Frozen" => Some(Kind::Frozen),
-            "Hidden" => Some(Kind::Hidden),
-            "Home" => Some(Kind::Home),
-            "Mass" => Some(Kind::Mass),
-            "Armor" => Some(Kind::Armor),
-            "Range" => Some(Kind::Range),
-            "Level" => Some(Kind::Level),
-            "Rank" => Some(Kind::Rank),
-            "Sleeping" => Some(Kind::Sleeping),
-            "Marked" => Some(Kind::Marked),
-            _ => None,
+        for kind in Kind::every() {
+            if kind.name() == word {
+                return Some(*kind);
+            }
         }
+        None
+    }
+}
+
+impl fmt::Debug for Kind {
+    ghost debug_output = { λ kind. Some (kind_name kind) };
+
+    fn fmt<W: fmt::Write>(&self, f: &mut fmt::Formatter<W>) -> fmt::Result {
+        f.write_str(self.name())
     }
 }
 

@@ -7,7 +7,7 @@ ghost use Rattle.parsing.specs.Reads.{Reads};
 use std::fmt;
 
 /// A resource: one value of 64 bits, which the world has from the start. Printed as its name.
-#[derive(Clone, Copy, PartialEq, Eq, Debug)]
+#[derive(Clone, Copy, PartialEq, Eq)]
 pub enum Res {
     Round,
     Gravity,
@@ -71,17 +71,20 @@ impl Res {
     pub fn named(word: &str) -> Option<Res>
         ensures { Reads IsRes word.now result }
     {
-        match word {
-            "Round" => Some(Res::Round),
-            "Gravity" => Some(Res::Gravity),
-            "Total" => Some(Res::Total),
-            "Seed" => Some(Res::Seed),
-            "Limit" => Some(Res::Limit),
-            "Alarm" => Some(Res::Alarm),
-            "Mode" => Some(Res::Mode),
-            "Step" => Some(Res::Step),
-            _ => None,
+        for res in &Res::ALL {
+            if res.name() == word {
+                return Some(*res);
+            }
         }
+        None
+    }
+}
+
+impl fmt::Debug for Res {
+    ghost debug_output = { λ res. Some (res_name res) };
+
+    fn fmt<W: fmt::Write>(&self, f: &mut fmt::Formatter<W>) -> fmt::Result {
+        f.write_str(self.name())
     }
 }
 
@@ -94,7 +97,7 @@ impl fmt::Display for Res {
 }
 
 /// A kind of events, each with one value of 64 bits. Printed as its name.
-#[derive(Clone, Copy, PartialEq, Eq, Debug)]
+#[derive(Clone, Copy, PartialEq, Eq)]
 pub enum Event {
     Hit,
     Heal,
@@ -137,13 +140,20 @@ impl Event {
     pub fn named(word: &str) -> Option<Event>
         ensures { Reads IsEvent word.now result }
     {
-        match word {
-            "Hit" => Some(Event::Hit),
-            "Heal" => Some(Event::Heal),
-            "Spark" => Some(Event::Spark),
-            "Done" => Some(Event::Done),
-            _ => None,
+        for event in &Event::ALL {
+            if event.name() == word {
+                return Some(*event);
+            }
         }
+        None
+    }
+}
+
+impl fmt::Debug for Event {
+    ghost debug_output = { λ event. Some (event_name event) };
+
+    fn fmt<W: fmt::Write>(&self, f: &mut fmt::Formatter<W>) -> fmt::Result {
+        f.write_str(self.name())
     }
 }
 

@@ -1,3 +1,4 @@
+pub mod KindTerms
 pub mod QueryTexts
 pub mod Named
 pub mod Fetches

@@ -6,7 +6,7 @@ ghost use Rattle.query.specs.Alternative.{listed};
 use kinds::Kind;
 
 /// An alternative of an `or` term.
-#[derive(Clone, Copy, PartialEq, Eq, Debug)]
+#[derive(Clone, Copy)]
 pub enum Alternative {
     /// The entity has the component.
     With(Kind),
@@ -15,7 +15,7 @@ pub enum Alternative {
 }
 
 /// The alternatives of an `or` term. Two to four are asked for; with another number `check` refuses the query.
-#[derive(Clone, Copy, PartialEq, Eq, Debug, Default)]
+#[derive(Clone, Copy, Default)]
 pub enum Alternatives {
     /// None, so that no entity passes.
     #[default]

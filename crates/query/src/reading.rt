@@ -13,6 +13,7 @@ use crate::check::has_many_ors;
 use crate::query::Query;
 use crate::term::Term;
 use kinds::Kind;
+use kinds::kind::prove_kinds_apart;
 use parsing::ReadError;
 use parsing::parts::parts_of;
 use parsing::words::{is_blank, words_of};
@@ -68,6 +69,7 @@ impl Term {
     fn of_kind(word: &str, kind: Kind) -> Option<Term>
         ensures { Reads AreTerm (word.now ∷ kind_name kind ∷ []) result }
     {
+        prove_kinds_apart();
         match word {
             "read" => Some(Term::Read(kind)),
             "mut" => Some(Term::Mut(kind)),

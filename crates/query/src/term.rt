@@ -14,7 +14,7 @@ use crate::alternative::Alternatives;
 use kinds::Kind;
 
 /// A term of a query.
-#[derive(Clone, Copy, PartialEq, Eq, Debug, Default)]
+#[derive(Clone, Copy, Default)]
 pub enum Term {
     /// The row shows the id of its entity.
     #[default]
@@ -38,7 +38,7 @@ pub enum Term {
 }
 
 /// What a term asks of the kinds that an entity has.
-#[derive(Clone, Copy, PartialEq, Eq, Debug)]
+#[derive(Clone, Copy)]
 pub enum Presence {
     /// Nothing.
     Free,

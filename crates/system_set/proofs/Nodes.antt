@@ -1,6 +1,7 @@
 -- Round trips over nodes are cycles of items, and ranks of nodes are ranks of items.
-use Rattle.std.proofs.Common.{ℕ, zero, suc, ◌+◌, ◌-◌, ◌<◌, ◌≤◌, ◌≡◌, Bool, true, false, eqb, cond, nat_lt, ◌⊎◌, inl, inr, List, [], ◌∷◌, ◌++◌, length, map, take, get_or, refl, sym, ap, ◌∙◌, subst, arith, ltb-true, lt-ltb, eqb-true, eq-eqb}
+use Rattle.std.proofs.Common.{ℕ, zero, suc, ◌+◌, ◌-◌, ◌<◌, ◌≤◌, ◌≡◌, Bool, true, false, eqb, cond, nat_lt, ◌⊎◌, inl, inr, List, [], ◌∷◌, ◌++◌, length, map, take, get_or, refl, sym, ap, ◌∙◌, subst, arith, append-nil, ltb-true, lt-ltb, le-ltb, eq-eqb}
 use Rattle.std.specs.List.{All}
+use Rattle.std.proofs.lemmas.List.Elements.{filter_more}
 use Rattle.std.proofs.lemmas.Bool.{false≢true, both_ways, or_cases, or_left, or_right, cases_lt}
 use Rattle.model.specs.Lists.{has, IsIn}
 use Rattle.model.specs.declarations.Walks.{IsOnceEach, IsWalk}
@@ -681,3 +682,17 @@ tells_some sets items pairs orders steps nodes placed between ranked loop crossi
       walk = walk_weaker (IsStep steps) (IsNodeStep h (pairs_of orders)) (λ m n s. node_of_step sets items pairs orders m n (subst (λ (xs : List Order). IsStep xs m n) same s)) (nodes ++ take 1 nodes) round.walk;
     } in
     told h (pairs_of orders) (is_whole sets items pairs orders placed between) (held_rankable sets items pairs ranked) loop crossing apart nodes over least
+
+-- one more node among the items
+pub kept_more : (items : ℕ) (nodes found more : List ℕ) (i : ℕ) → i < length nodes → found ≡ items_among items (take i nodes) → get_or nodes i 0 < items → more ≡ found ++ get_or nodes i 0 ∷ [] → more ≡ items_among items (take (i + 1) nodes)
+kept_more items nodes found more i low is less new =
+    new ∙ ap (λ xs. xs ++ get_or nodes i 0 ∷ []) is
+    ∙ ap (λ b. items_among items (take i nodes) ++ cond b (get_or nodes i 0 ∷ []) []) (sym (lt-ltb (get_or nodes i 0) items less))
+    ∙ sym (filter_more (λ n. nat_lt n items) nodes i 0 low)
+
+-- one more node that is none of them
+pub left_more : (items : ℕ) (nodes found : List ℕ) (i : ℕ) → i < length nodes → found ≡ items_among items (take i nodes) → items ≤ get_or nodes i 0 → found ≡ items_among items (take (i + 1) nodes)
+left_more items nodes found i low is past =
+    is ∙ sym (append-nil (items_among items (take i nodes)))
+    ∙ ap (λ b. items_among items (take i nodes) ++ cond b (get_or nodes i 0 ∷ []) []) (sym (le-ltb (get_or nodes i 0) items past))
+    ∙ sym (filter_more (λ n. nat_lt n items) nodes i 0 low)

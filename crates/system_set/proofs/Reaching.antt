@@ -1,8 +1,9 @@
 -- What reaches a set is what is marked, where marks are sound and spread.
 use Rattle.std.proofs.Common.{ℕ, zero, suc, ◌+◌, ◌<◌, ◌≤◌, ◌≡◌, Bool, true, false, not, ◌&&◌, ◌||◌, eqb, cond, ◌⊎◌, inl, inr, List, [], ◌∷◌, ◌++◌, length, get_or, refl, sym, ap, ◌∙◌, subst, arith}
 use Rattle.std.proofs.Math.ListN.{set}
-use Rattle.std.specs.List.{All}
+use Rattle.std.specs.List.{All, count_by}
 use Rattle.std.proofs.lemmas.List.{get_or-set_other, get_or_past}
+use Rattle.std.proofs.lemmas.List.Sums.{sum_by-set}
 use Rattle.std.proofs.lemmas.Bool.{false≢true, both_ways, or_cases, or_left, or_right, and_from, eqb-true, eq-eqb, cases_lt, true_from_ne_false, not_from_false}
 use Rattle.std.proofs.lemmas.Bool.Decides.{eqb_tells}
 use Rattle.model.specs.Lists.{has, IsIn}
@@ -180,3 +181,10 @@ members_from sets items orders holder marks members long sound spread are = reco
   );
   rising = are.rising;
 }
+
+-- one more mark leaves fewer items unmarked
+pub fewer_unmarked : (marks : List Bool) (i : ℕ) → i < length marks → not (is_marked marks i) ≡ true → count_by not (set marks i true) < count_by not marks
+fewer_unmarked marks i low h =
+    let e : count_by not (set marks i true) + cond {A = ℕ} (not (get_or marks i false)) 1 0 ≡ count_by not marks + 0 = sum_by-set (λ (b : Bool). cond {A = ℕ} (not b) 1 0) marks i true false low in
+    let one : cond {A = ℕ} (not (get_or marks i false)) 1 0 ≡ 1 = ap (λ (b : Bool). cond {A = ℕ} b 1 0) h in
+    omega arith

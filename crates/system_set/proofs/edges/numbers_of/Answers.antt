@@ -1,5 +1,5 @@
-use Rattle.std.proofs.Common.{arith, refl}
-use Rattle.system_set.proofs.EdgeLists.{marked_all, marked_more, marked_none}
+use Rattle.std.proofs.Common.{refl}
+use Rattle.system_set.proofs.EdgeLists.{marked_more}
 use Rattle.system_set.proofs.edges.numbers_of.Goals as goal
 
 pub loop-item-preserved : goal.loop-item-preserved
