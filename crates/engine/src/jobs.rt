@@ -126,7 +126,8 @@ pub(crate) fn bring_home<'s, M: Mode<'s>, B: Body + 's>(
             mode.prove_waits();
             return Err(Stop::NoWorker);
         };
-        jobs.bodies.put(done.system as usize, done.body);
+        let JobResult { system, body, .. } = done;
+        jobs.bodies.put(system as usize, body);
     }
     Ok(())
 }
