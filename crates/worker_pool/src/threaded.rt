@@ -138,10 +138,12 @@ impl<B: Body> Threaded<B> {
             return 0;
         };
         let number = line.hear(&notices.heard).unwrap_or(0);
-        self.out
-            .iter()
-            .position(|out| out.is_told(number))
-            .unwrap_or(0)
+        for place in 0..self.out.len() {
+            if self.out[place].is_told(number) {
+                return place;
+            }
+        }
+        0
     }
 
     // Hands a job out to a thread of the scope, or keeps it where there is none. After an error nothing is handed out: where an allocation fails the
