@@ -1,5 +1,5 @@
 -- Tickets of jobs that are out, as jobs are posted and outcomes collected.
-use Rattle.std.proofs.Common.{◌≡◌, ◌≢◌, ℕ, zero, suc, ◌+◌, ◌<◌, ◌≤◌, List, [], ◌∷◌, ◌++◌, length, remove, slice_get, IsSomeAnd, IfSome, IfNone, Option, Some, None, map, sym, refl, ap, ◌∙◌, subst, ⊎_elim, arith}
+use Rattle.std.proofs.Common.{◌≡◌, ◌≢◌, ℕ, zero, suc, ◌+◌, ◌<◌, ◌≤◌, List, [], ◌∷◌, ◌++◌, length, remove, slice_get, slice_index_or, IsSomeAnd, IfSome, IfNone, Option, Some, None, map, sym, refl, ap, ◌∙◌, subst, ⊎_elim, arith}
 use mathlib.Core.Option.{some, some-injective, some-ne-none}
 use lib.ListN.{get_elem?}
 use Rattle.std.proofs.lemmas.List.{length-map}
@@ -148,3 +148,19 @@ one_less {J} {X} f tickets after v is None answers there came lost =
     let e : length (map (λ (t : Ticket J). f t.job.value) tickets) ≡ length v = ap (λ (l : List X). length l) is in
     less_by f tickets after v 0 is (omega arith) lost
 one_less f tickets after v is (Some d) answers there came lost = less_by f tickets after v came.0 is (within tickets came.0 came.1 came.2) came.4
+
+-- what was taken out of a list stood there
+module _ {A : Type 0} (after : List A) where
+  pub stood : (l : List A) (i : ℕ) (a : A) (P : A → Type 0) → i < length l → a ≡ slice_index_or l i a → P a → IsSomeAnd (slice_get l i) P
+  stood [] i a P near is p = absurd (omega arith)
+  stood (x ∷ xs) zero a P near is p = subst P is p
+  stood (x ∷ xs) (suc i) a P near is p = stood xs i a P (omega arith) is p
+
+  module _ {D : Type 0} (l : List A) (i : ℕ) (a : A) (near : i < length l) (is : a ≡ slice_index_or l i a) where
+    pub came_of : (F : A → D → Type 0) (o : Option D) → after ≡ remove l i → IfSome o (F a) → IfSome o (λ d. (i : ℕ) × IsSomeAnd (slice_get l i) (λ x. F x d) × (after ≡ remove l i))
+    came_of F None items h = tt
+    came_of F (Some d) items h = (i, stood l i a (λ x. F x d) near is h, items)
+
+    pub lost_of : (P : A → Type 0) (o : Option D) → IfNone o (P a) → IfNone o ((i : ℕ) × IsSomeAnd (slice_get l i) P)
+    lost_of P None h = (i, stood l i a P near is h)
+    lost_of P (Some d) h = tt
