@@ -4,7 +4,7 @@ ghost use Rattle.parsing.specs.Reads.{Reads};
 ghost use Rattle.run_condition.specs.Word.{IsConditionWord};
 
 /// The word that begins a condition, and says which sort it is.
-#[derive(Clone, Copy, PartialEq, Eq, Debug)]
+#[derive(Clone, Copy)]
 pub(crate) enum Word {
     RunOnce,
     ResourceEquals,

@@ -12,7 +12,7 @@ use parsing::words::words_of;
 use std::alloc::Global;
 
 /// What becomes of a target and a source.
-#[derive(Clone, Copy, PartialEq, Eq)]
+#[derive(Clone, Copy)]
 pub enum Operation {
     /// The source.
     Set,
@@ -46,7 +46,7 @@ impl Operation {
 }
 
 /// How two values compare.
-#[derive(Clone, Copy, PartialEq, Eq)]
+#[derive(Clone, Copy)]
 pub enum Relation {
     /// The left is less than the right.
     Less,
@@ -71,7 +71,7 @@ impl Relation {
 }
 
 /// An instruction.
-#[derive(Clone, Copy, PartialEq, Eq)]
+#[derive(Clone, Copy)]
 pub enum Instruction {
     /// The target becomes what the operation makes of it and the source.
     Change {

@@ -9,7 +9,7 @@ use kinds::{Kind, Res};
 use parsing::integer::{read_integer, read_number};
 
 /// The letter of a field within its kind. Not every kind has each: that is looked at when the script is checked.
-#[derive(Clone, Copy, PartialEq, Eq)]
+#[derive(Clone, Copy)]
 pub enum Axis {
     X,
     Y,
@@ -31,7 +31,7 @@ impl Axis {
 }
 
 /// A field of the row at hand, as `Position.x`.
-#[derive(Clone, Copy, PartialEq, Eq)]
+#[derive(Clone, Copy)]
 pub struct Field {
     /// The kind of the component.
     pub kind: Kind,
@@ -61,7 +61,7 @@ fn read_register(word: &str) -> Option<u32>
 }
 
 /// What an instruction writes.
-#[derive(Clone, Copy, PartialEq, Eq)]
+#[derive(Clone, Copy)]
 pub enum Target {
     /// A register of the system, by number.
     Register(u32),
@@ -87,7 +87,7 @@ impl Target {
 }
 
 /// Where an instruction takes a value from.
-#[derive(Clone, Copy, PartialEq, Eq)]
+#[derive(Clone, Copy)]
 pub enum Source {
     /// The value itself.
     Integer(i64),
@@ -128,7 +128,7 @@ pub(crate) fn read_slot(word: &str) -> Option<u32>
 }
 
 /// Whom a command is about.
-#[derive(Clone, Copy, PartialEq, Eq)]
+#[derive(Clone, Copy)]
 pub enum Subject {
     /// The entity of the row at hand.
     Row,
@@ -149,7 +149,7 @@ impl Subject {
 }
 
 /// The values of the fields of a component, in order. Whether they are as many as the kind has fields is looked at when the script is checked.
-#[derive(Clone, Copy, PartialEq, Eq)]
+#[derive(Clone, Copy)]
 pub enum Values {
     /// No value.
     Empty,
@@ -162,7 +162,7 @@ pub enum Values {
 }
 
 /// What several sources name.
-#[derive(Clone, Copy, PartialEq, Eq)]
+#[derive(Clone, Copy)]
 pub struct Mentions {
     /// The kinds of their fields, as the bits of their numbers.
     pub kinds: u64,
