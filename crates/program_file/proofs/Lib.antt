@@ -5,6 +5,7 @@ pub mod Known
 pub mod Mapped
 pub mod Refusals
 pub mod Spelled
+pub mod Systems
 pub mod Unread
 pub mod Wrong
 mod Rests

@@ -1,9 +1,9 @@
 -- What is told of a table that is wrong, and of the first of several.
-use Rattle.std.proofs.Common.{◌≡◌, ◌∙◌, ℕ, ℤ, zero, suc, ◌<◌, true, false, Some, List, [], ◌∷◌, map, take, length, get_or, Option, Result, Ok, Err, IfErr, IsErrAnd, MatchResult, ap, sym, subst, slice_get, refl, arith}
+use Rattle.std.proofs.Common.{◌≡◌, ◌∙◌, ℕ, zero, suc, ◌<◌, Some, List, [], ◌∷◌, map, take, length, get_or, Result, Ok, Err, IfErr, IsErrAnd, MatchResult, sym, subst, slice_get, refl, arith}
 use Rattle.std.specs.List.{AllZip, AllByRecursion}
 use Rattle.toml.specs.Data.{Members}
-use Rattle.program_file.specs.PlaceFault.{IsNoText, IsNoValue, NoneIs, NoneIsAt, fault_at}
-use Rattle.program_file.specs.Tables.{AreValuesIn, IsEntityIn, IsSetIn, IsSystemIn, IsChainIn, IsItemIn, IsBlockIn, IsFileIn}
+use Rattle.program_file.specs.PlaceFault.{IsNoText, IsNoValue, NoneIs, fault_at}
+use Rattle.program_file.specs.Tables.{AreValuesIn, IsEntityIn, IsSetIn, IsSystemIn, IsChainIn}
 use Rattle.program_file.specs.Faults.{TopTables, AreFine, HasTop, HasValues, HasEntity, HasChain, HasSetKeys, HasSystemKeys, IsTop, IsUnkeyed, IsWrong, IsFirstWrong, IsListFault, IsFaultOf}
 use Rattle.program_file.specs.declared.place.Place.{Place}
 use Rattle.program_file.specs.declared.place.Place.TheVariants.{Top, Resources, Entity, Set, System, Chain}

@@ -70,6 +70,14 @@ pub record HasSystemKeys (table : Members) : Type 0 where
   pub spawns : (number : Option ℕ) × HasNumber (codes "spawns") number table
   pub blocks : HasBlocks table
 
+-- what a system touches besides the columns of its queries
+pub record HasTouchedKeys (table : Members) : Type 0 where
+  pub res : (resources : List Res) × HasResources (codes "res") resources table
+  pub res_mut : (resources : List Res) × HasResources (codes "res_mut") resources table
+  pub reads : (events : List Event) × HasEvents (codes "reads") events table
+  pub writes : (events : List Event) × HasEvents (codes "writes") events table
+  pub spawns : (number : Option ℕ) × HasNumber (codes "spawns") number table
+
 -- ---- what is wrong with one table
 
 -- its keys have no such values, or an allocation failed

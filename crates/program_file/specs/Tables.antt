@@ -25,6 +25,8 @@ use Rattle.program_file.specs.declared.program_file.ItemTable.{ItemTable}
 use Rattle.program_file.specs.declared.program_file.ItemTexts.{ItemTexts}
 use Rattle.program_file.specs.declared.program_file.ProgramFile.{ProgramFile}
 use Rattle.program_file.specs.declared.program_file.SystemTable.{SystemTable}
+use Rattle.program_file.specs.declared.program_file.SystemTexts.{SystemTexts}
+use Rattle.program_file.specs.declared.program_file.Touched.{Touched}
 
 -- ---- the keys that a table may have
 
@@ -218,3 +220,36 @@ IsCodeOf texts code = AreSpelled IsInstruction code (map (λ text. text.now) tex
 pub record IsRead (texts : BlockTexts) (block : Block) : Type 0 where
   pub rounds : block.rounds ≡ texts.rounds
   pub code : AreSpelled IsInstruction block.code.items (map (λ text. text.now) texts.code.items)
+
+-- what a system touches besides the columns of its queries
+pub record AreTouchedIn (table : Members) (touched : Touched) : Type 0 where
+  pub res : HasResources (codes "res") touched.res.items table
+  pub res_mut : HasResources (codes "res_mut") touched.res_mut.items table
+  pub reads : HasEvents (codes "reads") touched.reads.items table
+  pub writes : HasEvents (codes "writes") touched.writes.items table
+  pub spawns : HasNumber (codes "spawns") touched.spawns table
+
+-- a system whose conditions, queries and code are texts
+pub record IsSystemTextsIn (table : Members) (texts : SystemTexts) : Type 0 where
+  pub only : HasOnly keys_of_system table
+  pub item : IsItemTextsIn table texts.item
+  pub queries : HasNames (codes "query") texts.queries.items table
+  pub touched : AreTouchedIn table texts.touched
+  pub blocks : AreBlockTextsIn table texts.blocks.items
+
+-- the same system with its texts read
+pub record IsSystemRead (texts : SystemTexts) (system : SystemTable) : Type 0 where
+  pub item : IsItemRead texts.item system.item
+  pub queries : AreSpelled IsQuery system.queries.items (map (λ text. text.now) texts.queries.items)
+  pub res : system.res ≡ texts.touched.res
+  pub res_mut : system.res_mut ≡ texts.touched.res_mut
+  pub reads : system.reads ≡ texts.touched.reads
+  pub writes : system.writes ≡ texts.touched.writes
+  pub spawns : system.spawns ≡ texts.touched.spawns
+  pub blocks : AllZip IsRead texts.blocks.items system.blocks.items
+
+-- conditions, queries and code that the texts of a system spell
+pub record AreTextsOf (texts : SystemTexts) (spelled : List Cond × List Query × List (List Instruction)) : Type 0 where
+  pub conditions : AreSpelled IsCondition spelled.0 (map (λ text. text.now) texts.item.conditions.items)
+  pub queries : AreSpelled IsQuery spelled.1 (map (λ text. text.now) texts.queries.items)
+  pub code : AllZip IsCodeOf texts.blocks.items spelled.2

@@ -2,10 +2,10 @@
 
 ghost use Rattle.std.specs.Prelude.{IfOk, IfErr, All, map, codes};
 ghost use Rattle.program_file.specs.PlaceFault.{IsNoText, IsNoValue, IsOfPlace, NoneIs};
-ghost use Rattle.program_file.specs.Faults.{HasBlockKeys, HasBlocks, HasChain, HasEntity, HasItem, HasItemKeys, HasSet, HasSetKeys, HasSystem, HasSystemKeys, HasTop, IsFaultOf, IsListFault, IsUnkeyed, IsWrong};
+ghost use Rattle.program_file.specs.Faults.{HasBlockKeys, HasBlocks, HasChain, HasEntity, HasItem, HasItemKeys, HasSet, HasSetKeys, HasSystem, HasSystemKeys, HasTop, HasTouchedKeys, IsFaultOf, IsListFault, IsUnkeyed, IsWrong};
 ghost use Rattle.program_file.specs.Name.{IsName};
 ghost use Rattle.program_file.specs.Keys.{HasOnly, HasTable, HasTables, lent_members};
-ghost use Rattle.program_file.specs.Tables.{keys_of_document, AreValuesIn, AreResourcesIn, IsComponentIn, IsEntityIn, AreEntitiesIn, IsSystemIn, AreSetsIn, AreSystemsIn, AreChainsIn, IsItemIn, IsSetIn, IsChainIn, IsBlockTextsIn, AreBlockTextsIn, IsCodeOf, IsRead, IsItemTextsIn, IsItemRead};
+ghost use Rattle.program_file.specs.Tables.{keys_of_document, AreValuesIn, AreResourcesIn, IsComponentIn, IsEntityIn, AreEntitiesIn, IsSystemIn, AreSetsIn, AreSystemsIn, AreChainsIn, IsItemIn, IsSetIn, IsChainIn, IsBlockTextsIn, AreBlockTextsIn, IsCodeOf, IsRead, IsItemTextsIn, IsItemRead, AreTouchedIn, IsSystemTextsIn, IsSystemRead, AreTextsOf};
 ghost use Rattle.program_file.specs.Readings.{AreSpelled};
 ghost use Rattle.run_condition.specs.Grammar.{IsCondition};
 ghost use Rattle.std.specs.List.{AllZip};
@@ -111,6 +111,25 @@ struct ItemTexts<'a> {
 struct BlockTexts<'a> {
     rounds: Rounds,
     code: Vec<&'a str>,
+}
+
+// What a system touches besides the columns of its queries.
+#[derive(Drop)]
+struct Touched {
+    res: Vec<Res>,
+    res_mut: Vec<Res>,
+    reads: Vec<Event>,
+    writes: Vec<Event>,
+    spawns: Option<u32>,
+}
+
+// A system whose conditions, queries and instructions are texts.
+#[derive(Drop)]
+struct SystemTexts<'a> {
+    item: ItemTexts<'a>,
+    queries: Vec<&'a str>,
+    touched: Touched,
+    blocks: Vec<BlockTexts<'a>>,
 }
 
 const TOP_KEYS: [&str; 5] = ["resources", "entity", "set", "system", "chain"];
@@ -266,10 +285,6 @@ impl<'a> ItemTable<'a> {
 impl<'a> ItemTexts<'a> {
     // Reads the keys that a set and a system both have.
     fn read(alloc: Global, table: &'a Table) -> Result<ItemTexts<'a>, PlaceFault>
-        ensures named { IfOk result (λ item. IsName item.name.now) }
-        ensures inside { IfOk result (λ item. All (λ name. IsName name.now) item.inside.items) }
-        ensures before { IfOk result (λ item. All (λ name. IsName name.now) item.before.items) }
-        ensures after { IfOk result (λ item. All (λ name. IsName name.now) item.after.items) }
         ensures said { IfOk result (IsItemTextsIn (table_view table.now)) }
         ensures unkeyed { IfErr result (IsUnkeyed (HasItemKeys (table_view table.now))) }
     {
@@ -332,26 +347,74 @@ impl<'a> SystemTable<'a> {
         ensures said { IfOk result (IsSystemIn (table_view table.now)) }
         ensures wrong { IfErr result (IsWrong (HasSystemKeys (table_view table.now)) (HasSystem (table_view table.now))) }
     {
+        read_system(alloc, SystemTexts::read(alloc, table)?)
+    }
+}
+
+impl<'a> SystemTexts<'a> {
+    // Reads the keys of a system.
+    fn read(alloc: Global, table: &'a Table) -> Result<SystemTexts<'a>, PlaceFault>
+        ensures ok { IfOk result (IsSystemTextsIn (table_view table.now)) }
+        ensures unkeyed { IfErr result (IsUnkeyed (HasSystemKeys (table_view table.now))) }
+    {
         refuse_unknown(table, SYSTEM_KEYS.as_slice())?;
-        let item = ItemTexts::read(alloc, table)?;
-        let queries = texts_at(alloc, table, "query")?;
-        let res = resources_at(alloc, table, "res")?;
-        let res_mut = resources_at(alloc, table, "res_mut")?;
-        let reads = events_at(alloc, table, "reads")?;
-        let writes = events_at(alloc, table, "writes")?;
-        let spawns = number_at(table, "spawns")?;
-        let blocks = blocks_of(alloc, table)?;
-        Ok(SystemTable {
-            item: read_item(alloc, item)?,
-            queries: queries_of(alloc, queries.as_slice())?,
-            res,
-            res_mut,
-            reads,
-            writes,
-            spawns,
-            blocks: read_blocks(alloc, blocks.as_slice())?,
+        Ok(SystemTexts {
+            item: ItemTexts::read(alloc, table)?,
+            queries: texts_at(alloc, table, "query")?,
+            touched: Touched::read(alloc, table)?,
+            blocks: blocks_of(alloc, table)?,
         })
     }
+}
+
+impl Touched {
+    // Reads the keys of the resources and events of a system, and how many ids it is granted.
+    fn read(alloc: Global, table: &Table) -> Result<Touched, PlaceFault>
+        ensures ok { IfOk result (AreTouchedIn (table_view table.now)) }
+        ensures unkeyed { IfErr result (IsUnkeyed (HasTouchedKeys (table_view table.now))) }
+    {
+        Ok(Touched {
+            res: resources_at(alloc, table, "res")?,
+            res_mut: resources_at(alloc, table, "res_mut")?,
+            reads: events_at(alloc, table, "reads")?,
+            writes: events_at(alloc, table, "writes")?,
+            spawns: number_at(table, "spawns")?,
+        })
+    }
+}
+
+// The same system, its texts read.
+fn read_system<'a>(alloc: Global, texts: SystemTexts<'a>) -> Result<SystemTable<'a>, PlaceFault>
+    ensures ok { IfOk result (IsSystemRead texts.entry) }
+    ensures only { IfErr result IsNoValue }
+    ensures refused { IfErr result (NoneIs (AreTextsOf texts.entry)) }
+{
+    let SystemTexts {
+        item,
+        queries,
+        touched,
+        blocks,
+    } = texts;
+    let table = read_item(alloc, item)?;
+    let asked = queries_of(alloc, queries.as_slice())?;
+    let code = read_blocks(alloc, blocks.as_slice())?;
+    let Touched {
+        res,
+        res_mut,
+        reads,
+        writes,
+        spawns,
+    } = touched;
+    Ok(SystemTable {
+        item: table,
+        queries: asked,
+        res,
+        res_mut,
+        reads,
+        writes,
+        spawns,
+        blocks: code,
+    })
 }
 
 // The tables at the top of a document.

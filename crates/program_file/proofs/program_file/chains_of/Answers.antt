@@ -1,5 +1,4 @@
 use Rattle.std.proofs.Common.{map, subst, rules}
-use Rattle.std.specs.List.{AllZip}
 use Rattle.toml.specs.View.{table_view}
 use Rattle.program_file.specs.Tables.{IsChainIn}
 use Rattle.program_file.specs.Faults.{HasChain, IsListFault}

@@ -8,6 +8,20 @@ use Rattle.program_file.proofs.Wrong.{unkeyed, value-no_text}
 use Rattle.program_file.proofs.program_file.ItemTexts.read.Goals as goal
 use Rattle.model.proofs.lists.Results.{handed_on}
 
+-- each list is that of its key
+pub returns-clause-said : goal.returns-clause-said
+returns-clause-said c = record {
+  name = c.in_ok-name_at.ensures.said;
+  named = c.in_ok-name_at.ensures.name;
+  inside = (c.in_ok-names_at.ensures.said, c.in_ok-names_at.ensures.names);
+  before = (c.in_ok-names_at-2.ensures.said, c.in_ok-names_at-2.ensures.names);
+  after = (c.in_ok-names_at-3.ensures.said, c.in_ok-names_at-3.ensures.names);
+  before_ignore_deferred = (c.in_ok-names_at-4.ensures.said, c.in_ok-names_at-4.ensures.names);
+  after_ignore_deferred = (c.in_ok-names_at-5.ensures.said, c.in_ok-names_at-5.ensures.names);
+  ambiguous_with = (c.in_ok-names_at-6.ensures.said, c.in_ok-names_at-6.ensures.names);
+  conditions = c.in_ok-texts_at.ensures.ok;
+}
+
 -- there is no such name
 pub returns-in_err-name_at-clause-unkeyed : goal.returns-in_err-name_at-clause-unkeyed
 returns-in_err-name_at-clause-unkeyed c =

@@ -18,46 +18,6 @@ use Rattle.program_file.proofs.Wrong.{err-both, told-at, top-told, resources-tol
 use Rattle.program_file.proofs.program_file.ProgramFile.read.Goals as goal
 use Rattle.model.proofs.lists.Results.{handed_on}
 
--- the resources have their table, if there is one
-pub returns-clause-resources : goal.returns-clause-resources
-returns-clause-resources c = record {
-  table = lent_members c.in_ok-top.top.resources;
-  there = search rules;
-  given = search rules;
-}
-
--- each entity has its table
-pub returns-clause-entities : goal.returns-clause-entities
-returns-clause-entities c = record {
-  tables = map (λ inner. table_view inner.now) c.in_ok-top.top.entities.items;
-  there = search rules;
-  each = zip-map (λ members components. IsEntityIn members components.items) (λ inner. table_view inner.now) c.in_ok-top.top.entities.items _ (search rules);
-}
-
--- each set has its table
-pub returns-clause-sets : goal.returns-clause-sets
-returns-clause-sets c = record {
-  tables = map (λ inner. table_view inner.now) c.in_ok-top.top.sets.items;
-  there = search rules;
-  each = zip-map IsSetIn (λ inner. table_view inner.now) c.in_ok-top.top.sets.items _ (search rules);
-}
-
--- each system has its table
-pub returns-clause-systems : goal.returns-clause-systems
-returns-clause-systems c = record {
-  tables = map (λ inner. table_view inner.now) c.in_ok-top.top.systems.items;
-  there = search rules;
-  each = zip-map IsSystemIn (λ inner. table_view inner.now) c.in_ok-top.top.systems.items _ (search rules);
-}
-
--- each chain has its table
-pub returns-clause-chains : goal.returns-clause-chains
-returns-clause-chains c = record {
-  tables = map (λ inner. table_view inner.now) c.in_ok-top.top.chains.items;
-  there = search rules;
-  each = zip-map IsChainIn (λ inner. table_view inner.now) c.in_ok-top.top.chains.items _ (search rules);
-}
-
 -- the tables at the top, as they were read
 abbrev tables_of : Top → TopTables
 tables_of top = record {
@@ -94,6 +54,52 @@ shown place_of HasKeys Is slice tables fault same told = subst (λ (ts : Lent). 
 fine : {X Y : Type 0} (Is : Members → X → Type 0) (g : Y → X) (slice tables : Lent) (ys : List Y) → slice ≡ tables → AllZip (λ inner y. Is (table_view inner.now) (g y)) slice ys → AreFine Is (map (λ inner. table_view inner.now) tables)
 fine Is g slice tables ys same read =
     subst (λ (ts : Lent). AreFine Is (map (λ inner. table_view inner.now) ts)) same (fine-all Is (λ (inner : Bor (BTreeMap (String Global) Value)). table_view inner.now) g slice ys read)
+
+-- each of what was read is that of its tables
+zipped : {X Y : Type 0} (Is : Members → X → Type 0) (g : Y → X) (slice tables : Lent) (ys : List Y) → slice ≡ tables → AllZip (λ inner y. Is (table_view inner.now) (g y)) slice ys
+    → AllZip (λ members y. Is members (g y)) (map (λ inner. table_view inner.now) tables) ys
+zipped Is g slice tables ys same read =
+    zip-map (λ members y. Is members (g y)) (λ (inner : Bor (BTreeMap (String Global) Value)). table_view inner.now) tables ys (subst (λ (ts : Lent). AllZip (λ inner y. Is (table_view inner.now) (g y)) ts ys) same read)
+
+-- the resources have their table, if there is one
+pub returns-clause-resources : goal.returns-clause-resources
+returns-clause-resources c = record {
+  table = lent_members c.in_ok-top.top.resources;
+  there = (top-read (table_view c.args.document.now) c.read.result c.map_err.result c.in_ok-top.top _ c.map_err.ensures.cases c.map_err.ensures.variant c.in_ok-top.was c.read.ensures.keys c.read.ensures.resources c.read.ensures.entities c.read.ensures.sets c.read.ensures.systems c.read.ensures.chains).resources;
+  given = of-mapped (AreValuesIn (lent_members c.in_ok-top.top.resources)) _ c.resources_of.result c.map_err-2.result c.in_ok-resources.resources c.map_err-2.ensures.cases c.map_err-2.ensures.variant c.in_ok-resources.was c.resources_of.ensures.ok;
+}
+
+-- each entity has its table
+pub returns-clause-entities : goal.returns-clause-entities
+returns-clause-entities c = record {
+  tables = map (λ inner. table_view inner.now) c.in_ok-top.top.entities.items;
+  there = (top-read (table_view c.args.document.now) c.read.result c.map_err.result c.in_ok-top.top _ c.map_err.ensures.cases c.map_err.ensures.variant c.in_ok-top.was c.read.ensures.keys c.read.ensures.resources c.read.ensures.entities c.read.ensures.sets c.read.ensures.systems c.read.ensures.chains).entities;
+  each = zipped IsEntityIn (λ components. components.items) c.as_slice.result.now c.in_ok-top.top.entities.items c.in_ok-entities.entities.items c.as_slice.ensures.value c.in_ok-entities.ensures.ok;
+}
+
+-- each set has its table
+pub returns-clause-sets : goal.returns-clause-sets
+returns-clause-sets c = record {
+  tables = map (λ inner. table_view inner.now) c.in_ok-top.top.sets.items;
+  there = (top-read (table_view c.args.document.now) c.read.result c.map_err.result c.in_ok-top.top _ c.map_err.ensures.cases c.map_err.ensures.variant c.in_ok-top.was c.read.ensures.keys c.read.ensures.resources c.read.ensures.entities c.read.ensures.sets c.read.ensures.systems c.read.ensures.chains).sets;
+  each = zipped IsSetIn (λ set. set) c.as_slice-2.result.now c.in_ok-top.top.sets.items c.in_ok-sets.sets.items c.as_slice-2.ensures.value c.in_ok-sets.ensures.ok;
+}
+
+-- each system has its table
+pub returns-clause-systems : goal.returns-clause-systems
+returns-clause-systems c = record {
+  tables = map (λ inner. table_view inner.now) c.in_ok-top.top.systems.items;
+  there = (top-read (table_view c.args.document.now) c.read.result c.map_err.result c.in_ok-top.top _ c.map_err.ensures.cases c.map_err.ensures.variant c.in_ok-top.was c.read.ensures.keys c.read.ensures.resources c.read.ensures.entities c.read.ensures.sets c.read.ensures.systems c.read.ensures.chains).systems;
+  each = zipped IsSystemIn (λ system. system) c.as_slice-3.result.now c.in_ok-top.top.systems.items c.in_ok-systems.systems.items c.as_slice-3.ensures.value c.in_ok-systems.ensures.ok;
+}
+
+-- each chain has its table
+pub returns-clause-chains : goal.returns-clause-chains
+returns-clause-chains c = record {
+  tables = map (λ inner. table_view inner.now) c.in_ok-top.top.chains.items;
+  there = (top-read (table_view c.args.document.now) c.read.result c.map_err.result c.in_ok-top.top _ c.map_err.ensures.cases c.map_err.ensures.variant c.in_ok-top.was c.read.ensures.keys c.read.ensures.resources c.read.ensures.entities c.read.ensures.sets c.read.ensures.systems c.read.ensures.chains).chains;
+  each = zipped IsChainIn (λ chain. chain) c.as_slice-4.result.now c.in_ok-top.top.chains.items c.in_ok-chains.chains.items c.as_slice-4.ensures.value c.in_ok-chains.ensures.ok;
+}
 
 -- the top is wrong
 pub returns-in_err-top-clause-fault : goal.returns-in_err-top-clause-fault
