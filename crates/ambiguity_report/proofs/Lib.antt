@@ -3,3 +3,4 @@ pub mod Backwards
 pub mod Members
 pub mod Reporting
 pub mod Settling
+mod AllPaths

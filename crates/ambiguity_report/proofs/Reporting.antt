@@ -1,5 +1,5 @@
 -- The report, pair by pair.
-use Rattle.std.proofs.Common.{ℕ, ◌+◌, ◌<◌, ◌≡◌, ◌⊎◌, inl, inr, List, [], ◌∷◌, ◌++◌, length, refl, sym, ap, ◌∙◌, subst, arith}
+use Rattle.std.proofs.Common.{ℕ, ◌+◌, ◌<◌, ◌≤◌, ◌≡◌, ◌⊎◌, inl, inr, List, [], ◌∷◌, ◌++◌, length, refl, sym, ap, ◌∙◌, subst, arith}
 use Rattle.std.proofs.lemmas.Bool.{cases_lt}
 use Rattle.std.specs.List.{AllByRecursion}
 use Rattle.model.specs.Lists.{IsIn}
@@ -9,7 +9,7 @@ use Rattle.ambiguity_report.specs.declared.races.Racer.{Racer}
 use Rattle.ambiguity_report.specs.declared.races.Racer.TheVariants.{System, Condition}
 use Rattle.ambiguity_report.specs.declared.report.Pair.{Pair}
 use Rattle.ambiguity_report.specs.Races.{IsRace}
-use Rattle.ambiguity_report.specs.Report.{IsBelow, IsAhead, IsEarlier, IsRising, IsTold, IsListed, IsReportTo}
+use Rattle.ambiguity_report.specs.Report.{IsBelow, IsAhead, IsEarlier, IsRising, IsTold, IsListed, IsReport, IsReportTo}
 
 -- ---- lists of pairs
 
@@ -101,3 +101,85 @@ report_next s m n pairs end front = record {
       | inr more ↦ inr (omega arith, omega arith)
     ]
     back (Condition c) j race (inr low) = let none : j < 0 = low.1 in absurd (omega arith)
+
+-- none is ahead of all
+pub report_none : (s : Schedule) (pairs : List Pair) → pairs ≡ [] → IsReportTo s (System 0) 0 pairs
+report_none s pairs none = subst (IsReportTo s (System 0) 0) (sym none) (record {
+  rising = tt;
+  told = λ p i. absurd i;
+  ahead = λ p i. absurd i;
+  whole = λ q j low race. absurd (never q j low);
+})
+  where
+    never : (q : Racer) (j : ℕ) → IsAhead q j (System 0) 0 → ⊥
+    never (System i) j (inl low) = let l : i < 0 = low in omega arith
+    never (System i) j (inr low) = let l : j < 0 = low.1 in omega arith
+    never (Condition c) j low = low
+
+-- two that don't race add nothing
+pub report_same : (s : Schedule) (r : Racer) (n : ℕ) (pairs : List Pair) → (IsRace s r n → ⊥) → IsReportTo s r n pairs → IsReportTo s r (n + 1) pairs
+report_same s r n pairs apart front = record {
+  rising = front.rising;
+  told = front.told;
+  ahead = λ p i. ahead_more p.first p.second r n (front.ahead p i);
+  whole = λ q j low race. elim (ahead_next q j r n low) [
+    | inl less ↦ front.whole q j less race
+    | inr here ↦ absurd (apart (subst (λ (k : ℕ). IsRace s r k) here.1 (subst (λ (x : Racer). IsRace s x j) here.0 race)))
+  ];
+}
+
+-- the pairs with all systems
+pub report_end : (s : Schedule) (r : Racer) (n end : ℕ) (pairs : List Pair) → n ≤ end → end ≤ n → end ≡ length s.systems → IsReportTo s r n pairs → IsReportTo s r (length s.systems) pairs
+report_end s r n end pairs within past count front = let at : n ≡ length s.systems = omega arith in subst (λ (k : ℕ). IsReportTo s r k pairs) at front
+
+-- all pairs of a system are ahead of those of the next
+pub report_next_system : (s : Schedule) (m n : ℕ) (pairs : List Pair) → n ≡ length s.systems → IsReportTo s (System m) n pairs → IsReportTo s (System (m + 1)) 0 pairs
+report_next_system s m n pairs end front = record {
+  rising = front.rising;
+  told = front.told;
+  ahead = λ p i. onward p.first p.second (front.ahead p i);
+  whole = λ q j low race. front.whole q j (back q j race low) race;
+}
+  where
+    onward : (q : Racer) (j : ℕ) → IsAhead q j (System m) n → IsAhead q j (System (m + 1)) 0
+    onward (System i) j (inl low) = inl (omega arith)
+    onward (System i) j (inr low) = inl (omega (arith, low.0))
+    onward (Condition c) j low = low
+
+    back : (q : Racer) (j : ℕ) → IsRace s q j → IsAhead q j (System (m + 1)) 0 → IsAhead q j (System m) n
+    back (System i) j race (inl low) = let inside : j < length s.systems = race.1.second_known in elim (cases_lt i m) [
+      | inl less ↦ inl less
+      | inr more ↦ inr (omega arith, omega arith)
+    ]
+    back (System i) j race (inr low) = let none : j < 0 = low.1 in absurd (omega arith)
+    back (Condition c) j race low = absurd low
+
+-- all pairs of systems are ahead of those with conditions
+pub report_conditions : (s : Schedule) (m end : ℕ) (pairs : List Pair) → end ≤ m → end ≡ length s.systems → IsReportTo s (System m) 0 pairs → IsReportTo s (Condition 0) 0 pairs
+report_conditions s m end pairs past count front = record {
+  rising = front.rising;
+  told = front.told;
+  ahead = λ p i. onward p.first p.second (front.ahead p i);
+  whole = λ q j low race. front.whole q j (back q j race low) race;
+}
+  where
+    onward : (q : Racer) (j : ℕ) → IsAhead q j (System m) 0 → IsAhead q j (Condition 0) 0
+    onward (System i) j low = tt
+    onward (Condition c) j low = absurd low
+
+    back : (q : Racer) (j : ℕ) → IsRace s q j → IsAhead q j (Condition 0) 0 → IsAhead q j (System m) 0
+    back (System i) j race low = let inside : i < length s.systems = race.1.first_known in inl (omega arith)
+    back (Condition c) j race (inl low) = let none : c < 0 = low in absurd (omega arith)
+    back (Condition c) j race (inr low) = let none : j < 0 = low.1 in absurd (omega arith)
+
+-- the whole report
+pub report_all : (s : Schedule) (m end : ℕ) (pairs : List Pair) → end ≤ m → end ≡ length s.conditions → IsReportTo s (Condition m) 0 pairs → IsReport s pairs
+report_all s m end pairs past count front = record {
+  rising = front.rising;
+  told = front.told;
+  whole = λ q j race. front.whole q j (all q j race) race;
+}
+  where
+    all : (q : Racer) (j : ℕ) → IsRace s q j → IsAhead q j (Condition m) 0
+    all (System i) j race = tt
+    all (Condition c) j race = let inside : c < length s.conditions = race.condition_known in inl (omega arith)

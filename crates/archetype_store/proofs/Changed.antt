@@ -1,13 +1,37 @@
 -- Tables that grow, and rows from alike ones.
-use Rattle.std.proofs.Common.{◌≡◌, ℕ, ◌≤◌, List, length, Option, sym, ap, subst, ◌∙◌, arith}
-use Rattle.column_store.specs.Table.{TableValue}
+use Rattle.std.proofs.Common.{◌≡◌, ℕ, ◌<◌, ◌≤◌, List, [], ◌∷◌, ◌++◌, length, Option, Result, Ok, Err, IfOk, OnOk, refl, sym, ap, subst, ◌∙◌, arith}
+use Rattle.std.proofs.lemmas.List.{length_push, get_or_push}
+use Rattle.column_store.specs.Table.{TableValue, empty_table}
 use Rattle.archetype_store.specs.declared.change.EntityChange.{EntityChange}
 use Rattle.archetype_store.specs.declared.locations.EntityLocation.{EntityLocation}
 use Rattle.archetype_store.specs.declared.row_moves.RowMove.{RowMove}
-use Rattle.archetype_store.specs.Tables.{IsGrown}
+use Rattle.archetype_store.specs.Tables.{kinds_at, AreShaped, AreUnlike, IsGrown}
 use Rattle.archetype_store.specs.Archetypes.{ArchetypesValue, archetypes_of, place_of, holder_in, IsHolder, AreAlike, HaveRows, row_changed, holder_changed}
 use Rattle.archetype_store.specs.RowMoves.{IsPlanned}
 use Rattle.archetype_store.proofs.Moves.{alike_trans, grown_alike, reached_alike}
+
+-- tables as they are
+pub grown_self : (A : List TableValue) → AreShaped A → AreUnlike A → IsGrown A A
+grown_self A shaped unlike = record {
+  held = λ t x. refl;
+  entities = λ t. refl;
+  rooms = λ t. refl;
+  kinds = λ t l. refl;
+  longer = omega arith;
+  shaped = shaped;
+  unlike = unlike;
+  owned = λ o. o;
+  layout = refl;
+}
+
+-- a table that was added is the last one
+pub table_added : {E : Type 0} (r : Result ℕ E) (T T' : List TableValue) (made : TableValue) → IfOk r (λ t. t ≡ length T) → OnOk r (T' ≡ T ++ made ∷ []) → IfOk r (λ t. t < length T')
+table_added (Ok t) T T' made is more = omega (arith, is, ap length more, length_push T made)
+table_added (Err e) T T' made is more = tt
+
+pub kinds_added : {E : Type 0} (r : Result ℕ E) (T T' : List TableValue) (made : TableValue) (ns : List ℕ) → made.kinds ≡ ns → IfOk r (λ t. t ≡ length T) → OnOk r (T' ≡ T ++ made ∷ []) → IfOk r (λ t. kinds_at T' t ≡ ns)
+kinds_added (Ok t) T T' made ns kinds is more = ap (λ ts. kinds_at ts t) more ∙ ap (λ (u : TableValue). u.kinds) (get_or_push T made (empty_table []) t (sym is)) ∙ kinds
+kinds_added (Err e) T T' made ns kinds is more = tt
 
 pub grown_trans : (A B C : List TableValue) → IsGrown A B → IsGrown B C → IsGrown A C
 grown_trans A B C g h = record {

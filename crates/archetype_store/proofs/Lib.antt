@@ -1,3 +1,4 @@
+mod ListSteps
 pub mod Rows
 pub mod RowPlaces
 pub mod RowEdits

@@ -1,5 +1,5 @@
 -- The moves of one row: laid in another table, written where it is, taken away.
-use Rattle.std.proofs.Common.{◌≡◌, ℕ, ◌<◌, Bool, true, false, cond, ◌==◌, ◌⊎◌, inl, inr, List, [], length, set, map, Option, Some, None, Result, Ok, Err, OnErr, is_some, refl, sym, ap, subst, ◌∙◌}
+use Rattle.std.proofs.Common.{◌≡◌, ℕ, ◌<◌, Bool, true, false, cond, ◌==◌, ◌⊎◌, inl, inr, List, [], length, set, map, Option, Some, None, Result, Ok, Err, OnOk, OnErr, is_err, is_some, refl, sym, ap, subst, ◌∙◌, true≢false}
 use Rattle.std.proofs.lemmas.Bool.{cases_eq}
 use Rattle.std.proofs.lemmas.List.{get_or-set_same, get_or-set_other}
 use Rattle.model.specs.Lists.{with_at, is_there}
@@ -150,6 +150,10 @@ row_from_alike A B C e row alike h = record {
   holders = λ i. h.holders i ∙ ap (cond (i == e.index) (holder_if row e.generation)) (alike.holders i);
 }
 
+-- rows as they are
+pub rows_alike : (A : ArchetypesValue) → AreAlike A A
+rows_alike A = record { rows = λ i. refl; holders = λ i. refl; layout = refl }
+
 pub alike_trans : (A B C : ArchetypesValue) → AreAlike A B → AreAlike B C → AreAlike A C
 alike_trans A B C h k = record { rows = λ i. k.rows i ∙ h.rows i; holders = λ i. k.holders i ∙ h.holders i; layout = k.layout ∙ h.layout }
 
@@ -165,6 +169,11 @@ reached_alike T P P' same = record {
 pub on_err_from : {A E : Type 0} (r : Result A E) (Q : Type 0) → Q → OnErr r Q
 on_err_from (Ok a) Q q = tt
 on_err_from (Err e) Q q = q
+
+-- what holds of a success, where it is one
+pub on_ok_holds : {A E : Type 0} (r : Result A E) (Q : Type 0) → is_err r ≡ false → OnOk r Q → Q
+on_ok_holds (Ok a) Q fine q = q
+on_ok_holds (Err e) Q fine q = absurd (true≢false fine)
 
 -- one row after another of one entity
 pub has_row_twice : (A B C : ArchetypesValue) (e : Entity) (first row : List Component) → HasRow A e first B → HasRow B e row C → HasRow A e row C

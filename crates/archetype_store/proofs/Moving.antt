@@ -1,6 +1,6 @@
 -- Where a row goes that is moved.
-use Rattle.std.proofs.Common.{◌≡◌, ◌≢◌, ℕ, ◌+◌, ◌≤◌, Bool, true, false, cond, ◌==◌, List, [], ◌∷◌, Option, Some, None, refl, sym, ap, ◌∙◌, arith}
-use Rattle.std.proofs.lemmas.Bool.{eqb-true}
+use Rattle.std.proofs.Common.{◌≡◌, ◌≢◌, ℕ, ◌+◌, ◌≤◌, Bool, true, false, cond, ◌==◌, inl, inr, List, [], ◌∷◌, Option, Some, None, refl, sym, ap, ◌∙◌, arith}
+use Rattle.std.proofs.lemmas.Bool.{cases_eq, eqb-true}
 use Rattle.model.specs.Lists.{is_there, with_at}
 use Rattle.column_store.specs.declared.stamped.StampedValue.{StampedValue}
 use Rattle.column_store.specs.Table.{TableValue}
@@ -8,7 +8,7 @@ use Rattle.archetype_store.specs.declared.locations.EntityLocation.{EntityLocati
 use Rattle.archetype_store.specs.declared.row_moves.RowMove.{RowMove}
 use Rattle.archetype_store.specs.Archetypes.{place_of}
 use Rattle.archetype_store.specs.RowMoves.{other_table, arrives_in, is_table, one_if}
-use Rattle.archetype_store.specs.Tables.{room_at}
+use Rattle.archetype_store.specs.Tables.{room_at, is_in}
 use Rattle.archetype_store.proofs.Laid.{with_at_apart}
 
 pub arrives_none : (P : List (Option EntityLocation)) (m : RowMove) → m.to ≡ None → arrives_in P m ≡ None
@@ -41,6 +41,17 @@ arrives_other P m to is some =
     ap (other_table (place_of P m.change.now.entity.index)) is
     ∙ other_from (place_of P m.change.now.entity.index) to (λ h. some (ap (other_table (place_of P m.change.now.entity.index)) is ∙ h))
 
+-- a row that comes into some table comes where it goes
+arrives_from : (b : Bool) (to x : ℕ) → cond b None (Some to) ≡ Some x → cond b None (Some to) ≡ Some to
+arrives_from true to x e = absurd (cc)
+arrives_from false to x e = refl
+
+pub arrives_there : (P : List (Option EntityLocation)) (m : RowMove) (to x : ℕ) → m.to ≡ Some to → arrives_in P m ≡ Some x → arrives_in P m ≡ Some to
+arrives_there P m to x is at =
+    let from = place_of P m.change.now.entity.index in
+    let step : arrives_in P m ≡ cond (is_in from to) None (Some to) = ap (other_table from) is in
+    step ∙ arrives_from (is_in from to) to x (sym step ∙ at)
+
 pub some_there : (ss : List StampedValue) → is_there ss ≡ true → ss ≢ []
 some_there [] h = absurd (cc)
 some_there (s ∷ ss) h = λ e. cc
@@ -49,6 +60,12 @@ pub others_kept : (P P' : List (Option EntityLocation)) (n : ℕ) (o : Option En
 others_kept P P' n o h i apart = h i ∙ with_at_apart n i o (place_of P) apart
 
 -- ---- rooms
+
+pub rooms_once : (T T' : List TableValue) (table : ℕ) → room_at T' table ≡ room_at T table → ((t : ℕ) → (t ≡ table → ⊥) → room_at T' t ≡ room_at T t) → (t : ℕ) → room_at T' t ≡ room_at T t
+rooms_once T T' table here others t = elim (cases_eq t table) [
+  | inl same ↦ ap (room_at T') same ∙ here ∙ sym (ap (room_at T) same)
+  | inr apart ↦ others t apart
+]
 
 pub rooms_same : (T T' : List TableValue) (b : ℕ → Bool) → ((t : ℕ) → room_at T' t ≡ room_at T t) → (t : ℕ) → room_at T t ≤ one_if (b t) + room_at T' t
 rooms_same T T' b h t = let e = h t in omega (arith, e)

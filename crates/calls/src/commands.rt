@@ -1,4 +1,4 @@
-// Commands in runs: ids that are spent, and the order in which a level is granted its ids and its commands are done.
+// Commands in runs: the order in which a level is granted its ids and its commands are done.
 
 ghost use Rattle.std.specs.Prelude.{IfSome};
 ghost use Rattle.archetype_store.specs.Layout.{AreAllHome};
@@ -6,9 +6,8 @@ ghost use Rattle.archetype_store.specs.Layout.{AreAllHome};
 use crate::bodies::TestBody;
 use crate::engines::{Systems, TestEngine, commanding};
 use crate::gates::{Rule, TestGate};
-use crate::runs::runs_are;
 use crate::threads::Trial;
-use crate::worlds::{FIRST, empty_world, put, world_of_many, world_of_one};
+use crate::worlds::{FIRST, empty_world, put, world_of_one};
 use archetype_store::World;
 use body::State;
 use change_ticks::Clock;
@@ -24,28 +23,6 @@ const SECOND: Entity = Entity {
     index: 1,
     generation: 1,
 };
-
-// An engine of one system that is granted so many ids in a world in which all indices but one are taken, and spawns one.
-fn spawning(alloc: Global, spawns: u32) -> Option<TestEngine> {
-    let params = commanding(alloc, "", spawns)?;
-    let mut systems = Systems::new(alloc);
-    systems.follow(alloc, params, Rounds::Once, &["spawn g0"])?;
-    systems.engine(alloc, world_of_many(alloc, Clock::at(1), 1_048_575)?)
-}
-
-/// The last id is granted, and the next one is refused.
-pub(crate) fn last_id(alloc: Global) -> Option<bool> {
-    let mut engine = spawning(alloc, 1)?;
-    let calls = [(1, None), (1, Some(RunFault::IdsSpent))];
-    Some(runs_are(&mut engine, alloc, &calls))
-}
-
-/// Two ids where one is left are refused, and the engine is spoiled.
-pub(crate) fn spent_ids(alloc: Global) -> Option<bool> {
-    let mut engine = spawning(alloc, 2)?;
-    let calls = [(1, Some(RunFault::IdsSpent)), (1, Some(RunFault::Spoiled))];
-    Some(runs_are(&mut engine, alloc, &calls))
-}
 
 // A world in which one entity lives, with health.
 fn world(alloc: Global) -> Option<Box<World>>

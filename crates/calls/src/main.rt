@@ -22,12 +22,11 @@ mod trials;
 mod worlds;
 
 use crate::board::{one_slot, two_hands};
-use crate::commands::{kept_again, last_id, spent_ids};
+use crate::commands::kept_again;
 use crate::moving::{
     boxed, boxed_on_threads, kept_at_the_last_tick, kept_state, refused_engines, spent_clock,
     stamps,
 };
-use crate::plans::{made_later, put_back};
 use crate::random::random_worlds;
 use crate::resources::{kept_total, three_tallies};
 use crate::store::{buffers, entities, steps, texts, unions};
@@ -56,7 +55,7 @@ fn tell<W: Write>(out: &mut W, tests: &[Test]) -> io::Result<()> {
 }
 
 // The tests of engines on one thread.
-fn runs_alone(alloc: Global) -> [Test; 8] {
+fn runs_alone(alloc: Global) -> [Test; 6] {
     [
         ("stamps and ticks of three runs", stamps(alloc)),
         ("a spent clock spoils an engine", spent_clock(alloc)),
@@ -66,18 +65,14 @@ fn runs_alone(alloc: Global) -> [Test; 8] {
             "a body that writes a resource and a register",
             three_tallies(alloc),
         ),
-        ("the last id is granted", last_id(alloc)),
-        ("spent ids spoil an engine", spent_ids(alloc)),
         ("a refusal spoils an engine", refuse(alloc)),
     ]
 }
 
 // The tests of what stands below engines.
-fn parts(alloc: Global) -> [Test; 8] {
+fn parts(alloc: Global) -> [Test; 6] {
     [
         ("entities of a store", entities(alloc)),
-        ("two plans of a row that is put back", put_back(alloc)),
-        ("two plans of a table that is made later", made_later(alloc)),
         (
             "two plans in a thousand random worlds",
             random_worlds(alloc),

@@ -3,11 +3,10 @@
 ghost use Rattle.std.specs.Prelude.{◌≡◌, IfOk};
 ghost use Rattle.command_line.specs.Args.{IsWithin, is_recorded, line_status_of, line_text_of};
 
-use clap::builder::ValueParser;
+use crate::grammar::{Argument, Grammar, Verb};
 use clap::error::ErrorKind;
-use clap::{Arg, ArgMatches, Command, Error};
+use clap::{ArgMatches, Error};
 use std::alloc::{AllocError, Global};
-use std::convert::AsStr;
 
 /// The work that a command line asks for.
 #[derive(Clone, Copy, PartialEq, Eq, Debug)]
@@ -70,89 +69,71 @@ const MOST_TIMES: u32 = 1_000_000;
 
 const MOST_WORKERS: u8 = 64;
 
-const COMMANDS: [&str; 4] = ["run", "check", "replay", "ambiguities"];
-
-// What the parser is told of an argument.
-struct Taken {
-    id: &'static str,
-    // Its long name, of an option.
-    long: &'static str,
-    // What help calls its value.
-    value: &'static str,
-    help: &'static str,
-    // The most that it may be, of a number.
-    most: Option<i64>,
-}
-
-// What the parser is told of a command.
-struct Verb {
-    name: &'static str,
-    about: &'static str,
-    takes: &'static [Taken],
-}
-
-const FILE: Taken = Taken {
+const FILE: Argument = Argument {
     id: "file",
     long: "",
     value: "FILE",
     help: "the program file",
-    most: None,
+    range: None,
 };
 
-const TIMES: Taken = Taken {
+const TIMES: Argument = Argument {
     id: "times",
     long: "times",
     value: "N",
     help: "how many runs, 0 to 1000000, 1 if left out",
-    most: Some(1_000_000),
+    range: Some((0, 1_000_000)),
 };
 
-const WORKERS: Taken = Taken {
+const WORKERS: Argument = Argument {
     id: "workers",
     long: "workers",
     value: "W",
     help: "how many worker threads, 0 to 64, 0 (one thread) if left out",
-    most: Some(64),
+    range: Some((0, 64)),
 };
 
-const RECORD: Taken = Taken {
+const RECORD: Argument = Argument {
     id: "record",
     long: "trace",
     value: "OUT",
     help: "the file in which the steps of the runs are recorded; none if left out",
-    most: None,
+    range: None,
 };
 
-const TRACE: Taken = Taken {
+const TRACE: Argument = Argument {
     id: "trace",
     long: "",
     value: "TRACE",
     help: "the file of recorded runs",
-    most: None,
+    range: None,
 };
 
-const VERBS: [Verb; 4] = [
-    Verb {
-        name: "run",
-        about: "runs the schedule of a program file and prints the world",
-        takes: &[FILE, TIMES, WORKERS, RECORD],
-    },
-    Verb {
-        name: "check",
-        about: "prints what the schedule of a program file says of recorded runs",
-        takes: &[FILE, TRACE],
-    },
-    Verb {
-        name: "replay",
-        about: "takes the recorded runs of a program file again, on one thread, and prints the world",
-        takes: &[FILE, TRACE],
-    },
-    Verb {
-        name: "ambiguities",
-        about: "prints which systems of a program file race",
-        takes: &[FILE],
-    },
-];
+const GRAMMAR: Grammar = Grammar {
+    program: "ecsrun",
+    verbs: &[
+        Verb {
+            name: "run",
+            about: "runs the schedule of a program file and prints the world",
+            arguments: &[FILE, TIMES, WORKERS, RECORD],
+        },
+        Verb {
+            name: "check",
+            about: "prints what the schedule of a program file says of recorded runs",
+            arguments: &[FILE, TRACE],
+        },
+        Verb {
+            name: "replay",
+            about: "takes the recorded runs of a program file again, on one thread, and prints the world",
+            arguments: &[FILE, TRACE],
+        },
+        Verb {
+            name: "ambiguities",
+            about: "prints which systems of a program file race",
+            arguments: &[FILE],
+        },
+    ],
+};
 
 impl<'a> Args<'a> {
     /// Reads the words of a command line, of which the first is the program's own name: `run FILE [--times N] [--workers W] [--trace OUT]`,
@@ -161,10 +142,7 @@ impl<'a> Args<'a> {
     pub fn read(alloc: Global, words: &'a [String]) -> Result<Args<'a>, LineFault>
         ensures { IfOk result (λ args. IsWithin args.work) }
     {
-        if asks_for_help(words) {
-            return Err(help_for(alloc, words));
-        }
-        Args::of_matches(alloc, &matches_of(alloc, words)?)
+        Args::of_matches(alloc, &GRAMMAR.read(alloc, words)?)
     }
 
     // The work that the matches of a line ask for.
@@ -267,124 +245,10 @@ impl From<AllocError> for LineFault {
     }
 }
 
-/// Whether `--help` stands among some words, before the word that ends the options.
-pub fn asks_for_help(words: &[String]) -> bool {
-    words
-        .iter()
-        .skip(1)
-        .take_while(|word| word.as_str() != "--")
-        .any(|word| word.as_str() == "--help" || word.as_str() == "-h")
-}
-
-// The help for the command that some words name, or for the program where they name none.
-fn help_for(alloc: Global, words: &[String]) -> LineFault {
-    match words.get(1) {
-        Some(name) if COMMANDS.contains(&name.as_str()) => {
-            help_of(alloc, &["ecsrun", name.as_str(), "--help"])
-        }
-        _ => help_of(alloc, &["ecsrun", "--help"]),
-    }
-}
-
-// The help that a line asks for.
-fn help_of(alloc: Global, words: &[&str]) -> LineFault {
-    match matches_of(alloc, words) {
-        Ok(_) => LineFault::usage(alloc, "error: no help is there\n"),
-        Err(fault) => fault,
-    }
-}
-
-// What the parser finds in a line.
-fn matches_of<'a, S: AsStr>(alloc: Global, words: &'a [S]) -> Result<ArgMatches<'a>, LineFault> {
-    match command(alloc)?.try_get_matches_from(words) {
-        Ok(matches) => Ok(matches),
-        Err(error) => Err(LineFault::of(alloc, &error)),
-    }
-}
-
 /// Whether the value of an argument begins with a plus.
 pub fn has_plus(matches: &ArgMatches<'_>, name: &str) -> bool {
     match matches.get_str(name) {
         Some(value) => value.starts_with('+'),
         None => false,
     }
-}
-
-// An argument as the parser is told it. One without a long name is by its place, and has to be given.
-fn argument<'a>(alloc: Global, taken: &Taken) -> Arg<'a> {
-    let arg = Arg::new(alloc, taken.id)
-        .value_name(taken.value)
-        .help(taken.help);
-    if taken.long.is_empty() {
-        arg.required(true)
-    } else {
-        arg.long(taken.long)
-    }
-}
-
-// An argument, whose value is a number where it has a most.
-fn bounded<'a>(alloc: Global, taken: &Taken) -> Arg<'a> {
-    let arg = argument(alloc, taken);
-    match taken.most {
-        Some(most) => arg.value_parser(ValueParser::Signed(0, most)),
-        None => arg,
-    }
-}
-
-// One argument more.
-fn add_bounded<'a>(
-    alloc: Global,
-    taken: &Taken,
-    args: &mut Vec<Arg<'a>>,
-) -> Result<(), AllocError> {
-    args.push(bounded(alloc, taken))?;
-    Ok(())
-}
-
-// The arguments of a command.
-fn arguments<'a>(alloc: Global, takes: &[Taken]) -> Result<Vec<Arg<'a>>, AllocError> {
-    let mut args = Vec::new(alloc);
-    for taken in takes {
-        add_bounded(alloc, taken, &mut args)?;
-    }
-    Ok(args)
-}
-
-// A command as the parser is told it.
-fn told<'a>(alloc: Global, verb: &Verb) -> Result<Command<'a>, AllocError> {
-    let args = arguments(alloc, verb.takes)?;
-    Command::new(alloc, verb.name).about(verb.about).args(args)
-}
-
-// One command more.
-fn add_told<'a>(
-    alloc: Global,
-    verb: &Verb,
-    commands: &mut Vec<Command<'a>>,
-) -> Result<(), AllocError> {
-    let command = told(alloc, verb)?;
-    commands.push(command)?;
-    Ok(())
-}
-
-// The commands.
-fn commands<'a>(alloc: Global) -> Result<Vec<Command<'a>>, AllocError> {
-    let mut commands = Vec::new(alloc);
-    for verb in VERBS.as_slice() {
-        add_told(alloc, verb, &mut commands)?;
-    }
-    Ok(commands)
-}
-
-// The program with its commands.
-fn unnamed<'a>(alloc: Global) -> Result<Command<'a>, AllocError> {
-    let commands = commands(alloc)?;
-    Command::new(alloc, "ecsrun")
-        .subcommand_required(true)
-        .subcommands(commands)
-}
-
-// What the program takes.
-fn command<'a>(alloc: Global) -> Result<Command<'a>, AllocError> {
-    unnamed(alloc)?.bin_name("ecsrun")
 }

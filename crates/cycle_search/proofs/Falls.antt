@@ -1,8 +1,9 @@
 -- Ranks that fall along orders: one more of them, and what they rule out.
-use Rattle.std.proofs.Common.{◌≡◌, ◌≢◌, ℕ, ◌<◌, ◌≤◌, ◌+◌, inl, inr, Bool, true, false, List, length, get_or, Option, Some, None, is_none, is_some, not, cond, refl, arith, subst, sym, ap, ◌∙◌}
+use Rattle.std.proofs.Common.{◌≡◌, ◌≢◌, ℕ, ◌<◌, ◌≤◌, ◌+◌, zero, suc, inl, inr, Bool, true, false, List, length, get_or, replicate, Option, Some, None, is_none, is_some, not, cond, refl, arith, subst, sym, ap, ◌∙◌}
 use Rattle.std.proofs.Math.ListN.{set}
 use Rattle.std.specs.List.{count_by}
-use Rattle.std.proofs.lemmas.List.{get_or-set_same, get_or-set_other, get_or_default, length-set}
+use Rattle.std.proofs.lemmas.Bool.{cases_lt, false≢true}
+use Rattle.std.proofs.lemmas.List.{get_or-set_same, get_or-set_other, get_or_default, get_or_past, length-set, length-replicate}
 use Rattle.std.proofs.lemmas.List.Sums.{sum_by-set}
 use Rattle.std.proofs.lemmas.Bool.Decides.{eqb_tells}
 use Rattle.cycle_search.specs.declared.order.Order.{Order}
@@ -127,3 +128,40 @@ none_from_test (Some x) b e h = let same : true ≡ false = e ∙ ap not h in ab
 
 pub not_none_from_test : (o : Option ℕ) (b : Bool) → is_some o ≡ not b → b ≡ false → o ≡ None → ⊥
 not_none_from_test o b e h n = let same : false ≡ true = ap is_some (sym n) ∙ (e ∙ ap not h) in cc
+
+-- ---- where nothing has a height
+
+height_none : (count n : ℕ) → height_of (replicate count None) n ≡ None
+height_none zero n = refl
+height_none (suc count) zero = refl
+height_none (suc count) (suc n) = height_none count n
+
+none_high : (o : Option ℕ) (height : ℕ) → o ≡ None → o ≡ Some height → ⊥
+none_high o height none high = false≢true (ap is_some (sym none ∙ high))
+
+pub unranked : (orders : List Order) (ranks : List (Option ℕ)) (count : ℕ) → ranks ≡ replicate count None → IsRanked orders ranks count
+unranked orders ranks count none =
+    let open_at : (n : ℕ) → height_of ranks n ≡ None = λ n. ap (λ (xs : List (Option ℕ)). height_of xs n) none ∙ height_none count n in
+    record {
+      falling = λ k d low. subst (λ (o : Option ℕ). IsAbove o (height_of ranks (get_or orders k d).second)) (sym (open_at (get_or orders k d).first)) tt;
+      below = λ n height high. absurd (none_high (height_of ranks n) height (open_at n) high);
+    }
+
+-- nothing points on at first
+pub points_none : (orders : List Order) (ranks next : List (Option ℕ)) → next ≡ replicate (length ranks) None → PointsOnBy orders ranks next 0
+points_none orders ranks next none = record {
+  long = ap length none ∙ length-replicate (length ranks) None;
+  ordered = λ m n high. absurd (none_high (height_of next m) n (ap (λ (xs : List (Option ℕ)). height_of xs m) none ∙ height_none (length ranks) m) high);
+  only = λ k d low first second. absurd (omega arith);
+}
+
+-- and in the end all do that can
+pub points_all : (orders : List Order) (ranks next : List (Option ℕ)) (i : ℕ) → i ≤ length orders → length orders ≤ i → PointsOnBy orders ranks next i → PointsOn orders ranks next
+points_all orders ranks next i within past points = let at : i ≡ length orders = omega arith in subst (PointsOnBy orders ranks next) at points
+
+-- heights below a number, of all that have one
+pub below_all : (ranks : List (Option ℕ)) (level i : ℕ) → length ranks ≤ i → ((n height : ℕ) → n < i → height_of ranks n ≡ Some height → height < level) → HasHeightsBelow ranks level
+below_all ranks level i past below = λ n height high. elim (cases_lt n i) [
+  | inl less ↦ below n height less high
+  | inr more ↦ absurd (none_high (height_of ranks n) height (get_or_past ranks n None (omega arith)) high)
+]

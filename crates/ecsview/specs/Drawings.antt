@@ -5,7 +5,7 @@ use Rattle.ambiguity_report.specs.Report.{IsReport}
 use Rattle.drawing.specs.Lanes.{bottom_of, run_shapes}
 use Rattle.drawing.specs.ShapeText.{capped, drawing_text}
 use Rattle.drawing.specs.declared.shape.Shape.{Shape}
-use Rattle.explain.specs.declared.loading.Loaded.{Loaded}
+use Rattle.findings.specs.declared.loading.Loaded.{Loaded}
 use Rattle.model.specs.declared.steps.Step.{Step}
 use Rattle.model.specs.steps.Schedule.{Recorded}
 use Rattle.schedule_drawing.specs.Drawn.{drawn_height, drawn_width, schedule_shapes}

@@ -8,7 +8,7 @@ use drawing::Shape;
 use drawing::lanes::add_run;
 use drawing::svg::{OPENER, RULES, text_of_drawing};
 use executor_core::Trace;
-use explain::Loaded;
+use findings::Loaded;
 use program::Fault;
 use program::checking::traces_of;
 use schedule_builder::Built;

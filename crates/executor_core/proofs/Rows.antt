@@ -1,7 +1,7 @@
 -- The rows of a core: made bit by bit, what they say, and the core that has accepted nothing.
 use Rattle.std.proofs.Common.{ℕ, ◌+◌, ◌/◌, ◌%◌, ◌<◌, ◌≤◌, true, false, ◌||◌, ◌==◌, nat_lt, ◌≡◌, ◌≢◌, ◌⊎◌, ◌↔◌, inl, inr, List, [], ◌∷◌, ◌++◌, length, get_or, set, take, drop, Option, Some, None, refl, sym, ap, ◌∙◌, subst, arith, ltb-true}
 use Rattle.std.proofs.lemmas.Bool.{both_ways, false≢true, false_from_ne_true, or_cases, or_left, or_right, eqb-true, eq-eqb, cases_lt, cases_order}
-use Rattle.std.proofs.lemmas.List.{append-nil, drop_all, take_all, length-set, get_or-set_same, get_or-set_other, get_or_past}
+use Rattle.std.proofs.lemmas.List.{append-nil, drop_all, take_all, length-set, get_or-set_same, get_or-set_other, get_or_default, get_or_past}
 use Rattle.number_set.specs.Members.{contains}
 use Rattle.model.specs.access.Access.{Params, no_params}
 use Rattle.model.specs.access.Conflict.Datum.{OfKind, OfResource, OfEvent}
@@ -96,6 +96,14 @@ none_meet count M row rivals room empty none among = record {
     (λ p. absurd (both_ways (contains rivals m) (none m) (among m p.0 p.1))),
   );
 }
+
+-- a row that is found at a place of as many
+pub row_there : (count made : ℕ) (rows : List (List ℕ)) (n : ℕ) (row : List ℕ) → AreRoomy count made rows → n < made → row ≡ get_or rows n row → row ≡ get_or rows n []
+row_there count made rows n row roomy below is = is ∙ get_or_default rows n row [] (omega (arith, roomy.long, below))
+
+-- has room for all systems
+pub row_roomy : (count made : ℕ) (rows : List (List ℕ)) (n : ℕ) (row : List ℕ) → AreRoomy count made rows → n < made → row ≡ get_or rows n row → length row ≡ count / 64 + 1
+row_roomy count made rows n row roomy below is = ap (λ (xs : List ℕ). length xs) (row_there count made rows n row roomy below is) ∙ roomy.each n below
 
 -- ---- rows
 

@@ -1,3 +1,4 @@
+pub mod Loaded
 pub mod Parting
 pub mod Stories
 pub mod Witness

@@ -1,10 +1,11 @@
 -- A new board keeps the rule, and its lead comes by its slots.
-use Rattle.std.proofs.Common.{◌≡◌, ◌≢◌, ℕ, zero, suc, ◌+◌, ◌<◌, ◌≤◌, true, List, [], ◌∷◌, ◌++◌, map, replicate, length, get_or, sym, refl, ap, ◌∙◌, subst, inr, ⊎_elim, arith, None}
+use Rattle.std.proofs.Common.{◌≡◌, ◌≢◌, ℕ, zero, suc, ◌+◌, ◌<◌, ◌≤◌, ◌^◌, true, false, List, [], ◌∷◌, ◌++◌, map, replicate, reverse, length, get_or, sym, refl, ap, ◌∙◌, subst, inr, ⊎_elim, arith, None}
+use Rattle.std.proofs.lemmas.List.{length-reverse}
 use mathlib.Core.Option.{some, some-injective, some-ne-none}
 use lib.ListN.{get_elem?}
 use Rattle.atomic_table.specs.Table.{opening}
 use Rattle.job_board.specs.declared.view.View.{View}
-use Rattle.job_board.specs.Views.{opener, after_claim}
+use Rattle.job_board.specs.Views.{opener, after_claim, IsTally}
 use Rattle.job_board.specs.Held.{IsStack}
 use Rattle.job_board.specs.Plays.{Seated}
 use Rattle.job_board.proofs.Frees.{in_longer}
@@ -69,3 +70,37 @@ module _ {J O : Type 0} (slots claimed slot found : ℕ) (free : List ℕ) (me m
   pub claim_late : (at k : ℕ) → get_elem? me'.0.free at ≡ some k → slots ≤ k + (claimed + 1)
   claim_late at k e = ⊎_elim (λ t. let same : slot ≡ k = t.1 in omega arith) (λ t. let l : slots ≤ k + claimed = late t.0 k t.2 in omega arith)
       (in_longer me.0.free slot k at (subst (λ (m : Seated J O). get_elem? m.0.free at ≡ some k) is e))
+
+-- a lead that has just sat down has claimed no slot
+nothing_at : {A : Type 0} (at : ℕ) (x : A) → get_elem? [] at ≡ some x → ⊥
+nothing_at at x e = some-ne-none x (sym e)
+
+module _ {J O : Type 0} where
+  pub claim_none : (slots : ℕ) (free : List ℕ) (me : View J O × List (ℕ × Slot J O)) → me ≡ (opener, []) → free ≡ [] → IsStack slots free me.0 me.1
+  claim_none slots free me sat none =
+      subst (λ m. IsStack slots free m.0 m.1) (sym sat) (subst (λ (f : List ℕ). IsStack slots f (opener {J = J} {O = O}) []) (sym none) (refl, refl, refl, (λ at k e. absurd (nothing_at at k e)), (λ at other k e f. absurd (nothing_at at k e))))
+
+  pub late_none : (slots : ℕ) (me : View J O × List (ℕ × Slot J O)) → me ≡ (opener, []) → (at k : ℕ) → get_elem? me.0.free at ≡ some k → slots ≤ k + 0
+  late_none slots me sat at k e = absurd (nothing_at at k (subst (λ m. get_elem? m.0.free at ≡ some k) sat e))
+
+  -- and has no job
+  pub tally_none : (v : View J O) → v.posted ≡ [] → v.collected ≡ [] → IsTally v
+  tally_none v none unseen = (
+    (λ at n j e. absurd (nothing_at at (n, j) (subst (λ xs. get_elem? xs at ≡ some (n, j)) none e))),
+    (λ at n o e. absurd (nothing_at at (n, o) (subst (λ xs. get_elem? xs at ≡ some (n, o)) unseen e))),
+  )
+
+  pub sat_down : (me : View J O × List (ℕ × Slot J O)) → me ≡ (opener, []) → (me.0.leads ≡ true) × (me.0.posted ≡ []) × (me.0.collected ≡ []) × (me.0.closed ≡ false)
+  sat_down me sat = subst (λ m. (m.0.leads ≡ true) × (m.0.posted ≡ []) × (m.0.collected ≡ []) × (m.0.closed ≡ false)) (sym sat) (refl, refl, refl, refl)
+
+  -- with all slots claimed each is free
+  pub all_free : (slots claimed : ℕ) (free : List ℕ) (v : View J O) → v.posted ≡ [] → v.collected ≡ [] → v.free ≡ reverse free → length free ≡ claimed → claimed ≤ slots → slots ≤ claimed →
+      (0 ≡ length v.posted) × (0 < 2 ^ 62) × (length v.free + length v.posted ≡ slots + length v.collected)
+  all_free slots claimed free v none unseen is count low high =
+      let p : length v.posted ≡ 0 = ap length none in
+      let c : length v.collected ≡ 0 = ap length unseen in
+      let f : length v.free ≡ length free = ap length is ∙ length-reverse free in
+      (omega arith, omega arith, omega arith)
+
+pub room_for : (slots room : ℕ) → room ≡ slots → slots ≤ room
+room_for slots room is = omega arith

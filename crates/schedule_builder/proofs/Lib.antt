@@ -10,3 +10,6 @@ pub mod LevelSteps
 pub mod Levelling
 pub mod Faults
 pub mod Askings
+mod LoopSteps
+mod FirstFound
+mod Exits

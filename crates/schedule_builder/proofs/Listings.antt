@@ -1,7 +1,7 @@
 -- Lists of numbers in rising order.
-use Rattle.std.proofs.Common.{ℕ, ◌+◌, ◌<◌, ◌≡◌, ◌↔◌, true, false, eqb, inl, inr, List, [], ◌∷◌, ◌++◌, length, get_or, sym, ◌∙◌, subst, arith}
+use Rattle.std.proofs.Common.{ℕ, ◌+◌, ◌<◌, ◌≤◌, ◌≡◌, ◌↔◌, true, false, eqb, inl, inr, List, [], ◌∷◌, ◌++◌, length, get_or, sym, ap, ◌∙◌, subst, arith}
 use Rattle.std.proofs.lemmas.Bool.{false≢true, or_cases, or_left, or_right, eqb-true, eq-eqb, cases_lt}
-use Rattle.std.proofs.lemmas.List.{get_or_default}
+use Rattle.std.proofs.lemmas.List.{get_or_default, get_or_past}
 use Rattle.model.specs.Lists.{has}
 use Rattle.model.specs.access.Access.{Params}
 use Rattle.model.specs.access.Condition.{access_of_condition}
@@ -56,3 +56,13 @@ pub has_condition_rows : (systems : List ScheduledSystem) (conditions : List Sch
     HasConditionRows systems conditions asked_by clashed
 unfolding HasConditionRows
 has_condition_rows systems conditions asked_by clashed long each rows = record { long = long; covering = each; clashes = rows }
+
+-- no condition of a number past the last covers a system
+pub covering_all : (conditions : List ScheduledCondition) (n k : ℕ) (xs : List ℕ) → length conditions ≤ k → ((c : ℕ) → (has c xs ≡ true) ↔ ((c < k) × IsCovering conditions n c)) → (c : ℕ) → (has c xs ≡ true) ↔ IsCovering conditions n c
+covering_all conditions n k xs past names c = (
+  (λ e. let found = (names c).0 e in found.1),
+  (λ covers. elim (cases_lt c k) [
+    | inl low ↦ (names c).1 (low, covers)
+    | inr above ↦ absurd (false≢true (sym (ap (λ (x : ScheduledCondition). has n x.covers) (get_or_past conditions c (record { condition = RunOnce; covers = [] }) (omega arith))) ∙ covers))
+  ]),
+)

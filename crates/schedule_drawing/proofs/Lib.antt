@@ -1,1 +1,2 @@
 pub mod Syncs
+mod LoopSteps

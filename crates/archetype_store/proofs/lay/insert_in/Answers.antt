@@ -1,19 +1,22 @@
-use Rattle.std.proofs.Common.{◌≡◌, true, map, is_some, Some, OnOk, sym, ap, subst, ◌∙◌, arith}
+use Rattle.std.proofs.Common.{◌≡◌, true, List, [], ◌∷◌, length, Option, map, is_some, Some, OnOk, sym, ap, subst, ◌∙◌, arith}
 use Rattle.std.proofs.lemmas.List.{get_or_read}
 use Rattle.kinds.specs.Value.{value_number, value_words}
 use Rattle.model.specs.state.Rows.{cell_at, insert_component}
 use Rattle.column_store.specs.Cells.{stamped_number}
 use Rattle.column_store.specs.Kinds.{AreBelow}
 use Rattle.column_store.specs.declared.stamped.StampedValue.{StampedValue}
+use Rattle.archetype_store.specs.declared.locations.EntityLocation.{EntityLocation}
 use Rattle.archetype_store.specs.Row.{component_of}
 use Rattle.archetype_store.specs.RowNumbers.{number_of_row}
 use Rattle.archetype_store.specs.Tables.{entity_in_row, held_at, row_or_none}
-use Rattle.archetype_store.specs.Archetypes.{archetypes_of, holder_in, IsHolder, HasRow}
+use Rattle.archetype_store.specs.Archetypes.{archetypes_of, place_of, row_in, holder_in, IsHolder, HasRow}
 use Rattle.archetype_store.proofs.Known.{row_there, number_within, known_kept, one_kept}
 use Rattle.archetype_store.proofs.Steps.{written, inserted_there, row_read, below_inserted, some_seen, none_seen}
-use Rattle.archetype_store.specs.Tables.{AreHome}
+use Rattle.archetype_store.specs.Tables.{AreHome, AreShaped}
 use Rattle.archetype_store.proofs.Standings.{owned_kept, owned_are_home}
 use Rattle.archetype_store.proofs.TableIndex.{found_shapes}
+use Rattle.std.proofs.lemmas.Result.{IfOk-from_err}
+use Rattle.archetype_store.proofs.Moves.{rows_alike, on_err_from}
 use Rattle.archetype_store.proofs.lay.insert_in.Goals as goal
 
 pub index-row-requires : goal.index-row-requires
@@ -194,3 +197,137 @@ returns-clause-ok c =
 
 pub returns-then-is_some-clause-found : goal.returns-then-is_some-clause-found
 returns-then-is_some-clause-found c = found_shapes c.args.tables.now.items c.write_at.new.tables.items c.args.index.now c.write_at.ensures.shapes c.requires.found
+
+pub lay-requires-clause-found : goal.lay-requires-clause-found
+lay-requires-clause-found c = c.requires.found
+
+pub lay-requires-clause-whole : goal.lay-requires-clause-whole
+lay-requires-clause-whole c = c.requires.whole
+
+pub lay-requires-clause-known : goal.lay-requires-clause-known
+lay-requires-clause-known c = c.requires.known
+
+pub lay-requires-clause-owned : goal.lay-requires-clause-owned
+lay-requires-clause-owned c = c.requires.owned
+
+pub lay-requires-clause-within : goal.lay-requires-clause-within
+lay-requires-clause-within c = c.requires.within
+
+pub lay-requires-clause-holder : goal.lay-requires-clause-holder
+lay-requires-clause-holder c = c.requires.holder
+
+pub lay-requires-clause-below : goal.lay-requires-clause-below
+lay-requires-clause-below c = (tt, tt)
+
+pub lay-requires-clause-some : goal.lay-requires-clause-some
+lay-requires-clause-some c = λ e. cc
+
+pub returns-in_default-clause-whole : goal.returns-in_default-clause-whole
+returns-in_default-clause-whole c = c.lay.ensures.whole
+
+pub returns-in_default-clause-known : goal.returns-in_default-clause-known
+returns-in_default-clause-known c = c.lay.ensures.known
+
+pub returns-in_default-clause-owned : goal.returns-in_default-clause-owned
+returns-in_default-clause-owned c = c.lay.ensures.owned
+
+pub returns-in_default-clause-found : goal.returns-in_default-clause-found
+returns-in_default-clause-found c = c.lay.ensures.found
+
+pub returns-in_default-clause-err : goal.returns-in_default-clause-err
+returns-in_default-clause-err c = c.lay.ensures.err
+
+pub returns-in_default-clause-ok : goal.returns-in_default-clause-ok
+returns-in_default-clause-ok c =
+    let T = c.args.tables.now.items in
+    let P = c.args.places.now.items in
+    let e = c.args.e in
+    let A = archetypes_of T P in
+    let B = archetypes_of c.lay.new.tables.items c.lay.new.places.items in
+    let none = c.in_default.ensures ∙ ap (λ (ps : List (Option EntityLocation)). place_of ps e.index) c.deref.ensures.value in
+    subst (λ o. OnOk c.lay.result (HasRow A e (insert_component c.args.tick (value_number c.args.value) (value_words c.args.value) (row_in T e.index o)) B)) none
+    (subst (λ (s : StampedValue). OnOk c.lay.result (HasRow A e (component_of s ∷ []) B)) c.added.ensures c.lay.ensures.ok)
+
+pub find_at-requires-clause-shaped : goal.find_at-requires-clause-shaped
+find_at-requires-clause-shaped c = subst AreShaped (sym c.deref-2.ensures.value) c.requires.whole.shaped
+
+pub write_at-requires-clause-shaped : goal.write_at-requires-clause-shaped
+write_at-requires-clause-shaped c = c.requires.whole.shaped
+
+pub write_at-requires-clause-owned : goal.write_at-requires-clause-owned
+write_at-requires-clause-owned c = c.requires.owned
+
+pub returns-then-is_some-clause-err : goal.returns-then-is_some-clause-err
+returns-then-is_some-clause-err c = tt
+
+pub returns-in_err-components_at-clause-whole : goal.returns-in_err-components_at-clause-whole
+returns-in_err-components_at-clause-whole c = c.requires.whole
+
+pub returns-in_err-components_at-clause-known : goal.returns-in_err-components_at-clause-known
+returns-in_err-components_at-clause-known c = c.requires.known
+
+pub returns-in_err-components_at-clause-owned : goal.returns-in_err-components_at-clause-owned
+returns-in_err-components_at-clause-owned c = c.requires.owned
+
+pub returns-in_err-components_at-clause-found : goal.returns-in_err-components_at-clause-found
+returns-in_err-components_at-clause-found c = c.requires.found
+
+pub returns-in_err-components_at-clause-ok : goal.returns-in_err-components_at-clause-ok
+returns-in_err-components_at-clause-ok c = IfOk-from_err c.from_residual.result _ c.from_residual.ensures.0
+
+pub returns-in_err-components_at-clause-err : goal.returns-in_err-components_at-clause-err
+returns-in_err-components_at-clause-err c = on_err_from _ _ (rows_alike (archetypes_of c.args.tables.now.items c.args.places.now.items))
+
+pub returns-in_err-insert_new-clause-whole : goal.returns-in_err-insert_new-clause-whole
+returns-in_err-insert_new-clause-whole c = c.requires.whole
+
+pub returns-in_err-insert_new-clause-known : goal.returns-in_err-insert_new-clause-known
+returns-in_err-insert_new-clause-known c = c.requires.known
+
+pub returns-in_err-insert_new-clause-owned : goal.returns-in_err-insert_new-clause-owned
+returns-in_err-insert_new-clause-owned c = c.requires.owned
+
+pub returns-in_err-insert_new-clause-found : goal.returns-in_err-insert_new-clause-found
+returns-in_err-insert_new-clause-found c = c.requires.found
+
+pub returns-in_err-insert_new-clause-ok : goal.returns-in_err-insert_new-clause-ok
+returns-in_err-insert_new-clause-ok c = IfOk-from_err c.from_residual-in_err-insert_new.result _ c.from_residual-in_err-insert_new.ensures.0
+
+pub returns-in_err-insert_new-clause-err : goal.returns-in_err-insert_new-clause-err
+returns-in_err-insert_new-clause-err c = on_err_from _ _ (rows_alike (archetypes_of c.args.tables.now.items c.args.places.now.items))
+
+pub lay-requires-2-clause-found : goal.lay-requires-2-clause-found
+lay-requires-2-clause-found c = c.requires.found
+
+pub lay-requires-2-clause-whole : goal.lay-requires-2-clause-whole
+lay-requires-2-clause-whole c = c.requires.whole
+
+pub lay-requires-2-clause-known : goal.lay-requires-2-clause-known
+lay-requires-2-clause-known c = c.requires.known
+
+pub lay-requires-2-clause-owned : goal.lay-requires-2-clause-owned
+lay-requires-2-clause-owned c = c.requires.owned
+
+pub lay-requires-2-clause-within : goal.lay-requires-2-clause-within
+lay-requires-2-clause-within c = c.requires.within
+
+pub lay-requires-2-clause-holder : goal.lay-requires-2-clause-holder
+lay-requires-2-clause-holder c = c.requires.holder
+
+pub lay-requires-2-clause-some : goal.lay-requires-2-clause-some
+lay-requires-2-clause-some c = λ e. let more = c.in_ok-insert_new.ensures.more in let none = ap length (sym c.deref-4.ensures ∙ e) in absurd (omega (arith, more, none))
+
+pub returns-clause-whole : goal.returns-clause-whole
+returns-clause-whole c = c.lay-2.ensures.whole
+
+pub returns-clause-known : goal.returns-clause-known
+returns-clause-known c = c.lay-2.ensures.known
+
+pub returns-clause-owned : goal.returns-clause-owned
+returns-clause-owned c = c.lay-2.ensures.owned
+
+pub returns-clause-found : goal.returns-clause-found
+returns-clause-found c = c.lay-2.ensures.found
+
+pub returns-clause-err : goal.returns-clause-err
+returns-clause-err c = c.lay-2.ensures.err

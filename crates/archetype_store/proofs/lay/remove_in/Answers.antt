@@ -8,11 +8,13 @@ use Rattle.archetype_store.specs.Row.{component_of}
 use Rattle.archetype_store.specs.Tables.{kinds_at, entity_in_row}
 use Rattle.archetype_store.specs.Archetypes.{archetypes_of, place_of, row_in, holder_in, IsHolder, HasRow}
 use Rattle.archetype_store.specs.RowNumbers.{number_of_row}
-use Rattle.archetype_store.proofs.Known.{row_there, number_within}
+use Rattle.archetype_store.proofs.Known.{row_there, number_within, placed_within}
 use Rattle.archetype_store.proofs.TableIndex.{found_shapes}
 use Rattle.archetype_store.proofs.Steps.{row_read, below_removed, kinds_at_place}
 use Rattle.archetype_store.specs.Tables.{AreHome}
 use Rattle.archetype_store.proofs.Standings.{owned_are_home}
+use Rattle.std.proofs.lemmas.Result.{IfOk-from_err}
+use Rattle.archetype_store.proofs.Moves.{rows_alike, on_err_from}
 use Rattle.archetype_store.proofs.lay.remove_in.Goals as goal
 
 pub components_at-requires-clause-home : goal.components_at-requires-clause-home
@@ -121,3 +123,78 @@ returns-clause-ok c =
     subst (λ r. OnOk c.lay.result (HasRow (archetypes_of tables places) c.args.e r (archetypes_of c.lay.new.tables.items c.lay.new.places.items)))
     (ap (map component_of) c.deref-4.ensures ∙ c.take_out.ensures.row ∙ ap (remove_component c.args.number) (sym read))
     c.lay.ensures.ok
+
+pub clear_in-requires-clause-whole : goal.clear_in-requires-clause-whole
+clear_in-requires-clause-whole c = c.requires.whole
+
+pub clear_in-requires-clause-known : goal.clear_in-requires-clause-known
+clear_in-requires-clause-known c = c.requires.known
+
+pub clear_in-requires-clause-owned : goal.clear_in-requires-clause-owned
+clear_in-requires-clause-owned c = c.requires.owned
+
+pub clear_in-requires-clause-holder : goal.clear_in-requires-clause-holder
+clear_in-requires-clause-holder c = c.requires.holder
+
+pub returns-then-kind_count_at-eq1-clause-whole : goal.returns-then-kind_count_at-eq1-clause-whole
+returns-then-kind_count_at-eq1-clause-whole c = c.clear_in.ensures.whole
+
+pub returns-then-kind_count_at-eq1-clause-known : goal.returns-then-kind_count_at-eq1-clause-known
+returns-then-kind_count_at-eq1-clause-known c = c.clear_in.ensures.known
+
+pub returns-then-kind_count_at-eq1-clause-owned : goal.returns-then-kind_count_at-eq1-clause-owned
+returns-then-kind_count_at-eq1-clause-owned c = c.clear_in.ensures.owned
+
+pub returns-then-kind_count_at-eq1-clause-err : goal.returns-then-kind_count_at-eq1-clause-err
+returns-then-kind_count_at-eq1-clause-err c = tt
+
+pub returns-in_err-components_at-clause-whole : goal.returns-in_err-components_at-clause-whole
+returns-in_err-components_at-clause-whole c = c.requires.whole
+
+pub returns-in_err-components_at-clause-known : goal.returns-in_err-components_at-clause-known
+returns-in_err-components_at-clause-known c = c.requires.known
+
+pub returns-in_err-components_at-clause-owned : goal.returns-in_err-components_at-clause-owned
+returns-in_err-components_at-clause-owned c = c.requires.owned
+
+pub returns-in_err-components_at-clause-found : goal.returns-in_err-components_at-clause-found
+returns-in_err-components_at-clause-found c = c.requires.found
+
+pub returns-in_err-components_at-clause-ok : goal.returns-in_err-components_at-clause-ok
+returns-in_err-components_at-clause-ok c = IfOk-from_err c.from_residual.result _ c.from_residual.ensures.0
+
+pub returns-in_err-components_at-clause-err : goal.returns-in_err-components_at-clause-err
+returns-in_err-components_at-clause-err c = on_err_from _ _ (rows_alike (archetypes_of c.args.tables.now.items c.args.places.now.items))
+
+pub lay-requires-clause-found : goal.lay-requires-clause-found
+lay-requires-clause-found c = c.requires.found
+
+pub lay-requires-clause-whole : goal.lay-requires-clause-whole
+lay-requires-clause-whole c = c.requires.whole
+
+pub lay-requires-clause-known : goal.lay-requires-clause-known
+lay-requires-clause-known c = c.requires.known
+
+pub lay-requires-clause-owned : goal.lay-requires-clause-owned
+lay-requires-clause-owned c = c.requires.owned
+
+pub lay-requires-clause-holder : goal.lay-requires-clause-holder
+lay-requires-clause-holder c = c.requires.holder
+
+pub lay-requires-clause-within : goal.lay-requires-clause-within
+lay-requires-clause-within c = placed_within c.args.places.now.items c.args.e.index c.in-Some.place (rw c.deref.ensures.value at (sym c.place_at.ensures ∙ c.in-Some.is))
+
+pub returns-clause-whole : goal.returns-clause-whole
+returns-clause-whole c = c.lay.ensures.whole
+
+pub returns-clause-known : goal.returns-clause-known
+returns-clause-known c = c.lay.ensures.known
+
+pub returns-clause-owned : goal.returns-clause-owned
+returns-clause-owned c = c.lay.ensures.owned
+
+pub returns-clause-found : goal.returns-clause-found
+returns-clause-found c = c.lay.ensures.found
+
+pub returns-clause-err : goal.returns-clause-err
+returns-clause-err c = c.lay.ensures.err

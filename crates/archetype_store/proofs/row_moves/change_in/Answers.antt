@@ -1,14 +1,17 @@
 use Rattle.std.proofs.Common.{List, map, sym, subst, ◌∙◌, ap}
 use Rattle.std.specs.List.{AllByRecursion}
 use Rattle.archetype_store.specs.declared.change.EntityChange.{EntityChange}
+use Rattle.archetype_store.specs.Changes.{AreOfOtherIndices}
 use Rattle.archetype_store.specs.Archetypes.{archetypes_of, HaveRows}
-use Rattle.archetype_store.specs.RowMoves.{change_of, IsPlanned, AreAlikeBefore}
+use Rattle.archetype_store.specs.RowMoves.{change_of, HaveRoom, IsPlanned, AreAlikeBefore}
 use Rattle.archetype_store.proofs.Changed.{planned_alike, rows_from_alike}
 use Rattle.archetype_store.proofs.Changing.{planned_shapes, ready_whole, ready_known, ready_owned, ready_rows}
 use Rattle.archetype_store.proofs.Departures.{rows_from_before}
-use Rattle.archetype_store.proofs.Moves.{on_err_from}
+use Rattle.archetype_store.proofs.Moves.{grown_whole, on_err_from, on_ok_holds}
 use Rattle.archetype_store.proofs.Rooms.{alike_twice}
 use Rattle.archetype_store.proofs.TableIndex.{found_shapes}
+use Rattle.std.proofs.lemmas.Result.{IfOk-from_err}
+use Rattle.archetype_store.proofs.Standings.{reached_whole}
 use Rattle.archetype_store.proofs.row_moves.change_in.Goals as goal
 
 pub returns-in_err-rows-clause-err : goal.returns-in_err-rows-clause-err
@@ -146,3 +149,85 @@ returns-clause-ok c =
     let moved = ap (map change_of) c.deref-4.ensures.value ∙ c.in_ok-rows.ensures.changes in
     rows_from_alike A A2 A4 c.args.changes.now (ready_rows T T1 T2 P P1 c.planned_all.ensures.grown c.planned_all.ensures.same c.reserve_all.ensures.shapes c.reserve_all.ensures.alike)
     (rows_from_before A2 A3 A4 c.args.changes.now (subst (λ (cs : List EntityChange). AreAlikeBefore A2 cs A3) left c.leave_all.ensures.alike) (subst (λ (cs : List EntityChange). HaveRows A3 cs A4) moved c.move_all.ensures.left))
+
+pub planned_all-requires-clause-found : goal.planned_all-requires-clause-found
+planned_all-requires-clause-found c = c.requires.found
+
+pub planned_all-requires-clause-known : goal.planned_all-requires-clause-known
+planned_all-requires-clause-known c = c.requires.known
+
+pub planned_all-requires-clause-below : goal.planned_all-requires-clause-below
+planned_all-requires-clause-below c = c.requires.below
+
+pub planned_all-requires-clause-holders : goal.planned_all-requires-clause-holders
+planned_all-requires-clause-holders c = c.requires.holders
+
+pub planned_all-requires-clause-shaped : goal.planned_all-requires-clause-shaped
+planned_all-requires-clause-shaped c = c.requires.whole.shaped
+
+pub planned_all-requires-clause-unlike : goal.planned_all-requires-clause-unlike
+planned_all-requires-clause-unlike c = c.requires.whole.unlike
+
+pub returns-in_err-rows-clause-found : goal.returns-in_err-rows-clause-found
+returns-in_err-rows-clause-found c = c.planned_all.ensures.found
+
+pub returns-in_err-rows-clause-known : goal.returns-in_err-rows-clause-known
+returns-in_err-rows-clause-known c = c.planned_all.ensures.known
+
+pub returns-in_err-rows-clause-owned : goal.returns-in_err-rows-clause-owned
+returns-in_err-rows-clause-owned c = c.planned_all.ensures.grown.owned c.requires.owned
+
+pub returns-in_err-rows-clause-whole : goal.returns-in_err-rows-clause-whole
+returns-in_err-rows-clause-whole c =
+    grown_whole c.args.tables.now.items c.planned_all.new.tables.items c.planned_all.new.places.items c.planned_all.ensures.grown (reached_whole c.args.tables.now.items c.args.places.now.items c.planned_all.new.places.items c.planned_all.ensures.same c.requires.whole)
+
+pub returns-in_err-rows-clause-ok : goal.returns-in_err-rows-clause-ok
+returns-in_err-rows-clause-ok c = IfOk-from_err c.from_residual.result _ c.from_residual.ensures.0
+
+pub reserve_all-requires-clause-owned : goal.reserve_all-requires-clause-owned
+reserve_all-requires-clause-owned c = c.planned_all.ensures.grown.owned c.requires.owned
+
+pub reserve_all-requires-clause-planned : goal.reserve_all-requires-clause-planned
+reserve_all-requires-clause-planned c =
+    subst (λ Q. AllByRecursion (IsPlanned c.planned_all.new.tables.items Q) c.deref-2.result.now) (sym c.deref.ensures.value) (subst (AllByRecursion (IsPlanned c.planned_all.new.tables.items c.planned_all.new.places.items)) (sym c.deref-2.ensures.value) c.in_ok-rows.ensures.planned)
+
+pub returns-then-is_err-clause-ok : goal.returns-then-is_err-clause-ok
+returns-then-is_err-clause-ok c = tt
+
+pub leave_all-requires-clause-apart : goal.leave_all-requires-clause-apart
+leave_all-requires-clause-apart c = subst AreOfOtherIndices (sym (ap (map change_of) c.deref-3.ensures.value ∙ c.in_ok-rows.ensures.changes)) c.requires.apart
+
+pub leave_all-requires-clause-room : goal.leave_all-requires-clause-room
+leave_all-requires-clause-room c =
+    subst (λ rows. HaveRoom c.reserve_all.new.tables.items c.planned_all.new.places.items rows) (c.deref-2.ensures.value ∙ sym c.deref-3.ensures.value)
+    (subst (λ Q. HaveRoom c.reserve_all.new.tables.items Q c.deref-2.result.now) c.deref.ensures.value (on_ok_holds c.reserve_all.result (HaveRoom c.reserve_all.new.tables.items c.deref.result.now c.deref-2.result.now) (sym c.if-is_err.ensures.value) c.reserve_all.ensures.ok))
+
+pub move_all-requires-clause-whole : goal.move_all-requires-clause-whole
+move_all-requires-clause-whole c = c.leave_all.ensures.whole
+
+pub move_all-requires-clause-known : goal.move_all-requires-clause-known
+move_all-requires-clause-known c = c.leave_all.ensures.known
+
+pub move_all-requires-clause-owned : goal.move_all-requires-clause-owned
+move_all-requires-clause-owned c = c.leave_all.ensures.owned
+
+pub move_all-requires-clause-apart : goal.move_all-requires-clause-apart
+move_all-requires-clause-apart c = subst AreOfOtherIndices (sym (ap (map change_of) c.deref-4.ensures.value ∙ c.in_ok-rows.ensures.changes)) c.requires.apart
+
+pub move_all-requires-clause-planned : goal.move_all-requires-clause-planned
+move_all-requires-clause-planned c = subst (AllByRecursion (IsPlanned c.leave_all.new.tables.items c.leave_all.new.places.items)) (c.deref-3.ensures.value ∙ sym c.deref-4.ensures.value) c.leave_all.ensures.planned
+
+pub move_all-requires-clause-room : goal.move_all-requires-clause-room
+move_all-requires-clause-room c = subst (λ rows. HaveRoom c.leave_all.new.tables.items c.leave_all.new.places.items rows) (c.deref-3.ensures.value ∙ sym c.deref-4.ensures.value) c.leave_all.ensures.room
+
+pub returns-clause-whole : goal.returns-clause-whole
+returns-clause-whole c = c.move_all.ensures.whole
+
+pub returns-clause-known : goal.returns-clause-known
+returns-clause-known c = c.move_all.ensures.known
+
+pub returns-clause-owned : goal.returns-clause-owned
+returns-clause-owned c = c.move_all.ensures.owned
+
+pub returns-clause-err : goal.returns-clause-err
+returns-clause-err c = tt

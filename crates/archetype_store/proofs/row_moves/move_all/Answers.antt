@@ -1,8 +1,9 @@
-use Rattle.std.proofs.Common.{◌+◌, map, take, drop, sym, subst, ◌∙◌}
+use Rattle.std.proofs.Common.{◌+◌, map, take, drop, refl, arith, sym, subst, ◌∙◌}
 use Rattle.archetype_store.specs.Archetypes.{archetypes_of, HaveRows}
 use Rattle.archetype_store.specs.RowMoves.{change_of}
 use Rattle.archetype_store.proofs.MovedRows.{later_apart, earlier_apart, planned_here, room_here, taken_next}
 use Rattle.archetype_store.proofs.RowMoves.{planned_all_rest, room_rest, room_first, rows_next}
+use Rattle.std.proofs.lemmas.List.{length-map, take_all}
 use Rattle.archetype_store.proofs.row_moves.move_all.Goals as goal
 
 pub move_row-requires-clause-planned : goal.move_row-requires-clause-planned
@@ -37,3 +38,41 @@ loop-row-preserved c =
       planned = planned_all_rest T T' P P' m c.move_row.ensures.shapes c.move_row.ensures.as_many c.move_row.ensures.others (drop (n + 1) rows) later (planned_here rows n m l is T P i.planned).1;
       room = room_rest T T' P P' m c.move_row.ensures.shapes c.move_row.ensures.as_many c.move_row.ensures.others (drop (n + 1) rows) later c.move_row.ensures.rooms (room_here rows n m l is T P i.room);
     }
+
+pub move_row-requires-clause-whole : goal.move_row-requires-clause-whole
+move_row-requires-clause-whole c = c.loop-row.invariant.whole
+
+pub move_row-requires-clause-known : goal.move_row-requires-clause-known
+move_row-requires-clause-known c = c.loop-row.invariant.known
+
+pub move_row-requires-clause-owned : goal.move_row-requires-clause-owned
+move_row-requires-clause-owned c = c.loop-row.invariant.owned
+
+pub loop-row-init : goal.loop-row-init
+loop-row-init c = record {
+  whole = c.requires.whole;
+  known = c.requires.known;
+  owned = c.requires.owned;
+  shapes = refl;
+  left = record { rows = λ i. refl; holders = λ i. refl };
+  planned = c.requires.planned;
+  room = c.requires.room;
+}
+
+pub returns-clause-whole : goal.returns-clause-whole
+returns-clause-whole c = c.loop-row.invariant.whole
+
+pub returns-clause-known : goal.returns-clause-known
+returns-clause-known c = c.loop-row.invariant.known
+
+pub returns-clause-owned : goal.returns-clause-owned
+returns-clause-owned c = c.loop-row.invariant.owned
+
+pub returns-clause-shapes : goal.returns-clause-shapes
+returns-clause-shapes c = c.loop-row.invariant.shapes
+
+pub returns-clause-left : goal.returns-clause-left
+returns-clause-left c =
+    let rows = c.args.rows.now in
+    let all = take_all c.loop-row.row-index (map change_of rows) (let many = length-map rows change_of in let past = c.loop-row-test.false in omega (arith, many, past)) in
+    subst (λ cs. HaveRows (archetypes_of c.args.tables.now.items c.args.places.now.items) cs (archetypes_of c.loop-row.tables.items c.loop-row.places.items)) all c.loop-row.invariant.left

@@ -2,6 +2,7 @@ use Rattle.std.proofs.Common.{sym, subst}
 use Rattle.archetype_store.specs.Archetypes.{holder_in, IsHolder}
 use Rattle.archetype_store.proofs.Known.{known_reached}
 use Rattle.archetype_store.proofs.Laying.{grown_known}
+use Rattle.std.proofs.lemmas.Result.{IfOk-from_err}
 use Rattle.archetype_store.proofs.row_moves.planned.Goals as goal
 
 pub reach-requires : goal.reach-requires
@@ -28,3 +29,57 @@ returns-clause-planned c = record {
   to = c.in_ok-to.ensures.to;
   none = c.in_ok-to.ensures.none;
 }
+
+pub table_left-requires-clause-found : goal.table_left-requires-clause-found
+table_left-requires-clause-found c = c.requires.found
+
+pub table_left-requires-clause-shaped : goal.table_left-requires-clause-shaped
+table_left-requires-clause-shaped c = c.requires.shaped
+
+pub table_left-requires-clause-unlike : goal.table_left-requires-clause-unlike
+table_left-requires-clause-unlike c = c.requires.unlike
+
+pub table_left-requires-clause-below : goal.table_left-requires-clause-below
+table_left-requires-clause-below c = c.requires.below
+
+pub returns-in_err-to-clause-found : goal.returns-in_err-to-clause-found
+returns-in_err-to-clause-found c = c.table_left.ensures.found
+
+pub returns-in_err-to-clause-grown : goal.returns-in_err-to-clause-grown
+returns-in_err-to-clause-grown c = c.table_left.ensures.grown
+
+pub returns-in_err-to-clause-change : goal.returns-in_err-to-clause-change
+returns-in_err-to-clause-change c = IfOk-from_err c.from_residual.result _ c.from_residual.ensures.0
+
+pub returns-in_err-to-clause-planned : goal.returns-in_err-to-clause-planned
+returns-in_err-to-clause-planned c = IfOk-from_err c.from_residual.result _ c.from_residual.ensures.0
+
+pub returns-in_err-reach-clause-found : goal.returns-in_err-reach-clause-found
+returns-in_err-reach-clause-found c = c.table_left.ensures.found
+
+pub returns-in_err-reach-clause-grown : goal.returns-in_err-reach-clause-grown
+returns-in_err-reach-clause-grown c = c.table_left.ensures.grown
+
+pub returns-in_err-reach-clause-change : goal.returns-in_err-reach-clause-change
+returns-in_err-reach-clause-change c = IfOk-from_err c.from_residual-in_err-reach.result _ c.from_residual-in_err-reach.ensures.0
+
+pub returns-in_err-reach-clause-planned : goal.returns-in_err-reach-clause-planned
+returns-in_err-reach-clause-planned c = IfOk-from_err c.from_residual-in_err-reach.result _ c.from_residual-in_err-reach.ensures.0
+
+pub returns-in_err-reach-clause-same : goal.returns-in_err-reach-clause-same
+returns-in_err-reach-clause-same c = c.reach.ensures.same
+
+pub returns-in_err-reach-clause-longer : goal.returns-in_err-reach-clause-longer
+returns-in_err-reach-clause-longer c = c.reach.ensures.longer
+
+pub returns-clause-found : goal.returns-clause-found
+returns-clause-found c = c.table_left.ensures.found
+
+pub returns-clause-grown : goal.returns-clause-grown
+returns-clause-grown c = c.table_left.ensures.grown
+
+pub returns-clause-same : goal.returns-clause-same
+returns-clause-same c = c.reach.ensures.same
+
+pub returns-clause-longer : goal.returns-clause-longer
+returns-clause-longer c = c.reach.ensures.longer

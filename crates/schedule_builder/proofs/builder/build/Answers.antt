@@ -13,6 +13,8 @@ use Rattle.schedule_builder.specs.Levels.{deferring_before, AreLevels, AreLevell
 use Rattle.schedule_builder.proofs.Assembly.{scheduled_as, edges_rankable, edges_from, edges_small, flat_rises, is_built, are_apart, declared_systems, declared_edges}
 use Rattle.schedule_builder.proofs.Levelling.{deferring_within, levelled_scheduled, levels_rise, levels_below, has_levels, order_with}
 use Rattle.schedule_builder.proofs.Askings.{asked_all, owners_count, conditions_declared, covered_known, asks_reading, has_silences}
+use Rattle.std.proofs.lemmas.Result.{IfOk-from_err}
+use Rattle.schedule_builder.proofs.Exits.{told, told_memory}
 use Rattle.schedule_builder.proofs.builder.build.Goals as goal
 
 -- the systems of the schedule are those of the declared ones
@@ -280,3 +282,115 @@ returns-clause-silences c =
     levelled_scheduled edges levels d.systems flat systems a (subst (λ (xs : List ℕ). AreLevelledBy xs flat systems) c.as_slice-5.ensures.value c.in_ok-systems.ensures) in
     subst (λ (s : Schedule). HasDeclaredSilences d s) (sym c.in_ok-built.ensures)
     (has_silences d systems c.in_ok-conditions.conditions.items c.syncs_of-syncs.result c.in_ok-order.order.items c.in_ok-found.found.silences.items b.long c.in_ok-found.ensures.silences)
+
+pub returns-in_err-found : goal.returns-in_err-found
+returns-in_err-found c =
+    let failed = c.from_residual.ensures.0 in
+    record {
+      buildable = IfOk-from_err c.from_residual.result _ failed;
+      systems = IfOk-from_err c.from_residual.result _ failed;
+      edges = IfOk-from_err c.from_residual.result _ failed;
+      levels = IfOk-from_err c.from_residual.result _ failed;
+      order = IfOk-from_err c.from_residual.result _ failed;
+      conditions = IfOk-from_err c.from_residual.result _ failed;
+      silences = IfOk-from_err c.from_residual.result _ failed;
+      refused = told c.from_residual.result c.args.desc c.in_err-found.field-0.0 c.from_residual.ensures.1 c.in_err-found.ensures.refused;
+    }
+
+pub returns-in_err-parts : goal.returns-in_err-parts
+returns-in_err-parts c =
+    let failed = c.from_residual-in_err-parts.ensures.0 in
+    record {
+      buildable = IfOk-from_err c.from_residual-in_err-parts.result _ failed;
+      systems = IfOk-from_err c.from_residual-in_err-parts.result _ failed;
+      edges = IfOk-from_err c.from_residual-in_err-parts.result _ failed;
+      levels = IfOk-from_err c.from_residual-in_err-parts.result _ failed;
+      order = IfOk-from_err c.from_residual-in_err-parts.result _ failed;
+      conditions = IfOk-from_err c.from_residual-in_err-parts.result _ failed;
+      silences = IfOk-from_err c.from_residual-in_err-parts.result _ failed;
+      refused = told_memory c.from_residual-in_err-parts.result c.args.desc c.from_residual-in_err-parts.ensures.1;
+    }
+
+pub returns-in_err-flat : goal.returns-in_err-flat
+returns-in_err-flat c =
+    let failed = c.from_residual-in_err-flat.ensures.0 in
+    record {
+      buildable = IfOk-from_err c.from_residual-in_err-flat.result _ failed;
+      systems = IfOk-from_err c.from_residual-in_err-flat.result _ failed;
+      edges = IfOk-from_err c.from_residual-in_err-flat.result _ failed;
+      levels = IfOk-from_err c.from_residual-in_err-flat.result _ failed;
+      order = IfOk-from_err c.from_residual-in_err-flat.result _ failed;
+      conditions = IfOk-from_err c.from_residual-in_err-flat.result _ failed;
+      silences = IfOk-from_err c.from_residual-in_err-flat.result _ failed;
+      refused = told_memory c.from_residual-in_err-flat.result c.args.desc c.from_residual-in_err-flat.ensures.1;
+    }
+
+pub returns-in_err-levels : goal.returns-in_err-levels
+returns-in_err-levels c =
+    let failed = c.from_residual-in_err-levels.ensures.0 in
+    record {
+      buildable = IfOk-from_err c.from_residual-in_err-levels.result _ failed;
+      systems = IfOk-from_err c.from_residual-in_err-levels.result _ failed;
+      edges = IfOk-from_err c.from_residual-in_err-levels.result _ failed;
+      levels = IfOk-from_err c.from_residual-in_err-levels.result _ failed;
+      order = IfOk-from_err c.from_residual-in_err-levels.result _ failed;
+      conditions = IfOk-from_err c.from_residual-in_err-levels.result _ failed;
+      silences = IfOk-from_err c.from_residual-in_err-levels.result _ failed;
+      refused = told_memory c.from_residual-in_err-levels.result c.args.desc c.from_residual-in_err-levels.ensures.1;
+    }
+
+pub returns-in_err-systems : goal.returns-in_err-systems
+returns-in_err-systems c =
+    let failed = c.from_residual-in_err-systems.ensures.0 in
+    record {
+      buildable = IfOk-from_err c.from_residual-in_err-systems.result _ failed;
+      systems = IfOk-from_err c.from_residual-in_err-systems.result _ failed;
+      edges = IfOk-from_err c.from_residual-in_err-systems.result _ failed;
+      levels = IfOk-from_err c.from_residual-in_err-systems.result _ failed;
+      order = IfOk-from_err c.from_residual-in_err-systems.result _ failed;
+      conditions = IfOk-from_err c.from_residual-in_err-systems.result _ failed;
+      silences = IfOk-from_err c.from_residual-in_err-systems.result _ failed;
+      refused = told_memory c.from_residual-in_err-systems.result c.args.desc c.from_residual-in_err-systems.ensures.1;
+    }
+
+pub returns-in_err-order : goal.returns-in_err-order
+returns-in_err-order c =
+    let failed = c.from_residual-in_err-order.ensures.0 in
+    record {
+      buildable = IfOk-from_err c.from_residual-in_err-order.result _ failed;
+      systems = IfOk-from_err c.from_residual-in_err-order.result _ failed;
+      edges = IfOk-from_err c.from_residual-in_err-order.result _ failed;
+      levels = IfOk-from_err c.from_residual-in_err-order.result _ failed;
+      order = IfOk-from_err c.from_residual-in_err-order.result _ failed;
+      conditions = IfOk-from_err c.from_residual-in_err-order.result _ failed;
+      silences = IfOk-from_err c.from_residual-in_err-order.result _ failed;
+      refused = told_memory c.from_residual-in_err-order.result c.args.desc c.from_residual-in_err-order.ensures.1;
+    }
+
+pub returns-in_err-conditions : goal.returns-in_err-conditions
+returns-in_err-conditions c =
+    let failed = c.from_residual-in_err-conditions.ensures.0 in
+    record {
+      buildable = IfOk-from_err c.from_residual-in_err-conditions.result _ failed;
+      systems = IfOk-from_err c.from_residual-in_err-conditions.result _ failed;
+      edges = IfOk-from_err c.from_residual-in_err-conditions.result _ failed;
+      levels = IfOk-from_err c.from_residual-in_err-conditions.result _ failed;
+      order = IfOk-from_err c.from_residual-in_err-conditions.result _ failed;
+      conditions = IfOk-from_err c.from_residual-in_err-conditions.result _ failed;
+      silences = IfOk-from_err c.from_residual-in_err-conditions.result _ failed;
+      refused = told_memory c.from_residual-in_err-conditions.result c.args.desc c.from_residual-in_err-conditions.ensures.1;
+    }
+
+pub returns-in_err-built : goal.returns-in_err-built
+returns-in_err-built c =
+    let failed = c.from_residual-in_err-built.ensures.0 in
+    record {
+      buildable = IfOk-from_err c.from_residual-in_err-built.result _ failed;
+      systems = IfOk-from_err c.from_residual-in_err-built.result _ failed;
+      edges = IfOk-from_err c.from_residual-in_err-built.result _ failed;
+      levels = IfOk-from_err c.from_residual-in_err-built.result _ failed;
+      order = IfOk-from_err c.from_residual-in_err-built.result _ failed;
+      conditions = IfOk-from_err c.from_residual-in_err-built.result _ failed;
+      silences = IfOk-from_err c.from_residual-in_err-built.result _ failed;
+      refused = told_memory c.from_residual-in_err-built.result c.args.desc c.from_residual-in_err-built.ensures.1;
+    }

@@ -4,6 +4,7 @@ use Rattle.model.specs.declarations.Refusals.{names_of}
 use Rattle.system_set.specs.declared.fault.HierarchyFault.{HierarchyFault}
 use Rattle.system_set.specs.Pairs.{IsHierarchyFault}
 use Rattle.schedule_builder.proofs.Orderings.{self_known, sets_known}
+use Rattle.schedule_builder.proofs.Exits.{told_memory}
 use Rattle.schedule_builder.proofs.builder.check_hierarchy.Goals as goal
 
 pub name_at-requires : goal.name_at-requires
@@ -30,3 +31,9 @@ returns-in_ok-names_at-in-Err-Cycle-clause-refused c =
     let told = subst (λ (h : Hierarchy). HasNoSelf h × IsToldSetCycle h items) c.requires.declared
     (subst (λ (f : HierarchyFault). IsHierarchyFault c.args.hierarchy.now f) c.in-Err-Cycle.field-0-is c.in-Err-Cycle.ensures.fault) in
     (c.requires.named, told.0, (items, told.1, c.in_ok-names_at-in-Err-Cycle.ensures ∙ ap (names_of d) c.as_slice.ensures.value))
+
+pub returns-in_err-name_at-in-Err-Loop-clause-refused : goal.returns-in_err-name_at-in-Err-Loop-clause-refused
+returns-in_err-name_at-in-Err-Loop-clause-refused c = told_memory c.from_residual.result c.args.desc.now c.from_residual.ensures.1
+
+pub returns-in_err-names_at-in-Err-Cycle-clause-refused : goal.returns-in_err-names_at-in-Err-Cycle-clause-refused
+returns-in_err-names_at-in-Err-Cycle-clause-refused c = told_memory c.from_residual-in_err-names_at-in-Err-Cycle.result c.args.desc.now c.from_residual-in_err-names_at-in-Err-Cycle.ensures.1

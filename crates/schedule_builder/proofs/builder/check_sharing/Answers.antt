@@ -5,6 +5,7 @@ use Rattle.system_set.specs.declared.sharing.Sharing.{Sharing}
 use Rattle.system_set.specs.Pairs.{pairs_of}
 use Rattle.system_set.specs.Ordered.{TellsSharing}
 use Rattle.schedule_builder.proofs.Orderings.{sharing_known, told_of}
+use Rattle.schedule_builder.proofs.Exits.{told_memory}
 use Rattle.schedule_builder.proofs.builder.check_sharing.Goals as goal
 
 pub name_at-requires : goal.name_at-requires
@@ -54,3 +55,15 @@ returns-in_ok-system-in-Some-clause-refused c =
       told_of HasNoCrossing h (hierarchy_of d) ps (declared_orders d) c.requires.declared c.requires.orders.ordered c.requires.no_crossing,
       (s.first, s.second, s.system, here, c.in_ok-first-in-Some.ensures, c.in_ok-second-in-Some.ensures, c.in_ok-system-in-Some.ensures),
     )
+
+pub returns-in_err-sharing-clause-refused : goal.returns-in_err-sharing-clause-refused
+returns-in_err-sharing-clause-refused c = told_memory c.from_residual.result c.args.desc.now c.from_residual.ensures.1
+
+pub returns-in_err-first-in-Some-clause-refused : goal.returns-in_err-first-in-Some-clause-refused
+returns-in_err-first-in-Some-clause-refused c = told_memory c.from_residual-in_err-first-in-Some.result c.args.desc.now c.from_residual-in_err-first-in-Some.ensures.1
+
+pub returns-in_err-second-in-Some-clause-refused : goal.returns-in_err-second-in-Some-clause-refused
+returns-in_err-second-in-Some-clause-refused c = told_memory c.from_residual-in_err-second-in-Some.result c.args.desc.now c.from_residual-in_err-second-in-Some.ensures.1
+
+pub returns-in_err-system-in-Some-clause-refused : goal.returns-in_err-system-in-Some-clause-refused
+returns-in_err-system-in-Some-clause-refused c = told_memory c.from_residual-in_err-system-in-Some.result c.args.desc.now c.from_residual-in_err-system-in-Some.ensures.1

@@ -1,5 +1,6 @@
 use Rattle.std.proofs.Common.{◌≡◌, ℕ, ◌^◌, ◌<◌, List, arith, length, subst, sym, ap, ◌∙◌}
 use Rattle.std.specs.List.{All}
+use Rattle.std.proofs.lemmas.Result.{IfOk-from_err}
 use Rattle.model.specs.declarations.Declarations.{Declared, items_of, hierarchy_of, declared_orders, plain_orders, declared_silences}
 use Rattle.model.specs.Lists.{IsIn}
 use Rattle.model.specs.declarations.Hierarchy.{Hierarchy}
@@ -47,3 +48,33 @@ returns-clause-silences c =
     let count : length c.systems.result.now ≡ length d.systems = ap length c.systems.ensures in
     declared_silences_of d pairs c.in_ok-silences.silences.items edges
     (subst (λ (k : ℕ). AreSilences k pairs c.in_ok-silences.silences.items) count (subst (λ (xs : List Order). AreSilences (length c.systems.result.now) xs c.in_ok-silences.silences.items) c.as_slice-5.ensures.value c.in_ok-silences.ensures))
+
+pub returns-in_err-owners : goal.returns-in_err-owners
+returns-in_err-owners c =
+    let failed = c.from_residual.ensures.0 in
+    record { edges = IfOk-from_err c.from_residual.result _ failed; plain = IfOk-from_err c.from_residual.result _ failed; coverage = IfOk-from_err c.from_residual.result _ failed; silences = IfOk-from_err c.from_residual.result _ failed }
+
+pub returns-in_err-edges : goal.returns-in_err-edges
+returns-in_err-edges c =
+    let failed = c.from_residual-in_err-edges.ensures.0 in
+    record { edges = IfOk-from_err c.from_residual-in_err-edges.result _ failed; plain = IfOk-from_err c.from_residual-in_err-edges.result _ failed; coverage = IfOk-from_err c.from_residual-in_err-edges.result _ failed; silences = IfOk-from_err c.from_residual-in_err-edges.result _ failed }
+
+pub returns-in_err-plain : goal.returns-in_err-plain
+returns-in_err-plain c =
+    let failed = c.from_residual-in_err-plain.ensures.0 in
+    record { edges = IfOk-from_err c.from_residual-in_err-plain.result _ failed; plain = IfOk-from_err c.from_residual-in_err-plain.result _ failed; coverage = IfOk-from_err c.from_residual-in_err-plain.result _ failed; silences = IfOk-from_err c.from_residual-in_err-plain.result _ failed }
+
+pub returns-in_err-coverage : goal.returns-in_err-coverage
+returns-in_err-coverage c =
+    let failed = c.from_residual-in_err-coverage.ensures.0 in
+    record { edges = IfOk-from_err c.from_residual-in_err-coverage.result _ failed; plain = IfOk-from_err c.from_residual-in_err-coverage.result _ failed; coverage = IfOk-from_err c.from_residual-in_err-coverage.result _ failed; silences = IfOk-from_err c.from_residual-in_err-coverage.result _ failed }
+
+pub returns-in_err-pairs : goal.returns-in_err-pairs
+returns-in_err-pairs c =
+    let failed = c.from_residual-in_err-pairs.ensures.0 in
+    record { edges = IfOk-from_err c.from_residual-in_err-pairs.result _ failed; plain = IfOk-from_err c.from_residual-in_err-pairs.result _ failed; coverage = IfOk-from_err c.from_residual-in_err-pairs.result _ failed; silences = IfOk-from_err c.from_residual-in_err-pairs.result _ failed }
+
+pub returns-in_err-silences : goal.returns-in_err-silences
+returns-in_err-silences c =
+    let failed = c.from_residual-in_err-silences.ensures.0 in
+    record { edges = IfOk-from_err c.from_residual-in_err-silences.result _ failed; plain = IfOk-from_err c.from_residual-in_err-silences.result _ failed; coverage = IfOk-from_err c.from_residual-in_err-silences.result _ failed; silences = IfOk-from_err c.from_residual-in_err-silences.result _ failed }

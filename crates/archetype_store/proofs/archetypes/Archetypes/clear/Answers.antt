@@ -1,14 +1,15 @@
-use Rattle.std.proofs.Common.{List, [], OnErr, sym, subst}
+use Rattle.std.proofs.Common.{List, [], OnErr, sym, ap, subst, ◌∙◌}
 use Rattle.model.specs.state.State.{Component}
 use Rattle.archetype_store.specs.Layout.{AreAllHome}
-use Rattle.archetype_store.specs.Archetypes.{ArchetypesValue, archetypes_of, row_of, place_of, row_in, AreAlike, HasRow}
-use Rattle.archetype_store.proofs.Laid.{row_seen}
+use Rattle.archetype_store.specs.Archetypes.{ArchetypesValue, archetypes_of, row_of, holder_of, place_of, row_in, AreAlike, HasRow, IsHolder}
+use Rattle.archetype_store.proofs.Laid.{row_seen, holder_seen}
 use Rattle.archetype_store.proofs.Moves.{on_err_from}
 use Rattle.archetype_store.proofs.Standings.{home_tables, alike_value, value_alike, alike_whole, alike_stored, alike_all_home, owned_stored, owned_layout, moved_from}
 use Rattle.archetype_store.specs.TableIndex.{IsFound, IsIndexed}
 use Rattle.archetype_store.proofs.TableIndex.{alike_found, alike_indexed, found_shapes}
 use Rattle.archetype_store.proofs.Known.{known_kept}
 use Rattle.archetype_store.proofs.Rooms.{alike_entities}
+use Rattle.std.proofs.lemmas.Result.{IfOk-from_err}
 use Rattle.archetype_store.proofs.archetypes.Archetypes.clear.Goals as goal
 
 pub own_all-requires-clause-home : goal.own_all-requires-clause-home
@@ -85,3 +86,21 @@ returns-clause-ok c =
     let from : HasRow (archetypes_of T1 Q) c.args.e (f (row_in T1 i (place_of Q i))) new → HasRow (archetypes_of T P) c.args.e (f (row_of (archetypes_of T P).rows i)) new
     = moved_from (archetypes_of T P) (archetypes_of T1 Q) new c.args.e f (row_in T1 i (place_of Q i)) alike (sym (row_seen T1 Q i)) in
     subst (λ (v : ArchetypesValue). HasRow v c.args.e (f (row_of v.rows i)) new) c.self.view_is (from c.clear_in.ensures.cleared)
+
+pub returns-in_err-own_all-clause-ok : goal.returns-in_err-own_all-clause-ok
+returns-in_err-own_all-clause-ok c = IfOk-from_err c.from_residual.result _ c.from_residual.ensures.0
+
+pub own_all-requires-clause-unshared : goal.own_all-requires-clause-unshared
+own_all-requires-clause-unshared c = c.self.invariant.stored.unshared
+
+pub clear_in-requires-clause-owned : goal.clear_in-requires-clause-owned
+clear_in-requires-clause-owned c = c.in_ok-own_all.ensures.ok
+
+pub clear_in-requires-clause-holder : goal.clear_in-requires-clause-holder
+clear_in-requires-clause-holder c =
+    let i = c.args.e.index in
+    let fits = subst (IsHolder c.args.e.generation) (ap (λ (v : ArchetypesValue). holder_of v.holders i) (sym c.self.view_is) ∙ holder_seen c.self.inside.tables.items c.self.inside.places.items i) c.requires.holder in
+    fits
+
+pub returns-clause-err : goal.returns-clause-err
+returns-clause-err c = tt

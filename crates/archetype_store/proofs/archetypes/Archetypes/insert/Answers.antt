@@ -1,17 +1,18 @@
-use Rattle.std.proofs.Common.{List, OnOk, OnErr, sym, subst}
+use Rattle.std.proofs.Common.{List, OnOk, OnErr, sym, ap, subst, ◌∙◌}
 use Rattle.std.proofs.lemmas.Result.{on_ok_weaker, on_err_weaker}
 use Rattle.kinds.specs.Value.{value_number, value_words}
 use Rattle.model.specs.state.State.{Component}
 use Rattle.model.specs.state.Rows.{insert_component}
 use Rattle.archetype_store.specs.Layout.{AreAllHome}
-use Rattle.archetype_store.specs.Archetypes.{ArchetypesValue, archetypes_of, row_of, place_of, row_in, AreAlike, HasRow}
-use Rattle.archetype_store.proofs.Laid.{row_seen}
+use Rattle.archetype_store.specs.Archetypes.{ArchetypesValue, archetypes_of, row_of, holder_of, place_of, row_in, holder_in, AreAlike, HasRow, IsHolder}
+use Rattle.archetype_store.proofs.Laid.{row_seen, holder_seen}
 use Rattle.archetype_store.proofs.Moves.{alike_trans, reached_alike, on_err_from}
 use Rattle.archetype_store.proofs.Standings.{home_tables, alike_value, value_alike, alike_whole, alike_stored, alike_all_home, owned_stored, owned_layout, reached_whole, moved_from}
 use Rattle.archetype_store.specs.TableIndex.{IsFound, IsIndexed}
 use Rattle.archetype_store.proofs.TableIndex.{alike_found, alike_indexed}
 use Rattle.archetype_store.proofs.Known.{known_kept, known_reached}
 use Rattle.archetype_store.proofs.Rooms.{alike_entities}
+use Rattle.std.proofs.lemmas.Result.{IfOk-from_err}
 use Rattle.archetype_store.proofs.archetypes.Archetypes.insert.Goals as goal
 
 pub returns-in_err-reach-clause-err : goal.returns-in_err-reach-clause-err
@@ -116,3 +117,24 @@ returns-clause-err c =
     let alike = alike_trans (archetypes_of T P) (archetypes_of T Q) (archetypes_of T1 Q) (reached_alike T P Q c.reach.ensures.same) (value_alike (archetypes_of T Q) (archetypes_of T1 Q) (alike_value T T1 Q c.own_all.ensures.alike)) in
     subst (λ (v : ArchetypesValue). OnErr c.insert_in-inserted.result (AreAlike v new)) c.self.view_is
     (on_err_weaker c.insert_in-inserted.result (alike_trans (archetypes_of T P) (archetypes_of T1 Q) new alike) c.insert_in-inserted.ensures.err)
+
+pub returns-in_err-reach-clause-ok : goal.returns-in_err-reach-clause-ok
+returns-in_err-reach-clause-ok c = IfOk-from_err c.from_residual.result _ c.from_residual.ensures.0
+
+pub returns-in_err-own_all-clause-ok : goal.returns-in_err-own_all-clause-ok
+returns-in_err-own_all-clause-ok c = IfOk-from_err c.from_residual-in_err-own_all.result _ c.from_residual-in_err-own_all.ensures.0
+
+pub own_all-requires-clause-unshared : goal.own_all-requires-clause-unshared
+own_all-requires-clause-unshared c = c.self.invariant.stored.unshared
+
+pub insert_in-inserted-requires-clause-owned : goal.insert_in-inserted-requires-clause-owned
+insert_in-inserted-requires-clause-owned c = c.in_ok-own_all.ensures.ok
+
+pub insert_in-inserted-requires-clause-within : goal.insert_in-inserted-requires-clause-within
+insert_in-inserted-requires-clause-within c = c.in_ok-reach.ensures.ok
+
+pub insert_in-inserted-requires-clause-holder : goal.insert_in-inserted-requires-clause-holder
+insert_in-inserted-requires-clause-holder c =
+    let i = c.args.e.index in
+    let fits = subst (IsHolder c.args.e.generation) (ap (λ (v : ArchetypesValue). holder_of v.holders i) (sym c.self.view_is) ∙ holder_seen c.self.inside.tables.items c.self.inside.places.items i) c.requires.holder in
+    subst (λ o. IsHolder c.args.e.generation (holder_in o)) (sym (c.reach.ensures.same i)) fits

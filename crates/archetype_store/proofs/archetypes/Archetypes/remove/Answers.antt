@@ -12,6 +12,7 @@ use Rattle.archetype_store.specs.TableIndex.{IsFound, IsIndexed}
 use Rattle.archetype_store.proofs.TableIndex.{alike_found, alike_indexed}
 use Rattle.archetype_store.proofs.Known.{known_kept}
 use Rattle.archetype_store.proofs.Rooms.{alike_entities}
+use Rattle.std.proofs.lemmas.Result.{IfOk-from_err}
 use Rattle.archetype_store.proofs.archetypes.Archetypes.remove.Goals as goal
 
 -- what isn't there is none
@@ -130,3 +131,21 @@ returns-clause-err c =
     let alike = value_alike (archetypes_of T P) (archetypes_of T1 P) (alike_value T T1 P c.own_all.ensures.alike) in
     subst (λ (v : ArchetypesValue). OnErr c.remove_in-removed.result (AreAlike v new)) c.self.view_is
     (on_err_weaker c.remove_in-removed.result (alike_trans (archetypes_of T P) (archetypes_of T1 Q) new alike) c.remove_in-removed.ensures.err)
+
+pub returns-in_err-own_all-clause-ok : goal.returns-in_err-own_all-clause-ok
+returns-in_err-own_all-clause-ok c = IfOk-from_err c.from_residual.result _ c.from_residual.ensures.0
+
+pub own_all-requires-clause-unshared : goal.own_all-requires-clause-unshared
+own_all-requires-clause-unshared c = c.self.invariant.stored.unshared
+
+pub remove_in-removed-requires-clause-owned : goal.remove_in-removed-requires-clause-owned
+remove_in-removed-requires-clause-owned c = c.in_ok-own_all.ensures.ok
+
+pub returns-then-not-has-clause-err : goal.returns-then-not-has-clause-err
+returns-then-not-has-clause-err c = tt
+
+pub remove_in-removed-requires-clause-holder : goal.remove_in-removed-requires-clause-holder
+remove_in-removed-requires-clause-holder c =
+    let i = c.args.e.index in
+    let fits = subst (IsHolder c.args.e.generation) (ap (λ (v : ArchetypesValue). holder_of v.holders i) (sym c.self.view_is) ∙ holder_seen c.self.inside.tables.items c.self.inside.places.items i) c.requires.holder in
+    fits

@@ -7,6 +7,8 @@ use Rattle.column_store.specs.Table.{TableValue}
 use Rattle.archetype_store.specs.declared.table_index.TableIndex.{TableIndex}
 use Rattle.archetype_store.specs.TableIndex.{IsFound}
 use Rattle.archetype_store.proofs.TableIndex.{found_added, found_other}
+use Rattle.std.proofs.lemmas.Result.{IfOk-from_err}
+use Rattle.archetype_store.proofs.Moves.{on_err_from}
 use Rattle.archetype_store.proofs.table_index.TableIndex.add.Goals as goal
 
 pub returns-in_err-reserve-2-clause-found : goal.returns-in_err-reserve-2-clause-found
@@ -66,3 +68,57 @@ returns-clause-found c =
     let pushed = c.push_reserved.ensures.items ∙ ap (λ (xs : List TableValue). xs ++ c.args.made ∷ []) c.reserve.ensures.items in
     subst (λ U. IsFound U new) (sym pushed)
     (found_added T index new c.args.word c.args.made c.requires.found c.requires.other c.requires.word (rw many at c.in_ok-insert.ensures.updates.0) room room_numbers noted_all)
+
+pub returns-in_err-reserve-clause-number : goal.returns-in_err-reserve-clause-number
+returns-in_err-reserve-clause-number c = IfOk-from_err c.from_residual.result _ c.from_residual.ensures.0
+
+pub returns-in_err-reserve-clause-made : goal.returns-in_err-reserve-clause-made
+returns-in_err-reserve-clause-made c = IfOk-from_err c.from_residual.result _ c.from_residual.ensures.0
+
+pub returns-in_err-reserve-clause-err : goal.returns-in_err-reserve-clause-err
+returns-in_err-reserve-clause-err c = on_err_from c.from_residual.result _ c.reserve.ensures.items
+
+pub returns-in_err-reserve-2-clause-number : goal.returns-in_err-reserve-2-clause-number
+returns-in_err-reserve-2-clause-number c = IfOk-from_err c.from_residual-in_err-reserve-2.result _ c.from_residual-in_err-reserve-2.ensures.0
+
+pub returns-in_err-reserve-2-clause-made : goal.returns-in_err-reserve-2-clause-made
+returns-in_err-reserve-2-clause-made c = IfOk-from_err c.from_residual-in_err-reserve-2.result _ c.from_residual-in_err-reserve-2.ensures.0
+
+pub returns-in_err-reserve-2-clause-err : goal.returns-in_err-reserve-2-clause-err
+returns-in_err-reserve-2-clause-err c = on_err_from c.from_residual-in_err-reserve-2.result _ c.reserve.ensures.items
+
+pub returns-in_err-reserve-3-clause-number : goal.returns-in_err-reserve-3-clause-number
+returns-in_err-reserve-3-clause-number c = IfOk-from_err c.from_residual-in_err-reserve-3.result _ c.from_residual-in_err-reserve-3.ensures.0
+
+pub returns-in_err-reserve-3-clause-made : goal.returns-in_err-reserve-3-clause-made
+returns-in_err-reserve-3-clause-made c = IfOk-from_err c.from_residual-in_err-reserve-3.result _ c.from_residual-in_err-reserve-3.ensures.0
+
+pub returns-in_err-reserve-3-clause-err : goal.returns-in_err-reserve-3-clause-err
+returns-in_err-reserve-3-clause-err c = on_err_from c.from_residual-in_err-reserve-3.result _ c.reserve.ensures.items
+
+pub returns-in_err-reserve_all-clause-number : goal.returns-in_err-reserve_all-clause-number
+returns-in_err-reserve_all-clause-number c = IfOk-from_err c.from_residual-in_err-reserve_all.result _ c.from_residual-in_err-reserve_all.ensures.0
+
+pub returns-in_err-reserve_all-clause-made : goal.returns-in_err-reserve_all-clause-made
+returns-in_err-reserve_all-clause-made c = IfOk-from_err c.from_residual-in_err-reserve_all.result _ c.from_residual-in_err-reserve_all.ensures.0
+
+pub returns-in_err-reserve_all-clause-err : goal.returns-in_err-reserve_all-clause-err
+returns-in_err-reserve_all-clause-err c = on_err_from c.from_residual-in_err-reserve_all.result _ c.reserve.ensures.items
+
+pub returns-in_err-insert-clause-number : goal.returns-in_err-insert-clause-number
+returns-in_err-insert-clause-number c = IfOk-from_err c.from_residual-in_err-insert.result _ c.from_residual-in_err-insert.ensures.0
+
+pub returns-in_err-insert-clause-made : goal.returns-in_err-insert-clause-made
+returns-in_err-insert-clause-made c = IfOk-from_err c.from_residual-in_err-insert.result _ c.from_residual-in_err-insert.ensures.0
+
+pub returns-in_err-insert-clause-err : goal.returns-in_err-insert-clause-err
+returns-in_err-insert-clause-err c = on_err_from c.from_residual-in_err-insert.result _ c.reserve.ensures.items
+
+pub returns-clause-number : goal.returns-clause-number
+returns-clause-number c = c.len-table.ensures ∙ c.args.tables.now.ok.0
+
+pub returns-clause-made : goal.returns-clause-made
+returns-clause-made c = c.push_reserved.ensures.items ∙ ap (λ (xs : List TableValue). xs ++ c.args.made ∷ []) c.reserve.ensures.items
+
+pub returns-clause-err : goal.returns-clause-err
+returns-clause-err c = tt

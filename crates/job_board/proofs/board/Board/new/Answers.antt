@@ -1,5 +1,6 @@
 use Rattle.std.proofs.Common.{rules, ◌≡◌, ◌+◌, ◌∙◌, ◌∷◌, [], ⊎_elim, ℕ, List, sym, ap, subst, get_or, length, replicate, length-append}
 use Rattle.std.proofs.lemmas.List.{length-replicate}
+use Rattle.std.proofs.lemmas.Result.{IfOk-from_err}
 use Rattle.std.specs.Arc.{arc_value}
 use mathlib.Core.Option.{some}
 use lib.ListN.{get_elem?}
@@ -26,3 +27,48 @@ returns-clause-lead g c = let lead = c.in_ok-lead.ensures in (lead.slots.0, lead
 
 pub returns-clause-hands : goal.returns-clause-hands
 returns-clause-hands g c = λ at h e. let old = c.loop-made.invariant.2 at h e in (old.0 ∙ sym c.in_ok-lead.ensures.slots.1, old.1, old.2, old.3)
+
+pub returns-in_err-words : goal.returns-in_err-words
+returns-in_err-words g c =
+    let failed = c.from_residual.ensures.0 in
+    record { lead = IfOk-from_err c.from_residual.result _ failed; count = IfOk-from_err c.from_residual.result _ failed; hands = IfOk-from_err c.from_residual.result _ failed }
+
+pub returns-in_err-table : goal.returns-in_err-table
+returns-in_err-table g c =
+    let failed = c.from_residual-in_err-table.ensures.0 in
+    record { lead = IfOk-from_err c.from_residual-in_err-table.result _ failed; count = IfOk-from_err c.from_residual-in_err-table.result _ failed; hands = IfOk-from_err c.from_residual-in_err-table.result _ failed }
+
+pub returns-in_err-board : goal.returns-in_err-board
+returns-in_err-board g c =
+    let failed = c.from_residual-in_err-board.ensures.0 in
+    record { lead = IfOk-from_err c.from_residual-in_err-board.result _ failed; count = IfOk-from_err c.from_residual-in_err-board.result _ failed; hands = IfOk-from_err c.from_residual-in_err-board.result _ failed }
+
+pub returns-in_err-bells : goal.returns-in_err-bells
+returns-in_err-bells g c =
+    let failed = c.from_residual-in_err-bells.ensures.0 in
+    record { lead = IfOk-from_err c.from_residual-in_err-bells.result _ failed; count = IfOk-from_err c.from_residual-in_err-bells.result _ failed; hands = IfOk-from_err c.from_residual-in_err-bells.result _ failed }
+
+pub returns-in_err-all : goal.returns-in_err-all
+returns-in_err-all g c =
+    let failed = c.from_residual-in_err-all.ensures.0 in
+    record { lead = IfOk-from_err c.from_residual-in_err-all.result _ failed; count = IfOk-from_err c.from_residual-in_err-all.result _ failed; hands = IfOk-from_err c.from_residual-in_err-all.result _ failed }
+
+pub returns-in_err-words-2 : goal.returns-in_err-words-2
+returns-in_err-words-2 g c =
+    let failed = c.from_residual-in_err-words-2.ensures.0 in
+    record { lead = IfOk-from_err c.from_residual-in_err-words-2.result _ failed; count = IfOk-from_err c.from_residual-in_err-words-2.result _ failed; hands = IfOk-from_err c.from_residual-in_err-words-2.result _ failed }
+
+pub returns-in_err-rung : goal.returns-in_err-rung
+returns-in_err-rung g c =
+    let failed = c.from_residual-in_err-rung.ensures.0 in
+    record { lead = IfOk-from_err c.from_residual-in_err-rung.result _ failed; count = IfOk-from_err c.from_residual-in_err-rung.result _ failed; hands = IfOk-from_err c.from_residual-in_err-rung.result _ failed }
+
+pub returns-in_err-hand : goal.returns-in_err-hand
+returns-in_err-hand g c =
+    let failed = c.from_residual-in_err-hand.ensures.0 in
+    record { lead = IfOk-from_err c.from_residual-in_err-hand.result _ failed; count = IfOk-from_err c.from_residual-in_err-hand.result _ failed; hands = IfOk-from_err c.from_residual-in_err-hand.result _ failed }
+
+pub returns-in_err-lead : goal.returns-in_err-lead
+returns-in_err-lead g c =
+    let failed = c.from_residual-in_err-lead.ensures.0 in
+    record { lead = IfOk-from_err c.from_residual-in_err-lead.result _ failed; count = IfOk-from_err c.from_residual-in_err-lead.result _ failed; hands = IfOk-from_err c.from_residual-in_err-lead.result _ failed }

@@ -1,9 +1,9 @@
-use Rattle.std.proofs.Common.{rules, arith, ◌≡◌, ◌≢◌, ◌<◌, ◌≤◌, ◌+◌, ◌-◌, ◌∙◌, ◌∷◌, [], ℕ, List, sym, ap, subst, length, length-append}
+use Rattle.std.proofs.Common.{rules, arith, ◌≡◌, ◌≢◌, ◌<◌, ◌≤◌, ◌+◌, ◌-◌, ◌∙◌, ◌∷◌, [], ℕ, List, sym, ap, subst, length, length-append, refl}
 use mathlib.Core.Option.{some}
 use lib.ListN.{get_elem?}
 use Rattle.job_board.specs.Held.{IsStack}
 use Rattle.job_board.proofs.Looks.{claims}
-use Rattle.job_board.proofs.Opens.{claim_stack, claim_late}
+use Rattle.job_board.proofs.Opens.{claim_stack, claim_late, claim_none, late_none, sat_down, tally_none, all_free, room_for}
 use Rattle.job_board.proofs.lead.Lead.open.Goals as goal
 
 pub load-requires : goal.load-requires
@@ -17,9 +17,34 @@ loop-claimed-preserved g c = let inv = c.loop-claimed.invariant in let slot : �
       same_table = c.load.ensures.0 ∙ inv.same_table;
       leads = ap (λ m. m.0.leads) is ∙ inv.leads;
       blank = (ap (λ m. m.0.posted) is ∙ inv.blank.0, ap (λ m. m.0.collected) is ∙ inv.blank.1, ap (λ m. m.0.closed) is ∙ inv.blank.2);
-      stack = subst (λ (l : List ℕ). IsStack c.args.slots l c.load.new.seat.me.0 c.load.new.seat.me.1) (sym c.push_reserved.ensures.items)
+      stack = subst (λ (l : List ℕ). IsStack c.args.slots l c.load.new.seat.me.0 c.load.new.seat.me.1) (sym {A = List ℕ} c.push_reserved.ensures.items)
           (claim_stack c.args.slots c.loop-claimed.claimed slot c.load.result c.loop-claimed.free.items c.loop-claimed.seat.me c.load.new.seat.me is lower inv.late inv.stack);
       roomy = search rules;
-      count = ap length c.push_reserved.ensures.items ∙ length-append c.loop-claimed.free.items (slot ∷ []) ∙ ap (λ (z : ℕ). z + 1) inv.count;
+      count = ap (length {A = ℕ}) c.push_reserved.ensures.items ∙ length-append c.loop-claimed.free.items (slot ∷ []) ∙ ap (λ (z : ℕ). z + 1) inv.count;
       late = claim_late c.args.slots c.loop-claimed.claimed slot c.load.result c.loop-claimed.free.items c.loop-claimed.seat.me c.load.new.seat.me is lower inv.late;
     }
+
+pub loop-claimed-init : goal.loop-claimed-init
+loop-claimed-init g c = let first = c.requires.first in let new = sat_down c.args.seat.me first in record {
+  same_table = refl;
+  leads = new.0;
+  blank = (new.1, new.2, new.3);
+  stack = claim_none c.args.slots c.in_ok-free.free.items c.args.seat.me first c.in_ok-free.ensures.items;
+  roomy = c.in_ok-free.ensures.exact;
+  count = ap (length {A = ℕ}) c.in_ok-free.ensures.items;
+  late = late_none c.args.slots c.args.seat.me first;
+}
+
+pub invariant_of-result : goal.invariant_of-result
+invariant_of-result g c = let inv = c.loop-claimed.invariant in record {
+  seated = inv.same_table ∙ c.requires.table.0;
+  sized = (c.requires.table.1, c.requires.table.2);
+  leads = inv.leads;
+  stack = inv.stack;
+  roomy = room_for c.args.slots _ inv.roomy;
+  counted = all_free c.args.slots c.loop-claimed.claimed c.loop-claimed.free.items c.loop-claimed.seat.me.0 inv.blank.0 inv.blank.1 inv.stack.0 inv.count c.loop-claimed.auto.claimed-end c.loop-claimed-test.false;
+  tally = tally_none c.loop-claimed.seat.me.0 inv.blank.0 inv.blank.1;
+}
+
+pub returns-clause-view : goal.returns-clause-view
+returns-clause-view g c = c.loop-claimed.invariant.blank

@@ -5,7 +5,7 @@ use Rattle.model.specs.declarations.Hierarchy.{IsRising}
 use Rattle.model.specs.steps.Schedule.{ScheduledCondition}
 use Rattle.system_set.proofs.Reaching.{rising_push}
 use Rattle.schedule_builder.specs.Conditions.{IsCovering}
-use Rattle.schedule_builder.proofs.Listings.{read_condition, named_more, named_same}
+use Rattle.schedule_builder.proofs.Listings.{read_condition, named_more, named_same, covering_all}
 use Rattle.schedule_builder.proofs.ascending_list.Listing.covering.Goals as goal
 use Rattle.schedule_builder.proofs.ascending_list.Listing.covering.Goals.{then-is_covering+in_ok-push, else-is_covering}
 
@@ -33,3 +33,9 @@ loop-number-preserved c =
             rising = subst IsRising (sym same) c.loop-number.invariant.rising;
           }
     ]
+
+pub returns : goal.returns
+returns c = record {
+  names = covering_all c.args.conditions.now c.args.system c.loop-number.number c.loop-number.numbers.items c.loop-number-test.false c.loop-number.invariant.names;
+  rising = c.loop-number.invariant.rising;
+}

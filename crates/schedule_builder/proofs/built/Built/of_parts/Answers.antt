@@ -4,6 +4,7 @@ use Rattle.schedule_builder.specs.Rows.{IsBefore, IsRival, AreRows}
 use Rattle.schedule_builder.specs.Conditions.{IsClash}
 use Rattle.schedule_builder.proofs.Counted.{has_counts}
 use Rattle.schedule_builder.proofs.Listings.{has_condition_rows}
+use Rattle.std.proofs.lemmas.Result.{IfOk-from_err}
 use Rattle.schedule_builder.proofs.built.Built.of_parts.Goals as goal
 
 pub invariant_of-result : goal.invariant_of-result
@@ -30,3 +31,24 @@ invariant_of-result c =
           (rw c.as_slice-4.ensures.value at c.in_ok-waits.ensures)
           c.requires.built.levels c.in_ok-sizes.ensures.long sizes,
     )
+
+pub returns-in_err-before : goal.returns-in_err-before
+returns-in_err-before c = IfOk-from_err c.from_residual.result _ c.from_residual.ensures.0
+
+pub returns-in_err-rivals : goal.returns-in_err-rivals
+returns-in_err-rivals c = IfOk-from_err c.from_residual-in_err-rivals.result _ c.from_residual-in_err-rivals.ensures.0
+
+pub returns-in_err-after : goal.returns-in_err-after
+returns-in_err-after c = IfOk-from_err c.from_residual-in_err-after.result _ c.from_residual-in_err-after.ensures.0
+
+pub returns-in_err-waits : goal.returns-in_err-waits
+returns-in_err-waits c = IfOk-from_err c.from_residual-in_err-waits.result _ c.from_residual-in_err-waits.ensures.0
+
+pub returns-in_err-sizes : goal.returns-in_err-sizes
+returns-in_err-sizes c = IfOk-from_err c.from_residual-in_err-sizes.result _ c.from_residual-in_err-sizes.ensures.0
+
+pub returns-in_err-asked_by : goal.returns-in_err-asked_by
+returns-in_err-asked_by c = IfOk-from_err c.from_residual-in_err-asked_by.result _ c.from_residual-in_err-asked_by.ensures.0
+
+pub returns-in_err-clashes : goal.returns-in_err-clashes
+returns-in_err-clashes c = IfOk-from_err c.from_residual-in_err-clashes.result _ c.from_residual-in_err-clashes.ensures.0

@@ -1,0 +1,25 @@
+use Rattle.std.proofs.Common.{ℕ, List, [], map, ap, ◌∙◌}
+use Rattle.std.proofs.lemmas.Result.{IfOk-from_err}
+use Rattle.archetype_store.specs.declared.shapes.KeptShape.{KeptShape}
+use Rattle.archetype_store.specs.Shapes.{Fitting, kept_seen}
+use Rattle.archetype_store.proofs.ListSteps.{copied_next, copied_all}
+use Rattle.archetype_store.proofs.shapes.copied_shapes.Goals as goal
+
+pub returns-in_err-copies : goal.returns-in_err-copies
+returns-in_err-copies c = IfOk-from_err c.from_residual.result _ c.from_residual.ensures.0
+
+pub returns-in_err-from_slice : goal.returns-in_err-from_slice
+returns-in_err-from_slice c = IfOk-from_err c.from_residual-in_err-from_slice.result _ c.from_residual-in_err-from_slice.ensures.0
+
+pub returns-in_err-push : goal.returns-in_err-push
+returns-in_err-push c = IfOk-from_err c.from_residual-in_err-push.result _ c.from_residual-in_err-push.ensures.0
+
+pub loop-kept-preserved : goal.loop-kept-preserved
+loop-kept-preserved c =
+    let kept : KeptShape = c.kept-item.result in
+    let copy : KeptShape = record { shape = kept.shape; tables = c.in_ok-from_slice.field-0 } in
+    let same = ap (λ (ts : List ℕ). let f : Fitting = record { shape = kept.shape; tables = ts } in f) (c.in_ok-from_slice.ensures.items ∙ c.as_slice.ensures.value) ∙ ap kept_seen c.kept-item.is in
+    copied_next kept_seen kept_seen c.args.shapes.now c.loop-kept.kept-index kept [] c.loop-kept.copies.items c.push.new.self.items copy c.loop-kept-test.true c.loop-kept.invariant same c.in_ok-push.ensures.items
+
+pub returns : goal.returns
+returns c = copied_all kept_seen c.args.shapes.now c.loop-kept.kept-index [] (map kept_seen c.loop-kept.copies.items) c.loop-kept-test.false c.loop-kept.invariant

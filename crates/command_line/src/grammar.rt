@@ -1,0 +1,182 @@
+// What the parser of a command line is told, as plain data, and what it finds in a line.
+
+use crate::args::LineFault;
+use clap::builder::ValueParser;
+use clap::{Arg, ArgMatches, Command};
+use std::alloc::{AllocError, Global};
+use std::convert::AsStr;
+
+/// An argument of a command.
+pub struct Argument {
+    /// The name by which its value is asked for.
+    pub id: &'static str,
+    /// Its long name, of an option; empty of one that is given at its place, which has to be there.
+    pub long: &'static str,
+    /// What help calls its value.
+    pub value: &'static str,
+    /// What help says of it.
+    pub help: &'static str,
+    /// The least and the most that it may be, of a number.
+    pub range: Option<(i64, i64)>,
+}
+
+/// A command of a program.
+pub struct Verb {
+    /// Its name.
+    pub name: &'static str,
+    /// What help says of it.
+    pub about: &'static str,
+    /// Its arguments, in order.
+    pub arguments: &'static [Argument],
+}
+
+/// What a program takes: one of its commands, with its arguments.
+pub struct Grammar {
+    /// The name of the program.
+    pub program: &'static str,
+    /// Its commands, in the order in which help lists them.
+    pub verbs: &'static [Verb],
+}
+
+impl Grammar {
+    /// What the words of a command line name, of which the first is the program's own name. Where `--help` stands in a line it is asked for,
+    /// whatever else is at fault there.
+    pub fn read<'a>(
+        &self,
+        alloc: Global,
+        words: &'a [String],
+    ) -> Result<ArgMatches<'a>, LineFault> {
+        if asks_for_help(words) {
+            return Err(self.help_for(alloc, words));
+        }
+        self.matches_of(alloc, words)
+    }
+
+    // The help for the command that some words name, or for the program where they name none.
+    fn help_for(&self, alloc: Global, words: &[String]) -> LineFault {
+        match words.get(1) {
+            Some(name) if self.has_verb(name.as_str()) => {
+                self.help_on(alloc, self.program, name.as_str())
+            }
+            _ => self.help_of(alloc, &[self.program, "--help"]),
+        }
+    }
+
+    // The help for a command of the program of this name.
+    fn help_on<'b>(&self, alloc: Global, program: &'b str, verb: &'b str) -> LineFault {
+        self.help_of(alloc, &[program, verb, "--help"])
+    }
+
+    // Whether a command has a name.
+    fn has_verb(&self, name: &str) -> bool {
+        self.verbs.iter().any(|verb| verb.name == name)
+    }
+
+    // The help that a line asks for.
+    fn help_of(&self, alloc: Global, words: &[&str]) -> LineFault {
+        match self.matches_of(alloc, words) {
+            Ok(_) => LineFault::usage(alloc, "error: no help is there\n"),
+            Err(fault) => fault,
+        }
+    }
+
+    // What the parser finds in a line.
+    fn matches_of<'a, S: AsStr>(
+        &self,
+        alloc: Global,
+        words: &'a [S],
+    ) -> Result<ArgMatches<'a>, LineFault> {
+        match self.command(alloc)?.try_get_matches_from(words) {
+            Ok(matches) => Ok(matches),
+            Err(error) => Err(LineFault::of(alloc, &error)),
+        }
+    }
+
+    // The program as the parser is told it.
+    fn command<'a>(&self, alloc: Global) -> Result<Command<'a>, AllocError> {
+        self.parser(alloc)?.bin_name(self.program)
+    }
+
+    // The same, before it has a name in what it prints.
+    fn parser<'a>(&self, alloc: Global) -> Result<Command<'a>, AllocError> {
+        let commands = commands(alloc, self.verbs)?;
+        Command::new(alloc, self.program)
+            .subcommand_required(true)
+            .subcommands(commands)
+    }
+}
+
+// Whether `--help` stands among some words, before the word that ends the options.
+fn asks_for_help(words: &[String]) -> bool {
+    words
+        .iter()
+        .skip(1)
+        .take_while(|word| word.as_str() != "--")
+        .any(|word| word.as_str() == "--help" || word.as_str() == "-h")
+}
+
+// These commands as the parser is told them.
+fn commands<'a>(alloc: Global, verbs: &[Verb]) -> Result<Vec<Command<'a>>, AllocError> {
+    let mut commands = Vec::new(alloc);
+    for verb in verbs {
+        add_command(alloc, verb, &mut commands)?;
+    }
+    Ok(commands)
+}
+
+// One command more.
+fn add_command<'a>(
+    alloc: Global,
+    verb: &Verb,
+    commands: &mut Vec<Command<'a>>,
+) -> Result<(), AllocError> {
+    let command = command_of(alloc, verb)?;
+    commands.push(command)?;
+    Ok(())
+}
+
+// A command as the parser is told it.
+fn command_of<'a>(alloc: Global, verb: &Verb) -> Result<Command<'a>, AllocError> {
+    let args = arguments(alloc, verb.arguments)?;
+    Command::new(alloc, verb.name).about(verb.about).args(args)
+}
+
+// These arguments as the parser is told them.
+fn arguments<'a>(alloc: Global, arguments: &[Argument]) -> Result<Vec<Arg<'a>>, AllocError> {
+    let mut args = Vec::new(alloc);
+    for argument in arguments {
+        add_argument(alloc, argument, &mut args)?;
+    }
+    Ok(args)
+}
+
+// One argument more.
+fn add_argument<'a>(
+    alloc: Global,
+    argument: &Argument,
+    args: &mut Vec<Arg<'a>>,
+) -> Result<(), AllocError> {
+    args.push(argument_of(alloc, argument))?;
+    Ok(())
+}
+
+// An argument as the parser is told it, whose value is a number where it has a range.
+fn argument_of<'a>(alloc: Global, argument: &Argument) -> Arg<'a> {
+    let arg = placed(alloc, argument);
+    match argument.range {
+        Some((least, most)) => arg.value_parser(ValueParser::Signed(least, most)),
+        None => arg,
+    }
+}
+
+// The same, whatever its value. One without a long name has to be given.
+fn placed<'a>(alloc: Global, argument: &Argument) -> Arg<'a> {
+    let arg = Arg::new(alloc, argument.id)
+        .value_name(argument.value)
+        .help(argument.help);
+    if argument.long.is_empty() {
+        arg.required(true)
+    } else {
+        arg.long(argument.long)
+    }
+}

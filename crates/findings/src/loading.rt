@@ -1,0 +1,78 @@
+// A program file that is accepted: its schedule, its scripts, and the world with which it begins.
+
+ghost use Rattle.std.specs.Prelude.{◌≡◌, ℕ, List, Option, Some, map, IfOk, IfSome};
+ghost use Rattle.findings.specs.Loaded.{IsLoaded};
+ghost use Rattle.model.specs.state.Loaded.{loaded as loaded_state};
+ghost use Rattle.program.specs.Load.{entity_given};
+ghost use Rattle.toml.specs.Parse.{parse_document};
+ghost use Rattle.toml.specs.View.{table_view};
+
+use crate::sets::{Sets, sets_of};
+use body::State;
+use engine::first_state::first_state;
+use kinds::Value;
+use program::Fault;
+use program::schedule::{bodies_of, declare, names_of};
+use program::world::world_of;
+use program_file::ProgramFile;
+use schedule_builder::Built;
+use schedule_builder::builder::build;
+use script::ScriptBody;
+use std::alloc::Global;
+use toml::Table;
+
+/// What a program file declares, where the builder accepts it and each script fits.
+#[derive(Drop)]
+pub struct Loaded<'a> {
+    /// The schedule.
+    pub built: Built,
+    /// The names of its systems, by number.
+    pub names: Vec<&'a str>,
+    /// The script of each system.
+    pub bodies: Vec<ScriptBody>,
+    /// The sets.
+    pub sets: Sets<'a>,
+    /// The entities.
+    pub entities: Vec<Vec<Value>>,
+    /// The values of the resources, by number.
+    pub resources: [i64; 8],
+}
+
+/// What a document declares.
+pub fn load<'a>(alloc: Global, document: &'a Table) -> Result<Loaded<'a>, Fault>
+    ensures { IfOk result (λ found. (bytes : Option (List ℕ)) → IfSome bytes (λ text. parse_document text ≡ Some (table_view document.now)) → IsLoaded bytes found) }
+{
+    let ProgramFile {
+        resources,
+        entities,
+        sets,
+        systems,
+        chains,
+    } = ProgramFile::read(alloc, document)?;
+    let found = sets_of(alloc, sets.as_slice(), systems.as_slice())?;
+    let (desc, codes) = declare(alloc, sets, systems, chains.as_slice())?;
+    let built = build(alloc, desc)?;
+    let names = names_of(alloc, codes.as_slice())?;
+    let bodies = bodies_of(alloc, &built, codes)?;
+    Ok(Loaded {
+        built,
+        names,
+        bodies,
+        sets: found,
+        entities,
+        resources,
+    })
+}
+
+/// The state with which the first run begins.
+pub fn opening(
+    alloc: Global,
+    built: &Built,
+    entities: &[Vec<Value>],
+    resources: &[i64; 8],
+) -> Result<State, Fault>
+    ensures { IfOk result (λ state. state ≡ loaded_state built.now (map entity_given entities.now) resources.now) }
+{
+    let world = world_of(alloc, entities, resources)?;
+    Ok(first_state(alloc, built, world)?)
+}
