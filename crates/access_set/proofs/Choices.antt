@@ -1,8 +1,9 @@
 -- The choices of a query, term by term, and that their kinds have bits.
-use Rattle.std.proofs.Common.{ℕ, zero, suc, ◌+◌, ◌<◌, ◌≡◌, Bool, true, inl, inr, List, [], ◌∷◌, ◌++◌, map, length, take, get_or, Option, Some, None, refl, sym, ap, ap₂, ◌∙◌, subst, append-nil, arith}
+use Rattle.std.proofs.Common.{ℕ, zero, suc, ◌+◌, ◌<◌, ◌≤◌, ◌≡◌, Bool, true, false, not, ◌==◌, ◌||◌, inl, inr, List, [], ◌∷◌, ◌++◌, map, length, take, get_or, Option, Some, None, refl, sym, ap, ap₂, ◌∙◌, subst, append-nil, arith}
 use Rattle.std.specs.List.{cons_option, list_any}
 use Rattle.std.specs.Option.{option_map}
-use Rattle.std.proofs.lemmas.List.{take_more, map-append}
+use Rattle.std.proofs.lemmas.List.{take_more, take_all, map-append}
+use Rattle.std.proofs.lemmas.Bool.{eqb-true, or_parts}
 use Rattle.model.specs.Lists.{IsIn}
 use Rattle.model.specs.access.Query.{Alternative, Term as ModelTerm}
 use Rattle.model.specs.access.Conflict.{choice, choices}
@@ -14,7 +15,7 @@ use Rattle.query.specs.declared.term.Term.{Term}
 use Rattle.query.specs.Alternative.{alternative_of, alternatives_of, listed}
 use Rattle.query.specs.Term.{term_of}
 use Rattle.access_set.specs.declared.footprint.Way.{Way}
-use Rattle.access_set.specs.Footprints.{kind_of, AreLow, way_with, met_in}
+use Rattle.access_set.specs.Footprints.{kind_of, AreLow, way_with, kinds_met, met_in}
 use Rattle.model.proofs.lists.Lists.{list_any-IsIn}
 use Rattle.model.proofs.lists.Members.{in-map}
 
@@ -71,6 +72,49 @@ met_found shared way next found all rest first more items i d is same low goes m
     ∙ list_any-IsIn (λ a. met_in shared (way_with a way) (map alternatives_of rest ++ more)) (alternative_of (get_or items i d)) (map alternative_of items)
     (in-map alternative_of items (get_or items i d) (in_at items i d low))
     (sym (ap (λ (x : Way). met_in shared x (map alternatives_of rest ++ more)) goes) ∙ (sym met ∙ true_there))))
+
+-- ---- the ways that go on from one
+
+-- with no choice left the shared kinds say it
+pub met_end : (shared : ℕ) (way : Way) (choices more : List Alternatives) (kinds : ℕ) → length choices ≡ 0 → true ≡ (length more == 0) → kinds ≡ kinds_met shared way →
+    not (kinds == 0) ≡ met_in shared way (map alternatives_of choices ++ map alternatives_of more)
+met_end shared way [] [] kinds none empty is = ap (λ (word : ℕ). not (word == 0)) is
+met_end shared way [] (x ∷ more) kinds none empty is = let zero : length (x ∷ more) ≡ 0 = eqb-true (length (x ∷ more)) 0 (sym empty) in absurd (omega arith)
+met_end shared way (x ∷ choices) more kinds none empty is = absurd (omega arith)
+
+-- with none left of the first query those of the second do
+pub met_rest : (shared : ℕ) (way : Way) (choices more : List Alternatives) (found : Bool) → length choices ≡ 0 →
+    found ≡ met_in shared way (map alternatives_of more ++ []) → found ≡ met_in shared way (map alternatives_of choices ++ map alternatives_of more)
+met_rest shared way [] more found none is = is ∙ ap (met_in shared way) (append-nil (map alternatives_of more))
+met_rest shared way (x ∷ choices) more found none is = absurd (omega arith)
+
+-- none of some elements passes a test, nor does one more
+none_behind : {A : Type 0} (test : A → Bool) (xs : List A) (x : A) → list_any test xs ≡ false → test x ≡ false → list_any test (xs ++ x ∷ []) ≡ false
+none_behind test [] x none here = ap (λ b. b || false) here
+none_behind test (y ∷ xs) x none here =
+    let parts = or_parts (test y) (list_any test xs) none in
+    ap (λ b. b || list_any test (xs ++ x ∷ [])) parts.0 ∙ none_behind test xs x parts.1 here
+
+-- no alternative so far has a way, nor has the next
+pub unmet_next : (shared : ℕ) (way next : Way) (found : Bool) (rest : List Alternatives) (more : List (List Alternative)) (items : List Code) (i : ℕ) (d : Code) →
+    i < length items → next ≡ way_with (alternative_of (get_or items i d)) way → found ≡ met_in shared next (map alternatives_of rest ++ more) → found ≡ false →
+    list_any (λ a. met_in shared (way_with a way) (map alternatives_of rest ++ more)) (map alternative_of (take i items)) ≡ false →
+    list_any (λ a. met_in shared (way_with a way) (map alternatives_of rest ++ more)) (map alternative_of (take (i + 1) items)) ≡ false
+unmet_next shared way next found rest more items i d low goes met unmet none =
+    ap (λ (xs : List Code). list_any (λ a. met_in shared (way_with a way) (map alternatives_of rest ++ more)) (map alternative_of xs)) (take_more items i d low)
+    ∙ (ap (λ (xs : List Alternative). list_any (λ a. met_in shared (way_with a way) (map alternatives_of rest ++ more)) xs) (map-append alternative_of (take i items) (get_or items i d ∷ []))
+    ∙ none_behind (λ a. met_in shared (way_with a way) (map alternatives_of rest ++ more)) (map alternative_of (take i items)) (alternative_of (get_or items i d)) none
+    (sym (ap (λ (x : Way). met_in shared x (map alternatives_of rest ++ more)) goes) ∙ (sym met ∙ unmet)))
+
+-- where no alternative of the first choice has a way, neither has the whole
+pub unmet_all : (shared : ℕ) (way : Way) (all rest : List Alternatives) (first : Alternatives) (more : List (List Alternative)) (items : List Code) (i : ℕ) →
+    all ≡ first ∷ rest → items ≡ listed first → length items ≤ i →
+    list_any (λ a. met_in shared (way_with a way) (map alternatives_of rest ++ more)) (map alternative_of (take i items)) ≡ false →
+    false ≡ met_in shared way (map alternatives_of all ++ more)
+unmet_all shared way all rest first more items i is same past none =
+    sym (ap (λ (xs : List Alternatives). met_in shared way (map alternatives_of xs ++ more)) is
+    ∙ (ap (λ (xs : List Code). list_any (λ a. met_in shared (way_with a way) (map alternatives_of rest ++ more)) (map alternative_of xs)) (sym (take_all i items past ∙ same))
+    ∙ none))
 
 -- ---- kinds have bits
 

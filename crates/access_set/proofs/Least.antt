@@ -1,9 +1,9 @@
 -- The least datum of a conflict, from the least number of each sort; and that what parameters name has the number of something.
-use Rattle.std.proofs.Common.{ℕ, zero, suc, ◌+◌, ◌<◌, ◌≤◌, true, ◌≡◌, ◌==◌, inl, inr, List, [], ◌∷◌, length, map, get_or, Some, None, subst, sym, arith, eqb-true, ltb-true}
+use Rattle.std.proofs.Common.{ℕ, ◌+◌, ◌<◌, ◌≤◌, true, ◌≡◌, ◌==◌, inl, inr, List, [], ◌∷◌, map, Some, None, subst, sym, arith, eqb-true, ltb-true}
 use Rattle.std.proofs.lemmas.Bool.{false≢true, or_cases, cases_lt}
 use Rattle.kinds.specs.declared.res.Res.{Res}
 use Rattle.kinds.specs.declared.res.Event.{Event}
-use Rattle.kinds.specs.Kind.{kind_count, kind_number, numbers_from, NumbersAreBelow}
+use Rattle.kinds.specs.Kind.{kind_count, kind_number, NumbersAreBelow}
 use Rattle.kinds.specs.Res.{res_number, event_number}
 use Rattle.kinds.proofs.Numbers.{res_below, event_below}
 use Rattle.query.specs.declared.term.Term.{Term}
@@ -103,26 +103,6 @@ least_nowhere a b no_kind no_resource no_event (OfResource k, c) = no_resource k
 least_nowhere a b no_kind no_resource no_event (OfEvent k, c) = no_event k c
 
 -- ---- the search for the least
-
--- the element at a place of a list whose numbers rise by one
-pub listed_number : {A : Type 0} (f : A → ℕ) (xs : List A) (first count i : ℕ) (d : A) → map f xs ≡ numbers_from first count → i < length xs → f (get_or xs i d) ≡ first + i
-listed_number f [] first count i d e low = absurd (omega arith)
-listed_number f (x ∷ xs) first zero i d e low = cc
-listed_number f (x ∷ xs) first (suc count) zero d e low = let same : f x ≡ first = cc in omega arith
-listed_number f (x ∷ xs) first (suc count) (suc i) d e low =
-    let rest : map f xs ≡ numbers_from (1 + first) count = cc in
-    let same : f (get_or xs i d) ≡ 1 + first + i = listed_number f xs (1 + first) count i d rest (omega arith) in
-    omega arith
-
--- such a list has as many elements
-pub listed_many : {A : Type 0} (f : A → ℕ) (xs : List A) (first count : ℕ) → map f xs ≡ numbers_from first count → length xs ≡ count
-listed_many f [] first zero e = omega arith
-listed_many f [] first (suc count) e = cc
-listed_many f (x ∷ xs) first zero e = cc
-listed_many f (x ∷ xs) first (suc count) e =
-    let rest : map f xs ≡ numbers_from (1 + first) count = cc in
-    let same : length xs ≡ count = listed_many f xs (1 + first) count rest in
-    omega arith
 
 -- none of the numbers below one more has a property
 pub none_more : (P : ℕ → Type 0) (i n : ℕ) → n ≡ i → ((j : ℕ) → j < i → P j → ⊥) → (P n → ⊥) → (j : ℕ) → j < i + 1 → P j → ⊥

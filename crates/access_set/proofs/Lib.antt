@@ -6,3 +6,5 @@ pub mod Ways
 pub mod Footprints
 pub mod TermWords
 pub mod MeetsIn
+pub mod Beside
+pub mod ParamParts

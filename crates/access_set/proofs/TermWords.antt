@@ -17,6 +17,11 @@ IsSaid f terms place word = (kind : ℕ) → (has_bit word kind || list_any (λ 
 pub said_first : (f : ModelTerm → Option ℕ) (terms : List Term) → IsSaid f terms 0 0
 said_first f terms = λ kind. ap (λ b. b || list_any (λ t. is_number kind (f (term_of t))) terms) (no_bit kind)
 
+-- what a word says with the kind that a term may name, said of the term
+pub said_of : (word more kind : ℕ) (named there : Option ℕ) → has_bit more kind ≡ (is_number kind named || has_bit word kind) → named ≡ there →
+    has_bit more kind ≡ (is_number kind there || has_bit word kind)
+said_of word more kind named there is same = is ∙ ap (λ o. is_number kind o || has_bit word kind) same
+
 or_moved : (a b c : Bool) → ((a || b) || c) ≡ (b || (a || c))
 or_moved true true c = refl
 or_moved true false c = refl

@@ -8,7 +8,8 @@ use Rattle.model.specs.access.Query.{Term}
 use Rattle.model.specs.access.Conflict.{ConflictAt}
 use Rattle.model.specs.access.Conflict.Datum.{OfKind}
 use Rattle.model.proofs.serial.ConflictTests.{conflict-from_test, test-from_conflict}
-use Rattle.access_set.proofs.Least.{kind_within, listed_number, listed_many, none_more, first_is_least, none_is_least}
+use Rattle.kinds.proofs.Names.{listed_number, listed_many}
+use Rattle.access_set.proofs.Least.{kind_within, none_more, first_is_least, none_is_least}
 use Rattle.access_set.proofs.datum.least_kind.Goals as goal
 
 pub returns-then-conflict_at_kind : goal.returns-then-conflict_at_kind

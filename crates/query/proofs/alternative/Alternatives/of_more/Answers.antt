@@ -1,6 +1,9 @@
 use Rattle.std.proofs.Common.{ℕ, Bor, List, ◌∷◌, map, codes, arith}
 use Rattle.std.proofs.lemmas.List.{length-map}
 use Rattle.query.proofs.KindTerms.{or_none}
+use Rattle.parsing.specs.Reads.{Reads}
+use Rattle.query.proofs.OrTerms.{AreOr}
+use Rattle.query.proofs.WordLists.{no_words, two_words}
 use Rattle.query.proofs.alternative.Alternatives.of_more.Goals as goal
 
 pub returns-in_default : goal.returns-in_default
@@ -14,3 +17,13 @@ returns-in_default-2 c = λ alternatives h.
     let many = length-map c.args.more.now (λ (word : Bor (List ℕ)). word.now) in
     or_none alternatives (codes "or" ∷ c.args.u.now ∷ c.args.k.now ∷ c.args.v.now ∷ c.args.l.now ∷ c.args.w.now ∷ c.args.m.now ∷ map (λ (word : Bor (List ℕ)). word.now) c.args.more.now)
     (λ e. omega arith) (λ e. omega arith) (λ e. omega arith) h
+
+pub returns-in-empty : goal.returns-in-empty
+returns-in-empty c =
+    no_words (λ ws. Reads AreOr (codes "or" ∷ c.args.u.now ∷ c.args.k.now ∷ c.args.v.now ∷ c.args.l.now ∷ c.args.w.now ∷ c.args.m.now ∷ ws) c.of_three.result) c.args.more.now
+    c.in-empty.len_below c.of_three.ensures
+
+pub returns-in-len2 : goal.returns-in-len2
+returns-in-len2 c =
+    two_words (λ ws. Reads AreOr (codes "or" ∷ c.args.u.now ∷ c.args.k.now ∷ c.args.v.now ∷ c.args.l.now ∷ c.args.w.now ∷ c.args.m.now ∷ ws) c.of_four.result) c.args.more.now _ _
+    c.in-len2.len_at_least c.in-len2.len_below c.of_four.ensures
