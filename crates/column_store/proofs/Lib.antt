@@ -20,3 +20,7 @@ pub mod Roomy
 pub mod Gaps
 pub mod Listed
 pub mod TheirComponents
+pub mod Turns
+pub mod Moved
+pub mod StampedEdits
+pub mod PackWords

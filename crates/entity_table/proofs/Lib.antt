@@ -1,5 +1,6 @@
 pub mod Ascending
 pub mod Edits
+pub mod Turns
 pub mod Grants
 pub mod Frees
 pub mod Levels

@@ -4,3 +4,4 @@ pub mod Nodes
 pub mod Ordered
 pub mod EdgeLists
 pub mod Coverages
+pub mod Turns

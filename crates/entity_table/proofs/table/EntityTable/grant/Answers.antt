@@ -1,10 +1,11 @@
-use Rattle.std.proofs.Common.{◌≡◌, ◌+◌, ◌-◌, ◌<◌, ◌≤◌, ◌++◌, true, false, length, ap, ap₂, sym, ◌∙◌, arith, rules}
+use Rattle.std.proofs.Common.{◌≡◌, ◌+◌, ◌-◌, ◌<◌, ◌≤◌, ◌++◌, true, false, length, ap, ap₂, sym, ◌∙◌, arith, refl}
 use Rattle.model.specs.state.State.{most_indices}
 use Rattle.model.specs.state.Ids.{vacant_indices, has_ids, granted_ids, grant}
 use Rattle.entity_table.proofs.Grants.{has_ids-false, has_ids-true, granted-each, granted-apart, length-grant}
 use Rattle.entity_table.specs.Ids.{living_count}
 use Rattle.entity_table.proofs.Keeping.{book-grant}
 use Rattle.entity_table.proofs.Counting.{count-grant}
+use Rattle.entity_table.proofs.Turns.{no_other_fault}
 use Rattle.entity_table.proofs.table.EntityTable.grant.Goals as goal
 use Rattle.entity_table.proofs.table.EntityTable.grant.Goals.{After-saturating_sub-missing, After-grant_each}
 
@@ -23,22 +24,21 @@ some c l = has_ids-true c.args.count c.args.self.now (omega (arith, wanted c))
 pub returns-then-had-missing-gt-MOST_INDICES-clause-spent : goal.returns-then-had-missing-gt-MOST_INDICES-clause-spent
 returns-then-had-missing-gt-MOST_INDICES-clause-spent c =
     let h = none (goal.at.returns-then-had-missing-gt-MOST_INDICES-clause-spent c).After-saturating_sub-missing c.if-had-missing-gt-MOST_INDICES.true in
-    search rules
+    (λ e. h, λ e. refl)
 
 pub returns-in_err-granted-clause-spent : goal.returns-in_err-granted-clause-spent
 returns-in_err-granted-clause-spent c =
-    let h = some (goal.at.returns-in_err-granted-clause-spent c).After-saturating_sub-missing c.if-had-missing-gt-MOST_INDICES.false in
-    search rules
+    no_other_fault c.from_residual.result _ c.from_residual.ensures.1 (some (goal.at.returns-in_err-granted-clause-spent c).After-saturating_sub-missing c.if-had-missing-gt-MOST_INDICES.false)
 
 pub returns-in_err-reserve-clause-spent : goal.returns-in_err-reserve-clause-spent
 returns-in_err-reserve-clause-spent c =
-    let h = some (goal.at.returns-in_err-reserve-clause-spent c).After-saturating_sub-missing c.if-had-missing-gt-MOST_INDICES.false in
-    search rules
+    no_other_fault c.from_residual-in_err-reserve.result _ c.from_residual-in_err-reserve.ensures.1
+    (some (goal.at.returns-in_err-reserve-clause-spent c).After-saturating_sub-missing c.if-had-missing-gt-MOST_INDICES.false)
 
 pub returns-in_err-make_room-clause-spent : goal.returns-in_err-make_room-clause-spent
 returns-in_err-make_room-clause-spent c =
-    let h = some (goal.at.returns-in_err-make_room-clause-spent c).After-saturating_sub-missing c.if-had-missing-gt-MOST_INDICES.false in
-    search rules
+    no_other_fault c.from_residual-in_err-make_room.result _ c.from_residual-in_err-make_room.ensures.1
+    (some (goal.at.returns-in_err-make_room-clause-spent c).After-saturating_sub-missing c.if-had-missing-gt-MOST_INDICES.false)
 
 pub returns-clause-spent : goal.returns-clause-spent
 returns-clause-spent c =

@@ -1,4 +1,4 @@
-use Rattle.std.proofs.Common.{◌≡◌, ◌+◌, ◌-◌, ◌<◌, ◌≤◌, true, false, length, sum, ap, sym, ◌∙◌, arith, rules}
+use Rattle.std.proofs.Common.{◌≡◌, ◌+◌, ◌-◌, ◌<◌, ◌≤◌, true, false, length, sum, ap, sym, ◌∙◌, arith, refl}
 use Rattle.model.specs.state.State.{most_indices}
 use Rattle.model.specs.state.Ids.{vacant_indices, has_ids, grant, has_ids_for_each, grant_each}
 use Rattle.entity_table.proofs.Frees.{length-vacant_from}
@@ -7,8 +7,9 @@ use Rattle.entity_table.proofs.Levels.{grant_each-is, has_ids_for_each-is}
 use Rattle.entity_table.specs.Ids.{living_count}
 use Rattle.entity_table.proofs.Keeping.{book-grant}
 use Rattle.entity_table.proofs.Counting.{count-grant}
+use Rattle.entity_table.proofs.Turns.{no_other_fault}
 use Rattle.entity_table.proofs.table.EntityTable.grant_level.Goals as goal
-use Rattle.entity_table.proofs.table.EntityTable.grant_level.Goals.{Then-saturating_add-gt-MOST_INDICES, Else-saturating_add-gt-MOST_INDICES, After-grant_lists}
+use Rattle.entity_table.proofs.table.EntityTable.grant_level.Goals.{Else-saturating_add-gt-MOST_INDICES, After-grant_lists}
 
 -- no more indices are vacant than there may be
 vacant_few : (c : Else-saturating_add-gt-MOST_INDICES) → length c.self.inside.vacant.rising ≤ most_indices
@@ -39,22 +40,19 @@ returns-then-saturating_add-gt-MOST_INDICES-clause-spent c =
     omega (arith, ap length c.self.invariant.kept.vacant, c.len-had.ensures, c.sum_of.ensures, c.len.ensures, c.saturating_sub-missing.ensures, c.saturating_add.ensures) in
     let none : has_ids_for_each c.args.counts.now c.args.self.now ≡ false =
     rw (← c.self.view_is) (has_ids_for_each-is c.args.counts.now items c.self.invariant.kept.whole.few ∙ has_ids-false (sum c.args.counts.now) items wanted) in
-    search rules
+    (λ e. none, λ e. refl)
 
 pub returns-in_err-make_ready-clause-spent : goal.returns-in_err-make_ready-clause-spent
 returns-in_err-make_ready-clause-spent c =
-    let h = some (goal.at.returns-in_err-make_ready-clause-spent c).Else-saturating_add-gt-MOST_INDICES in
-    search rules
+    no_other_fault c.from_residual.result _ c.from_residual.ensures.1 (some (goal.at.returns-in_err-make_ready-clause-spent c).Else-saturating_add-gt-MOST_INDICES)
 
 pub returns-in_err-reserve-clause-spent : goal.returns-in_err-reserve-clause-spent
 returns-in_err-reserve-clause-spent c =
-    let h = some (goal.at.returns-in_err-reserve-clause-spent c).Else-saturating_add-gt-MOST_INDICES in
-    search rules
+    no_other_fault c.from_residual-in_err-reserve.result _ c.from_residual-in_err-reserve.ensures.1 (some (goal.at.returns-in_err-reserve-clause-spent c).Else-saturating_add-gt-MOST_INDICES)
 
 pub returns-in_err-make_room-clause-spent : goal.returns-in_err-make_room-clause-spent
 returns-in_err-make_room-clause-spent c =
-    let h = some (goal.at.returns-in_err-make_room-clause-spent c).Else-saturating_add-gt-MOST_INDICES in
-    search rules
+    no_other_fault c.from_residual-in_err-make_room.result _ c.from_residual-in_err-make_room.ensures.1 (some (goal.at.returns-in_err-make_room-clause-spent c).Else-saturating_add-gt-MOST_INDICES)
 
 pub returns-clause-spent : goal.returns-clause-spent
 returns-clause-spent c =
