@@ -29,3 +29,4 @@ pub mod TurnRows
 pub mod FieldRows
 pub mod ListedRows
 pub mod Sent
+mod Readers

@@ -20,3 +20,4 @@ pub mod Lent
 pub mod Answers
 pub mod Keeps
 pub mod Out
+pub mod Told

@@ -3,6 +3,7 @@
 
 mod closing;
 mod columns;
+mod condition_answer;
 pub mod field_words;
 pub mod memory;
 pub mod open_state;

@@ -25,6 +25,7 @@ ghost use Rattle.body.specs.Lent.{AreLent, lent_in, with_away, with_back};
 ghost use Rattle.body.specs.Out.{IsWrittenBy, AreOut};
 ghost use Rattle.body.specs.Steps.{AreInTime, HasShape, asked_at, at_clock, counted_state, laid, noted, store_of, target_in, with_slots_in, with_target};
 
+use crate::condition_answer::ask;
 use crate::memory::Memory;
 use crate::room::Room;
 use crate::state::{Memories, State};
@@ -36,7 +37,6 @@ use change_ticks::clock::LAST_TICK;
 use change_ticks::{ClockSpent, Tick};
 use command_queue::CommandBuffer;
 use command_queue::apply::apply;
-use condition_eval::answer::ask;
 use entity_table::Entity;
 use event_buffers::{Events, SendFault};
 use kinds::Event;

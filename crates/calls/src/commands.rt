@@ -6,6 +6,7 @@ ghost use Rattle.archetype_store.specs.Layout.{AreAllHome};
 use crate::bodies::TestBody;
 use crate::engines::{Systems, TestEngine, commanding};
 use crate::gates::{Rule, TestGate};
+use crate::runs::Way;
 use crate::threads::Trial;
 use crate::worlds::{FIRST, empty_world, put, world_of_one};
 use archetype_store::World;
@@ -16,7 +17,6 @@ use entity_table::Entity;
 use kinds::component::{Health, Score};
 use script::Rounds;
 use std::alloc::Global;
-use worker_pool::Single;
 
 // The second entity of a world.
 const SECOND: Entity = Entity {
@@ -73,10 +73,12 @@ fn spawners(alloc: Global) -> Option<TestEngine> {
 pub(crate) fn kept_again(alloc: Global) -> Option<bool> {
     let mut engine = spawners(alloc)?;
     let mut is_kept = true;
-    let refused = engine.run_kept(alloc, 1, &Single).err();
+    let refused = Way::Kept.run(&mut engine, alloc, 1);
     if refused.is_some() {
         is_kept = refused == Some(RunFault::Memory) && is_begun(engine.state());
-        engine.run_kept(alloc, 1, &Single).ok()?;
+        if Way::Kept.run(&mut engine, alloc, 1).is_some() {
+            return None;
+        }
     }
     Some(is_kept && have_spawned(&engine))
 }

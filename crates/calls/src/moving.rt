@@ -6,7 +6,7 @@ ghost use Rattle.archetype_store.specs.Layout.{AreAllHome};
 use crate::bodies::TestBody;
 use crate::engines::{Systems, TestEngine, made, params, script};
 use crate::gates::{Rule, TestGate};
-use crate::runs::{Plan, kept_runs_are, run_on_threads, runs_are};
+use crate::runs::{Plan, Way, run_on_threads};
 use crate::worlds::{FIRST, put, world_of_one};
 use access_set::Params;
 use archetype_store::World;
@@ -20,7 +20,6 @@ use script::{Rounds, ScriptBody};
 use std::alloc::Global;
 use std::sync::Wait;
 use std::thread::Threads;
-use worker_pool::Single;
 
 // The query of the system that moves, and what it does.
 const MOVING: &str = "mut Position, read Velocity";
@@ -63,7 +62,7 @@ fn position(state: &State) -> Option<Position> {
 /// After three runs from tick 1 the position is 3 and -6 since tick 9, the velocity as it was loaded, and the clock at tick 10.
 pub(crate) fn stamps(alloc: Global) -> Option<bool> {
     let mut engine = moving(alloc, Clock::at(1))?;
-    let has_run = runs_are(&mut engine, alloc, &[(3, None)]);
+    let has_run = Way::Plain.run(&mut engine, alloc, 3) == None;
     Some(has_run && is_moved(engine.state()))
 }
 
@@ -92,7 +91,7 @@ fn is_spoiled(alloc: Global, clock: Clock) -> Option<bool> {
         (1, Some(RunFault::Spoiled)),
         (0, Some(RunFault::Spoiled)),
     ];
-    Some(runs_are(&mut engine, alloc, &calls))
+    Some(Way::Plain.runs_are(&mut engine, alloc, &calls))
 }
 
 /// At a spent clock a run that is kept tells so as often as it is asked: the engine isn't spoiled.
@@ -102,15 +101,15 @@ pub(crate) fn kept_at_the_last_tick(alloc: Global) -> Option<bool> {
         (1, Some(RunFault::ClockSpent)),
         (1, Some(RunFault::ClockSpent)),
     ];
-    Some(kept_runs_are(&mut engine, alloc, &calls))
+    Some(Way::Kept.runs_are(&mut engine, alloc, &calls))
 }
 
 /// Two runs for which the clock has ticks for one leave no trace: position and clock are as they were, and one run may follow.
 pub(crate) fn kept_state(alloc: Global) -> Option<bool> {
     let mut engine = moving(alloc, Clock::at(LAST_TICK - 5))?;
-    let is_told = kept_runs_are(&mut engine, alloc, &[(2, Some(RunFault::ClockSpent))]);
+    let is_told = Way::Kept.run(&mut engine, alloc, 2) == Some(RunFault::ClockSpent);
     let stays = is_at(engine.state(), 0, 0) && engine.state().world().now() == LAST_TICK - 5;
-    let goes_on = kept_runs_are(&mut engine, alloc, &[(1, None)]);
+    let goes_on = Way::Kept.run(&mut engine, alloc, 1) == None;
     Some(is_told && stays && goes_on && is_at(engine.state(), 1, -2))
 }
 
@@ -141,8 +140,10 @@ fn engine_of_both<B: Body>(alloc: Global, bodies: Vec<B>) -> Option<Box<Engine<B
 // Where three runs of these two bodies on this thread move the first entity.
 fn alone<B: Body>(alloc: Global, bodies: Vec<B>) -> Option<Option<Position>> {
     let mut engine = engine_of_both(alloc, bodies)?;
-    engine.run(alloc, 3, &Single).ok()?;
-    Some(position(engine.state()))
+    match Way::Plain.run(&mut engine, alloc, 3) {
+        None => Some(position(engine.state())),
+        Some(_fault) => None,
+    }
 }
 
 // The same on two threads.

@@ -5,7 +5,7 @@ ghost use Rattle.archetype_store.specs.Layout.{AreAllHome};
 
 use crate::bodies::TestBody;
 use crate::engines::{Systems, TestEngine};
-use crate::runs::{kept_runs_are, runs_are};
+use crate::runs::Way;
 use crate::worlds::empty_world;
 use access_set::Params;
 use archetype_store::World;
@@ -57,7 +57,7 @@ fn refusing_at_one(alloc: Global) -> Option<TestEngine> {
 /// After three runs the total is 15 since tick 9 and the step 5 since tick 1, and register 0 of the one system is 3.
 pub(crate) fn three_tallies(alloc: Global) -> Option<bool> {
     let mut engine = adding_five(alloc)?;
-    let has_run = runs_are(&mut engine, alloc, &[(3, None)]);
+    let has_run = Way::Plain.run(&mut engine, alloc, 3) == None;
     Some(has_run && is_tallied(engine.state()))
 }
 
@@ -81,8 +81,8 @@ fn total(engine: &Engine<TestBody>) -> i64 {
 /// Three runs of which the second is refused leave the total at 0, and one run then adds to it.
 pub(crate) fn kept_total(alloc: Global) -> Option<bool> {
     let mut engine = refusing_at_one(alloc)?;
-    let is_refused = kept_runs_are(&mut engine, alloc, &[(3, Some(RunFault::BodyFault(7)))]);
+    let is_refused = Way::Kept.run(&mut engine, alloc, 3) == Some(RunFault::BodyFault(7));
     let before = total(&engine);
-    let has_run = kept_runs_are(&mut engine, alloc, &[(1, None)]);
+    let has_run = Way::Kept.run(&mut engine, alloc, 1) == None;
     Some(is_refused && before == 0 && has_run && total(&engine) == 1)
 }

@@ -13,32 +13,43 @@ use std::thread;
 use std::thread::{Scope, Threads};
 use worker_pool::{Single, Workers};
 
-/// Whether runs on this thread, so many at each call, stop by these faults, or by none.
-pub(crate) fn runs_are(
-    engine: &mut Engine<TestBody>,
-    alloc: Global,
-    calls: &[(u32, Option<RunFault>)],
-) -> bool {
-    for (times, fault) in calls {
-        if engine.run(alloc, *times, &Single).err() != *fault {
-            return false;
-        }
-    }
-    true
+/// How an engine is run on this thread.
+#[derive(Clone, Copy)]
+pub enum Way {
+    /// By `run`.
+    Plain,
+    /// By `run_kept`, which leaves no trace of a fault.
+    Kept,
 }
 
-/// Whether the same is so of runs that leave no trace of a fault.
-pub(crate) fn kept_runs_are(
-    engine: &mut Engine<TestBody>,
-    alloc: Global,
-    calls: &[(u32, Option<RunFault>)],
-) -> bool {
-    for (times, fault) in calls {
-        if engine.run_kept(alloc, *times, &Single).err() != *fault {
-            return false;
+impl Way {
+    /// Runs an engine so many times on this thread. Tells the fault that stopped it, if one did.
+    pub(crate) fn run<B: Body>(
+        self,
+        engine: &mut Engine<B>,
+        alloc: Global,
+        times: u32,
+    ) -> Option<RunFault> {
+        match self {
+            Way::Plain => engine.run(alloc, times, &Single).err(),
+            Way::Kept => engine.run_kept(alloc, times, &Single).err(),
         }
     }
-    true
+
+    /// Whether runs, so many at each call, stop by these faults, or by none.
+    pub(crate) fn runs_are(
+        self,
+        engine: &mut Engine<TestBody>,
+        alloc: Global,
+        calls: &[(u32, Option<RunFault>)],
+    ) -> bool {
+        for (times, fault) in calls {
+            if self.run(engine, alloc, *times) != *fault {
+                return false;
+            }
+        }
+        true
+    }
 }
 
 /// On how many threads an engine runs, how often, and whether each start has a thread of its own.

@@ -14,6 +14,7 @@ use event_buffers::{Events, Unread};
 use executor_core::{Core, Step, StepFault};
 use kinds::component::Health;
 use kinds::{Event, Kind};
+use schedule_builder::Built;
 use std::alloc::Global;
 use trace_checker::WriteFault;
 use trace_checker::read::read_traces;
@@ -99,11 +100,16 @@ pub(crate) fn steps(alloc: Global) -> Option<bool> {
     all.push(params(alloc, "mut Health")?).ok()?;
     all.push(params(alloc, "mut Health")?).ok()?;
     let built = built_of(alloc, all)?;
-    let mut core = Box::new(alloc, Core::new(alloc, &built).ok()?).ok()?;
+    conflict_in(alloc, &built)
+}
+
+// Whether the second system of a schedule may not start while the first runs.
+fn conflict_in(alloc: Global, built: &Built) -> Option<bool> {
+    let mut core = Box::new(alloc, Core::new(alloc, built).ok()?).ok()?;
     Some(conflict(&mut core))
 }
 
-// Whether the second system may not start while the first runs.
+// The same of a core that has taken no step.
 fn conflict(core: &mut Core<'_>) -> bool {
     let first = core.may(Step::Start(0)).is_ok() && core.step(Step::Start(0)).is_ok();
     let second = core.may(Step::Start(1)) == Err(StepFault::Conflict);

@@ -6,7 +6,7 @@ use crate::bodies::TestBody;
 use crate::commands::{has_score, have_spawned};
 use crate::engines::{Systems, TestEngine, params};
 use crate::gates::{Rule, TestGate};
-use crate::runs::{Plan, Ran, run_on_threads, runs_are};
+use crate::runs::{Plan, Ran, Way, run_on_threads};
 use crate::trials::Setup;
 use crate::worlds::{empty_world, frozen_and_hidden};
 use access_set::Params;
@@ -233,7 +233,7 @@ pub(crate) fn refuse(alloc: Global) -> Option<bool> {
         (1, Some(RunFault::BodyFault(7))),
         (1, Some(RunFault::Spoiled)),
     ];
-    Some(runs_are(&mut engine, alloc, &calls))
+    Some(Way::Plain.runs_are(&mut engine, alloc, &calls))
 }
 
 // Four starts at once on four threads, one of which refuses.

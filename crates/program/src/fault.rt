@@ -17,7 +17,7 @@ use trace_checker::TextFault;
 use trace_checker::check::number_of;
 
 /// Why the work is not done. It is printed as the line that the standard error gets, without its end.
-#[derive(Debug, Drop)]
+#[derive(Drop)]
 pub enum Fault {
     /// The program file is longer than its limit.
     TooLong,
@@ -110,6 +110,14 @@ impl fmt::Display for Fault {
             Fault::Memory => write!(f, "error memory"),
             Fault::NoWorker => write!(f, "error worker"),
         }
+    }
+}
+
+impl fmt::Debug for Fault {
+    ghost debug_output = { λ fault. Some (fault_text fault) };
+
+    fn fmt<W: fmt::Write>(&self, f: &mut fmt::Formatter<W>) -> fmt::Result {
+        fmt::Display::fmt(self, f)
     }
 }
 

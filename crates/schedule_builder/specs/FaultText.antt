@@ -1,8 +1,10 @@
 -- What a refused schedule is told as.
-use Rattle.std.specs.Prelude.{ℕ, List, ◌∷◌, ◌++◌, take, flat_map, codes, decimal, string_bytes}
+use Rattle.std.specs.Prelude.{ℕ, List, [], ◌∷◌, ◌++◌, take, flat_map, codes, decimal, string_bytes}
 use Rattle.std.specs.declared.string.String.{String}
 use Rattle.std.specs.declared.alloc.Global.{Global}
 use Rattle.schedule_builder.specs.declared.fault.BuildFault.{BuildFault}
+use Rattle.schedule_builder.specs.declared.fault.Word.{Word}
+use Rattle.schedule_builder.specs.declared.fault.Word.TheVariants.{Nothing, Name, Number, Condition, Cycle}
 use Rattle.schedule_builder.specs.declared.fault.BuildFault.TheVariants.{UnknownName, DuplicateName, HierarchyLoop, HierarchyCycle, DependencyLoop, CrossDependency, SetsIntersect, DependencyCycle, SelfConflict, BadQuery, BadConditionQuery, ConditionWrites, OverLimit, Memory}
 
 -- a name with a space before it
@@ -29,3 +31,11 @@ build_fault_text (BadConditionQuery condition query fault) = codes "refused B10 
 build_fault_text (ConditionWrites condition) = codes "refused B11 #" ++ decimal condition
 build_fault_text (OverLimit limit) = codes "refused B12" ++ (32 ∷ decimal limit)
 build_fault_text Memory = codes "error memory"
+
+-- what a word adds to a line
+abbrev pub word_text : Word → List ℕ
+word_text Nothing = []
+word_text (Name name) = 32 ∷ name.now
+word_text (Number number) = 32 ∷ decimal number
+word_text (Condition condition) = codes " #" ++ decimal condition
+word_text (Cycle names) = cycle_text names.now

@@ -1,8 +1,8 @@
 // Why a schedule is refused, as the program tells it.
 
-ghost use Rattle.std.specs.Prelude.{◌≡◌, Some};
+ghost use Rattle.std.specs.Prelude.{◌≡◌, ◌∷◌, ◌++◌, Some};
 ghost use Rattle.std.specs.Fmt.{WritesOnOk};
-ghost use Rattle.schedule_builder.specs.FaultText.{build_fault_text, cycle_text};
+ghost use Rattle.schedule_builder.specs.FaultText.{build_fault_text, cycle_text, word_text};
 ghost use Rattle.schedule_builder.specs.declared.fault.BuildFault.TheVariants.{Memory};
 
 use std::alloc::{AllocError, AllocFailed};
@@ -10,7 +10,7 @@ use std::error::Error;
 use std::fmt;
 
 /// Why a schedule is refused. It is printed as the program tells it, as `refused B6 a b c a`.
-#[derive(Debug, Drop)]
+#[derive(Drop)]
 pub enum BuildFault {
     /// B1: no item has this name, which is the first such name that is looked up.
     UnknownName(String),
@@ -64,40 +64,145 @@ impl fmt::Display for BuildFault {
     ghost output = { λ fault. Some (build_fault_text fault) };
 
     fn fmt<W: fmt::Write>(&self, f: &mut fmt::Formatter<W>) -> fmt::Result {
+        let (code, first, second, third) = self.line();
+        write!(f, "{code}{first}{second}{third}")
+    }
+}
+
+impl fmt::Debug for BuildFault {
+    ghost debug_output = { λ fault. Some (build_fault_text fault) };
+
+    fn fmt<W: fmt::Write>(&self, f: &mut fmt::Formatter<W>) -> fmt::Result {
+        fmt::Display::fmt(self, f)
+    }
+}
+
+// What stands in a line behind its code, a space before each, or nothing.
+#[derive(Clone, Copy)]
+enum Word<'a> {
+    Nothing,
+    Name(&'a str),
+    Number(usize),
+    Condition(usize),
+    Cycle(&'a [String]),
+}
+
+impl fmt::Display for Word<'_> {
+    ghost output = { λ word. Some (word_text word) };
+
+    fn fmt<W: fmt::Write>(&self, f: &mut fmt::Formatter<W>) -> fmt::Result {
         match self {
-            BuildFault::UnknownName(name) => write!(f, "refused B1 {name}"),
-            BuildFault::DuplicateName(name) => write!(f, "refused B2 {name}"),
-            BuildFault::HierarchyLoop(name) => write!(f, "refused B3 {name}"),
-            BuildFault::HierarchyCycle(names) => {
-                write!(f, "refused B4")?;
-                write_cycle(f, names)
-            }
-            BuildFault::DependencyLoop(name) => write!(f, "refused B5 {name}"),
-            BuildFault::CrossDependency { item, set } => write!(f, "refused B7 {item} {set}"),
+            Word::Nothing => Ok(()),
+            Word::Name(name) => write_name(f, name),
+            Word::Number(number) => write!(f, " {number}"),
+            Word::Condition(number) => write!(f, " #{number}"),
+            Word::Cycle(names) => write_cycle(f, names),
+        }
+    }
+}
+
+impl BuildFault {
+    // The line of the fault: its code, and up to three words.
+    fn line(&self) -> (&'static str, Word<'_>, Word<'_>, Word<'_>)
+        ensures { result.0.now ++ word_text result.1 ++ word_text result.2 ++ word_text result.3 ≡ build_fault_text self.now }
+    {
+        match self {
+            BuildFault::UnknownName(name) => (
+                "refused B1",
+                Word::Name(name),
+                Word::Nothing,
+                Word::Nothing,
+            ),
+            BuildFault::DuplicateName(name) => (
+                "refused B2",
+                Word::Name(name),
+                Word::Nothing,
+                Word::Nothing,
+            ),
+            BuildFault::HierarchyLoop(name) => (
+                "refused B3",
+                Word::Name(name),
+                Word::Nothing,
+                Word::Nothing,
+            ),
+            BuildFault::HierarchyCycle(names) => (
+                "refused B4",
+                Word::Cycle(names),
+                Word::Nothing,
+                Word::Nothing,
+            ),
+            BuildFault::DependencyLoop(name) => (
+                "refused B5",
+                Word::Name(name),
+                Word::Nothing,
+                Word::Nothing,
+            ),
+            BuildFault::DependencyCycle(names) => (
+                "refused B6",
+                Word::Cycle(names),
+                Word::Nothing,
+                Word::Nothing,
+            ),
+            BuildFault::CrossDependency { item, set } => (
+                "refused B7",
+                Word::Name(item),
+                Word::Name(set),
+                Word::Nothing,
+            ),
             BuildFault::SetsIntersect {
                 first,
                 second,
                 system,
-            } => write!(f, "refused B8 {first} {second} {system}"),
-            BuildFault::DependencyCycle(names) => {
-                write!(f, "refused B6")?;
-                write_cycle(f, names)
-            }
-            BuildFault::SelfConflict(name) => write!(f, "refused B9 {name}"),
-            BuildFault::BadQuery { owner, query, case } => write!(
-                f,
-                "refused B10 {owner} {query} {case}"
+            } => (
+                "refused B8",
+                Word::Name(first),
+                Word::Name(second),
+                Word::Name(system),
+            ),
+            BuildFault::SelfConflict(name) => (
+                "refused B9",
+                Word::Name(name),
+                Word::Nothing,
+                Word::Nothing,
+            ),
+            BuildFault::BadQuery { owner, query, case } => (
+                "refused B10",
+                Word::Name(owner),
+                Word::Number(*query),
+                Word::Number(*case as usize),
             ),
             BuildFault::BadConditionQuery {
                 condition,
                 query,
                 case,
-            } => write!(f, "refused B10 #{condition} {query} {case}"),
-            BuildFault::ConditionWrites(condition) => write!(f, "refused B11 #{condition}"),
-            BuildFault::OverLimit(limit) => write!(f, "refused B12 {limit}"),
-            BuildFault::Memory => write!(f, "error memory"),
+            } => (
+                "refused B10",
+                Word::Condition(*condition),
+                Word::Number(*query),
+                Word::Number(*case as usize),
+            ),
+            BuildFault::ConditionWrites(condition) => (
+                "refused B11",
+                Word::Condition(*condition),
+                Word::Nothing,
+                Word::Nothing,
+            ),
+            BuildFault::OverLimit(limit) => (
+                "refused B12",
+                Word::Number(*limit as usize),
+                Word::Nothing,
+                Word::Nothing,
+            ),
+            BuildFault::Memory => ("error memory", Word::Nothing, Word::Nothing, Word::Nothing),
         }
     }
+}
+
+// Writes a name, with a space before it.
+fn write_name<W: fmt::Write>(f: &mut fmt::Formatter<W>, name: &str) -> fmt::Result
+    ensures { WritesOnOk W.write_str_gives f.old result (32 ∷ name.now) f.new }
+{
+    write!(f, " {name}")
 }
 
 // Writes the names of a cycle, a space before each, and its first name again.
@@ -105,10 +210,10 @@ fn write_cycle<W: fmt::Write>(f: &mut fmt::Formatter<W>, names: &[String]) -> fm
     ensures { WritesOnOk W.write_str_gives f.old result (cycle_text names.now) f.new }
 {
     for name in names {
-        write!(f, " {name}")?;
+        write_name(f, name)?;
     }
     match names.first() {
-        Some(name) => write!(f, " {name}"),
+        Some(name) => write_name(f, name),
         None => Ok(()),
     }
 }

@@ -5,6 +5,12 @@ pub mod Parts
 mod Faulty
 mod Running
 mod Terms
+mod Causes
+mod Fields
+mod Spelled
+mod Stepped
+mod CodeFaults
+mod Together
 mod Within
 pub mod RowCells
 pub mod Words

@@ -1,7 +1,5 @@
 -- What is neither an integer nor a target is no source.
-use Rattle.std.proofs.Common.{◌≡◌, ℕ, List, ap, codes, subst}
-use Rattle.std.proofs.Common.{arith}
-use Rattle.std.proofs.lemmas.Grind.{common_steps}
+use Rattle.std.proofs.Common.{◌≡◌, ℕ, List, sym, ap, codes, subst}
 use Rattle.parsing.specs.Integer.{IsInteger}
 use Rattle.parsing.specs.Reads.{SpellsNone, SpellsOnly}
 use Rattle.script.specs.declared.operands.Source.{Source}
@@ -9,6 +7,7 @@ use Rattle.script.specs.declared.operands.Target.{Target}
 use Rattle.script.specs.declared.operands.Source.TheVariants.{Integer, Register, Field, Resource, Event}
 use Rattle.script.specs.declared.operands.Target.TheVariants as target
 use Rattle.script.specs.Operands.{IsTarget, IsSource}
+use Rattle.script.proofs.Spelled.{apart}
 use Rattle.script.proofs.operands.Source.read.Goals as goal
 
 no_source : (word : List ℕ) → (word ≡ codes "event" → ⊥) → SpellsNone IsInteger word → SpellsNone IsTarget word → SpellsNone IsSource word
@@ -19,7 +18,7 @@ no_source word no_event no_integer no_target (Resource resource) spelled = no_ta
 no_source word no_event no_integer no_target Event spelled = no_event spelled
 
 pub returns-in_err-number : goal.returns-in_err-number
-returns-in_err-number c = rw c.from_residual.ensures (no_source c.args.word.now (λ e. grind (arith, common_steps, e, c.if-eq.false, c.if-eq.ensures)) c.in_default.ensures c.in_err-number.ensures)
+returns-in_err-number c = rw c.from_residual.ensures (no_source c.args.word.now (apart c.args.word.now (codes "event") (sym c.if-eq.ensures)) c.in_default.ensures c.in_err-number.ensures)
 
 -- what a target is as a source
 abbrev source_of : Target → Source
@@ -44,10 +43,10 @@ source_is : (word : List ℕ) (t read : Target) → (word ≡ codes "event" → 
 source_is word t read no_event no_integer only is = subst (λ (r : Target). SpellsOnly IsSource word (source_of r)) is (spelled_of word t only.0, only_of word t no_event no_integer only.1)
 
 pub returns-in-Register : goal.returns-in-Register
-returns-in-Register c = source_is c.args.word.now c.in_ok-number.field-0 _ (λ e. grind (arith, common_steps, e, c.if-eq.false, c.if-eq.ensures)) c.in_default.ensures c.in_ok-number.ensures c.in-Register.is
+returns-in-Register c = source_is c.args.word.now c.in_ok-number.field-0 _ (apart c.args.word.now (codes "event") (sym c.if-eq.ensures)) c.in_default.ensures c.in_ok-number.ensures c.in-Register.is
 
 pub returns-in-Field : goal.returns-in-Field
-returns-in-Field c = source_is c.args.word.now c.in_ok-number.field-0 _ (λ e. grind (arith, common_steps, e, c.if-eq.false, c.if-eq.ensures)) c.in_default.ensures c.in_ok-number.ensures c.in-Field.is
+returns-in-Field c = source_is c.args.word.now c.in_ok-number.field-0 _ (apart c.args.word.now (codes "event") (sym c.if-eq.ensures)) c.in_default.ensures c.in_ok-number.ensures c.in-Field.is
 
 pub returns-in-Resource : goal.returns-in-Resource
-returns-in-Resource c = source_is c.args.word.now c.in_ok-number.field-0 _ (λ e. grind (arith, common_steps, e, c.if-eq.false, c.if-eq.ensures)) c.in_default.ensures c.in_ok-number.ensures c.in-Resource.is
+returns-in-Resource c = source_is c.args.word.now c.in_ok-number.field-0 _ (apart c.args.word.now (codes "event") (sym c.if-eq.ensures)) c.in_default.ensures c.in_ok-number.ensures c.in-Resource.is

@@ -9,7 +9,7 @@ use Rattle.model.specs.shown.Input.{rows_of}
 use Rattle.model.specs.state.State.{World, EventQueue}
 use Rattle.run_condition.specs.Tree.{condition_of}
 use Rattle.run_condition.specs.declared.cond.Tree.{Tree}
-use Rattle.condition_eval.specs.Told.{IsMeant}
+use Rattle.body.specs.Told.{IsMeant}
 
 -- lists of the same entities are both there or both not
 pub there_alike : {A B C : Type 0} (f : A → C) (g : B → C) (xs : List A) (ys : List B) → map f xs ≡ map g ys → is_there xs ≡ is_there ys

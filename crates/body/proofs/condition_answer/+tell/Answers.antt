@@ -2,8 +2,8 @@ use Rattle.std.proofs.Common.{List}
 use Rattle.model.specs.access.Query.{Term}
 use Rattle.query_plan.specs.Standing.{ArePickedHome}
 use Rattle.run_condition.specs.Tree.{condition_of}
-use Rattle.condition_eval.proofs.Readers.{within_is, inner_of_not, first_of_and, second_of_and, first_of_or, second_of_or}
-use Rattle.condition_eval.proofs.answer.+tell.Goals as goal
+use Rattle.body.proofs.Readers.{within_is, inner_of_not, first_of_and, second_of_and, first_of_or, second_of_or}
+use Rattle.body.proofs.condition_answer.+tell.Goals as goal
 
 pub tell-requires : goal.tell-requires
 tell-requires t c =

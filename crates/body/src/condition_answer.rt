@@ -10,7 +10,7 @@ ghost use Rattle.model.specs.access.Condition.{holds, cursors_after, queries_of}
 ghost use Rattle.kinds.specs.Res.{event_number};
 ghost use Rattle.query_plan.specs.Standing.{ArePickedHome};
 ghost use Rattle.run_condition.specs.Tree.{condition_of};
-ghost use Rattle.condition_eval.specs.Told.{IsMeant};
+ghost use Rattle.body.specs.Told.{IsMeant};
 
 use archetype_store::World;
 use change_ticks::Tick;
@@ -32,7 +32,7 @@ struct Told<'a> {
 /// What a condition answers in a state with this world and these events, for who asked it last at a tick (0 where it was never asked), and
 /// whose event readers have these cursors, in order. Asks that the columns that its queries touch are at home. Its queries are planned in buffers
 /// of this room, so that it takes no memory once one like it was asked. Fails only for a failed allocation.
-pub fn ask(
+pub(crate) fn ask(
     alloc: Global,
     cond: &Cond,
     world: &World,

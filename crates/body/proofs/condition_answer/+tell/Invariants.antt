@@ -1,6 +1,6 @@
 use Rattle.run_condition.specs.Tree.{condition_of}
-use Rattle.condition_eval.proofs.Readers.{parts}
-use Rattle.condition_eval.proofs.answer.+tell.Given as goal
+use Rattle.body.proofs.Readers.{parts}
+use Rattle.body.proofs.condition_answer.+tell.Given as goal
 
 -- what is within has fewer parts than the whole
 abbrev pub decreases-tell : goal.decreases-tell

@@ -1,4 +1,0 @@
-// What run conditions answer of a world and its events.
-#![tactic(auto)]
-
-pub mod answer;
