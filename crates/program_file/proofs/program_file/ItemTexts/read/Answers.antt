@@ -7,6 +7,7 @@ use Rattle.program_file.specs.Faults.{HasItemKeys, IsUnkeyed}
 use Rattle.program_file.proofs.Wrong.{unkeyed, value-no_text}
 use Rattle.program_file.proofs.program_file.ItemTexts.read.Goals as goal
 use Rattle.model.proofs.lists.Results.{handed_on}
+use Rattle.std.proofs.lemmas.Result.{IfOk-from_err}
 
 -- each list is that of its key
 pub returns-clause-said : goal.returns-clause-said
@@ -80,3 +81,28 @@ returns-in_err-texts_at-clause-unkeyed c =
     let fault = c.in_err-texts_at.field-0.0 in
     handed_on (IsUnkeyed (HasItemKeys table)) c.from_residual-in_err-texts_at.result fault c.from_residual-in_err-texts_at.ensures.1
     (unkeyed (λ (texts : List (List ℕ)). HasTexts (codes "if") texts table) (HasItemKeys table) fault (λ keys. keys.conditions) c.in_err-texts_at.ensures.refused c.in_err-texts_at.ensures.err)
+
+-- at an error there is no item
+pub returns-in_err-name_at-clause-said : goal.returns-in_err-name_at-clause-said
+returns-in_err-name_at-clause-said c = IfOk-from_err c.from_residual.result _ c.from_residual.ensures.0
+
+pub returns-in_err-names_at-clause-said : goal.returns-in_err-names_at-clause-said
+returns-in_err-names_at-clause-said c = IfOk-from_err c.from_residual-in_err-names_at.result _ c.from_residual-in_err-names_at.ensures.0
+
+pub returns-in_err-names_at-2-clause-said : goal.returns-in_err-names_at-2-clause-said
+returns-in_err-names_at-2-clause-said c = IfOk-from_err c.from_residual-in_err-names_at-2.result _ c.from_residual-in_err-names_at-2.ensures.0
+
+pub returns-in_err-names_at-3-clause-said : goal.returns-in_err-names_at-3-clause-said
+returns-in_err-names_at-3-clause-said c = IfOk-from_err c.from_residual-in_err-names_at-3.result _ c.from_residual-in_err-names_at-3.ensures.0
+
+pub returns-in_err-names_at-4-clause-said : goal.returns-in_err-names_at-4-clause-said
+returns-in_err-names_at-4-clause-said c = IfOk-from_err c.from_residual-in_err-names_at-4.result _ c.from_residual-in_err-names_at-4.ensures.0
+
+pub returns-in_err-names_at-5-clause-said : goal.returns-in_err-names_at-5-clause-said
+returns-in_err-names_at-5-clause-said c = IfOk-from_err c.from_residual-in_err-names_at-5.result _ c.from_residual-in_err-names_at-5.ensures.0
+
+pub returns-in_err-names_at-6-clause-said : goal.returns-in_err-names_at-6-clause-said
+returns-in_err-names_at-6-clause-said c = IfOk-from_err c.from_residual-in_err-names_at-6.result _ c.from_residual-in_err-names_at-6.ensures.0
+
+pub returns-in_err-texts_at-clause-said : goal.returns-in_err-texts_at-clause-said
+returns-in_err-texts_at-clause-said c = IfOk-from_err c.from_residual-in_err-texts_at.result _ c.from_residual-in_err-texts_at.ensures.0

@@ -17,6 +17,8 @@ use Rattle.program_file.proofs.Mapped.{of-mapped}
 use Rattle.program_file.proofs.Wrong.{err-both, told-at, top-told, resources-told, entities-told, sets-told, systems-told, chains-told, fine-all}
 use Rattle.program_file.proofs.program_file.ProgramFile.read.Goals as goal
 use Rattle.model.proofs.lists.Results.{handed_on}
+use Rattle.std.proofs.lemmas.Result.{IfOk-from_err}
+use Rattle.program_file.specs.PlaceFault.{IsOfPlace}
 
 -- the tables at the top, as they were read
 abbrev tables_of : Top → TopTables
@@ -168,3 +170,124 @@ returns-in_err-chains-clause-fault c =
     let fault = c.in_err-chains.field-0.0 in
     handed_on (IsFaultOf document) c.from_residual-in_err-chains.result fault c.from_residual-in_err-chains.ensures.1
     (chains-told document (tables_of top) there fault values entities sets systems (shown (λ number. Chain number) HasChain IsChainIn c.as_slice-4.result.now top.chains.items fault c.as_slice-4.ensures.value c.in_err-chains.ensures.fault))
+
+-- at an error there is no file, and the fault of a list is of a place
+pub returns-in_err-top-clause-keys : goal.returns-in_err-top-clause-keys
+returns-in_err-top-clause-keys c = IfOk-from_err c.from_residual.result _ c.from_residual.ensures.0
+
+pub returns-in_err-top-clause-resources : goal.returns-in_err-top-clause-resources
+returns-in_err-top-clause-resources c = IfOk-from_err c.from_residual.result _ c.from_residual.ensures.0
+
+pub returns-in_err-top-clause-entities : goal.returns-in_err-top-clause-entities
+returns-in_err-top-clause-entities c = IfOk-from_err c.from_residual.result _ c.from_residual.ensures.0
+
+pub returns-in_err-top-clause-sets : goal.returns-in_err-top-clause-sets
+returns-in_err-top-clause-sets c = IfOk-from_err c.from_residual.result _ c.from_residual.ensures.0
+
+pub returns-in_err-top-clause-systems : goal.returns-in_err-top-clause-systems
+returns-in_err-top-clause-systems c = IfOk-from_err c.from_residual.result _ c.from_residual.ensures.0
+
+pub returns-in_err-top-clause-chains : goal.returns-in_err-top-clause-chains
+returns-in_err-top-clause-chains c = IfOk-from_err c.from_residual.result _ c.from_residual.ensures.0
+
+pub returns-in_err-resources-clause-keys : goal.returns-in_err-resources-clause-keys
+returns-in_err-resources-clause-keys c = IfOk-from_err c.from_residual-in_err-resources.result _ c.from_residual-in_err-resources.ensures.0
+
+pub returns-in_err-resources-clause-resources : goal.returns-in_err-resources-clause-resources
+returns-in_err-resources-clause-resources c = IfOk-from_err c.from_residual-in_err-resources.result _ c.from_residual-in_err-resources.ensures.0
+
+pub returns-in_err-resources-clause-entities : goal.returns-in_err-resources-clause-entities
+returns-in_err-resources-clause-entities c = IfOk-from_err c.from_residual-in_err-resources.result _ c.from_residual-in_err-resources.ensures.0
+
+pub returns-in_err-resources-clause-sets : goal.returns-in_err-resources-clause-sets
+returns-in_err-resources-clause-sets c = IfOk-from_err c.from_residual-in_err-resources.result _ c.from_residual-in_err-resources.ensures.0
+
+pub returns-in_err-resources-clause-systems : goal.returns-in_err-resources-clause-systems
+returns-in_err-resources-clause-systems c = IfOk-from_err c.from_residual-in_err-resources.result _ c.from_residual-in_err-resources.ensures.0
+
+pub returns-in_err-resources-clause-chains : goal.returns-in_err-resources-clause-chains
+returns-in_err-resources-clause-chains c = IfOk-from_err c.from_residual-in_err-resources.result _ c.from_residual-in_err-resources.ensures.0
+
+pub returns-in_err-entities-clause-keys : goal.returns-in_err-entities-clause-keys
+returns-in_err-entities-clause-keys c = IfOk-from_err c.from_residual-in_err-entities.result _ c.from_residual-in_err-entities.ensures.0
+
+pub returns-in_err-entities-clause-resources : goal.returns-in_err-entities-clause-resources
+returns-in_err-entities-clause-resources c = IfOk-from_err c.from_residual-in_err-entities.result _ c.from_residual-in_err-entities.ensures.0
+
+pub returns-in_err-entities-clause-entities : goal.returns-in_err-entities-clause-entities
+returns-in_err-entities-clause-entities c = IfOk-from_err c.from_residual-in_err-entities.result _ c.from_residual-in_err-entities.ensures.0
+
+pub returns-in_err-entities-clause-sets : goal.returns-in_err-entities-clause-sets
+returns-in_err-entities-clause-sets c = IfOk-from_err c.from_residual-in_err-entities.result _ c.from_residual-in_err-entities.ensures.0
+
+pub returns-in_err-entities-clause-systems : goal.returns-in_err-entities-clause-systems
+returns-in_err-entities-clause-systems c = IfOk-from_err c.from_residual-in_err-entities.result _ c.from_residual-in_err-entities.ensures.0
+
+pub returns-in_err-entities-clause-chains : goal.returns-in_err-entities-clause-chains
+returns-in_err-entities-clause-chains c = IfOk-from_err c.from_residual-in_err-entities.result _ c.from_residual-in_err-entities.ensures.0
+
+pub returns-in_err-entities-clause-err : goal.returns-in_err-entities-clause-err
+returns-in_err-entities-clause-err c = handed_on IsOfPlace c.from_residual-in_err-entities.result c.in_err-entities.field-0.0 c.from_residual-in_err-entities.ensures.1 c.in_err-entities.ensures.err
+
+pub returns-in_err-sets-clause-keys : goal.returns-in_err-sets-clause-keys
+returns-in_err-sets-clause-keys c = IfOk-from_err c.from_residual-in_err-sets.result _ c.from_residual-in_err-sets.ensures.0
+
+pub returns-in_err-sets-clause-resources : goal.returns-in_err-sets-clause-resources
+returns-in_err-sets-clause-resources c = IfOk-from_err c.from_residual-in_err-sets.result _ c.from_residual-in_err-sets.ensures.0
+
+pub returns-in_err-sets-clause-entities : goal.returns-in_err-sets-clause-entities
+returns-in_err-sets-clause-entities c = IfOk-from_err c.from_residual-in_err-sets.result _ c.from_residual-in_err-sets.ensures.0
+
+pub returns-in_err-sets-clause-sets : goal.returns-in_err-sets-clause-sets
+returns-in_err-sets-clause-sets c = IfOk-from_err c.from_residual-in_err-sets.result _ c.from_residual-in_err-sets.ensures.0
+
+pub returns-in_err-sets-clause-systems : goal.returns-in_err-sets-clause-systems
+returns-in_err-sets-clause-systems c = IfOk-from_err c.from_residual-in_err-sets.result _ c.from_residual-in_err-sets.ensures.0
+
+pub returns-in_err-sets-clause-chains : goal.returns-in_err-sets-clause-chains
+returns-in_err-sets-clause-chains c = IfOk-from_err c.from_residual-in_err-sets.result _ c.from_residual-in_err-sets.ensures.0
+
+pub returns-in_err-sets-clause-err : goal.returns-in_err-sets-clause-err
+returns-in_err-sets-clause-err c = handed_on IsOfPlace c.from_residual-in_err-sets.result c.in_err-sets.field-0.0 c.from_residual-in_err-sets.ensures.1 c.in_err-sets.ensures.err
+
+pub returns-in_err-systems-clause-keys : goal.returns-in_err-systems-clause-keys
+returns-in_err-systems-clause-keys c = IfOk-from_err c.from_residual-in_err-systems.result _ c.from_residual-in_err-systems.ensures.0
+
+pub returns-in_err-systems-clause-resources : goal.returns-in_err-systems-clause-resources
+returns-in_err-systems-clause-resources c = IfOk-from_err c.from_residual-in_err-systems.result _ c.from_residual-in_err-systems.ensures.0
+
+pub returns-in_err-systems-clause-entities : goal.returns-in_err-systems-clause-entities
+returns-in_err-systems-clause-entities c = IfOk-from_err c.from_residual-in_err-systems.result _ c.from_residual-in_err-systems.ensures.0
+
+pub returns-in_err-systems-clause-sets : goal.returns-in_err-systems-clause-sets
+returns-in_err-systems-clause-sets c = IfOk-from_err c.from_residual-in_err-systems.result _ c.from_residual-in_err-systems.ensures.0
+
+pub returns-in_err-systems-clause-systems : goal.returns-in_err-systems-clause-systems
+returns-in_err-systems-clause-systems c = IfOk-from_err c.from_residual-in_err-systems.result _ c.from_residual-in_err-systems.ensures.0
+
+pub returns-in_err-systems-clause-chains : goal.returns-in_err-systems-clause-chains
+returns-in_err-systems-clause-chains c = IfOk-from_err c.from_residual-in_err-systems.result _ c.from_residual-in_err-systems.ensures.0
+
+pub returns-in_err-systems-clause-err : goal.returns-in_err-systems-clause-err
+returns-in_err-systems-clause-err c = handed_on IsOfPlace c.from_residual-in_err-systems.result c.in_err-systems.field-0.0 c.from_residual-in_err-systems.ensures.1 c.in_err-systems.ensures.err
+
+pub returns-in_err-chains-clause-keys : goal.returns-in_err-chains-clause-keys
+returns-in_err-chains-clause-keys c = IfOk-from_err c.from_residual-in_err-chains.result _ c.from_residual-in_err-chains.ensures.0
+
+pub returns-in_err-chains-clause-resources : goal.returns-in_err-chains-clause-resources
+returns-in_err-chains-clause-resources c = IfOk-from_err c.from_residual-in_err-chains.result _ c.from_residual-in_err-chains.ensures.0
+
+pub returns-in_err-chains-clause-entities : goal.returns-in_err-chains-clause-entities
+returns-in_err-chains-clause-entities c = IfOk-from_err c.from_residual-in_err-chains.result _ c.from_residual-in_err-chains.ensures.0
+
+pub returns-in_err-chains-clause-sets : goal.returns-in_err-chains-clause-sets
+returns-in_err-chains-clause-sets c = IfOk-from_err c.from_residual-in_err-chains.result _ c.from_residual-in_err-chains.ensures.0
+
+pub returns-in_err-chains-clause-systems : goal.returns-in_err-chains-clause-systems
+returns-in_err-chains-clause-systems c = IfOk-from_err c.from_residual-in_err-chains.result _ c.from_residual-in_err-chains.ensures.0
+
+pub returns-in_err-chains-clause-chains : goal.returns-in_err-chains-clause-chains
+returns-in_err-chains-clause-chains c = IfOk-from_err c.from_residual-in_err-chains.result _ c.from_residual-in_err-chains.ensures.0
+
+pub returns-in_err-chains-clause-err : goal.returns-in_err-chains-clause-err
+returns-in_err-chains-clause-err c = handed_on IsOfPlace c.from_residual-in_err-chains.result c.in_err-chains.field-0.0 c.from_residual-in_err-chains.ensures.1 c.in_err-chains.ensures.err
