@@ -33,8 +33,8 @@ pub none_beside_met : (footprints : List Footprint) (n i : ℕ) (one other : Foo
 none_beside_met footprints n i one other met low below first second is unmet none m less differ meet = elim (cases_lt m i) [
   | inl before ↦ none m before differ meet
   | inr more ↦ let same : m ≡ i = omega arith in
-    both_ways met unmet (is ∙ (read_meet footprints n i one other low below first second
-    ∙ subst (λ (j : ℕ). footprints_meet (get_or footprints n no_kinds) (get_or footprints j no_kinds) ≡ true) same meet))
+      both_ways met unmet (is ∙ (read_meet footprints n i one other low below first second
+      ∙ subst (λ (j : ℕ). footprints_meet (get_or footprints n no_kinds) (get_or footprints j no_kinds) ≡ true) same meet))
 ]
 
 -- nor itself
@@ -73,8 +73,8 @@ pub no_writer_still : (footprints : List Footprint) (i : ℕ) (one : Footprint) 
 no_writer_still footprints i one writes low at is unset none n less writing beside = elim (cases_lt n i) [
   | inl before ↦ none n before writing beside
   | inr more ↦ let same : n ≡ i = omega arith in
-    both_ways writes unset (is ∙ (ap is_writing (at ∙ get_or_default footprints i one no_kinds low)
-    ∙ subst (λ (j : ℕ). is_writing (get_or footprints j no_kinds) ≡ true) same writing))
+      both_ways writes unset (is ∙ (ap is_writing (at ∙ get_or_default footprints i one no_kinds low)
+      ∙ subst (λ (j : ℕ). is_writing (get_or footprints j no_kinds) ≡ true) same writing))
 ]
 
 -- past the last place there is none

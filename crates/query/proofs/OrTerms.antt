@@ -36,9 +36,12 @@ two_parts o u k v l (Five xs) h = absurd h
 -- two alternatives that are read are an `or` term
 pub two_read : (u k v l : List ℕ) (a b : Alternative) → SpellsOnly AreAlternative (u ∷ k ∷ []) a → SpellsOnly AreAlternative (v ∷ l ∷ []) b →
     SpellsOnly AreOr (codes "or" ∷ u ∷ k ∷ v ∷ l ∷ []) (Two (a ∷ b ∷ []))
-two_read u k v l a b first second = ((refl, first.0, second.0), λ alternatives h.
-    let p = two_parts (codes "or") u k v l alternatives h in
-    p.2 ∙ (ap (λ y. Two (y ∷ p.1 ∷ [])) (first.1 p.0 p.3) ∙ ap (λ y. Two (a ∷ y ∷ [])) (second.1 p.1 p.4)))
+two_read u k v l a b first second = (
+  (refl, first.0, second.0),
+  λ alternatives h.
+      let p = two_parts (codes "or") u k v l alternatives h in
+      p.2 ∙ (ap (λ y. Two (y ∷ p.1 ∷ [])) (first.1 p.0 p.3) ∙ ap (λ y. Two (a ∷ y ∷ [])) (second.1 p.1 p.4)),
+)
 
 -- the first of two is no alternative
 pub two_without_first : (u k v l : List ℕ) → SpellsNone AreAlternative (u ∷ k ∷ []) → SpellsNone AreOr (codes "or" ∷ u ∷ k ∷ v ∷ l ∷ [])
@@ -73,9 +76,12 @@ three_parts o u k v l w m (Five xs) h = absurd h
 -- three alternatives that are read are an `or` term
 pub three_read : (u k v l w m : List ℕ) (a b c : Alternative) → SpellsOnly AreAlternative (u ∷ k ∷ []) a → SpellsOnly AreAlternative (v ∷ l ∷ []) b → SpellsOnly AreAlternative (w ∷ m ∷ []) c →
     SpellsOnly AreOr (codes "or" ∷ u ∷ k ∷ v ∷ l ∷ w ∷ m ∷ []) (Three (a ∷ b ∷ c ∷ []))
-three_read u k v l w m a b c first second third = ((refl, first.0, second.0, third.0), λ alternatives h.
-    let p = three_parts (codes "or") u k v l w m alternatives h in
-    p.3 ∙ (ap (λ y. Three (y ∷ p.1 ∷ p.2 ∷ [])) (first.1 p.0 p.4) ∙ ap (λ y. Three (a ∷ y ∷ p.2 ∷ [])) (second.1 p.1 p.5) ∙ ap (λ y. Three (a ∷ b ∷ y ∷ [])) (third.1 p.2 p.6)))
+three_read u k v l w m a b c first second third = (
+  (refl, first.0, second.0, third.0),
+  λ alternatives h.
+      let p = three_parts (codes "or") u k v l w m alternatives h in
+      p.3 ∙ (ap (λ y. Three (y ∷ p.1 ∷ p.2 ∷ [])) (first.1 p.0 p.4) ∙ ap (λ y. Three (a ∷ y ∷ p.2 ∷ [])) (second.1 p.1 p.5) ∙ ap (λ y. Three (a ∷ b ∷ y ∷ [])) (third.1 p.2 p.6)),
+)
 
 -- the first of three is no alternative
 pub three_without_first : (u k v l w m : List ℕ) → SpellsNone AreAlternative (u ∷ k ∷ []) → SpellsNone AreOr (codes "or" ∷ u ∷ k ∷ v ∷ l ∷ w ∷ m ∷ [])
@@ -115,10 +121,13 @@ four_parts o u k v l w m x n (Five xs) h = absurd h
 -- four alternatives that are read are an `or` term
 pub four_read : (u k v l w m x n : List ℕ) (a b c d : Alternative) → SpellsOnly AreAlternative (u ∷ k ∷ []) a → SpellsOnly AreAlternative (v ∷ l ∷ []) b →
     SpellsOnly AreAlternative (w ∷ m ∷ []) c → SpellsOnly AreAlternative (x ∷ n ∷ []) d → SpellsOnly AreOr (codes "or" ∷ u ∷ k ∷ v ∷ l ∷ w ∷ m ∷ x ∷ n ∷ []) (Four (a ∷ b ∷ c ∷ d ∷ []))
-four_read u k v l w m x n a b c d first second third fourth = ((refl, first.0, second.0, third.0, fourth.0), λ alternatives h.
-    let p = four_parts (codes "or") u k v l w m x n alternatives h in
-    p.4 ∙ (ap (λ y. Four (y ∷ p.1 ∷ p.2 ∷ p.3 ∷ [])) (first.1 p.0 p.5) ∙ ap (λ y. Four (a ∷ y ∷ p.2 ∷ p.3 ∷ [])) (second.1 p.1 p.6) ∙ ap (λ y. Four (a ∷ b ∷ y ∷ p.3 ∷ [])) (third.1 p.2 p.7)
-    ∙ ap (λ y. Four (a ∷ b ∷ c ∷ y ∷ [])) (fourth.1 p.3 p.8)))
+four_read u k v l w m x n a b c d first second third fourth = (
+  (refl, first.0, second.0, third.0, fourth.0),
+  λ alternatives h.
+      let p = four_parts (codes "or") u k v l w m x n alternatives h in
+      p.4 ∙ (ap (λ y. Four (y ∷ p.1 ∷ p.2 ∷ p.3 ∷ [])) (first.1 p.0 p.5) ∙ ap (λ y. Four (a ∷ y ∷ p.2 ∷ p.3 ∷ [])) (second.1 p.1 p.6) ∙ ap (λ y. Four (a ∷ b ∷ y ∷ p.3 ∷ [])) (third.1 p.2 p.7)
+      ∙ ap (λ y. Four (a ∷ b ∷ c ∷ y ∷ [])) (fourth.1 p.3 p.8)),
+)
 
 -- the first of four is no alternative
 pub four_without_first : (u k v l w m x n : List ℕ) → SpellsNone AreAlternative (u ∷ k ∷ []) → SpellsNone AreOr (codes "or" ∷ u ∷ k ∷ v ∷ l ∷ w ∷ m ∷ x ∷ n ∷ [])
