@@ -1,26 +1,9 @@
 -- One step of a loop over a list.
-use Rattle.std.proofs.Common.{◌≡◌, ℕ, suc, ◌+◌, ◌<◌, ◌≤◌, Bool, true, false, cond, List, [], ◌∷◌, ◌++◌, length, map, get_or, take, drop, Option, Some, None, append_assoc, add-one, sym, ap, ◌∙◌}
-use Rattle.std.proofs.lemmas.List.{map_more, take_all, drop_more, drop_all, append-nil, map-append}
+use Rattle.std.proofs.Common.{◌≡◌, ℕ, suc, ◌+◌, ◌<◌, ◌≤◌, Bool, true, false, cond, List, [], ◌∷◌, ◌++◌, length, get_or, drop, Option, Some, None, append_assoc, add-one, sym, ap, ◌∙◌}
+use Rattle.std.proofs.lemmas.List.{drop_more, drop_all, append-nil}
 use Rattle.column_store.specs.Table.{TableValue}
 use Rattle.archetype_store.specs.LivingSets.{set_number}
 use Rattle.archetype_store.specs.Shapes.{fits, fitting_tables, with_some, numbered}
-
--- each element gives one, which is told by what a function sees of it
-pub copied_next : {X Y Z : Type 0} (seen : Z → Y) (f : X → Y) (xs : List X) (i : ℕ) (d : X) (first : List Y) (old new : List Z) (z : Z) → i < length xs → map seen old ≡ first ++ map f (take i xs) → seen z ≡ f (get_or xs i d) → new ≡ old ++ z ∷ [] →
-    map seen new ≡ first ++ map f (take (i + 1) xs)
-copied_next seen f xs i d first old new z low is here more =
-    ap (map seen) more ∙ map-append seen old (z ∷ []) ∙ ap (λ ys. ys ++ seen z ∷ []) is ∙ append_assoc first (map f (take i xs)) (seen z ∷ [])
-    ∙ ap (λ y. first ++ (map f (take i xs) ++ y ∷ [])) here ∙ ap (λ ys. first ++ ys) (sym (map_more f xs i d low))
-
--- the same where what is seen is the element itself
-pub mapped_next : {X Y : Type 0} (f : X → Y) (xs : List X) (i : ℕ) (d : X) (first old new : List Y) (y : Y) → i < length xs → old ≡ first ++ map f (take i xs) → y ≡ f (get_or xs i d) → new ≡ old ++ y ∷ [] →
-    new ≡ first ++ map f (take (i + 1) xs)
-mapped_next f xs i d first old new y low is here more =
-    more ∙ ap (λ ys. ys ++ y ∷ []) is ∙ append_assoc first (map f (take i xs)) (y ∷ [])
-    ∙ ap (λ z. first ++ (map f (take i xs) ++ z ∷ [])) here ∙ ap (λ ys. first ++ ys) (sym (map_more f xs i d low))
-
-pub copied_all : {X Y : Type 0} (f : X → Y) (xs : List X) (i : ℕ) (first made : List Y) → length xs ≤ i → made ≡ first ++ map f (take i xs) → made ≡ first ++ map f xs
-copied_all f xs i first made past is = is ∙ ap (λ ys. first ++ map f ys) (take_all i xs past)
 
 -- the archetypes of tables: one more, or none
 numbered_here : (numbers : List (Option ℕ)) (ts : List ℕ) (i : ℕ) (old : List ℕ) (o : Option ℕ) → i < length ts → o ≡ get_or numbers (get_or ts i 0) None → old ++ numbered numbers (drop i ts) ≡ numbered numbers ts →

@@ -2,31 +2,16 @@
 use Rattle.std.proofs.Common.{◌≡◌, ℕ, ◌+◌, ◌<◌, ◌≤◌, List, [], ◌∷◌, ◌++◌, length, map, take, get_or, Result, Ok, Err, refl, sym, ap, ap₂, subst, ◌∙◌, arith}
 use Rattle.std.specs.List.{AllByRecursion}
 use Rattle.std.specs.Result.{OnErr}
-use Rattle.std.proofs.lemmas.List.{take_more, take_all, map_push}
+use Rattle.std.proofs.lemmas.List.{take_all, map_push}
+use Rattle.model.proofs.lists.Turns.{seen_next}
 
--- one element more of those that were seen
-pub seen-more : {A : Type 0} (xs : List A) (i : ℕ) (x : A) → i < length xs → x ≡ get_or xs i x → take (i + 1) xs ≡ take i xs ++ x ∷ []
-seen-more xs i x l at = take_more xs i x l ∙ ap (λ y. take i xs ++ y ∷ []) (sym at)
-
--- a turn of a loop that lists what a function makes of each element
-pub made-more : {A B : Type 0} (f : A → B) (xs : List A) (ys zs : List B) (i : ℕ) (d : A) (y : B) → i < length xs → y ≡ f (get_or xs i d) → ys ≡ map f (take i xs) → zs ≡ ys ++ y ∷ [] →
-    zs ≡ map f (take (i + 1) xs)
-made-more f xs ys zs i d y l e so more =
-    more ∙ ap₂ (λ bs b. bs ++ b ∷ []) so e ∙ sym (map_push f (take i xs) (get_or xs i d)) ∙ sym (ap (map f) (take_more xs i d l))
-
--- the same, where what is listed is seen by a function
-pub matched-more : {A B C : Type 0} (g : C → B) (f : A → B) (xs : List A) (ys zs : List C) (i : ℕ) (x : A) (y : C) → i < length xs → x ≡ get_or xs i x → g y ≡ f x →
-    map g ys ≡ map f (take i xs) → zs ≡ ys ++ y ∷ [] → map g zs ≡ map f (take (i + 1) xs)
-matched-more g f xs ys zs i x y l at e so more =
-    ap (map g) more ∙ map_push g ys y ∙ ap₂ (λ bs b. bs ++ b ∷ []) so e ∙ sym (map_push f (take i xs) x) ∙ sym (ap (map f) (seen-more xs i x l at))
-
--- the same, where it is made in two steps
+-- a turn of a loop that lists what is seen by a function, and made in two steps
 pub matched-more-twice : {A B C D : Type 0} (g : C → D) (h : B → D) (f : A → B) (xs : List A) (ys zs : List C) (i : ℕ) (x : A) (y : C) → i < length xs → x ≡ get_or xs i x → g y ≡ h (f x) →
     map g ys ≡ map h (map f (take i xs)) → zs ≡ ys ++ y ∷ [] → map g zs ≡ map h (map f (take (i + 1) xs))
 matched-more-twice g h f xs ys zs i x y l at e so more =
     ap (map g) more ∙ map_push g ys y ∙ ap₂ (λ bs b. bs ++ b ∷ []) so e
     ∙ sym (ap (map h) (map_push f (take i xs) x) ∙ map_push h (map f (take i xs)) (f x))
-    ∙ sym (ap (λ bs. map h (map f bs)) (seen-more xs i x l at))
+    ∙ sym (ap (λ bs. map h (map f bs)) (seen_next xs i x l at))
 
 -- after the last turn all elements were seen
 pub all_seen : {A : Type 0} (P : List A → Type 0) (xs : List A) (i : ℕ) → length xs ≤ i → P (take i xs) → P xs

@@ -7,3 +7,4 @@ pub mod Bits
 pub mod Bools
 pub mod Places
 pub mod Results
+pub mod Turns

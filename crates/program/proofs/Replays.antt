@@ -1,6 +1,7 @@
 -- Recorded runs that are taken again, one after the other.
-use Rattle.std.proofs.Common.{◌≡◌, ◌≤◌, ◌<◌, ◌^◌, ℕ, zero, suc, ◌+◌, List, [], ◌∷◌, ◌++◌, length, take, drop, get_or, refl, sym, ap, ◌∙◌, subst, arith}
-use Rattle.std.proofs.lemmas.List.{length-take-le, take_more}
+use Rattle.std.proofs.Common.{◌≡◌, ◌≤◌, ◌<◌, ◌^◌, ℕ, zero, suc, ◌+◌, List, [], ◌∷◌, ◌++◌, length, take, drop, get_or, refl, sym, ap, subst, arith}
+use Rattle.std.proofs.lemmas.List.{length-take-le}
+use Rattle.model.proofs.lists.Turns.{seen_next}
 use Rattle.std.specs.List.{AllByRecursion}
 use Rattle.model.specs.shown.Outcome.{BodyMeaning}
 use Rattle.model.specs.state.State.{State}
@@ -18,14 +19,11 @@ replayed-next : (s : Schedule) (bodies : List BodyMeaning) (start middle w' : St
 replayed-next s bodies start middle w' [] r ran next = (w', subst (λ w. IsReplayed (recording s r.sets) bodies w r.steps w') (sym ran) next, refl)
 replayed-next s bodies start middle w' (x ∷ runs) r ran next = (ran.0, ran.1, replayed-next s bodies ran.0 middle w' runs r ran.2 next)
 
-runs-more : (runs : List Recorded) (i : ℕ) (r : Recorded) → i < length runs → r ≡ get_or runs i r → take (i + 1) runs ≡ take i runs ++ r ∷ []
-runs-more runs i r known at = take_more runs i r known ∙ ap (λ (x : Recorded). take i runs ++ x ∷ []) (sym at)
-
 -- the run of the next trace, from the state that the runs before it leave
 pub replayed-more : (s : Schedule) (bodies others : List BodyMeaning) (start middle w' : State) (runs : List Recorded) (i : ℕ) (r : Recorded) → i < length runs → r ≡ get_or runs i r → others ≡ bodies
     → AreReplayed s bodies start (take i runs) middle → IsReplayed (recording s r.sets) others middle r.steps w' → AreReplayed s bodies start (take (i + 1) runs) w'
 replayed-more s bodies others start middle w' runs i r known at same ran next =
-    subst (λ rs. AreReplayed s bodies start rs w') (sym (runs-more runs i r known at))
+    subst (λ rs. AreReplayed s bodies start rs w') (sym (seen_next runs i r known at))
     (replayed-next s bodies start middle w' (take i runs) r ran (subst (λ bs. IsReplayed (recording s r.sets) bs middle r.steps w') same next))
 
 -- ---- a run that is refused

@@ -1,15 +1,9 @@
 -- One step of a loop that adds to a list what it finds of another.
-use Rattle.std.proofs.Common.{◌≡◌, ℕ, ◌+◌, ◌<◌, ◌≤◌, Bool, true, false, cond, inl, inr, List, [], ◌∷◌, ◌++◌, length, map, take, get_or, append_assoc, sym, ap, subst, ◌∙◌, arith}
+use Rattle.std.proofs.Common.{◌≡◌, ℕ, ◌+◌, ◌<◌, Bool, true, false, cond, inl, inr, List, [], ◌∷◌, ◌++◌, length, map, take, get_or, append_assoc, sym, ap, subst, ◌∙◌, arith}
 use Rattle.std.specs.List.{filter}
 use Rattle.std.proofs.lemmas.Bool.{cases_lt}
-use Rattle.std.proofs.lemmas.List.{map_more, take_more, take_all, map-append, append-nil, get_or_append_left, get_or_push, length_push}
+use Rattle.std.proofs.lemmas.List.{take_more, map-append, append-nil, get_or_append_left, get_or_push, length_push}
 use Rattle.std.proofs.lemmas.List.Elements.{filter_more}
-
--- each element gives one
-pub mapped_next : {X Y : Type 0} (f : X → Y) (xs : List X) (i : ℕ) (d : X) (first old new : List Y) → i < length xs → old ≡ first ++ map f (take i xs) → new ≡ old ++ f (get_or xs i d) ∷ [] →
-    new ≡ first ++ map f (take (i + 1) xs)
-mapped_next f xs i d first old new low is more =
-    more ∙ (ap (λ ys. ys ++ f (get_or xs i d) ∷ []) is ∙ (append_assoc first (map f (take i xs)) (f (get_or xs i d) ∷ []) ∙ ap (λ ys. first ++ ys) (sym (map_more f xs i d low))))
 
 -- an element that passes a test gives one
 pub found_next : {X Y : Type 0} (f : X → Y) (p : X → Bool) (xs : List X) (i : ℕ) (d : X) (old new : List Y) → i < length xs → p (get_or xs i d) ≡ true → old ≡ map f (filter p (take i xs)) → new ≡ old ++ f (get_or xs i d) ∷ [] →
@@ -44,12 +38,3 @@ kept_next f xs i y first old new x low read here is more =
     ap (map f) more
     ∙ (map-append f old (x ∷ [])
     ∙ (ap (λ ys. ys ++ f x ∷ []) is ∙ (append_assoc first (take i xs) (f x ∷ []) ∙ ap (λ ys. first ++ ys) (ap (λ z. take i xs ++ z ∷ []) (here ∙ read) ∙ sym (take_more xs i y low)))))
-
--- each element gives one, which is told by what a function sees of it
-pub copied_next : {X Y Z : Type 0} (seen : Z → Y) (f : X → Y) (xs : List X) (i : ℕ) (d : X) (old new : List Z) (z : Z) → i < length xs → map seen old ≡ map f (take i xs) → seen z ≡ f (get_or xs i d) → new ≡ old ++ z ∷ [] →
-    map seen new ≡ map f (take (i + 1) xs)
-copied_next seen f xs i d old new z low is here more =
-    ap (map seen) more ∙ (map-append seen old (z ∷ []) ∙ (ap (λ ys. ys ++ seen z ∷ []) is ∙ (ap (λ y. map f (take i xs) ++ y ∷ []) here ∙ sym (map_more f xs i d low))))
-
-pub copied_all : {X Y Z : Type 0} (seen : Z → Y) (f : X → Y) (xs : List X) (i : ℕ) (made : List Z) → length xs ≤ i → map seen made ≡ map f (take i xs) → map seen made ≡ map f xs
-copied_all seen f xs i made past is = is ∙ ap (map f) (take_all i xs past)

@@ -1,6 +1,6 @@
 // Why a schedule is refused, as the program tells it.
 
-ghost use Rattle.std.specs.Prelude.{◌≡◌, ◌∷◌, ◌++◌, Some};
+ghost use Rattle.std.specs.Prelude.{◌≡◌, ◌∷◌, ◌++◌, Some, codes, decimal};
 ghost use Rattle.std.specs.Fmt.{WritesOnOk};
 ghost use Rattle.schedule_builder.specs.FaultText.{build_fault_text, cycle_text, word_text};
 ghost use Rattle.schedule_builder.specs.declared.fault.BuildFault.TheVariants.{Memory};
@@ -101,48 +101,36 @@ impl fmt::Display for Word<'_> {
     }
 }
 
+// A code, and up to three words.
+type Line<'a> = (&'static str, Word<'a>, Word<'a>, Word<'a>);
+
+// A line with one word.
+fn with_word<'a>(code: &'static str, word: Word<'a>) -> Line<'a>
+    ensures { result.0.now ++ word_text result.1 ++ word_text result.2 ++ word_text result.3 ≡ code.now ++ word_text word.entry }
+{
+    (code, word, Word::Nothing, Word::Nothing)
+}
+
+// The line of code B10: of a query, whose owner is told by a word, and the case that it is at fault by.
+fn b10<'a>(owner: Word<'a>, query: usize, case: u32) -> Line<'a>
+    ensures { result.0.now ++ word_text result.1 ++ word_text result.2 ++ word_text result.3 ≡ codes "refused B10" ++ word_text owner.entry ++ (32 ∷ decimal query) ++ (32 ∷ decimal case) }
+{
+    let case = Word::Number(case as usize);
+    ("refused B10", owner, Word::Number(query), case)
+}
+
 impl BuildFault {
-    // The line of the fault: its code, and up to three words.
-    fn line(&self) -> (&'static str, Word<'_>, Word<'_>, Word<'_>)
+    // Its line.
+    fn line(&self) -> Line<'_>
         ensures { result.0.now ++ word_text result.1 ++ word_text result.2 ++ word_text result.3 ≡ build_fault_text self.now }
     {
         match self {
-            BuildFault::UnknownName(name) => (
-                "refused B1",
-                Word::Name(name),
-                Word::Nothing,
-                Word::Nothing,
-            ),
-            BuildFault::DuplicateName(name) => (
-                "refused B2",
-                Word::Name(name),
-                Word::Nothing,
-                Word::Nothing,
-            ),
-            BuildFault::HierarchyLoop(name) => (
-                "refused B3",
-                Word::Name(name),
-                Word::Nothing,
-                Word::Nothing,
-            ),
-            BuildFault::HierarchyCycle(names) => (
-                "refused B4",
-                Word::Cycle(names),
-                Word::Nothing,
-                Word::Nothing,
-            ),
-            BuildFault::DependencyLoop(name) => (
-                "refused B5",
-                Word::Name(name),
-                Word::Nothing,
-                Word::Nothing,
-            ),
-            BuildFault::DependencyCycle(names) => (
-                "refused B6",
-                Word::Cycle(names),
-                Word::Nothing,
-                Word::Nothing,
-            ),
+            BuildFault::UnknownName(name) => with_word("refused B1", Word::Name(name)),
+            BuildFault::DuplicateName(name) => with_word("refused B2", Word::Name(name)),
+            BuildFault::HierarchyLoop(name) => with_word("refused B3", Word::Name(name)),
+            BuildFault::HierarchyCycle(names) => with_word("refused B4", Word::Cycle(names)),
+            BuildFault::DependencyLoop(name) => with_word("refused B5", Word::Name(name)),
+            BuildFault::DependencyCycle(names) => with_word("refused B6", Word::Cycle(names)),
             BuildFault::CrossDependency { item, set } => (
                 "refused B7",
                 Word::Name(item),
@@ -159,41 +147,19 @@ impl BuildFault {
                 Word::Name(second),
                 Word::Name(system),
             ),
-            BuildFault::SelfConflict(name) => (
-                "refused B9",
-                Word::Name(name),
-                Word::Nothing,
-                Word::Nothing,
-            ),
-            BuildFault::BadQuery { owner, query, case } => (
-                "refused B10",
-                Word::Name(owner),
-                Word::Number(*query),
-                Word::Number(*case as usize),
-            ),
+            BuildFault::SelfConflict(name) => with_word("refused B9", Word::Name(name)),
+            BuildFault::BadQuery { owner, query, case } => b10(Word::Name(owner), *query, *case),
             BuildFault::BadConditionQuery {
                 condition,
                 query,
                 case,
-            } => (
-                "refused B10",
-                Word::Condition(*condition),
-                Word::Number(*query),
-                Word::Number(*case as usize),
-            ),
-            BuildFault::ConditionWrites(condition) => (
+            } => b10(Word::Condition(*condition), *query, *case),
+            BuildFault::ConditionWrites(condition) => with_word(
                 "refused B11",
                 Word::Condition(*condition),
-                Word::Nothing,
-                Word::Nothing,
             ),
-            BuildFault::OverLimit(limit) => (
-                "refused B12",
-                Word::Number(*limit as usize),
-                Word::Nothing,
-                Word::Nothing,
-            ),
-            BuildFault::Memory => ("error memory", Word::Nothing, Word::Nothing, Word::Nothing),
+            BuildFault::OverLimit(limit) => with_word("refused B12", Word::Number(*limit as usize)),
+            BuildFault::Memory => with_word("error memory", Word::Nothing),
         }
     }
 }

@@ -4,4 +4,3 @@ pub mod Nodes
 pub mod Ordered
 pub mod EdgeLists
 pub mod Coverages
-pub mod Turns

@@ -1,7 +1,6 @@
 -- The text of lines and runs, one more at a time.
 use Rattle.std.proofs.Common.{◌≡◌, ℕ, suc, ◌<◌, ◌≤◌, ◌+◌, List, [], ◌∷◌, ◌++◌, Option, Some, None, length, reverse, take, drop, get_or, refl, sym, ap, ◌∙◌, arith}
-use Rattle.std.proofs.Math.Seq.{take-suc}
-use Rattle.std.proofs.lemmas.List.{append_assoc, length-append, length-reverse, length-take-le, take-append-drop, reverse-append}
+use Rattle.std.proofs.lemmas.List.{append_assoc, length-append, length-reverse, length-take-le, take-append-drop, reverse-append, take_more}
 use Rattle.model.specs.declared.steps.Step.{Step}
 use Rattle.model.specs.declared.steps.Step.TheVariants.{Cond, Start, Skip, Finish, Sync}
 use Rattle.model.specs.steps.Schedule.{Recorded}
@@ -12,13 +11,12 @@ use Rattle.trace_checker.specs.declared.line.Line.TheVariants.{Begin, Take}
 use Rattle.trace_checker.specs.Grammar.{AreWithin, sets_line, step_lines, history_lines, line_text, lines_text, run_lines, lines_from, trace_text}
 use Rattle.trace_checker.proofs.Lines.{lines_append}
 use Rattle.trace_checker.proofs.Adding.{lines_from_append, lines_from_pushed}
-use Rattle.model.proofs.lists.Places.{take-next}
 
 -- ---- the steps so far
 
 -- the latest of them first
 pub turned_more : (steps : List Step) (i : ℕ) (d : Step) → i < length steps → reverse (take (i + 1) steps) ≡ get_or steps i d ∷ reverse (take i steps)
-turned_more steps i d below = ap reverse (take-next steps i d below) ∙ reverse-append (take i steps) (get_or steps i d ∷ [])
+turned_more steps i d below = ap reverse (take_more steps i d below) ∙ reverse-append (take i steps) (get_or steps i d ∷ [])
 
 -- no more sync points than steps
 syncs-le : (h : List Step) → syncs_in h ≤ length h
@@ -106,7 +104,7 @@ trace-text-more i traces d below =
     let runs = take i traces in
     let run = get_or traces i d in
     let count : 1 + length runs ≡ i + 1 = omega (arith, length-take-le i traces (omega (arith, below))) in
-    ap trace_text (take-next traces i d below) ∙ (ap lines_text (lines_from_pushed 1 runs run ∙ ap (λ k. lines_from 1 runs ++ run_lines k run) count) ∙ lines_append (lines_from 1 runs) (run_lines (i + 1) run))
+    ap trace_text (take_more traces i d below) ∙ (ap lines_text (lines_from_pushed 1 runs run ∙ ap (λ k. lines_from 1 runs ++ run_lines k run) count) ∙ lines_append (lines_from 1 runs) (run_lines (i + 1) run))
 
 -- a text that is written so far
 pub text_more : (traces : List Recorded) (i : ℕ) (d t : Recorded) (number : ℕ) (now next : List ℕ) → t ≡ get_or traces i d → i < length traces → number ≡ i → now ≡ trace_text (take i traces)

@@ -1,5 +1,5 @@
 -- What stands at a place of a list.
-use Rattle.std.proofs.Common.{◌≡◌, ◌∙◌, ℕ, zero, suc, ◌+◌, ◌<◌, ◌||◌, ◌==◌, List, [], ◌∷◌, ◌++◌, length, get_or, slice_get, take, Some, refl, ap, arith, inl, inr}
+use Rattle.std.proofs.Common.{◌≡◌, ◌∙◌, ℕ, zero, suc, ◌+◌, ◌<◌, ◌||◌, ◌==◌, List, [], ◌∷◌, ◌++◌, length, get_or, slice_get, Some, refl, ap, arith, inl, inr}
 use Rattle.std.specs.List.{AllByRecursion}
 use Rattle.model.specs.Lists.{has, IsIn}
 use Rattle.model.proofs.lists.Bools.{or_assoc}
@@ -21,15 +21,6 @@ get_or-last [] x zero d e = refl
 get_or-last [] x (suc i) d e = absurd (omega (arith, e))
 get_or-last (y ∷ ys) x zero d e = absurd (omega (arith, e))
 get_or-last (y ∷ ys) x (suc i) d e = get_or-last ys x i d (omega (arith, e))
-
--- so many of a list, and the next
-pub take-next : {A : Type 0} (xs : List A) (i : ℕ) (d : A) → i < length xs → take (i + 1) xs ≡ take i xs ++ get_or xs i d ∷ []
-take-next xs i d l = ap (λ n. take n xs) (let next : i + 1 ≡ suc i = omega arith in next) ∙ taken xs i d l
-  where
-    taken : {A : Type 0} (xs : List A) (i : ℕ) (d : A) → i < length xs → take (suc i) xs ≡ take i xs ++ get_or xs i d ∷ []
-    taken [] i d l = absurd (omega arith)
-    taken (x ∷ xs) zero d l = refl
-    taken (x ∷ xs) (suc i) d l = ap (λ ys. x ∷ ys) (taken xs i d (omega arith))
 
 -- what is true of each element that is in a list is true of each
 pub each-where : {A : Type 0} (P : A → Type 0) (xs : List A) → ((x : A) → IsIn x xs → P x) → AllByRecursion P xs

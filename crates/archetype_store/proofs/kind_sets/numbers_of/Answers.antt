@@ -3,8 +3,8 @@ use Rattle.std.specs.List.{AllByRecursion}
 use Rattle.std.proofs.lemmas.Result.{IfOk-from_err}
 use Rattle.model.specs.state.KindSets.{set_limit}
 use Rattle.model.proofs.lists.Each.{each-append}
+use Rattle.model.proofs.lists.Turns.{mapped_next, mapped_all}
 use Rattle.archetype_store.specs.LivingSets.{first_numbers, number_seen}
-use Rattle.archetype_store.proofs.ListSteps.{mapped_next, copied_all}
 use Rattle.archetype_store.proofs.kind_sets.numbers_of.Goals as goal
 
 pub returns-in_err-push-clause-numbers : goal.returns-in_err-push-clause-numbers
@@ -26,7 +26,7 @@ loop-view-preserved c = record {
 }
 
 pub returns-clause-numbers : goal.returns-clause-numbers
-returns-clause-numbers c = copied_all number_seen c.args.views.now c.loop-view.view-index (first_numbers c.args.without) c.loop-view.numbers.items c.loop-view-test.false c.loop-view.invariant.numbers
+returns-clause-numbers c = mapped_all number_seen c.args.views.now c.loop-view.view-index (first_numbers c.args.without) c.loop-view.numbers.items c.loop-view-test.false c.loop-view.invariant.numbers
 
 pub returns-clause-below : goal.returns-clause-below
 returns-clause-below c = c.loop-view.invariant.below

@@ -3,7 +3,7 @@ use Rattle.std.specs.List.{list_all}
 use Rattle.std.proofs.lemmas.Result.{IfOk-from_err}
 use Rattle.column_store.specs.Table.{TableValue, is_home, owned}
 use Rattle.model.proofs.lists.Each.{each-at}
-use Rattle.archetype_store.proofs.ListSteps.{mapped_next, copied_all}
+use Rattle.model.proofs.lists.Turns.{mapped_next, mapped_all}
 use Rattle.archetype_store.proofs.owning.copied_tables.Goals as goal
 
 pub returns-in_err-copies : goal.returns-in_err-copies
@@ -25,4 +25,4 @@ loop-table-preserved c = record {
 }
 
 pub returns : goal.returns
-returns c = copied_all owned c.args.tables.now c.loop-table.table-index [] c.loop-table.copies.items c.loop-table-test.false c.loop-table.invariant.same
+returns c = mapped_all owned c.args.tables.now c.loop-table.table-index [] c.loop-table.copies.items c.loop-table-test.false c.loop-table.invariant.same

@@ -1,8 +1,8 @@
 use Rattle.std.proofs.Common.{ℕ, List, [], map, ap, ◌∙◌}
 use Rattle.std.proofs.lemmas.Result.{IfOk-from_err}
+use Rattle.model.proofs.lists.Turns.{copied_next, mapped_all}
 use Rattle.archetype_store.specs.declared.shapes.KeptShape.{KeptShape}
 use Rattle.archetype_store.specs.Shapes.{Fitting, kept_seen}
-use Rattle.archetype_store.proofs.ListSteps.{copied_next, copied_all}
 use Rattle.archetype_store.proofs.shapes.copied_shapes.Goals as goal
 
 pub returns-in_err-copies : goal.returns-in_err-copies
@@ -22,4 +22,4 @@ loop-kept-preserved c =
     copied_next kept_seen kept_seen c.args.shapes.now c.loop-kept.kept-index kept [] c.loop-kept.copies.items c.push.new.self.items copy c.loop-kept-test.true c.loop-kept.invariant same c.in_ok-push.ensures.items
 
 pub returns : goal.returns
-returns c = copied_all kept_seen c.args.shapes.now c.loop-kept.kept-index [] (map kept_seen c.loop-kept.copies.items) c.loop-kept-test.false c.loop-kept.invariant
+returns c = mapped_all kept_seen c.args.shapes.now c.loop-kept.kept-index [] (map kept_seen c.loop-kept.copies.items) c.loop-kept-test.false c.loop-kept.invariant

@@ -1,8 +1,8 @@
 use Rattle.std.proofs.Common.{[], map}
 use Rattle.std.proofs.lemmas.Result.{IfOk-from_err}
+use Rattle.model.proofs.lists.Turns.{copied_next, mapped_all}
 use Rattle.kinds.specs.Kind.{kind_number}
 use Rattle.column_store.specs.Cells.{stamped_number}
-use Rattle.archetype_store.proofs.ListSteps.{copied_next, copied_all}
 use Rattle.archetype_store.proofs.tables.kinds_of.Goals as goal
 
 pub returns-in_err-push : goal.returns-in_err-push
@@ -13,4 +13,4 @@ loop-component-preserved c =
     copied_next kind_number stamped_number c.args.components.now c.loop-component.component-index _ [] c.loop-component.kinds.items c.push.new.self.items c.kind.result c.loop-component-test.true c.loop-component.invariant c.kind.ensures c.in_ok-push.ensures.items
 
 pub returns : goal.returns
-returns c = copied_all stamped_number c.args.components.now c.loop-component.component-index [] (map kind_number c.loop-component.kinds.items) c.loop-component-test.false c.loop-component.invariant
+returns c = mapped_all stamped_number c.args.components.now c.loop-component.component-index [] (map kind_number c.loop-component.kinds.items) c.loop-component-test.false c.loop-component.invariant

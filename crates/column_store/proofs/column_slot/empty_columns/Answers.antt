@@ -1,13 +1,14 @@
-use Rattle.std.proofs.Common.{◌≡◌, List, ap, map, ◌∙◌}
+use Rattle.std.proofs.Common.{◌≡◌, List, [], ap, map, ◌∙◌}
+use Rattle.model.proofs.lists.Turns.{mapped_next}
 use Rattle.kinds.specs.declared.kind.Kind.{Kind}
 use Rattle.column_store.specs.Inside.{empty_column, owned_slot}
-use Rattle.column_store.proofs.Turns.{made-more, all_seen}
+use Rattle.column_store.proofs.Turns.{all_seen}
 use Rattle.column_store.proofs.column_slot.empty_columns.Goals as goal
 
 pub loop-kind-preserved : goal.loop-kind-preserved
 loop-kind-preserved c =
-    made-more empty_column c.args.kinds.now c.loop-kind.columns.items c.push.new.self.items c.loop-kind.kind-index _ c.of.result c.loop-kind-test.true
-    (c.of.ensures ∙ ap owned_slot c.new.ensures) c.loop-kind.invariant c.in_ok-push.ensures.items
+    mapped_next empty_column c.args.kinds.now c.loop-kind.kind-index _ [] c.loop-kind.columns.items c.push.new.self.items c.of.result c.loop-kind-test.true c.loop-kind.invariant
+    (c.of.ensures ∙ ap owned_slot c.new.ensures) c.in_ok-push.ensures.items
 
 pub returns : goal.returns
 returns c = all_seen (λ (kinds : List Kind). c.loop-kind.columns.items ≡ map empty_column kinds) c.args.kinds.now c.loop-kind.kind-index c.loop-kind-test.false c.loop-kind.invariant

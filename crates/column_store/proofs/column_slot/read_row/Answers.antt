@@ -1,20 +1,21 @@
-use Rattle.std.proofs.Common.{◌≡◌, List, map, Some}
+use Rattle.std.proofs.Common.{◌≡◌, List, [], map, Some, ap, ◌∙◌}
+use Rattle.model.proofs.lists.Turns.{copied_next}
 use Rattle.column_store.specs.Cells.{stamped_number, stamped_cell}
 use Rattle.column_store.specs.declared.stamped.StampedValue.{StampedValue}
 use Rattle.column_store.specs.Table.{ColumnSlotValue}
 use Rattle.column_store.specs.Inside.{cell_at, kind_in}
-use Rattle.column_store.proofs.Turns.{matched-more, all_seen}
+use Rattle.column_store.proofs.Turns.{all_seen}
 use Rattle.column_store.proofs.column_slot.read_row.Goals as goal
 
 pub loop-column-preserved : goal.loop-column-preserved
 loop-column-preserved c = record {
   cells =
-      matched-more (λ (s : StampedValue). Some (stamped_cell s)) (cell_at c.args.row) c.args.columns.now c.loop-column.components.items c.push.new.self.items c.loop-column.column-index
-      c.column-item.result c.at.result
-      c.loop-column-test.true c.column-item.is c.at.ensures.cell c.loop-column.invariant.cells c.in_ok-push.ensures.ok;
+      copied_next (λ (s : StampedValue). Some (stamped_cell s)) (cell_at c.args.row) c.args.columns.now c.loop-column.column-index c.column-item.result [] c.loop-column.components.items
+      c.push.new.self.items c.at.result
+      c.loop-column-test.true c.loop-column.invariant.cells (c.at.ensures.cell ∙ ap (cell_at c.args.row) c.column-item.is) c.in_ok-push.ensures.ok;
   kinds =
-      matched-more stamped_number kind_in c.args.columns.now c.loop-column.components.items c.push.new.self.items c.loop-column.column-index c.column-item.result c.at.result
-      c.loop-column-test.true c.column-item.is c.at.ensures.kind c.loop-column.invariant.kinds c.in_ok-push.ensures.ok;
+      copied_next stamped_number kind_in c.args.columns.now c.loop-column.column-index c.column-item.result [] c.loop-column.components.items c.push.new.self.items c.at.result
+      c.loop-column-test.true c.loop-column.invariant.kinds (c.at.ensures.kind ∙ ap kind_in c.column-item.is) c.in_ok-push.ensures.ok;
 }
 
 pub returns-clause-cells : goal.returns-clause-cells
