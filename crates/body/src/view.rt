@@ -447,7 +447,7 @@ impl View {
 
     /// How many of the rows of a query with these numbers stand in turn, from the first on: each at the place behind that of the one before, in
     /// one archetype.
-    pub fn turn(&self, query: usize, rows: &[u32]) -> usize
+    pub fn rows_in_turn(&self, query: usize, rows: &[u32]) -> usize
         requires query { query < length self.now.shown.rows }
         requires some { 0 < length rows.now }
         requires rows { (i : ℕ) → i < length rows.now → get_or rows.now i 0 < length (rows_at self.now.shown query) }
@@ -456,7 +456,7 @@ impl View {
         ensures turn { AreInTurnAt (places_at self.now.opening query) rows.now result }
     {
         let query = &self.queries[query];
-        query.turn(rows)
+        query.rows_in_turn(rows)
     }
 
     /// The values of a field of a kind in the rows of a query with these numbers, which stand in turn: what was written there, else what is

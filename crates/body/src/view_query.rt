@@ -290,7 +290,7 @@ impl ViewQuery {
     }
 
     // How many of the rows with these numbers stand in turn, from the first on.
-    pub(crate) fn turn(&self, listed: &[u32]) -> usize
+    pub(crate) fn rows_in_turn(&self, listed: &[u32]) -> usize
         requires some { 0 < length listed.now }
         requires rows { (i : ℕ) → i < length listed.now → get_or listed.now i 0 < length self.now.rows }
         ensures some { 0 < result }

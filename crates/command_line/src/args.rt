@@ -3,7 +3,7 @@
 ghost use Rattle.std.specs.Prelude.{◌≡◌, IfOk};
 ghost use Rattle.command_line.specs.Args.{IsWithin, is_recorded, line_status_of, line_text_of};
 
-use crate::grammar::{Argument, Grammar, Verb};
+use crate::grammar::{Argument, Grammar, Subcommand};
 use clap::error::ErrorKind;
 use clap::{ArgMatches, Error};
 use std::alloc::{AllocError, Global};
@@ -111,23 +111,23 @@ const TRACE: Argument = Argument {
 
 const GRAMMAR: Grammar = Grammar {
     program: "ecsrun",
-    verbs: &[
-        Verb {
+    subcommands: &[
+        Subcommand {
             name: "run",
             about: "runs the schedule of a program file and prints the world",
             arguments: &[FILE, TIMES, WORKERS, RECORD],
         },
-        Verb {
+        Subcommand {
             name: "check",
             about: "prints what the schedule of a program file says of recorded runs",
             arguments: &[FILE, TRACE],
         },
-        Verb {
+        Subcommand {
             name: "replay",
             about: "takes the recorded runs of a program file again, on one thread, and prints the world",
             arguments: &[FILE, TRACE],
         },
-        Verb {
+        Subcommand {
             name: "ambiguities",
             about: "prints which systems of a program file race",
             arguments: &[FILE],

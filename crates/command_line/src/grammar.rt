@@ -21,7 +21,7 @@ pub struct Argument {
 }
 
 /// A command of a program.
-pub struct Verb {
+pub struct Subcommand {
     /// Its name.
     pub name: &'static str,
     /// What help says of it.
@@ -35,7 +35,7 @@ pub struct Grammar {
     /// The name of the program.
     pub program: &'static str,
     /// Its commands, in the order in which help lists them.
-    pub verbs: &'static [Verb],
+    pub subcommands: &'static [Subcommand],
 }
 
 impl Grammar {
@@ -55,7 +55,7 @@ impl Grammar {
     // The help for the command that some words name, or for the program where they name none.
     fn help_for(&self, alloc: Global, words: &[String]) -> LineFault {
         match words.get(1) {
-            Some(name) if self.has_verb(name.as_str()) => {
+            Some(name) if self.has_subcommand(name.as_str()) => {
                 self.help_on(alloc, self.program, name.as_str())
             }
             _ => self.help_of(alloc, &[self.program, "--help"]),
@@ -63,13 +63,15 @@ impl Grammar {
     }
 
     // The help for a command of the program of this name.
-    fn help_on<'b>(&self, alloc: Global, program: &'b str, verb: &'b str) -> LineFault {
-        self.help_of(alloc, &[program, verb, "--help"])
+    fn help_on<'b>(&self, alloc: Global, program: &'b str, subcommand: &'b str) -> LineFault {
+        self.help_of(alloc, &[program, subcommand, "--help"])
     }
 
     // Whether a command has a name.
-    fn has_verb(&self, name: &str) -> bool {
-        self.verbs.iter().any(|verb| verb.name == name)
+    fn has_subcommand(&self, name: &str) -> bool {
+        self.subcommands
+            .iter()
+            .any(|subcommand| subcommand.name == name)
     }
 
     // The help that a line asks for.
@@ -99,7 +101,7 @@ impl Grammar {
 
     // The same, before it has a name in what it prints.
     fn parser<'a>(&self, alloc: Global) -> Result<Command<'a>, AllocError> {
-        let commands = commands(alloc, self.verbs)?;
+        let commands = commands(alloc, self.subcommands)?;
         Command::new(alloc, self.program)
             .subcommand_required(true)
             .subcommands(commands)
@@ -116,10 +118,10 @@ fn asks_for_help(words: &[String]) -> bool {
 }
 
 // These commands as the parser is told them.
-fn commands<'a>(alloc: Global, verbs: &[Verb]) -> Result<Vec<Command<'a>>, AllocError> {
+fn commands<'a>(alloc: Global, subcommands: &[Subcommand]) -> Result<Vec<Command<'a>>, AllocError> {
     let mut commands = Vec::new(alloc);
-    for verb in verbs {
-        add_command(alloc, verb, &mut commands)?;
+    for subcommand in subcommands {
+        add_command(alloc, subcommand, &mut commands)?;
     }
     Ok(commands)
 }
@@ -127,18 +129,20 @@ fn commands<'a>(alloc: Global, verbs: &[Verb]) -> Result<Vec<Command<'a>>, Alloc
 // One command more.
 fn add_command<'a>(
     alloc: Global,
-    verb: &Verb,
+    subcommand: &Subcommand,
     commands: &mut Vec<Command<'a>>,
 ) -> Result<(), AllocError> {
-    let command = command_of(alloc, verb)?;
+    let command = command_of(alloc, subcommand)?;
     commands.push(command)?;
     Ok(())
 }
 
 // A command as the parser is told it.
-fn command_of<'a>(alloc: Global, verb: &Verb) -> Result<Command<'a>, AllocError> {
-    let args = arguments(alloc, verb.arguments)?;
-    Command::new(alloc, verb.name).about(verb.about).args(args)
+fn command_of<'a>(alloc: Global, subcommand: &Subcommand) -> Result<Command<'a>, AllocError> {
+    let args = arguments(alloc, subcommand.arguments)?;
+    Command::new(alloc, subcommand.name)
+        .about(subcommand.about)
+        .args(args)
 }
 
 // These arguments as the parser is told them.

@@ -2,38 +2,20 @@
 #![tactic(auto)]
 
 use command_line::words::words_of;
-use command_line::{Args, LineFault, Work};
+use command_line::{Args, Work};
+use program::Created;
+use program::line_faults::tell_line_fault;
 use program::opened::open;
-use program::serve::{serve, tell};
+use program::serve::serve;
 use program::stand_ins::open_stand_ins;
 use program::workers::serve_in_scope;
-use program::{Created, Fault};
 use std::alloc::Global;
 use std::io::Write;
 use std::process::ExitCode;
 use std::sync::Wait;
 use std::thread;
 use std::thread::Threads;
-use streams::writing::write_whole;
 use worker_pool::Single;
-
-// Tells of a line that asks for no work.
-fn tell_line_fault<O: Write, E: Write>(
-    alloc: Global,
-    out: &mut O,
-    faults: &mut E,
-    fault: &LineFault,
-) -> u8 {
-    let text = fault.text();
-    let written = match fault {
-        LineFault::Help(_) => write_whole(out, text),
-        LineFault::Usage(_) | LineFault::Memory => write_whole(faults, text),
-    };
-    match (fault, written) {
-        (LineFault::Help(_), Err(error)) => tell(alloc, faults, &Fault::from(error)),
-        _ => fault.status(),
-    }
-}
 
 // What a command line asks for. The exit status of one that is at fault, which is told.
 fn args_of<'a, O: Write, E: Write>(

@@ -3,7 +3,7 @@
 use clap::ArgMatches;
 use command_line::LineFault;
 use command_line::args::has_plus;
-use command_line::grammar::{Argument, Grammar, Verb};
+use command_line::grammar::{Argument, Grammar, Subcommand};
 use std::alloc::Global;
 
 /// What is asked for.
@@ -68,28 +68,28 @@ const RUN: Argument = Argument {
 
 const GRAMMAR: Grammar = Grammar {
     program: "ecsview",
-    verbs: &[
-        Verb {
+    subcommands: &[
+        Subcommand {
             name: "schedule",
             about: "draws the schedule of a program file, as SVG: ecsview schedule arena.toml > arena.svg",
             arguments: &[FILE],
         },
-        Verb {
+        Subcommand {
             name: "lanes",
             about: "draws recorded runs, what ran beside what, as SVG: ecsview lanes arena.toml arena.trace > lanes.svg",
             arguments: &[FILE, TRACE],
         },
-        Verb {
+        Subcommand {
             name: "races",
             about: "prints two lists of a run for each pair that races, and the worlds that they leave: ecsview races arena.toml",
             arguments: &[FILE],
         },
-        Verb {
+        Subcommand {
             name: "diverge",
             about: "prints where two traces part: ecsview diverge arena.toml here.trace there.trace",
             arguments: &[FILE, TRACE, OTHER],
         },
-        Verb {
+        Subcommand {
             name: "steps",
             about: "prints the world after each sync point of recorded runs: ecsview steps arena.toml arena.trace --run 2",
             arguments: &[FILE, TRACE, RUN],

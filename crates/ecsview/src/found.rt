@@ -85,11 +85,11 @@ fn push_found(
 }
 
 /// Where two traces part, and the status: 0 where the worlds agree and both have as many runs.
-pub fn diverge_text<T: Read, U: Read>(
+pub fn diverge_text<F: Read>(
     alloc: Global,
     loaded: Loaded<'_>,
-    trace: &mut T,
-    other: &mut U,
+    trace: &mut F,
+    other: &mut F,
 ) -> Result<(String, u8), Fault>
     requires { AreScriptsOf loaded.built loaded.bodies.items }
 {

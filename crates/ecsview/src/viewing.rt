@@ -24,12 +24,12 @@ pub struct Shown {
 
 /// Does the work of a command line. What it prints goes to `out`, whole; what goes wrong is told to `faults` in one line, and nothing else is. Gives
 /// the exit status.
-pub fn view<F: Read, T: Read, U: Read, O: Write, E: Write>(
+pub fn view<F: Read, O: Write, E: Write>(
     alloc: Global,
     args: &Args<'_>,
     file: &mut F,
-    trace: &mut T,
-    other: &mut U,
+    trace: &mut F,
+    other: &mut F,
     out: &mut O,
     faults: &mut E,
 ) -> u8 {
@@ -44,12 +44,12 @@ pub fn view<F: Read, T: Read, U: Read, O: Write, E: Write>(
 }
 
 // What is answered to some work on a program file.
-fn view_of<F: Read, T: Read, U: Read>(
+fn view_of<F: Read>(
     alloc: Global,
     work: Work,
     file: &mut F,
-    trace: &mut T,
-    other: &mut U,
+    trace: &mut F,
+    other: &mut F,
 ) -> Result<Shown, Fault> {
     let document = document_in(alloc, file)?;
     let loaded = load(alloc, &document)?;
@@ -57,12 +57,12 @@ fn view_of<F: Read, T: Read, U: Read>(
 }
 
 // The same on what a file declares.
-fn answer<T: Read, U: Read>(
+fn answer<F: Read>(
     alloc: Global,
     work: Work,
     loaded: Loaded<'_>,
-    trace: &mut T,
-    other: &mut U,
+    trace: &mut F,
+    other: &mut F,
 ) -> Result<Shown, Fault>
     requires { AreScriptsOf loaded.built loaded.bodies.items }
 {

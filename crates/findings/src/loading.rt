@@ -12,11 +12,9 @@ use body::State;
 use engine::first_state::first_state;
 use kinds::Value;
 use program::Fault;
-use program::schedule::{bodies_of, declare, names_of};
 use program::world::world_of;
 use program_file::ProgramFile;
 use schedule_builder::Built;
-use schedule_builder::builder::build;
 use script::ScriptBody;
 use std::alloc::Global;
 use toml::Table;
@@ -42,23 +40,20 @@ pub struct Loaded<'a> {
 pub fn load<'a>(alloc: Global, document: &'a Table) -> Result<Loaded<'a>, Fault>
     ensures { IfOk result (λ found. (bytes : Option (List ℕ)) → IfSome bytes (λ text. parse_document text ≡ Some (table_view document.now)) → IsLoaded bytes found) }
 {
-    let ProgramFile {
-        resources,
+    let tables = ProgramFile::read(alloc, document)?;
+    let sets = sets_of(alloc, tables.sets.as_slice(), tables.systems.as_slice())?;
+    let program::Loaded {
+        built,
+        names,
+        bodies,
         entities,
-        sets,
-        systems,
-        chains,
-    } = ProgramFile::read(alloc, document)?;
-    let found = sets_of(alloc, sets.as_slice(), systems.as_slice())?;
-    let (desc, codes) = declare(alloc, sets, systems, chains.as_slice())?;
-    let built = build(alloc, desc)?;
-    let names = names_of(alloc, codes.as_slice())?;
-    let bodies = bodies_of(alloc, &built, codes)?;
+        resources,
+    } = program::loading::load(alloc, tables)?;
     Ok(Loaded {
         built,
         names,
         bodies,
-        sets: found,
+        sets,
         entities,
         resources,
     })

@@ -1,6 +1,7 @@
 mod Noting
 pub mod Fitting
-pub mod Loading
+pub mod LoadedWorlds
+pub mod Loads
 pub mod Replays
 pub mod Serving
 pub mod Stopping

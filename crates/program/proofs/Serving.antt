@@ -7,9 +7,6 @@ use Rattle.std.specs.Io.KnownBytes.{Keeps}
 use Rattle.model.specs.state.Loaded.{Given, loaded}
 use Rattle.model.specs.access.Access.{Params}
 use Rattle.model.specs.shown.Outcome.{BodyMeaning}
-use Rattle.model.specs.declarations.Declarations.{Declared}
-use Rattle.model.specs.declarations.Refusals.{IsBuildable}
-use Rattle.model.specs.declarations.ScheduleOrder.{HasDeclaredSystems, HasDeclaredEdges, HasLevels, HasDeclaredConditions, HasDeclaredSilences, IsScheduleOrder}
 use Rattle.model.specs.steps.Schedule.{Schedule, params_of}
 use Rattle.model.specs.state.Ids.{has_ids, with_room}
 use Rattle.model.specs.state.State.{State, World, fresh_slot}
@@ -23,28 +20,27 @@ use Rattle.command_line.specs.declared.args.Work.{Work}
 use Rattle.command_line.specs.Args.{is_recorded}
 use Rattle.streams.specs.Writing.{WritesWhole}
 use Rattle.kinds.specs.declared.value.Value.{Value}
-use Rattle.body.proofs.States.{map-twice}
 use Rattle.engine.proofs.AtHome.{unlike}
 use Rattle.program.specs.Load.{entity_given, loaded_world}
 use Rattle.engine.specs.FirstState.{first_state}
-use Rattle.program.specs.Setup.{IsScheduleOf, AreScriptsOf, declared_names, script_fits, script_suits, meanings_of_scripts}
+use Rattle.program.specs.Setup.{AreScriptsOf, script_fits, script_suits, meanings_of_scripts}
 use Rattle.program.specs.Recorded.{IsTextOfRuns}
 use Rattle.program.specs.declared.answer.Answer.{Answer}
 use Rattle.program.specs.declared.fault.Fault.{Fault}
-use Rattle.program.specs.declared.fault.Fault.TheVariants.{TooLong, Content, Script, TraceTooLong, TraceLine, TraceOrder, TraceLists, BadStep, UnfinishedRun, WrongAnswer, WrongSets, ClockSpent, IdsSpent, BodyRefused, File, Write, Memory, NoWorker}
-use Rattle.program.specs.Fault.{fault_of_build, fault_of_file}
+use Rattle.program.specs.declared.fault.Fault.TheVariants.{TooLong, Content, Build, Script, TraceTooLong, TraceLine, TraceOrder, TraceLists, BadStep, UnfinishedRun, WrongAnswer, WrongSets, ClockSpent, IdsSpent, BodyRefused, File, Write, Memory, NoWorker}
+use Rattle.program.specs.Fault.{fault_of_file}
 use Rattle.program.specs.Accepted.{Accepted, meant_by, start_of}
-use Rattle.program.specs.Refused.{HasNoTables, IsRefusedBy, IsReplayRefused, IsRunRefused, IsTextRefused, IsTraceUnread, IsUngiven, IsUnread, IsUnreplayed, IsUnrun, IsUnscripted, ReadsTrace}
+use Rattle.program.specs.Loaded.{IsLoadedOf, IsNotLoaded}
+use Rattle.program.specs.declared.loading.Loaded.{Loaded}
+use Rattle.program.specs.Refused.{HasNoTables, IsRefusedBy, IsReplayRefused, IsRunRefused, IsTextRefused, IsTraceUnread, IsUngiven, IsUnread, IsUnreplayed, IsUnrun, ReadsTrace}
 use Rattle.program.specs.Replayed.{IsRefusedReplay}
 use Rattle.program.specs.Served.{IsAnswerTo, IsRecordKept, IsServed, HasGained, HasGainedFront, Tells, WritesRecord}
 use Rattle.program_file.specs.declared.program_file.ProgramFile.{ProgramFile}
 use Rattle.program_file.specs.declared.fault.FileFault.{FileFault}
-use Rattle.program_file.specs.declared.program_file.SystemTable.{SystemTable}
-use Rattle.program.specs.declared.schedule.Code.{Code}
 use Rattle.program_file.specs.Keys.{HasOnly}
 use Rattle.program_file.specs.Tables.{keys_of_document, AreResourcesIn, AreEntitiesIn, AreSetsIn, AreSystemsIn, AreChainsIn, IsFileIn}
 use Rattle.toml.specs.Data.{Members}
-use Rattle.program.specs.Said.{IsFileOf, IsOfShortText, declared_by, most_bytes, script_said, scripts_by}
+use Rattle.program.specs.Said.{IsFileOf, IsOfShortText, most_bytes, scripts_by}
 use Rattle.program_file.specs.declared.fault.FileFault.TheVariants as file
 use Rattle.program_file.specs.Faults.{IsFaultOf}
 use Rattle.program_file.specs.PlaceFault.{IsOfBytes}
@@ -52,9 +48,6 @@ use Rattle.program_file.proofs.EntityCounts.{count-entities}
 use Rattle.program_file.proofs.FaultyFiles.{fault-none}
 use Rattle.std.specs.Result.{IsErrAnd}
 use Rattle.std.specs.Str.{IsUtf8}
-use Rattle.schedule_builder.specs.Answers.{IsAnswered}
-use Rattle.schedule_builder.specs.declared.fault.BuildFault.{BuildFault}
-use Rattle.schedule_builder.specs.declared.fault.BuildFault.TheVariants as build
 use Rattle.streams.proofs.Parts.{front_of_whole}
 use Rattle.toml.specs.Parse.{parse_document}
 use Rattle.command_line.specs.declared.args.Work.TheVariants as work
@@ -91,22 +84,19 @@ pub runs-loaded : (width : ℕ) (s : Schedule) (scripts : List ScriptBody) (worl
 runs-loaded width s scripts world entities values times recorded text noted is h =
     subst (λ (start : State). IsTextOfRuns width s (meanings_of_scripts s scripts) start times recorded text noted) (ap (first_state s) is) h
 
--- what is built is the schedule of what is declared
-pub schedule-of : (d : Declared) (s : Schedule) → IsBuildable d → HasDeclaredSystems d s → HasDeclaredEdges d s → HasLevels d s → IsScheduleOrder s → HasDeclaredConditions d s
-    → HasDeclaredSilences d s → IsScheduleOf d s
-schedule-of d s buildable systems edges levels order conditions silences =
-    record { buildable = buildable; systems = systems; edges = edges; levels = levels; order = order; conditions = conditions; silences = silences }
+-- so does a replay, with the scripts and the entities of the tables
+pub replay-loaded : (tables : ProgramFile) (l : Loaded) (rows : List (Vec Value Global)) (P : List BodyMeaning → State → ℕ → Type 0) → IsLoadedOf tables l → rows ≡ l.entities.items
+    → P (meanings_of_scripts l.built l.bodies.items) (loaded l.built (map entity_given rows) l.resources) (length rows)
+    → P (meanings_of_scripts l.built (scripts_by tables)) (loaded l.built (map entity_given tables.entities.items) tables.resources) (length tables.entities.items)
+replay-loaded tables l rows P of is h =
+    subst (λ (values : List ℤ). P (meanings_of_scripts l.built (scripts_by tables)) (loaded l.built (map entity_given tables.entities.items) values) (length tables.entities.items)) of.resources
+    (subst (λ (es : List (Vec Value Global)). P (meanings_of_scripts l.built (scripts_by tables)) (loaded l.built (map entity_given es) l.resources) (length es)) (is ∙ of.entities)
+    (subst (λ (xs : List ScriptBody). P (meanings_of_scripts l.built xs) (loaded l.built (map entity_given rows) l.resources) (length rows)) of.scripts h))
 
--- so does a replay, with the scripts of the tables
-pub replay-loaded : (s : Schedule) (scripts others : List ScriptBody) (rows entities : List (Vec Value Global)) (values : List ℤ) (P : List BodyMeaning → State → ℕ → Type 0) → scripts ≡ others → rows ≡ entities
-    → P (meanings_of_scripts s scripts) (loaded s (map entity_given rows) values) (length rows) → P (meanings_of_scripts s others) (loaded s (map entity_given entities) values) (length entities)
-replay-loaded s scripts others rows entities values P same is h =
-    subst (λ (xs : List ScriptBody). P (meanings_of_scripts s xs) (loaded s (map entity_given entities) values) (length entities)) same
-    (subst (λ (es : List (Vec Value Global)). P (meanings_of_scripts s scripts) (loaded s (map entity_given es) values) (length es)) is h)
-
--- the scripts of codes are those of the tables whose blocks they have
-pub scripts-same : (codes : List Code) (rows : List SystemTable) → map (λ (code : Code). code.blocks) codes ≡ map (λ (row : SystemTable). row.blocks) rows → map (λ (code : Code). script_said code.blocks) codes ≡ map (λ (row : SystemTable). script_said row.blocks) rows
-scripts-same codes rows e = sym (map-twice (λ (code : Code). code.blocks) script_said codes) ∙ ap (map script_said) e ∙ map-twice (λ (row : SystemTable). row.blocks) script_said rows
+-- and the world of what is loaded is that of the tables
+pub world-loaded : (tables : ProgramFile) (l : Loaded) (rows : List (Vec Value Global)) (world : World) → IsLoadedOf tables l → rows ≡ l.entities.items → world ≡ loaded_world (map entity_given rows) l.resources
+    → world ≡ loaded_world (map entity_given tables.entities.items) tables.resources
+world-loaded tables l rows world of is h = h ∙ ap (λ es. loaded_world (map entity_given es) l.resources) (is ∙ of.entities) ∙ ap (loaded_world (map entity_given tables.entities.items)) of.resources
 
 -- and of one of which two things are said
 pub of-ok-two : {T E : Type 0} (P R Q : T → Type 0) (r : Result T E) → ((x : T) → P x → R x → Q x) → IfOk r P → IfOk r R → IfOk r Q
@@ -225,15 +215,14 @@ is-file (Some text) v tables read only resources entities sets systems chains = 
   chains = chains;
 }
 
--- a file that has these tables, which declare what is built, and the scripts of whose systems fit, is accepted
-abbrev pub accepted : (bytes : Option (List ℕ)) (tables : ProgramFile) (d : Declared) (s : Schedule) (codes : List Code) (scripts : List ScriptBody) → IfSome bytes (IsFileOf tables) → d ≡ declared_by tables → IsScheduleOf d s
-    → map (λ (code : Code). code.blocks) codes ≡ map (λ (row : SystemTable). row.blocks) tables.systems.items → scripts ≡ map (λ (code : Code). script_said code.blocks) codes → AreScriptsOf s scripts → Accepted bytes
-accepted bytes tables d s codes scripts read same built blocks said fitting = record {
+-- a file of whose tables this is loaded is accepted
+abbrev pub accepted : (bytes : Option (List ℕ)) (tables : ProgramFile) (l : Loaded) → IfSome bytes (IsFileOf tables) → IsLoadedOf tables l → Accepted bytes
+accepted bytes tables l read of = record {
   tables = tables;
   read = read;
-  schedule = s;
-  built = subst (λ (x : Declared). IsScheduleOf x s) same built;
-  fitting = subst (AreScriptsOf s) (said ∙ scripts-same codes tables.systems.items blocks) fitting;
+  schedule = l.built;
+  built = of.schedule;
+  fitting = subst (AreScriptsOf l.built) of.scripts of.fitting;
 }
 
 -- ---- who refuses
@@ -254,29 +243,12 @@ module _ (there : Bool) (width : ℕ) (bytes trace : Option (List ℕ)) where
   place-refused w v (file.Text place) read h = text-refused bytes v (file.Text place) read h (no-tables bytes v read (fault-none v (file.Text place) h))
   place-refused w v file.Memory read h = tt
 
-  -- the builder
-  pub build-refused : (w : Work) (tables : ProgramFile) (fault : BuildFault) → IfSome bytes (IsFileOf tables) → IsAnswered (declared_by tables) fault → IsRefusedBy there width bytes trace w (fault_of_build fault)
-  build-refused w tables build.Memory said h = tt
-  build-refused w tables (build.UnknownName name) said h = (tables, said, h)
-  build-refused w tables (build.DuplicateName name) said h = (tables, said, h)
-  build-refused w tables (build.HierarchyLoop name) said h = (tables, said, h)
-  build-refused w tables (build.HierarchyCycle names) said h = (tables, said, h)
-  build-refused w tables (build.DependencyLoop name) said h = (tables, said, h)
-  build-refused w tables (build.CrossDependency item holder) said h = (tables, said, h)
-  build-refused w tables (build.SetsIntersect first second system) said h = (tables, said, h)
-  build-refused w tables (build.DependencyCycle names) said h = (tables, said, h)
-  build-refused w tables (build.SelfConflict name) said h = (tables, said, h)
-  build-refused w tables (build.BadQuery owner query number) said h = (tables, said, h)
-  build-refused w tables (build.BadConditionQuery condition query number) said h = (tables, said, h)
-  build-refused w tables (build.ConditionWrites condition) said h = (tables, said, h)
-  build-refused w tables (build.OverLimit limit) said h = (tables, said, h)
-
-  -- a script
-  pub script-refused : (w : Work) (tables : ProgramFile) (s : Schedule) (fault : Fault) → IfSome bytes (IsFileOf tables) → IsScheduleOf (declared_by tables) s
-      → IsUnscripted s (declared_names (declared_by tables)) (scripts_by tables) fault → IsRefusedBy there width bytes trace w fault
-  script-refused w tables s (Script cause system block instruction) said is h = (tables, said, s, is, h)
-  script-refused w tables s Memory said is h = tt
-  script-refused w tables s fault said is h = absurd h.2
+  -- what the tables declare is refused
+  pub load-refused : (w : Work) (tables : ProgramFile) (fault : Fault) → IfSome bytes (IsFileOf tables) → IsNotLoaded tables fault → IsRefusedBy there width bytes trace w fault
+  load-refused w tables (Build fault) said h = (tables, said, h)
+  load-refused w tables (Script cause system block instruction) said h = (tables, said, h.0, h.1, h.2)
+  load-refused w tables Memory said h = tt
+  load-refused w tables fault said h = absurd h
 
   module _ (file : Accepted bytes) where
     -- the reader of a trace

@@ -1,6 +1,8 @@
 pub mod Accepted
 pub mod Checked
 pub mod Fault
+pub mod LineTold
+pub mod Loaded
 pub mod Load
 pub mod Recorded
 pub mod Replayed

@@ -7,6 +7,8 @@ pub mod checking;
 pub mod created;
 pub mod fault;
 pub mod file;
+pub mod line_faults;
+pub mod loading;
 pub mod opened;
 pub mod recording;
 pub mod replaying;
@@ -18,4 +20,5 @@ pub mod world;
 
 pub use created::Created;
 pub use fault::Fault;
+pub use loading::Loaded;
 pub use opened::Opened;

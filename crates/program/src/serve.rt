@@ -18,9 +18,9 @@ use crate::answer::Answer;
 use crate::checking::check_trace;
 use crate::fault::Fault;
 use crate::file::bytes_of;
+use crate::loading::{Loaded, load};
 use crate::recording::note_all;
 use crate::replaying::replay_trace;
-use crate::schedule::{bodies_of, declare, names_of};
 use crate::world::world_of;
 use ambiguity_report::report::{is_settled, report};
 use archetype_store::World;
@@ -32,7 +32,6 @@ use printing::report::text_of_report;
 use printing::world::text_of_world;
 use program_file::{ProgramFile, document_of};
 use schedule_builder::Built;
-use schedule_builder::builder::build;
 use script::ScriptBody;
 use std::alloc::{AllocError, Global};
 use std::io::{Read, Write};
@@ -83,18 +82,14 @@ fn answer<'s, M: Mode<'s>, F: Read, T: Read>(
     ensures refused { IfErr result (IsRefusedBy (M.has_scope mode.now) (M.width mode.now) (F.remaining file.old) (T.remaining trace.old) work) }
 {
     let document = document_in(alloc, file)?;
-    let ProgramFile {
-        resources,
+    let tables = ProgramFile::read(alloc, &document)?;
+    let Loaded {
+        built,
+        names,
+        bodies,
         entities,
-        sets,
-        systems,
-        chains,
-    } = ProgramFile::read(alloc, &document)?;
-    let (desc, codes) = declare(alloc, sets, systems, chains.as_slice())?;
-    drop(chains);
-    let built = build(alloc, desc)?;
-    let names = names_of(alloc, codes.as_slice())?;
-    let bodies = bodies_of(alloc, &built, codes)?;
+        resources,
+    } = load(alloc, tables)?;
     let (times, recorded) = match work {
         Work::Ambiguities => return report_of(alloc, &built, names.as_slice()),
         Work::Check => return check_trace(alloc, &built, trace),
@@ -265,7 +260,7 @@ fn fault_line(alloc: Global, fault: &Fault) -> Result<String, AllocError>
 }
 
 // Writes a line, as far as the writer takes it.
-fn tell_line<E: Write>(faults: &mut E, line: &str)
+pub(crate) fn tell_line<E: Write>(faults: &mut E, line: &str)
     ensures { HasGainedFront (E.contents faults.old, E.contents faults.new) line.now }
 {
     let _ = write_whole(faults, line);

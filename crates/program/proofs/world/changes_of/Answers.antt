@@ -4,7 +4,7 @@ use Rattle.model.specs.state.State.{Slot}
 use Rattle.model.specs.state.State.Status.{Living}
 use Rattle.model.specs.state.Loaded.{row_given}
 use Rattle.program.specs.Load.{given_of}
-use Rattle.program.proofs.Loading.{given-next, given-all}
+use Rattle.program.proofs.LoadedWorlds.{given-next, given-all}
 use Rattle.program.proofs.world.changes_of.Goals as goal
 
 pub loop-index-preserved : goal.loop-index-preserved

@@ -8,7 +8,7 @@ use Rattle.program.specs.Fault.{fault_of_grant}
 use Rattle.program.specs.Load.{entity_given, AreGiven}
 use Rattle.program.specs.Refused.{IsUngiven}
 use Rattle.program.proofs.Serving.{of-given}
-use Rattle.program.proofs.Loading.{length-ids, too-many, ungiven, entities-apart, entities-can, entities-given}
+use Rattle.program.proofs.LoadedWorlds.{length-ids, too-many, ungiven, entities-apart, entities-can, entities-given}
 use Rattle.program.proofs.world.give_entities.Goals as goal
 
 pub changes_of-requires : goal.changes_of-requires

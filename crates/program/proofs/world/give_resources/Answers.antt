@@ -3,7 +3,7 @@ use Rattle.model.specs.state.State.{World}
 use Rattle.kinds.specs.declared.res.Res.TheVariants.{Round}
 use Rattle.kinds.specs.Res.{res_number, every_res}
 use Rattle.body.proofs.Values.{res_number-at}
-use Rattle.program.proofs.Loading.{resources-more, resources-all}
+use Rattle.program.proofs.LoadedWorlds.{resources-more, resources-all}
 use Rattle.program.proofs.world.give_resources.Goals as goal
 
 pub set_res-requires : goal.set_res-requires

@@ -3,7 +3,7 @@ use Rattle.std.proofs.lemmas.List.{take_all}
 use Rattle.model.specs.state.Loaded.{row_given}
 use Rattle.archetype_store.specs.Row.{component_of}
 use Rattle.program.specs.Load.{given_of}
-use Rattle.program.proofs.Loading.{row-next}
+use Rattle.program.proofs.LoadedWorlds.{row-next}
 use Rattle.program.proofs.world.row_of.Goals as goal
 
 pub loop-value-preserved : goal.loop-value-preserved
