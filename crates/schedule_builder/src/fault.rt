@@ -111,7 +111,7 @@ fn with_word<'a>(code: &'static str, word: Word<'a>) -> Line<'a>
     (code, word, Word::Nothing, Word::Nothing)
 }
 
-// The line of code B10: of a query, whose owner is told by a word, and the case that it is at fault by.
+// The line of a query at fault, with code B10: its owner as a word, its number, and what is wrong with it.
 fn b10<'a>(owner: Word<'a>, query: usize, case: u32) -> Line<'a>
     ensures { result.0.now ++ word_text result.1 ++ word_text result.2 ++ word_text result.3 ≡ codes "refused B10" ++ word_text owner.entry ++ (32 ∷ decimal query) ++ (32 ∷ decimal case) }
 {
@@ -120,7 +120,7 @@ fn b10<'a>(owner: Word<'a>, query: usize, case: u32) -> Line<'a>
 }
 
 impl BuildFault {
-    // Its line.
+    // The line of the fault: its code, and up to three words.
     fn line(&self) -> Line<'_>
         ensures { result.0.now ++ word_text result.1 ++ word_text result.2 ++ word_text result.3 ≡ build_fault_text self.now }
     {
