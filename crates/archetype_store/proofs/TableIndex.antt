@@ -3,7 +3,6 @@ use Rattle.std.proofs.Common.{◌≡◌, ◌≢◌, ℕ, zero, suc, ◌+◌, ◌
 use Rattle.std.specs.Prelude.{bit_or, slice_get, MatchOption, vec_capacity}
 use Rattle.std.specs.List.{AllByRecursion}
 use Rattle.std.specs.Int.{bit_at, w32}
-use Rattle.std.specs.HashMap.{get}
 use Rattle.std.proofs.lemmas.Bool.{cases_lt, eqb-true, eq-eqb, ne_eqb, or_left}
 use Rattle.std.proofs.lemmas.Bool.Decides.{eqb_tells}
 use Rattle.std.proofs.lemmas.List.{get_or_append_left, length-append, drop_more, drop_all, append-nil}
@@ -16,6 +15,7 @@ use Rattle.archetype_store.specs.declared.table_index.TableIndex.{TableIndex}
 use Rattle.archetype_store.specs.Layout.{archetype_of, layout_of}
 use Rattle.archetype_store.specs.Tables.{table_at, kinds_at, shape_of, number_of, AreShaped, AreAllAlike, IsTableOf}
 use Rattle.archetype_store.specs.TableIndex.{has_bit, peopled_from, IsWord, IsFound, IsIndexed}
+use Rattle.archetype_store.specs.TableWords.{told_table}
 use Rattle.archetype_store.specs.LivingSets.{set_number}
 use Rattle.archetype_store.specs.Shapes.{kept_seen, noted, AreListed}
 use Rattle.archetype_store.proofs.FittingTables.{listed_kept, listed_more, alike_numbers, set_numbers}
@@ -87,7 +87,7 @@ same_kinds (n ∷ ns) (m ∷ ms) b c h = ap₂ ◌∷◌ (heads n m ns ms b c h)
 -- ---- tables by their words
 
 -- what is found has the kinds
-pub kinds_found : (T : List TableValue) (index : TableIndex) (word t : ℕ) (ns : List ℕ) → IsFound T index → AreShaped T → AreBelow ns → IsWord word ns → get nat_eq index.by_word word ≡ Some t → kinds_at T t ≡ ns
+pub kinds_found : (T : List TableValue) (index : TableIndex) (word t : ℕ) (ns : List ℕ) → IsFound T index → AreShaped T → AreBelow ns → IsWord word ns → told_table index.by_word word ≡ Some t → kinds_at T t ≡ ns
 kinds_found T index word t ns h shaped below is at =
     same_kinds (kinds_at T t) ns (shape_at T t (h.within t word at) shaped).below below (λ k. sym (h.theirs t word at k) ∙ is k)
 
@@ -99,9 +99,9 @@ none_some : {A P : Type 0} (o : Option A) (x : A) → o ≡ None → o ≡ Some 
 none_some o x h k = let e : None ≡ Some x = sym h ∙ k in absurd (cc)
 
 -- where none is found, no table has the kinds
-pub none_found : (T : List TableValue) (index : TableIndex) (word : ℕ) (ns : List ℕ) → IsFound T index → IsWord word ns → get nat_eq index.by_word word ≡ None → AllByRecursion (λ t. t.kinds ≢ ns) T
+pub none_found : (T : List TableValue) (index : TableIndex) (word : ℕ) (ns : List ℕ) → IsFound T index → IsWord word ns → told_table index.by_word word ≡ None → AllByRecursion (λ t. t.kinds ≢ ns) T
 none_found T index word ns h is none =
-    each_at (λ t. t.kinds ≢ ns) T (λ t l same. none_some (get nat_eq index.by_word word) t none (h.known t word l (λ k. is k ∙ ap (has k) (sym same))))
+    each_at (λ t. t.kinds ≢ ns) T (λ t l same. none_some (told_table index.by_word word) t none (h.known t word l (λ k. is k ∙ ap (has k) (sym same))))
 
 -- the kinds of tables tell where they are found
 pub found_kept : (T U : List TableValue) (index : TableIndex) → length U ≡ length T → ((t : ℕ) → kinds_at U t ≡ kinds_at T t) → IsFound T index → IsFound U index
@@ -115,8 +115,8 @@ found_kept T U index many kinds h = record {
 }
 
 -- a table more
-module _ (T : List TableValue) (index new : TableIndex) (word : ℕ) (made : TableValue) (h : IsFound T index) (none : get nat_eq index.by_word word ≡ None) (is : IsWord word made.kinds)
-    (put : (q : ℕ) → get nat_eq new.by_word q ≡ cond (nat_eq word q) (Some (length T)) (get nat_eq index.by_word q)) (room : suc (length T) ≤ vec_capacity new.peopled)
+module _ (T : List TableValue) (index new : TableIndex) (word : ℕ) (made : TableValue) (h : IsFound T index) (none : told_table index.by_word word ≡ None) (is : IsWord word made.kinds)
+    (put : (q : ℕ) → told_table new.by_word q ≡ cond (nat_eq word q) (Some (length T)) (told_table index.by_word q)) (room : suc (length T) ≤ vec_capacity new.peopled)
     (room_numbers : suc (length T) ≤ vec_capacity new.numbers) (listed : map kept_seen new.shapes.items ≡ map (noted (set_number made.kinds) (length T)) (map kept_seen index.shapes.items)) where
   more : List TableValue
   more = T ++ made ∷ []
@@ -133,17 +133,17 @@ module _ (T : List TableValue) (index new : TableIndex) (word : ℕ) (made : Tab
   unfolding more
   behind = ap (λ (u : TableValue). u.kinds) (get_or-append_seam T made [] (empty_table []))
 
-  old_word : (t q : ℕ) → get nat_eq index.by_word q ≡ Some t → get nat_eq new.by_word q ≡ Some t
+  old_word : (t q : ℕ) → told_table index.by_word q ≡ Some t → told_table new.by_word q ≡ Some t
   old_word t q at = put q ∙ go (nat_eq word q) refl
     where
-      go : (b : Bool) → nat_eq word q ≡ b → cond b (Some (length T)) (get nat_eq index.by_word q) ≡ Some t
-      go true e = none_some (get nat_eq index.by_word word) t none (ap (get nat_eq index.by_word) (eqb-true word q e) ∙ at)
+      go : (b : Bool) → nat_eq word q ≡ b → cond b (Some (length T)) (told_table index.by_word q) ≡ Some t
+      go true e = none_some (told_table index.by_word word) t none (ap (told_table index.by_word) (eqb-true word q e) ∙ at)
       go false e = at
 
-  new_word : (q : ℕ) → word ≡ q → get nat_eq new.by_word q ≡ Some (length T)
-  new_word q e = put q ∙ ap (λ b. cond b (Some (length T)) (get nat_eq index.by_word q)) (eq-eqb word q e)
+  new_word : (q : ℕ) → word ≡ q → told_table new.by_word q ≡ Some (length T)
+  new_word q e = put q ∙ ap (λ b. cond b (Some (length T)) (told_table index.by_word q)) (eq-eqb word q e)
 
-  known : (t q : ℕ) → t < length more → IsWord q (kinds_at more t) → get nat_eq new.by_word q ≡ Some t
+  known : (t q : ℕ) → t < length more → IsWord q (kinds_at more t) → told_table new.by_word q ≡ Some t
   known t q l at = elim (cases_lt t (length T)) [
     | inl low ↦ old_word t q (h.known t q low (λ k. at k ∙ ap (has k) (before t low)))
     | inr high ↦
@@ -151,7 +151,7 @@ module _ (T : List TableValue) (index new : TableIndex) (word : ℕ) (made : Tab
         new_word q (same_word word q made.kinds is (λ k. at k ∙ ap (has k) (ap (kinds_at more) last ∙ behind))) ∙ ap (λ n. Some n) (sym last)
   ]
 
-  told : (t q : ℕ) → get nat_eq new.by_word q ≡ Some t → (t < length more) × IsWord q (kinds_at more t)
+  told : (t q : ℕ) → told_table new.by_word q ≡ Some t → (t < length more) × IsWord q (kinds_at more t)
   told t q at = go (nat_eq word q) refl
     where
       go : (b : Bool) → nat_eq word q ≡ b → (t < length more) × IsWord q (kinds_at more t)
@@ -160,7 +160,7 @@ module _ (T : List TableValue) (index new : TableIndex) (word : ℕ) (made : Tab
           let last : length T ≡ t = cc in
           ((let m = many in omega arith), λ k. ap (λ w. has_bit w k) (sym (eqb-true word q e)) ∙ is k ∙ ap (has k) (sym (ap (kinds_at more) (sym last) ∙ behind)))
       go false e =
-          let some : get nat_eq index.by_word q ≡ Some t = sym (ap (λ b. cond b (Some (length T)) (get nat_eq index.by_word q)) e) ∙ (sym (put q) ∙ at) in
+          let some : told_table index.by_word q ≡ Some t = sym (ap (λ b. cond b (Some (length T)) (told_table index.by_word q)) e) ∙ (sym (put q) ∙ at) in
           let low = h.within t q some in
           ((let m = many in omega arith), λ k. h.theirs t q some k ∙ ap (has k) (sym (before t low)))
 
@@ -176,7 +176,7 @@ module _ (T : List TableValue) (index new : TableIndex) (word : ℕ) (made : Tab
   }
 
 -- room, words and shapes alone are asked
-pub found_other : (T : List TableValue) (index new : TableIndex) → ((word : ℕ) → get nat_eq new.by_word word ≡ get nat_eq index.by_word word) → length T ≤ vec_capacity new.peopled → length T ≤ vec_capacity new.numbers → map kept_seen new.shapes.items ≡ map kept_seen index.shapes.items →
+pub found_other : (T : List TableValue) (index new : TableIndex) → ((word : ℕ) → told_table new.by_word word ≡ told_table index.by_word word) → length T ≤ vec_capacity new.peopled → length T ≤ vec_capacity new.numbers → map kept_seen new.shapes.items ≡ map kept_seen index.shapes.items →
     IsFound T index → IsFound T new
 found_other T index new same room room_numbers listed h = record {
   known = λ t word l is. same word ∙ h.known t word l is;

@@ -17,3 +17,4 @@ pub mod Changes
 pub mod RowMoves
 pub mod Shapes
 pub mod TableIndex
+pub mod TableWords

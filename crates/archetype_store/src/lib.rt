@@ -20,6 +20,7 @@ pub mod slot;
 mod slots;
 pub mod store;
 mod table_index;
+mod table_words;
 mod tables;
 
 pub use change::{EntityChange, Fate};

@@ -1,19 +1,20 @@
 // Where tables are found: by the word of their kinds, and by the number of their archetype.
 
-ghost use Rattle.std.specs.Prelude.{◌≡◌, ◌≤◌, ◌++◌, ◌∷◌, ◌||◌, ◌==◌, ℕ, List, [], length, map, get_or, nat_eq, None, vec_capacity, IfOk, IfSome, IsTrue, MatchOption, OnOk, OnErr};
-ghost use Rattle.std.specs.HashMap.{get};
+ghost use Rattle.std.specs.Prelude.{◌≡◌, ◌≤◌, ◌++◌, ◌∷◌, ◌||◌, ◌==◌, ℕ, List, [], length, map, get_or, None, vec_capacity, IfOk, IfSome, IsTrue, MatchOption, OnOk, OnErr};
 ghost use Rattle.kinds.specs.Kind.{kind_number};
 ghost use Rattle.column_store.specs.Cells.{stamped_number};
 ghost use Rattle.column_store.specs.Table.{TableValue};
 ghost use Rattle.archetype_store.specs.Layout.{layout_of};
 ghost use Rattle.archetype_store.specs.Shapes.{shape_number, fitting_from, fitting_tables, numbers_from};
 ghost use Rattle.archetype_store.specs.Tables.{IsTableOf};
+ghost use Rattle.archetype_store.specs.TableWords.{told_table};
 ghost use Rattle.archetype_store.specs.TableIndex.{has_bit, peopled_from, IsWord, IsFound, IsIndexed};
 
 use crate::kind_sets::number_of;
 use crate::shapes::{
     KeptShape, Shape, copied_shapes, fitting_of, note_all, number_at, numbers_at, reserve_all,
 };
+use crate::table_words::TableWords;
 use column_store::{StampedValue, Table};
 use kinds::Kind;
 use kinds::kind::prove_kinds_apart;
@@ -24,7 +25,7 @@ use std::collections::HashMap;
 /// archetype of each table, and of each shape that is kept the tables that fit it, whether they have rows or not.
 #[derive(Drop)]
 pub(crate) struct TableIndex {
-    by_word: HashMap<u32, usize>,
+    by_word: TableWords,
     peopled: Vec<usize>,
     // By table: the number of its archetype, where it has rows.
     numbers: Vec<Option<usize>>,
@@ -57,7 +58,7 @@ impl TableIndex {
         ensures { IsIndexed [] result }
     {
         TableIndex {
-            by_word: HashMap::new(alloc),
+            by_word: TableWords::new(alloc),
             peopled: Vec::new(alloc),
             numbers: Vec::new(alloc),
             shapes: Vec::new(alloc),
@@ -69,7 +70,7 @@ impl TableIndex {
     pub(crate) fn copy(&self, alloc: Global) -> Result<Self, AllocError>
         ensures { IfOk result (λ copy. (tables : List TableValue) → IsIndexed tables self.now → IsIndexed tables copy) }
     {
-        let by_word = self.by_word.clone()?;
+        let by_word = self.by_word.copy()?;
         let mut peopled = Vec::with_capacity(alloc, self.peopled.capacity())?;
         peopled.extend_from_slice(self.peopled.as_slice())?;
         let mut numbers = Vec::with_capacity(alloc, self.numbers.capacity())?;
@@ -86,10 +87,11 @@ impl TableIndex {
     }
 
     /// The table of the kinds of a word.
-    pub(crate) fn find(&self, word: u32) -> Option<usize>
-        ensures { result ≡ get nat_eq self.now.by_word word }
+    pub(crate) fn find(&mut self, word: u32) -> Option<usize>
+        ensures found { result ≡ told_table self.old.by_word word }
+        ensures same { self.new ≡ self.old }
     {
-        self.by_word.get(&word).copied()
+        self.by_word.find(word)
     }
 
     /// Adds a table of other kinds, whose word is told. Where an allocation fails there is none.
@@ -100,7 +102,7 @@ impl TableIndex {
         made: Table,
     ) -> Result<usize, AllocError>
         requires found { IsFound tables.old.items self.old }
-        requires other { get nat_eq self.old.by_word word ≡ None }
+        requires other { told_table self.old.by_word word ≡ None }
         requires word { IsWord word made.kinds }
         ensures number { IfOk result (λ table. table ≡ length tables.old.items) }
         ensures made { OnOk result (tables.new.items ≡ tables.old.items ++ made ∷ []) }

@@ -322,11 +322,9 @@ pub(crate) fn read_row(
     ensures kinds { OnOk result (map stamped_number components.new.items ≡ map kind_in columns.now) }
 {
     components.clear();
-    if components.capacity() < columns.len() {
-        components.reserve(columns.len())?;
-    }
+    components.reserve(columns.len())?;
     for column in columns {
-        components.push(column.at(row))?;
+        components.push_reserved(column.at(row));
     }
     Ok(())
 }

@@ -14,6 +14,8 @@ use std::marker::Model;
 pub(crate) struct GapList {
     front: Vec<u32>,
     back: Vec<u32>,
+    // The place at which a number was replaced last.
+    replaced: usize,
 }
 
 impl Model for GapList {
@@ -83,6 +85,7 @@ impl GapList {
         GapList {
             front: Vec::new(alloc),
             back: Vec::new(alloc),
+            replaced: 0,
         }
     }
 
@@ -93,7 +96,11 @@ impl GapList {
     {
         let front = copied_with_room(alloc, &self.front)?;
         let back = copied_with_room(alloc, &self.back)?;
-        Ok(GapList { front, back })
+        Ok(GapList {
+            front,
+            back,
+            replaced: self.replaced,
+        })
     }
 
     // How many numbers there are.
@@ -101,6 +108,22 @@ impl GapList {
         ensures { result ≡ length self.now.items }
     {
         self.front.len() + self.back.len()
+    }
+
+    // The place of the gap, near which the next edit mostly is.
+    pub(crate) fn gap(&self) -> usize
+        ensures { result ≤ length self.now.items }
+    {
+        // Proves that places fit.
+        let _count = self.len();
+        self.front.len()
+    }
+
+    // The place at which a number was replaced last, near which the next one mostly is.
+    pub(crate) fn replaced(&self) -> usize
+        ensures { result ≤ length self.now.items }
+    {
+        self.replaced.min(self.len())
     }
 
     // Makes room for so many numbers in all.
@@ -146,6 +169,7 @@ impl GapList {
         requires { place < length self.old.items }
         ensures { self.new ≡ record self.old { items = set self.old.items place number } }
     {
+        self.replaced = place;
         let count = self.front.len();
         if place < count {
             self.front[place] = number;

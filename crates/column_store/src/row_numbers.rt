@@ -18,19 +18,39 @@ fn comes_before(entities: &[Entity], row: u32, e: Entity) -> bool
     (row as usize) < entities.len() && is_before(entities[row as usize], e)
 }
 
-// How many rows are of entities that come before this one, found by halving.
-fn gap_of(entities: &[Entity], numbers: &GapList, e: Entity) -> usize
+// The place that is looked at between two others: one that is guessed, where it lies there, else the middle.
+fn looked_at(low: usize, high: usize, guess: usize) -> usize
+    requires { low < high }
+    ensures low { low ≤ result }
+    ensures high { result < high }
+{
+    if low <= guess && guess < high {
+        guess
+    } else {
+        low + (high - low) / 2
+    }
+}
+
+// How many rows are of entities that come before this one: found from a place on by steps that double, and between two of them by halving. So it
+// costs little where it is near that place.
+fn gap_of(entities: &[Entity], numbers: &GapList, e: Entity, near: usize) -> usize
     requires { IsOrderOf entities.now numbers.now.items }
     ensures { IsGap e (map (entity_at entities.now) numbers.now.items) result }
 {
     let mut low = 0;
     let mut high = numbers.len();
+    let mut guess = near;
+    let mut stride = 1usize;
     while low < high {
-        let middle = low + (high - low) / 2;
-        if comes_before(entities, numbers.at(middle), e) {
-            low = middle + 1;
+        let place = looked_at(low, high, guess);
+        let step = stride;
+        stride = step.wrapping_mul(2);
+        if comes_before(entities, numbers.at(place), e) {
+            low = place + 1;
+            guess = place.wrapping_add(step);
         } else {
-            high = middle;
+            high = place;
+            guess = place.wrapping_sub(step);
         }
     }
     low
@@ -67,7 +87,7 @@ pub(crate) fn row_by_numbers(entities: &[Entity], numbers: &GapList, e: Entity) 
     requires order { IsOrderOf entities.now numbers.now.items }
     ensures { MatchOption result (IsNowhere (λ x. is_same x e) entities.now) (IsPlace (λ x. is_same x e) entities.now) }
 {
-    let place = gap_of(entities, numbers, e);
+    let place = gap_of(entities, numbers, e, numbers.gap());
     if place >= numbers.len() {
         return None;
     }
@@ -118,7 +138,7 @@ pub(crate) fn put_number(entities: &[Entity], numbers: &mut GapList, e: Entity)
     ensures many { length numbers.new.items ≡ length numbers.old.items + 1 }
     ensures room { numbers.old.room ≤ numbers.new.room }
 {
-    let gap = gap_of(entities, numbers, e);
+    let gap = gap_of(entities, numbers, e, numbers.gap());
     numbers.insert(gap, entities.len() as u32);
 }
 
@@ -131,9 +151,14 @@ pub(crate) fn take_number(entities: &[Entity], numbers: &mut GapList, row: usize
     ensures many { length numbers.new.items + 1 ≡ length numbers.old.items }
     ensures room { numbers.new.room ≡ numbers.old.room }
 {
-    let last = entities[entities.len() - 1];
-    let place = gap_of(entities, numbers, entities[row]);
-    let moved = gap_of(entities, numbers, last);
+    let last = entities.len() - 1;
+    let place = gap_of(entities, numbers, entities[row], numbers.gap());
+    let near = if row == last {
+        place
+    } else {
+        numbers.replaced()
+    };
+    let moved = gap_of(entities, numbers, entities[last], near);
     numbers.set(moved, row as u32);
     numbers.remove(place);
 }

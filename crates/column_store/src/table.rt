@@ -1,6 +1,6 @@
 // Tables.
 
-ghost use Rattle.std.specs.Prelude.{◌≡◌, ◌+◌, ◌-◌, ◌<◌, ◌++◌, ◌∷◌, [], length, map, option_map, Some, IsSome, IsNone, is_some, IfSome, IfOk, OnOk, OnErr, IsTrue, slice_get};
+ghost use Rattle.std.specs.Prelude.{◌≡◌, ◌+◌, ◌-◌, ◌<◌, ◌≤◌, ◌++◌, ◌∷◌, [], length, map, option_map, Some, IsSome, IsNone, is_some, IfSome, IfOk, OnOk, OnErr, IsTrue, slice_get};
 ghost use Rattle.std.specs.List.{list_all};
 ghost use Rattle.kinds.specs.Kind.{kind_number};
 ghost use Rattle.kinds.specs.Value.{value_number, value_words};
@@ -54,8 +54,15 @@ impl Drop for Table {
     }
 }
 
-// For so many rows room is made at once, where there are as many.
+// For so many rows more room is made at once, at the most.
 const STEP: usize = 64;
+
+// For how many rows room is made where there are so many, and so many are asked for: for some more, the more rows there are.
+fn in_steps(count: usize, room: usize) -> usize
+    ensures { room ≤ result }
+{
+    room.saturating_add(count.max(room).min(STEP))
+}
 
 impl Model for Table {
     ghost use Rattle.std.specs.Prelude.{map};
@@ -274,7 +281,7 @@ impl Table {
             return Ok(());
         }
         let count = self.entities.as_slice().len();
-        let spare = room.max(count.min(STEP));
+        let spare = in_steps(count, room);
         self.entities.reserve(spare)?;
         reserve_rows(&mut self.columns, count, spare)?;
         self.spare = spare;

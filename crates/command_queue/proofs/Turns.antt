@@ -1,17 +1,18 @@
--- Changes whose indices rise from place to place, and the places that a map tells.
-use Rattle.std.proofs.Common.{◌≡◌, ℕ, zero, suc, ◌+◌, ◌<◌, ◌≤◌, Bool, true, false, cond, ◌==◌, ◌⊎◌, inl, inr, List, [], ◌∷◌, length, get_or, take, Option, Some, None, option_map, nat_eq, refl, sym, ap, ◌∙◌, arith, eqb-true}
-use Rattle.std.specs.HashMap.{HashMap, get}
+-- Changes whose indices rise from place to place, and places that are told.
+use Rattle.std.proofs.Common.{◌≡◌, ℕ, zero, suc, ◌+◌, ◌<◌, ◌≤◌, Bool, true, false, cond, ◌==◌, ◌⊎◌, inl, inr, List, [], ◌∷◌, length, get_or, take, Option, Some, None, option_map, refl, sym, ap, ◌∙◌, arith, eqb-true}
 use Rattle.std.proofs.lemmas.Bool.{cases_lt}
 use Rattle.std.proofs.lemmas.List.{take_more, length-take}
 use Rattle.model.proofs.lists.Each.{each-at}
 use Rattle.archetype_store.specs.declared.change.EntityChange.{EntityChange}
 use Rattle.archetype_store.specs.Changes.{AreOfOtherIndices}
 use Rattle.archetype_store.proofs.RowMoves.{index_flipped as turned}
+use Rattle.command_queue.specs.declared.change_places.ChangePlaces.{ChangePlaces}
+use Rattle.command_queue.specs.ChangePlaces.{place_told}
 use Rattle.command_queue.specs.Pending.{place_of, put_change, AreInTurn, ArePlaced, IsNoted, IsLast, IsTold}
 use Rattle.command_queue.proofs.Puts.{at_place, put_first, place_first, place_last}
 
 -- where each index has the place that it had, the places that were told are still told
-pub placed_same : {S : Type 0} (places : Option (HashMap ℕ ℕ S)) (cs ds : List EntityChange) → ((q : ℕ) → place_of q ds ≡ place_of q cs) → ArePlaced places cs → ArePlaced places ds
+pub placed_same : (places : Option ChangePlaces) (cs ds : List EntityChange) → ((q : ℕ) → place_of q ds ≡ place_of q cs) → ArePlaced places cs → ArePlaced places ds
 placed_same None cs ds same h = λ i j p q x y less. h i j p q (sym (same i) ∙ x) (sym (same j) ∙ y) less
 placed_same (Some places) cs ds same h = λ q. h q ∙ sym (same q)
 
@@ -68,18 +69,18 @@ turn_put c cs turn last none = λ i j p q x y less.
 
 -- ---- a change more
 
-pub placed_put : {S : Type 0} (old new : Option (HashMap ℕ ℕ S)) (c : EntityChange) (cs : List EntityChange) (n : ℕ) → n ≡ length cs → IsNoted old c.entity.index n new →
+pub placed_put : (old new : Option ChangePlaces) (c : EntityChange) (cs : List EntityChange) (n : ℕ) → n ≡ length cs → IsNoted old c.entity.index n new →
     ArePlaced old cs → IsTold old cs c.entity.index → place_of c.entity.index cs ≡ None → ArePlaced new (put_change c cs)
 placed_put None None c cs n many noted h told none = turn_put c cs h told none
 placed_put None (Some m) c cs n many noted h told none = absurd noted
 placed_put (Some l) None c cs n many noted h told none = absurd noted
 placed_put (Some l) (Some m) c cs n many noted h told none = λ q.
     noted q
-    ∙ ap (λ k. cond (c.entity.index == q) (Some k) (get nat_eq l q)) many
+    ∙ ap (λ k. cond (c.entity.index == q) (Some k) (place_told l q)) many
     ∙ ap (cond (c.entity.index == q) (Some (length cs))) (h q)
     ∙ sym (place_first q c cs none)
 
--- ---- a map of the places
+-- ---- places that are told
 
 taken_first : (cs : List EntityChange) (n : ℕ) (d : EntityChange) → AreOfOtherIndices cs → n < length cs → place_of (get_or cs n d).entity.index (take n cs) ≡ None
 taken_first [] n d apart l = absurd (omega arith)

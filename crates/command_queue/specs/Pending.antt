@@ -1,7 +1,6 @@
 -- What commands make of entities before it is done in the world: changes of entities, one for an index.
-use Rattle.std.specs.Prelude.{ℕ, suc, ◌≡◌, ◌≢◌, ◌<◌, ◌≤◌, Bool, true, false, cond, ◌==◌, List, [], ◌∷◌, get_or, nat_eq, Option, Some, None, option_map}
+use Rattle.std.specs.Prelude.{ℕ, suc, ◌≡◌, ◌≢◌, ◌<◌, ◌≤◌, Bool, true, false, cond, ◌==◌, List, [], ◌∷◌, get_or, Option, Some, None, option_map}
 use Rattle.std.specs.List.{AllByRecursion}
-use Rattle.std.specs.HashMap.{HashMap, get}
 use Rattle.model.specs.declared.entities.Entity.{Entity}
 use Rattle.model.specs.state.State.{Slot, World}
 use Rattle.model.specs.state.Commands.{CommandTarget, is_alive}
@@ -10,6 +9,8 @@ use Rattle.archetype_store.specs.Changes.{changed, AreOfOtherIndices, CanChange}
 use Rattle.archetype_store.specs.declared.change.Fate.{Fate}
 use Rattle.archetype_store.specs.declared.change.Fate.TheVariants as the
 use Rattle.archetype_store.specs.declared.change.EntityChange.{EntityChange}
+use Rattle.command_queue.specs.declared.change_places.ChangePlaces.{ChangePlaces}
+use Rattle.command_queue.specs.ChangePlaces.{place_told}
 use Rattle.command_queue.specs.declared.pending.Pending.{Pending}
 use Rattle.command_queue.specs.declared.pending.EntityState.{EntityState}
 use Rattle.command_queue.specs.declared.pending.EntityState.TheVariants as entity_state
@@ -37,24 +38,24 @@ put_change c (d ∷ ds) = cond (d.entity.index == c.entity.index) (c ∷ ds) (d 
 abbrev pub AreInTurn : List EntityChange → Type 0
 AreInTurn cs = (i j p q : ℕ) → place_of i cs ≡ Some p → place_of j cs ≡ Some q → i < j → p < q
 
--- a map tells the place of each change by its index, or indices rise
-abbrev pub ArePlaced : {S : Type 0} → Option (HashMap ℕ ℕ S) → List EntityChange → Type 0
+-- the place of each change is told by its index, or indices rise
+abbrev pub ArePlaced : Option ChangePlaces → List EntityChange → Type 0
 ArePlaced None cs = AreInTurn cs
-ArePlaced (Some places) cs = (index : ℕ) → get nat_eq places index ≡ place_of index cs
+ArePlaced (Some places) cs = (index : ℕ) → place_told places index ≡ place_of index cs
 
--- a map, where there is one, tells the place of a further index
-abbrev pub IsNoted : {S : Type 0} → Option (HashMap ℕ ℕ S) → ℕ → ℕ → Option (HashMap ℕ ℕ S) → Type 0
+-- the place of a further index is told, where places are told
+abbrev pub IsNoted : Option ChangePlaces → ℕ → ℕ → Option ChangePlaces → Type 0
 IsNoted None index place None = Unit {0}
 IsNoted None index place (Some new) = ⊥
 IsNoted (Some old) index place None = ⊥
-IsNoted (Some old) index place (Some new) = (q : ℕ) → get nat_eq new q ≡ cond (index == q) (Some place) (get nat_eq old q)
+IsNoted (Some old) index place (Some new) = (q : ℕ) → place_told new q ≡ cond (index == q) (Some place) (place_told old q)
 
 -- no change is of a greater index
 abbrev pub IsLast : List EntityChange → ℕ → Type 0
 IsLast cs index = (i p : ℕ) → place_of i cs ≡ Some p → i ≤ index
 
--- the place of an index is told by the map, or is the last one if any
-abbrev pub IsTold : {S : Type 0} → Option (HashMap ℕ ℕ S) → List EntityChange → ℕ → Type 0
+-- the place of an index is told, or is the last one if any
+abbrev pub IsTold : Option ChangePlaces → List EntityChange → ℕ → Type 0
 IsTold None cs index = IsLast cs index
 IsTold (Some places) cs index = Unit {0}
 

@@ -15,6 +15,17 @@ use archetype_store::World;
 use change_ticks::Tick;
 use std::alloc::{AllocError, Global};
 
+// How many commands these buffers have.
+fn command_count(buffers: &[CommandBuffer], order: &[u32]) -> usize
+    requires { All (λ n. n < length buffers.now) order.now }
+{
+    let mut count: usize = 0;
+    for number in order {
+        count = count.saturating_add(buffers[*number as usize].commands().len());
+    }
+    count
+}
+
 // What these buffers make of a world, which stays as it is.
 fn gather(
     alloc: Global,
@@ -30,7 +41,7 @@ fn gather(
     ensures pending { IfOk result (IsPending world.now.state) }
     ensures done { IfOk result (λ pending. target_of world.now.state pending ≡ apply_buffer tick (record { slots = world.now.state.slots; passed_over = 0 }) (commands_of buffers.now order.now)) }
 {
-    let mut pending = Pending::new(alloc);
+    let mut pending = Pending::new(alloc, command_count(buffers, order))?;
     for number in order {
         let commands = buffers[*number as usize].commands();
         pending.buffer(alloc, world, commands, tick)?;

@@ -3,6 +3,7 @@
 
 pub mod apply;
 pub mod buffer;
+mod change_places;
 pub mod command;
 mod pending;
 mod rows;

@@ -12,15 +12,19 @@ ghost use Rattle.archetype_store.specs.Changes.{AreOfOtherIndices};
 ghost use Rattle.command_queue.specs.Commands.{command_of, index_in};
 ghost use Rattle.command_queue.specs.Pending.{bare_change, place_of, put_change, AreInTurn, ArePlaced, IsNoted, IsLast, IsTold, IsPending, target_of, Stands, IsOpen, CanSpawn};
 
+use crate::change_places::ChangePlaces;
 use crate::command::Command;
 use crate::rows::{fill_kept, insert_kept, keeps, remove_kept};
 use archetype_store::{EntityChange, Fate, World};
 use change_ticks::Tick;
 use column_store::Components;
 use entity_table::Entity;
-use indexmap::IndexMap;
 use kinds::{Kind, Value};
 use std::alloc::{AllocError, Global};
+
+// For so many indices a command the places of changes stand in a list: it costs less than a map as long as commands are not far fewer than
+// indices.
+const INDICES: usize = 16;
 
 // The greatest count of commands passed over.
 const MOST_PASSED_OVER: u64 = 1 << 62;
@@ -41,7 +45,9 @@ pub(crate) enum EntityState {
 pub(crate) struct Pending {
     pub(crate) changes: Vec<EntityChange>,
     // The place of each change by its index, once a command came whose index is before that of the last change: up to then indices rise.
-    places: Option<IndexMap<u32, usize>>,
+    places: Option<ChangePlaces>,
+    // The places of indices below this one are told by a list.
+    listed: usize,
     pub(crate) passed_over: u64,
 }
 
@@ -69,12 +75,8 @@ fn comes_last(changes: &[EntityChange], index: u32) -> bool
     changes[count - 1].entity.index <= index
 }
 
-// Notes the place of the change of a further index, where places are told by a map.
-fn note_place(
-    places: &mut Option<IndexMap<u32, usize>>,
-    index: u32,
-    place: usize,
-) -> Result<(), AllocError>
+// Notes the place of the change of a further index, where places are told.
+fn note_place(places: &mut Option<ChangePlaces>, index: u32, place: usize) -> Result<(), AllocError>
     ensures { OnOk result (IsNoted places.old index place places.new) }
 {
     if let Some(places) = places {
@@ -83,12 +85,16 @@ fn note_place(
     Ok(())
 }
 
-// The place of each change by its index.
-fn places_of(alloc: Global, changes: &[EntityChange]) -> Result<IndexMap<u32, usize>, AllocError>
+// The place of each change by its index, for indices below this one by a list.
+fn places_of(
+    alloc: Global,
+    listed: usize,
+    changes: &[EntityChange],
+) -> Result<ChangePlaces, AllocError>
     requires { AreOfOtherIndices changes.now }
     ensures { IfOk result (λ places. ArePlaced (Some places) changes.now) }
 {
-    let mut places = IndexMap::new(alloc);
+    let mut places = ChangePlaces::new(alloc, listed);
     for place in 0..changes.len() {
         places.insert(changes[place].entity.index, place)?;
     }
@@ -96,17 +102,19 @@ fn places_of(alloc: Global, changes: &[EntityChange]) -> Result<IndexMap<u32, us
 }
 
 impl Pending {
-    // No command was done.
-    pub(crate) fn new(alloc: Global) -> Self
-        ensures changes { result.changes.items ≡ [] }
-        ensures places { ArePlaced result.places [] }
-        ensures passed { result.passed_over ≡ 0 }
+    // No command was done, with room for the changes of so many.
+    pub(crate) fn new(alloc: Global, commands: usize) -> Result<Self, AllocError>
+        ensures changes { IfOk result (λ pending. pending.changes.items ≡ []) }
+        ensures places { IfOk result (λ pending. ArePlaced pending.places []) }
+        ensures passed { IfOk result (λ pending. pending.passed_over ≡ 0) }
     {
-        Pending {
-            changes: Vec::new(alloc),
+        let changes = Vec::with_capacity(alloc, commands)?;
+        Ok(Pending {
+            changes,
             places: None,
+            listed: commands.saturating_mul(INDICES),
             passed_over: 0,
-        }
+        })
     }
 
     // Has the places of changes told, where an index is before that of the last one.
@@ -124,7 +132,7 @@ impl Pending {
         if comes_last(&self.changes, index) {
             return Ok(());
         }
-        let places = places_of(alloc, &self.changes)?;
+        let places = places_of(alloc, self.listed, &self.changes)?;
         self.places = Some(places);
         Ok(())
     }
@@ -189,7 +197,7 @@ impl Pending {
         }
         match &self.places {
             None => None,
-            Some(places) => places.get(&index).copied(),
+            Some(places) => places.get(index),
         }
     }
 

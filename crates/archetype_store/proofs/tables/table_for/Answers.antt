@@ -1,7 +1,8 @@
-use Rattle.std.proofs.Common.{◌++◌, [], ◌∷◌, map, sym, ap, ◌∙◌}
+use Rattle.std.proofs.Common.{◌++◌, [], ◌∷◌, map, sym, ap, subst, ◌∙◌}
 use Rattle.std.proofs.lemmas.Result.{on_ok_weaker}
 use Rattle.column_store.specs.Cells.{stamped_number}
 use Rattle.column_store.specs.Table.{TableValue}
+use Rattle.archetype_store.specs.TableIndex.{IsFound}
 use Rattle.archetype_store.proofs.KindSets.{grown_if, some_numbers}
 use Rattle.archetype_store.proofs.TableIndex.{kinds_found, none_found}
 use Rattle.std.proofs.lemmas.Result.{IfOk-from_err}
@@ -9,26 +10,26 @@ use Rattle.archetype_store.proofs.Changed.{grown_self, table_added, kinds_added}
 use Rattle.archetype_store.proofs.tables.table_for.Goals as goal
 
 pub returns-in-Some-clause-within : goal.returns-in-Some-clause-within
-returns-in-Some-clause-within c = c.requires.found.within c.in-Some.table c.word_of-word.result (sym c.find.ensures ∙ c.in-Some.is)
+returns-in-Some-clause-within c = c.requires.found.within c.in-Some.table c.word_of-word.result (sym c.find.ensures.found ∙ c.in-Some.is)
 
 pub returns-in-Some-clause-kinds : goal.returns-in-Some-clause-kinds
 returns-in-Some-clause-kinds c =
     kinds_found c.args.tables.now.items c.args.index.now c.word_of-word.result c.in-Some.table (map stamped_number c.args.components.now) c.requires.found c.requires.shaped c.requires.below c.word_of-word.ensures
-    (sym c.find.ensures ∙ c.in-Some.is)
+    (sym c.find.ensures.found ∙ c.in-Some.is)
 
 pub returns-in_ok-made-in-None-clause-grown : goal.returns-in_ok-made-in-None-clause-grown
 returns-in_ok-made-in-None-clause-grown c =
     let ns = map stamped_number c.args.components.now in
     let T = c.args.tables.now.items in
     grown_if T c.add.new.tables.items ns c.requires.below (some_numbers c.args.components.now c.requires.some)
-    (none_found T c.args.index.now c.word_of-word.result ns c.requires.found c.word_of-word.ensures (sym c.find.ensures ∙ c.in-None.is)) c.requires.shaped c.requires.unlike c.add.result
+    (none_found T c.args.index.now c.word_of-word.result ns c.requires.found c.word_of-word.ensures (sym c.find.ensures.found ∙ c.in-None.is)) c.requires.shaped c.requires.unlike c.add.result
     (on_ok_weaker c.add.result (λ h. h ∙ ap (λ (t : TableValue). T ++ t ∷ []) c.in_ok-made-in-None.ensures) c.add.ensures.made) c.add.ensures.err
 
 pub returns-in-Some-clause-grown : goal.returns-in-Some-clause-grown
 returns-in-Some-clause-grown c = grown_self c.args.tables.now.items c.requires.shaped c.requires.unlike
 
 pub returns-in-Some-clause-found : goal.returns-in-Some-clause-found
-returns-in-Some-clause-found c = c.requires.found
+returns-in-Some-clause-found c = subst (IsFound c.args.tables.now.items) (sym c.find.ensures.same) c.requires.found
 
 pub returns-in_err-made-in-None-clause-within : goal.returns-in_err-made-in-None-clause-within
 returns-in_err-made-in-None-clause-within c = IfOk-from_err c.from_residual.result _ c.from_residual.ensures.0
@@ -40,7 +41,7 @@ pub returns-in_err-made-in-None-clause-grown : goal.returns-in_err-made-in-None-
 returns-in_err-made-in-None-clause-grown c = grown_self c.args.tables.now.items c.requires.shaped c.requires.unlike
 
 pub returns-in_err-made-in-None-clause-found : goal.returns-in_err-made-in-None-clause-found
-returns-in_err-made-in-None-clause-found c = c.requires.found
+returns-in_err-made-in-None-clause-found c = subst (IsFound c.args.tables.now.items) (sym c.find.ensures.same) c.requires.found
 
 pub returns-in_ok-made-in-None-clause-within : goal.returns-in_ok-made-in-None-clause-within
 returns-in_ok-made-in-None-clause-within c = table_added c.add.result c.args.tables.now.items c.add.new.tables.items c.in_ok-made-in-None.made c.add.ensures.number c.add.ensures.made
@@ -53,4 +54,4 @@ pub returns-in_ok-made-in-None-clause-found : goal.returns-in_ok-made-in-None-cl
 returns-in_ok-made-in-None-clause-found c = c.add.ensures.found
 
 pub add-requires-clause-found : goal.add-requires-clause-found
-add-requires-clause-found c = c.requires.found
+add-requires-clause-found c = subst (IsFound c.args.tables.now.items) (sym c.find.ensures.same) c.requires.found

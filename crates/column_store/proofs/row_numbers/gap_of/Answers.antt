@@ -1,4 +1,4 @@
-use Rattle.std.proofs.Common.{◌≡◌, ◌+◌, ◌-◌, ◌/◌, ◌<◌, true, false, get_or, sym, ap, ◌∙◌, arith}
+use Rattle.std.proofs.Common.{◌≡◌, ◌<◌, true, false, get_or, sym, ap, ◌∙◌, arith}
 use Rattle.column_store.proofs.Numbers.{row_before, rows_below, rows_above, gap_from_rows}
 use Rattle.column_store.proofs.row_numbers.gap_of.Goals as goal
 
@@ -8,12 +8,12 @@ loop-low-preserved-then-comes_before c =
     let e = c.args.e in
     let rows = c.args.numbers.now.items in
     let i = c.loop-low.invariant in
-    let middle = c.loop-low.low + (c.loop-low.high - c.loop-low.low) / 2 in
-    let t = c.loop-low-test.true in
+    let place = c.looked_at-place.result in
+    let low = c.looked_at-place.ensures.low in
+    let less = c.looked_at-place.ensures.high in
     let b = i.bound in
-    let less : middle < c.loop-low.high = omega (arith, t) in
-    let at : row_before es e (get_or rows middle 0) ≡ true = ap (row_before es e) (sym c.at.ensures) ∙ sym c.comes_before.ensures ∙ c.if-comes_before.true in
-    record { within = omega (arith, less); bound = b; before = rows_below es e rows middle c.requires (omega (arith, less, b)) at; behind = i.behind }
+    let at : row_before es e (get_or rows place 0) ≡ true = ap (row_before es e) (sym c.at.ensures) ∙ sym c.comes_before.ensures ∙ c.if-comes_before.true in
+    record { within = omega (arith, less); bound = b; before = rows_below es e rows place c.requires (omega (arith, less, b)) at; behind = i.behind }
 
 pub loop-low-preserved : goal.loop-low-preserved
 loop-low-preserved c =
@@ -21,12 +21,12 @@ loop-low-preserved c =
     let e = c.args.e in
     let rows = c.args.numbers.now.items in
     let i = c.loop-low.invariant in
-    let middle = c.loop-low.low + (c.loop-low.high - c.loop-low.low) / 2 in
-    let t = c.loop-low-test.true in
+    let place = c.looked_at-place.result in
+    let low = c.looked_at-place.ensures.low in
+    let less = c.looked_at-place.ensures.high in
     let b = i.bound in
-    let less : middle < c.loop-low.high = omega (arith, t) in
-    let at : row_before es e (get_or rows middle 0) ≡ false = ap (row_before es e) (sym c.at.ensures) ∙ sym c.comes_before.ensures ∙ c.if-comes_before.false in
-    record { within = omega (arith); bound = omega (arith, less, b); before = i.before; behind = rows_above es e rows middle c.requires at }
+    let at : row_before es e (get_or rows place 0) ≡ false = ap (row_before es e) (sym c.at.ensures) ∙ sym c.comes_before.ensures ∙ c.if-comes_before.false in
+    record { within = low; bound = omega (arith, less, b); before = i.before; behind = rows_above es e rows place c.requires at }
 
 pub returns : goal.returns
 returns c =

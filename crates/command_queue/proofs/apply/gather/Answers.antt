@@ -14,14 +14,14 @@ use Rattle.command_queue.proofs.apply.gather.Goals as goal
 pub loop-number-init : goal.loop-number-init
 loop-number-init c =
     let w = c.args.world.now.state in
-    let en = c.new-pending.ensures in
+    let en = c.in_ok-pending.ensures in
     let all = commands_of c.args.buffers.now c.args.order.now in
-    let start : target_of w c.new-pending.result ≡ record { slots = w.slots; passed_over = 0 } =
+    let start : target_of w c.in_ok-pending.pending ≡ record { slots = w.slots; passed_over = 0 } =
     ap₂ (λ slots passed. let t : CommandTarget = record { slots = slots; passed_over = passed } in t) (ap (λ cs. changed cs w.slots) en.changes ∙ map_index-id (change_at []) fresh_slot w.slots (λ i. refl)) en.passed in
     record {
       pending = record {
         changes = subst (AreChanges w) (sym en.changes) (record { apart = tt; can = tt });
-        places = subst (ArePlaced c.new-pending.result.places) (sym en.changes) en.places;
+        places = subst (ArePlaced c.in_ok-pending.pending.places) (sym en.changes) en.places;
       };
       spawns = subst (λ (t : CommandTarget). CanSpawn t.slots (spawned_by all)) (sym start) c.requires.spawns;
       done = ap (λ t. apply_buffer c.args.tick t all) start;

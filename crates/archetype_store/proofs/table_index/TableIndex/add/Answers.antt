@@ -1,6 +1,5 @@
-use Rattle.std.proofs.Common.{◌≡◌, ◌≤◌, suc, ◌++◌, [], ◌∷◌, length, List, nat_eq, map, refl, sym, ap, ap₂, subst, ◌∙◌, arith}
+use Rattle.std.proofs.Common.{◌≡◌, ◌≤◌, suc, ◌++◌, [], ◌∷◌, length, List, map, refl, sym, ap, ap₂, subst, ◌∙◌, arith}
 use Rattle.std.specs.Prelude.{vec_capacity}
-use Rattle.std.specs.Map.{lookup}
 use Rattle.archetype_store.specs.LivingSets.{set_number}
 use Rattle.archetype_store.specs.Shapes.{kept_seen, noted}
 use Rattle.column_store.specs.Table.{TableValue}
@@ -49,7 +48,7 @@ returns-in_err-insert-clause-found c =
     let more = c.reserve-2.ensures.capacity in
     let more_numbers = c.reserve-3.ensures.capacity in
     subst (λ T. IsFound T new) (sym c.reserve.ensures.items)
-    (found_other c.args.tables.now.items index new (λ word. ap (lookup (nat_eq word)) c.in_err-insert.ensures.err) (omega arith) (omega arith)
+    (found_other c.args.tables.now.items index new c.in_err-insert.ensures.err (omega arith) (omega arith)
     (c.reserve_all.ensures.same) c.requires.found)
 
 pub returns-clause-found : goal.returns-clause-found
@@ -67,7 +66,7 @@ returns-clause-found c =
     ∙ ap (map (noted (set_number c.args.made.kinds) (length T))) (c.reserve_all.ensures.same) in
     let pushed = c.push_reserved.ensures.items ∙ ap (λ (xs : List TableValue). xs ++ c.args.made ∷ []) c.reserve.ensures.items in
     subst (λ U. IsFound U new) (sym pushed)
-    (found_added T index new c.args.word c.args.made c.requires.found c.requires.other c.requires.word (rw many at c.in_ok-insert.ensures.updates.0) room room_numbers noted_all)
+    (found_added T index new c.args.word c.args.made c.requires.found c.requires.other c.requires.word (rw many at c.in_ok-insert.ensures.ok) room room_numbers noted_all)
 
 pub returns-in_err-reserve-clause-number : goal.returns-in_err-reserve-clause-number
 returns-in_err-reserve-clause-number c = IfOk-from_err c.from_residual.result _ c.from_residual.ensures.0

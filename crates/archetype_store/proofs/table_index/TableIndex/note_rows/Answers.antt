@@ -1,9 +1,9 @@
-use Rattle.std.proofs.Common.{◌≡◌, ◌+◌, suc, drop, ◌++◌, ◌∷◌, [], ◌==◌, ℕ, List, Option, Some, length, map, nat_eq, sym, ap, ◌∙◌, arith}
+use Rattle.std.proofs.Common.{◌≡◌, ◌+◌, suc, drop, ◌++◌, ◌∷◌, [], ◌==◌, ℕ, List, Option, Some, length, map, sym, ap, ◌∙◌, arith}
 use Rattle.std.specs.Prelude.{vec_len}
-use Rattle.std.specs.HashMap.{get}
 use Rattle.column_store.specs.Table.{TableRow}
 use Rattle.archetype_store.specs.Shapes.{numbers_from, kept_seen}
 use Rattle.archetype_store.specs.TableIndex.{peopled_from}
+use Rattle.archetype_store.specs.TableWords.{told_table}
 use Rattle.archetype_store.proofs.Layouts.{no_rows, some_rows}
 use Rattle.archetype_store.proofs.FittingTables.{number_none, number_some, numbers_all}
 use Rattle.archetype_store.proofs.TableIndex.{named_none, named_next, named_all, found_other}
@@ -59,7 +59,7 @@ pub returns : goal.returns
 returns c =
     let i = c.loop-number.invariant in
     record {
-      found = found_other c.args.tables.now c.args.self.now c.loop-number.self (λ word. ap (λ m. get nat_eq m word) i.words) i.room i.room_numbers (ap (λ ss. map kept_seen ss.items) i.shapes) c.requires;
+      found = found_other c.args.tables.now c.args.self.now c.loop-number.self (λ word. ap (λ ts. told_table ts word) i.words) i.room i.room_numbers (ap (λ ss. map kept_seen ss.items) i.shapes) c.requires;
       peopled = named_all c.args.tables.now c.loop-number.number c.loop-number.self.peopled.items (omega arith) i.named;
       numbers = numbers_all c.args.tables.now c.loop-number.number (vec_len c.loop-number.self.peopled) c.loop-number.self.numbers.items (omega arith) i.numbered;
     }

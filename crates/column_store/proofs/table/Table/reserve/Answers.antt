@@ -50,7 +50,7 @@ invariant_of-self-2 c =
     let ns = map kind_number c.self.inside.kinds.items in
     let es = c.self.inside.entities in
     let ps = c.self.inside.columns.items in
-    let spare = c.max-spare.result in
+    let spare = c.in_steps-spare.result in
     let same : length c.reserve_rows.new.columns ≡ c.self.inside.columns.len = (let a = c.reserve_rows.auto.columns in let v = c.self.inside.columns.ok.0 in omega (arith, c.deref_mut.ensures.len)) in
     let roomier = subst (λ qs. AreRoomier qs c.reserve_rows.new.columns) c.deref_mut.ensures.value c.reserve_rows.ensures.roomier in
     let list = ap (λ (v : EntityListValue). v.list) c.reserve.ensures.same in
@@ -60,7 +60,7 @@ invariant_of-self-2 c =
     (with_spare _ _ _ spare c.in-Some.room
     (reserved_room ns c.reserve.new.self c.reserve_rows.new.columns spare table
     (subst (λ xs. length xs + spare ≤ c.reserve.new.self.room) (sym list) c.in_ok-reserve.ensures.ok)
-    (subst (λ n. AllByRecursion (HasRoom (n + spare)) c.reserve_rows.new.columns) count c.in_ok-reserve_rows.ensures.ok)) (let most = c.max-spare.ensures in omega (arith, most)))
+    (subst (λ n. AllByRecursion (HasRoom (n + spare)) c.reserve_rows.new.columns) count c.in_ok-reserve_rows.ensures.ok)) (let most = c.in_steps-spare.ensures in omega (arith, most)))
 
 pub returns-clause-ok : goal.returns-clause-ok
 returns-clause-ok c =
