@@ -5,9 +5,7 @@ ghost use Rattle.archetype_store.specs.Layout.{AreAllHome};
 
 use crate::bodies::TestBody;
 use crate::engines::{Systems, TestEngine, commanding};
-use crate::gates::{Rule, TestGate};
 use crate::runs::Way;
-use crate::threads::Trial;
 use crate::worlds::{FIRST, empty_world, put, world_of_one};
 use archetype_store::World;
 use body::State;
@@ -33,20 +31,14 @@ fn world(alloc: Global) -> Option<Box<World>>
     Some(world)
 }
 
-// An engine of two systems of one level, each of which gives what has health a score.
-fn scoring(alloc: Global) -> Option<TestEngine> {
+/// An engine of two systems of one level, each of which gives what has health a score.
+pub(crate) fn scoring(alloc: Global) -> Option<TestEngine> {
     let mut systems = Systems::new(alloc);
     for instruction in ["insert row Score 1", "insert row Score 2"] {
         let params = commanding(alloc, "entity, read Health", 0)?;
         systems.follow(alloc, params, Rounds::EachRow(0), &[instruction])?;
     }
     systems.engine(alloc, world(alloc)?)
-}
-
-/// Two starts on two threads, of which one is held until the other has left.
-pub(crate) fn schedule_order(alloc: Global, held: u64, awaited: u64) -> Option<Trial> {
-    let gate = TestGate::new(alloc, Rule::Hold(held, awaited))?;
-    Trial::once(gate, scoring(alloc)?, 2)
 }
 
 // The score of an entity.
@@ -59,8 +51,8 @@ pub(crate) fn has_score(engine: &Engine<TestBody>, v: i64) -> bool {
     score(engine, FIRST) == Some(Score { v })
 }
 
-// An engine of two systems of one level, each of which spawns an entity and gives it a score, over a world in which nothing lives.
-fn spawners(alloc: Global) -> Option<TestEngine> {
+/// An engine of two systems of one level, each of which spawns an entity and gives it a score, over a world in which nothing lives.
+pub(crate) fn spawners(alloc: Global) -> Option<TestEngine> {
     let mut systems = Systems::new(alloc);
     for instruction in ["insert g0 Score 1", "insert g0 Score 2"] {
         let params = commanding(alloc, "", 1)?;
@@ -91,10 +83,4 @@ fn is_begun(state: &State) -> bool {
 /// Whether the first system spawned the lesser id and the second the greater.
 pub(crate) fn have_spawned(engine: &Engine<TestBody>) -> bool {
     has_score(engine, 1) && score(engine, SECOND) == Some(Score { v: 2 })
-}
-
-/// Two starts that spawn, on two threads, of which one is held until the other has left.
-pub(crate) fn ids_of_level(alloc: Global, held: u64, awaited: u64) -> Option<Trial> {
-    let gate = TestGate::new(alloc, Rule::Hold(held, awaited))?;
-    Trial::once(gate, spawners(alloc)?, 2)
 }

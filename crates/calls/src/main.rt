@@ -133,9 +133,9 @@ fn tell_trials<W: Write, R: Threads + Wait + Copy + Send + Sync + 'static>(
     alloc: Global,
     out: &mut W,
 ) -> io::Result<()> {
-    for (name, setup, wanted) in &TRIALS {
-        let answer = judged(rt, alloc, *setup, *wanted);
-        tell(out, &[(*name, answer)])?;
+    for trial in &TRIALS {
+        let answer = judged(rt, alloc, trial);
+        tell(out, &[(trial.name, answer)])?;
     }
     Ok(())
 }

@@ -6,7 +6,7 @@ ghost use Rattle.archetype_store.specs.Layout.{AreAllHome};
 use crate::bodies::TestBody;
 use crate::engines::{Systems, TestEngine, made, params, script};
 use crate::gates::{Rule, TestGate};
-use crate::runs::{Plan, Way, run_on_threads};
+use crate::runs::{ONCE, Plan, Way, run_on_threads};
 use crate::worlds::{FIRST, put, world_of_one};
 use access_set::Params;
 use archetype_store::World;
@@ -154,10 +154,7 @@ fn on_threads<R: Threads + Wait + Copy + Send + Sync + 'static, B: Body + 'stati
 ) -> Option<Option<Position>> {
     let mut engine = engine_of_both(alloc, bodies)?;
     let gate = TestGate::new(alloc, Rule::Open)?;
-    let plan = Plan {
-        times: 3,
-        ..Plan::once(2)
-    };
+    let plan = Plan { times: 3, ..ONCE };
     run_on_threads(runtime, &gate, alloc, plan, &mut engine).ok()?;
     Some(position(engine.state()))
 }

@@ -74,17 +74,13 @@ pub struct Ran {
     pub is_recorded: bool,
 }
 
-impl Plan {
-    /// One run on so many threads, which stand.
-    pub(crate) fn once(workers: u32) -> Self {
-        Plan {
-            workers: workers as usize,
-            times: 1,
-            in_threads: false,
-            records: &[],
-        }
-    }
-}
+/// One run on two threads, which stand.
+pub const ONCE: Plan = Plan {
+    workers: 2,
+    times: 1,
+    in_threads: false,
+    records: &[],
+};
 
 // What these traces are.
 fn seen(traces: &[Trace], records: &[[Step; 7]]) -> Ran {

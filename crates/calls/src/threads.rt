@@ -3,63 +3,22 @@
 ghost use Rattle.std.specs.Prelude.{};
 
 use crate::bodies::TestBody;
-use crate::commands::{has_score, have_spawned};
+use crate::commands::{has_score, have_spawned, scoring, spawners};
 use crate::engines::{Systems, TestEngine, params};
 use crate::gates::{Rule, TestGate};
-use crate::runs::{Plan, Ran, Way, run_on_threads};
-use crate::trials::Setup;
+use crate::runs::{ONCE, Plan, Ran, Way, run_on_threads};
+use crate::trials::{Cast, Trial, Wanted};
 use crate::worlds::{empty_world, frozen_and_hidden};
 use access_set::Params;
 use change_ticks::Clock;
 use engine::RunFault;
-use executor_core::Step;
 use std::alloc::Global;
 use std::sync::{Arc, Wait};
 use std::thread::Threads;
 
-/// What is wanted of a trial that has run.
-#[derive(Clone, Copy)]
-pub enum Wanted {
-    /// So many were past the gate at once, at most.
-    Met(u64),
-    /// The gate was entered before each of five bodies and left behind it, once for each start, with the numbers from 1 on.
-    FivePassed,
-    /// So many runs left a trace.
-    Traces(usize),
-    /// The run recorded steps that its gate lets it record, and no start was held in vain.
-    Recorded,
-    /// The first entity has this score, and no start was held in vain.
-    Score(i64),
-    /// The first system spawned the lesser id and the second the greater, and no start was held in vain.
-    IdsInOrder,
-}
-
-// What three starts on two threads record where the first is held until the third has left: the second comes back before the third starts,
-// and of the other two either may come back first.
-const HELD: [[Step; 7]; 2] = [
-    [
-        Step::Start(0),
-        Step::Start(1),
-        Step::Finish(1),
-        Step::Start(2),
-        Step::Finish(0),
-        Step::Finish(2),
-        Step::Sync(0),
-    ],
-    [
-        Step::Start(0),
-        Step::Start(1),
-        Step::Finish(1),
-        Step::Start(2),
-        Step::Finish(2),
-        Step::Finish(0),
-        Step::Sync(0),
-    ],
-];
-
 /// An engine that is to run on threads, how, and the gate of its workers.
 #[derive(Drop)]
-pub struct Trial {
+struct Setup {
     // The gate that is looked at afterwards: that of the workers, or one at which bodies meet.
     place: Arc<TestGate, Global>,
     gate: Arc<TestGate, Global>,
@@ -68,24 +27,41 @@ pub struct Trial {
     ran: Ran,
 }
 
-impl Trial {
-    /// One run on so many threads, which stand.
-    pub(crate) fn once(
-        gate: Arc<TestGate, Global>,
+impl Setup {
+    // That of an engine. At the place bodies meet, or starts are held.
+    fn of(
+        alloc: Global,
+        place: Arc<TestGate, Global>,
+        meets: bool,
         engine: TestEngine,
-        workers: u32,
+        plan: Plan,
     ) -> Option<Self> {
-        let place = Arc::try_clone(&gate).ok()?;
-        Some(Trial {
+        let gate = if meets {
+            TestGate::new(alloc, Rule::Open)?
+        } else {
+            Arc::try_clone(&place).ok()?
+        };
+        Some(Setup {
             place,
             gate,
             engine,
-            plan: Plan::once(workers),
+            plan,
             ran: Ran {
                 traces: 0,
                 is_recorded: false,
             },
         })
+    }
+
+    // That of a trial. None where an allocation fails.
+    fn new(alloc: Global, trial: &Trial) -> Option<Self> {
+        let place = TestGate::with_patience(alloc, trial.rule, trial.patience)?;
+        let engine = cast_engine(alloc, trial.cast, &place)?;
+        let meets = match trial.cast {
+            Cast::Meeting(_) | Cast::Querying(_, _) => true,
+            _ => false,
+        };
+        Setup::of(alloc, place, meets, engine, trial.plan)
     }
 
     // Runs the engine on threads, and keeps what it left. Answers the fault, none where all ran.
@@ -117,17 +93,28 @@ impl Trial {
     }
 }
 
-/// Whether a trial runs that is set up so, and what is wanted of it is so afterwards. None where an allocation fails, or its run stops.
+/// Whether a trial runs, and what is wanted of it is so afterwards. None where an allocation fails, or its run stops.
 pub(crate) fn judged<R: Threads + Wait + Copy + Send + Sync + 'static>(
     runtime: R,
     alloc: Global,
-    setup: Setup,
-    wanted: Wanted,
+    trial: &Trial,
 ) -> Option<bool> {
-    let mut trial = setup.trial(alloc)?;
-    match trial.run(runtime, alloc) {
-        None => Some(trial.is_so(wanted)),
+    let mut setup = Setup::new(alloc, trial)?;
+    match setup.run(runtime, alloc) {
+        None => Some(setup.is_so(trial.wanted)),
         Some(_fault) => None,
+    }
+}
+
+// The engine of who runs in a trial, at a gate.
+fn cast_engine(alloc: Global, cast: Cast, gate: &Arc<TestGate, Global>) -> Option<TestEngine> {
+    match cast {
+        Cast::Idle(count) => answering(alloc, count, false),
+        Cast::Meeting(count) => meeting(alloc, count, gate),
+        Cast::Querying(first, second) => querying(alloc, [first, second], gate),
+        Cast::Watching(count) => watching(alloc, count, gate),
+        Cast::Scoring => scoring(alloc),
+        Cast::Spawning => spawners(alloc),
     }
 }
 
@@ -177,55 +164,6 @@ fn watching(alloc: Global, count: u32, gate: &Arc<TestGate, Global>) -> Option<T
     systems.engine(alloc, empty_world(alloc, Clock::at(1))?)
 }
 
-/// So many bodies on so many threads, which wait for each other at a place, and so often look whether all are there.
-pub(crate) fn meet(alloc: Global, systems: u32, workers: u32, patience: u64) -> Option<Trial> {
-    let rule = Rule::Gather(u64::from(systems));
-    let place = TestGate::with_patience(alloc, rule, patience)?;
-    let gate = TestGate::new(alloc, Rule::Open)?;
-    let engine = meeting(alloc, systems, &place)?;
-    Some(Trial {
-        place,
-        ..Trial::once(gate, engine, workers)?
-    })
-}
-
-/// Two bodies on two threads, of systems with these queries, which wait for each other at a place, and so often look whether both are there.
-pub(crate) fn meet_over(alloc: Global, queries: [&str; 2], patience: u64) -> Option<Trial> {
-    let place = TestGate::with_patience(alloc, Rule::Gather(2), patience)?;
-    let gate = TestGate::new(alloc, Rule::Open)?;
-    let engine = querying(alloc, queries, &place)?;
-    Some(Trial {
-        place,
-        ..Trial::once(gate, engine, 2)?
-    })
-}
-
-/// So many systems on so many threads, of which a gate holds each until as many are past it as there are threads.
-pub(crate) fn gather(alloc: Global, systems: u32, workers: u32, in_threads: bool) -> Option<Trial> {
-    let gate = TestGate::new(alloc, Rule::Gather(u64::from(workers)))?;
-    let mut trial = Trial::once(gate, answering(alloc, systems, false)?, workers)?;
-    trial.plan.in_threads = in_threads;
-    Some(trial)
-}
-
-/// Three starts on two threads, of which the first is held until the third has left.
-pub(crate) fn hold_first(alloc: Global) -> Option<Trial> {
-    let gate = TestGate::new(alloc, Rule::Hold(1, 3))?;
-    let trial = Trial::once(gate, answering(alloc, 3, false)?, 2)?;
-    let plan = Plan {
-        records: &HELD,
-        ..trial.plan
-    };
-    Some(Trial { plan, ..trial })
-}
-
-/// Five bodies that look at the gate.
-pub(crate) fn watch(alloc: Global) -> Option<Trial> {
-    let gate = TestGate::new(alloc, Rule::Open)?;
-    let engine = watching(alloc, 5, &gate)?;
-    Trial::once(gate, engine, 2)
-}
-
 /// A body that refuses stops its run, and the next one finds the engine spoiled.
 pub(crate) fn refuse(alloc: Global) -> Option<bool> {
     let mut engine = answering(alloc, 1, true)?;
@@ -237,9 +175,11 @@ pub(crate) fn refuse(alloc: Global) -> Option<bool> {
 }
 
 // Four starts at once on four threads, one of which refuses.
-fn refusing(alloc: Global) -> Option<Trial> {
+fn refusing(alloc: Global) -> Option<Setup> {
     let gate = TestGate::new(alloc, Rule::Gather(4))?;
-    Trial::once(gate, answering(alloc, 3, true)?, 4)
+    let engine = answering(alloc, 3, true)?;
+    let plan = Plan { workers: 4, ..ONCE };
+    Setup::of(alloc, gate, false, engine, plan)
 }
 
 /// And so it does on four threads, while three others run beside it.
@@ -247,16 +187,8 @@ pub(crate) fn refuse_on_threads<R: Threads + Wait + Copy + Send + Sync + 'static
     runtime: R,
     alloc: Global,
 ) -> Option<bool> {
-    let mut trial = refusing(alloc)?;
-    let is_refused = trial.run(runtime, alloc) == Some(RunFault::BodyFault(7));
-    let is_spoiled = trial.run(runtime, alloc) == Some(RunFault::Spoiled);
-    Some(is_refused && is_spoiled && trial.place.most() == 4)
-}
-
-/// Ten thousand runs of eight systems on eight threads.
-pub(crate) fn repeat(alloc: Global) -> Option<Trial> {
-    let gate = TestGate::new(alloc, Rule::Open)?;
-    let mut trial = Trial::once(gate, answering(alloc, 8, false)?, 8)?;
-    trial.plan.times = 10_000;
-    Some(trial)
+    let mut setup = refusing(alloc)?;
+    let is_refused = setup.run(runtime, alloc) == Some(RunFault::BodyFault(7));
+    let is_spoiled = setup.run(runtime, alloc) == Some(RunFault::Spoiled);
+    Some(is_refused && is_spoiled && setup.place.most() == 4)
 }

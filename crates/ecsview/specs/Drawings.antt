@@ -20,9 +20,9 @@ members_of l = map (λ members. members.items) l.sets.members.items
 -- it is that of the shapes of the schedule that a file declares, in which just the pairs race that do, by the names of its systems and sets
 pub record IsScheduleText (opener rules : List ℕ) (l : Loaded) (text : List ℕ) : Type 0 where
   pub pairs : List Pair
-  pub report : IsReport l.built pairs
-  pub same : text ≡ drawing_text opener rules (map (λ name. name.now) l.names.items) (map (λ name. name.now) l.sets.names.items)
-      (drawn_width l.built) (drawn_height l.built (members_of l)) (schedule_shapes l.built (members_of l) pairs)
+  pub report : IsReport l.file.built pairs
+  pub same : text ≡ drawing_text opener rules (map (λ name. name.now) l.file.names.items) (map (λ name. name.now) l.sets.names.items)
+      (drawn_width l.file.built) (drawn_height l.file.built (members_of l)) (schedule_shapes l.file.built (members_of l) pairs)
 
 -- ---- the runs of a trace
 
@@ -57,4 +57,4 @@ lanes_width longest = max (capped (capped (56 * longest) + 100)) 360
 pub record IsLanesText (opener rules : List ℕ) (l : Loaded) (trace : Option (List ℕ)) (text : List ℕ) : Type 0 where
   pub runs : List Recorded
   pub read : IfSome trace (λ bytes. bytes ≡ trace_text runs)
-  pub same : text ≡ drawing_text opener rules (map (λ name. name.now) l.names.items) [] (lanes_width (longest_from 0 runs)) (height_from 10 runs) (lanes_from 0 10 runs)
+  pub same : text ≡ drawing_text opener rules (map (λ name. name.now) l.file.names.items) [] (lanes_width (longest_from 0 runs)) (height_from 10 runs) (lanes_from 0 10 runs)

@@ -22,10 +22,10 @@ use trace_checker::check::check;
 pub fn schedule_text(alloc: Global, loaded: &Loaded<'_>) -> Result<String, Fault>
     ensures { IfOk result (λ text. IsScheduleText OPENER.now RULES.now loaded.now (string_bytes text)) }
 {
-    let pairs = report(alloc, &loaded.built)?;
+    let pairs = report(alloc, &loaded.file.built)?;
     let members = loaded.sets.members.as_slice();
-    let drawn = draw_schedule(alloc, &loaded.built, members, pairs.as_slice())?;
-    let names = loaded.names.as_slice();
+    let drawn = draw_schedule(alloc, &loaded.file.built, members, pairs.as_slice())?;
+    let names = loaded.file.names.as_slice();
     let sets = loaded.sets.names.as_slice();
     let shapes = drawn.shapes.as_slice();
     Ok(text_of_drawing(alloc, names, sets, drawn.width, drawn.height, shapes)?)
@@ -44,8 +44,8 @@ pub fn lanes_text<T: Read>(
     ensures { IfOk result (λ text. IsLanesText OPENER.now RULES.now loaded.now (T.remaining trace.old) (string_bytes text)) }
 {
     let traces = traces_of(alloc, trace)?;
-    check_steps(alloc, &loaded.built, traces.as_slice())?;
-    let names = loaded.names.as_slice();
+    check_steps(alloc, &loaded.file.built, traces.as_slice())?;
+    let names = loaded.file.names.as_slice();
     let width = width_of(traces.as_slice());
     let mut shapes = Vec::new(alloc);
     let height = add_runs(alloc, &mut shapes, traces.as_slice())?;

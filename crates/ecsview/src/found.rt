@@ -8,15 +8,14 @@ use ambiguity_report::Pair;
 use ambiguity_report::report::report;
 use body::State;
 use executor_core::Trace;
-use findings::Loaded;
 use findings::diverging::{Parting, first_difference, parting_of};
 use findings::loading::opening;
 use findings::stories::story_of;
 use findings::telling::{push_pair, push_witness, text_of_parting};
 use findings::witness::{Witness, witness_of};
 use kinds::Value;
-use program::Fault;
 use program::checking::traces_of;
+use program::{Fault, Loaded};
 use schedule_builder::Built;
 use script::ScriptBody;
 use std::alloc::{AllocError, Global};
@@ -30,7 +29,6 @@ pub fn races_text(alloc: Global, loaded: Loaded<'_>) -> Result<String, Fault> {
         mut bodies,
         entities,
         resources,
-        ..
     } = loaded;
     let pairs = report(alloc, &built)?;
     let first = begun(alloc, &built, entities.as_slice(), &resources)?;

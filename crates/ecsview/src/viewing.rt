@@ -64,17 +64,17 @@ fn answer<F: Read>(
     trace: &mut F,
     other: &mut F,
 ) -> Result<Shown, Fault>
-    requires { AreScriptsOf loaded.built loaded.bodies.items }
+    requires { AreScriptsOf loaded.file.built loaded.file.bodies.items }
 {
     match work {
         Work::Schedule => Ok(done(schedule_text(alloc, &loaded)?)),
         Work::Lanes => Ok(done(lanes_text(alloc, &loaded, trace)?)),
-        Work::Races => Ok(done(races_text(alloc, loaded)?)),
+        Work::Races => Ok(done(races_text(alloc, loaded.file)?)),
         Work::Diverge => {
-            let (text, status) = diverge_text(alloc, loaded, trace, other)?;
+            let (text, status) = diverge_text(alloc, loaded.file, trace, other)?;
             Ok(Shown { text, status })
         }
-        Work::Steps(run) => Ok(done(steps_text(alloc, loaded, trace, run)?)),
+        Work::Steps(run) => Ok(done(steps_text(alloc, loaded.file, trace, run)?)),
     }
 }
 

@@ -9,8 +9,8 @@ use Rattle.findings.specs.declared.loading.Loaded.{Loaded}
 -- it is that of an accepted file: its schedule, the names of its systems, its scripts, its entities and its resources
 pub record IsLoaded (bytes : Option (List ℕ)) (l : Loaded) : Type 0 where
   pub file : Accepted bytes
-  pub schedule : l.built ≡ file.schedule
-  pub names : map (λ name. name.now) l.names.items ≡ declared_names (declared_by file.tables)
-  pub scripts : l.bodies.items ≡ scripts_by file.tables
-  pub entities : l.entities.items ≡ file.tables.entities.items
-  pub resources : l.resources ≡ file.tables.resources
+  pub schedule : l.file.built ≡ file.schedule
+  pub names : map (λ name. name.now) l.file.names.items ≡ declared_names (declared_by file.tables)
+  pub scripts : l.file.bodies.items ≡ scripts_by file.tables
+  pub entities : l.file.entities.items ≡ file.tables.entities.items
+  pub resources : l.file.resources ≡ file.tables.resources

@@ -15,25 +15,16 @@ use program::Fault;
 use program::world::world_of;
 use program_file::ProgramFile;
 use schedule_builder::Built;
-use script::ScriptBody;
 use std::alloc::Global;
 use toml::Table;
 
-/// What a program file declares, where the builder accepts it and each script fits.
+/// What a program file declares, where the builder accepts it and each script fits, with its sets.
 #[derive(Drop)]
 pub struct Loaded<'a> {
-    /// The schedule.
-    pub built: Built,
-    /// The names of its systems, by number.
-    pub names: Vec<&'a str>,
-    /// The script of each system.
-    pub bodies: Vec<ScriptBody>,
+    /// The schedule, its scripts, and what its runs begin with.
+    pub file: program::Loaded<'a>,
     /// The sets.
     pub sets: Sets<'a>,
-    /// The entities.
-    pub entities: Vec<Vec<Value>>,
-    /// The values of the resources, by number.
-    pub resources: [i64; 8],
 }
 
 /// What a document declares.
@@ -42,21 +33,8 @@ pub fn load<'a>(alloc: Global, document: &'a Table) -> Result<Loaded<'a>, Fault>
 {
     let tables = ProgramFile::read(alloc, document)?;
     let sets = sets_of(alloc, tables.sets.as_slice(), tables.systems.as_slice())?;
-    let program::Loaded {
-        built,
-        names,
-        bodies,
-        entities,
-        resources,
-    } = program::loading::load(alloc, tables)?;
-    Ok(Loaded {
-        built,
-        names,
-        bodies,
-        sets,
-        entities,
-        resources,
-    })
+    let file = program::loading::load(alloc, tables)?;
+    Ok(Loaded { file, sets })
 }
 
 /// The state with which the first run begins.

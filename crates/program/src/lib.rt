@@ -12,7 +12,7 @@ pub mod loading;
 pub mod opened;
 pub mod recording;
 pub mod replaying;
-pub mod schedule;
+mod schedule;
 pub mod serve;
 pub mod stand_ins;
 pub mod workers;

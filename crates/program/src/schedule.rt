@@ -21,15 +21,15 @@ use std::alloc::{AllocError, Global};
 
 /// What a system of a program file does: the name by which it is told, and its blocks.
 #[derive(Drop)]
-pub struct Code<'a> {
+pub(crate) struct Code<'a> {
     /// The name of the system.
-    pub name: &'a str,
+    pub(crate) name: &'a str,
     /// Its blocks, in the order of the file.
-    pub blocks: Vec<Block>,
+    pub(crate) blocks: Vec<Block>,
 }
 
 /// The schedule that these sets, systems and chains declare, and what each of the systems does.
-pub fn declare<'a>(
+pub(crate) fn declare<'a>(
     alloc: Global,
     sets: Vec<ItemTable<'a>>,
     rows: Vec<SystemTable<'a>>,
@@ -230,7 +230,7 @@ fn add_events(params: &mut Params, reads: &[Event], writes: &[Event]) -> Result<
 }
 
 /// The names of the systems, by number.
-pub fn names_of<'a>(alloc: Global, codes: &[Code<'a>]) -> Result<Vec<&'a str>, AllocError>
+pub(crate) fn names_of<'a>(alloc: Global, codes: &[Code<'a>]) -> Result<Vec<&'a str>, AllocError>
     ensures { IfOk result (λ names. map (λ name. name.now) names.items ≡ map (λ code. code.name.now) codes.now) }
 {
     let mut names = Vec::with_capacity(alloc, codes.len())?;
@@ -242,7 +242,7 @@ pub fn names_of<'a>(alloc: Global, codes: &[Code<'a>]) -> Result<Vec<&'a str>, A
 
 /// The scripts of the systems of a schedule, each of the blocks of its code. The first that doesn't fit its system is told with the
 /// system's name.
-pub fn bodies_of(
+pub(crate) fn bodies_of(
     alloc: Global,
     built: &Built,
     codes: Vec<Code<'_>>,

@@ -7,4 +7,4 @@ use Rattle.ecsview.proofs.viewing.view_of.Goals as goal
 pub answer-requires : goal.answer-requires
 answer-requires g c =
     let l = c.in_ok-loaded.ensures None tt in
-    subst (AreScriptsOf c.in_ok-loaded.loaded.built) (sym l.scripts) (subst (λ s. AreScriptsOf s (scripts_by l.file.tables)) (sym l.schedule) l.file.fitting)
+    subst (AreScriptsOf c.in_ok-loaded.loaded.file.built) (sym l.scripts) (subst (λ s. AreScriptsOf s (scripts_by l.file.tables)) (sym l.schedule) l.file.fitting)
