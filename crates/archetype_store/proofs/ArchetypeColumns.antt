@@ -1,5 +1,5 @@
 -- Columns of archetypes: which table has them, what they hold, and what is left where one leaves or comes home.
-use Rattle.std.proofs.Common.{◌≡◌, ℕ, zero, suc, ◌+◌, ◌-◌, ◌<◌, ◌≤◌, Bool, true, false, cond, ◌==◌, ◌&&◌, ◌⊎◌, inl, inr, List, [], ◌∷◌, length, get_or, set, take, map, Option, Some, None, option_map, is_some, Result, Ok, Err, OnOk, OnErr, refl, sym, ap, ap₂, subst, ◌∙◌, arith, add-one}
+use Rattle.std.proofs.Common.{◌≡◌, ℕ, zero, suc, ◌+◌, ◌<◌, ◌≤◌, Bool, true, false, cond, ◌==◌, ◌&&◌, ◌⊎◌, inl, inr, List, [], ◌∷◌, length, get_or, set, take, map, Option, Some, None, option_map, is_some, Result, Ok, Err, OnOk, OnErr, refl, sym, ap, ap₂, subst, ◌∙◌, arith, add-one}
 use Rattle.std.specs.List.{list_all, AllByRecursion}
 use Rattle.std.specs.Prelude.{slice_get}
 use Rattle.std.proofs.Math.Seq.{map-set_same}
@@ -61,10 +61,6 @@ number_next (u ∷ us) zero l = first us
     first us = ap (λ n. cond (is_there u.rows) (suc n) n) (none us)
 number_next (u ∷ us) (suc t) l = next_step (is_there u.rows) (number_of us t) (number_of us (suc t)) (is_there (table_at us t).rows) (number_next us t (omega arith))
 
-pub number_first : (T : List TableValue) → number_of T zero ≡ zero
-number_first [] = refl
-number_first (u ∷ us) = refl
-
 number_all : (T : List TableValue) → number_of T (length T) ≡ length (layout_of T)
 number_all [] = refl
 number_all (u ∷ us) = number_step (is_there u.rows) u us (number_of us (length us)) (number_all us)
@@ -76,22 +72,6 @@ module _ (T : List TableValue) (t left archetype : ℕ) (u : TableValue) (l : t 
   next_is : (b : Bool) → is_there u.rows ≡ b → number_of T (t + 1) ≡ cond b (suc (number_of T t)) (number_of T t)
   next_is b h = ap (number_of T) (add-one t) ∙ number_next T t l ∙ ap (λ (x : TableValue). cond (is_there x.rows) (suc (number_of T t)) (number_of T t)) (sym there_is)
       ∙ ap (λ d. cond d (suc (number_of T t)) (number_of T t)) h
-
-  -- a table without rows is passed over
-  pub table_passed : is_there u.rows ≡ false → left + number_of T (t + 1) ≡ archetype
-  table_passed h = ap (λ n. left + n) (next_is false h) ∙ so_far
-
-  -- one with rows is one archetype
-  pub table_counted : is_there u.rows ≡ true → 0 < left → (left - 1) + number_of T (t + 1) ≡ archetype
-  table_counted h some = let e : number_of T (t + 1) ≡ suc (number_of T t) = next_is true h in omega arith
-
-  -- the table of the archetype
-  pub table_found : is_there u.rows ≡ true → left ≡ 0 → IsTableOf T archetype t
-  table_found h none = record { within = l; peopled = ap (λ (x : TableValue). is_there x.rows) (sym there_is) ∙ h; number = omega arith }
-
--- there is none past the last
-pub table_past : (T : List TableValue) (t left archetype : ℕ) → t ≡ length T → left + number_of T t ≡ archetype → length (layout_of T) ≤ archetype
-table_past T t left archetype e so_far = let n = number_all T in let same : number_of T t ≡ number_of T (length T) = ap (number_of T) e in omega arith
 
 at_step : (b : Bool) (u : TableValue) (us : List TableValue) (n : ℕ) (a : Archetype) → archetype_at (layout_of us) n ≡ a → archetype_at (cond b (archetype_of u ∷ layout_of us) (layout_of us)) (cond b (suc n) n) ≡ a
 at_step true u us n a h = h

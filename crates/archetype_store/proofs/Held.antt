@@ -332,24 +332,6 @@ module _ (tables : List TableValue) (table : ℕ) (there new : TableValue) (e : 
         go None h = absurd (let none = sym (get-map (λ (r : TableRow). r.entity) there.rows row ∙ ap (option_map (λ (r : TableRow). r.entity)) (sym h)) ∙ at in cc)
         go (Some r) h = ap (λ row. Some row) (ap (λ ks. components_of ks (renewed_row ss r)) kinds ∙ components_new r.entity ss)
 
-    -- one of its cells is written
-    pub held_written : (kind : ℕ) (words : List ℤ) (tick : ℕ) → AreBelow there.kinds →
-        is_some (cell_at (row_or_none (held_in there e)) kind) ≡ true → new ≡ write_cell there row kind words tick →
-        IsHeldNow tables (set tables table new) table e (Some (row_after tick (only kind words) (row_or_none (held_in there e))))
-    held_written kind words tick below some made = held_set tables table new e _ within
-        (ap shape_of made ∙ ap shape_of is)
-        (λ x other. ap (λ u. held_in u x) made ∙ ap (option_map (components_of there.kinds)) (update_other e x f there.rows row (λ r. refl) (row_place there.rows row e apart at) other) ∙ ap (λ u. held_in u x) is)
-        (ap (λ u. held_in u e) made ∙ ap (option_map (components_of there.kinds)) (update_same e f there.rows row (λ r. refl) (row_place there.rows row e apart at)) ∙ go (row_of e there.rows) some)
-      where
-        f : TableRow → TableRow
-        f = with_cell_at there.kinds kind (option_map (changed_cell words tick))
-
-        go : (o : Option TableRow) → is_some (cell_at (row_or_none (option_map (components_of there.kinds) o)) kind) ≡ true →
-            option_map (components_of there.kinds) (option_map (with_cell_at there.kinds kind (option_map (changed_cell words tick))) o)
-            ≡ Some (row_after tick (only kind words) (row_or_none (option_map (components_of there.kinds) o)))
-        go None h = absurd (cc)
-        go (Some r) h = ap (λ row. Some row) (writes_are_theirs there.kinds r kind words tick below)
-
 -- the entities of the rows after such changes
 pub entities_pushed : (rows : List TableRow) (e : Entity) (ss : List StampedValue) → map (λ (row : TableRow). row.entity) (rows ++ new_row e ss ∷ []) ≡ map (λ (row : TableRow). row.entity) rows ++ e ∷ []
 entities_pushed rows e ss = map-append (λ (row : TableRow). row.entity) rows (new_row e ss ∷ [])
@@ -359,9 +341,6 @@ entities_swapped rows row = map-swap_removed (λ (row : TableRow). row.entity) r
 
 pub entities_renewed : (rows : List TableRow) (row : ℕ) (ss : List StampedValue) → map (λ (row : TableRow). row.entity) (update_at row (renewed_row ss) rows) ≡ map (λ (row : TableRow). row.entity) rows
 entities_renewed rows row ss = entities_updated (renewed_row ss) rows row (λ r. refl)
-
-pub entities_written : (t : TableValue) (row kind : ℕ) (words : List ℤ) (tick : ℕ) → map (λ (r : TableRow). r.entity) (write_cell t row kind words tick).rows ≡ map (λ (r : TableRow). r.entity) t.rows
-entities_written t row kind words tick = entities_updated (with_cell_at t.kinds kind (option_map (changed_cell words tick))) t.rows row (λ r. refl)
 
 -- ---- what is read
 

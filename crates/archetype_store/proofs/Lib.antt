@@ -19,6 +19,7 @@ pub mod RowMoves
 pub mod Rooms
 pub mod Settled
 pub mod Changed
+pub mod OneChange
 pub mod Steps
 pub mod SlotRows
 pub mod BareSlots

@@ -143,17 +143,6 @@ module _ (T T' : List TableValue) (P : List (Option EntityLocation)) (g : IsGrow
     layout = g.layout;
   }
 
--- what an entity has now, from alike rows
-pub row_from_alike : (A B C : ArchetypesValue) (e : Entity) (row : List Component) → AreAlike A B → HasRow B e row C → HasRow A e row C
-row_from_alike A B C e row alike h = record {
-  rows = λ i. h.rows i ∙ ap (cond (i == e.index) row) (alike.rows i);
-  holders = λ i. h.holders i ∙ ap (cond (i == e.index) (holder_if row e.generation)) (alike.holders i);
-}
-
--- rows as they are
-pub rows_alike : (A : ArchetypesValue) → AreAlike A A
-rows_alike A = record { rows = λ i. refl; holders = λ i. refl; layout = refl }
-
 pub alike_trans : (A B C : ArchetypesValue) → AreAlike A B → AreAlike B C → AreAlike A C
 alike_trans A B C h k = record { rows = λ i. k.rows i ∙ h.rows i; holders = λ i. k.holders i ∙ h.holders i; layout = k.layout ∙ h.layout }
 

@@ -11,9 +11,6 @@ use Rattle.archetype_store.specs.RowMoves.{other_table, arrives_in, is_table, on
 use Rattle.archetype_store.specs.Tables.{room_at, is_in}
 use Rattle.archetype_store.proofs.Laid.{with_at_apart}
 
-pub arrives_none : (P : List (Option EntityLocation)) (m : RowMove) → m.to ≡ None → arrives_in P m ≡ None
-arrives_none P m h = ap (other_table (place_of P m.change.now.entity.index)) h
-
 here_from : (o : Option EntityLocation) (to : ℕ) → other_table o (Some to) ≡ None → (p : EntityLocation) × (o ≡ Some p) × (p.table ≡ to)
 here_from None to h = absurd (cc)
 here_from (Some p) to h = go (to == p.table) refl h
@@ -26,20 +23,6 @@ here_from (Some p) to h = go (to == p.table) refl h
 pub arrives_here : (P : List (Option EntityLocation)) (m : RowMove) (to : ℕ) → m.to ≡ Some to → arrives_in P m ≡ None →
     (p : EntityLocation) × (place_of P m.change.now.entity.index ≡ Some p) × (p.table ≡ to)
 arrives_here P m to is none = here_from (place_of P m.change.now.entity.index) to (sym (ap (other_table (place_of P m.change.now.entity.index)) is) ∙ none)
-
-other_from : (o : Option EntityLocation) (to : ℕ) → (other_table o (Some to) ≡ None → ⊥) → other_table o (Some to) ≡ Some to
-other_from None to h = refl
-other_from (Some p) to h = go (to == p.table) h
-  where
-    go : (b : Bool) → (cond b None (Some to) ≡ None → ⊥) → cond b None (Some to) ≡ Some to
-    go true k = absurd (k refl)
-    go false k = refl
-
--- one that comes into another
-pub arrives_other : (P : List (Option EntityLocation)) (m : RowMove) (to : ℕ) → m.to ≡ Some to → (arrives_in P m ≡ None → ⊥) → arrives_in P m ≡ Some to
-arrives_other P m to is some =
-    ap (other_table (place_of P m.change.now.entity.index)) is
-    ∙ other_from (place_of P m.change.now.entity.index) to (λ h. some (ap (other_table (place_of P m.change.now.entity.index)) is ∙ h))
 
 -- a row that comes into some table comes where it goes
 arrives_from : (b : Bool) (to x : ℕ) → cond b None (Some to) ≡ Some x → cond b None (Some to) ≡ Some to

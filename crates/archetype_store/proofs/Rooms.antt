@@ -12,9 +12,6 @@ roomed_alike T t room = alike_set T t (with_room room (table_at T t)) (record { 
 pub alike_entities : (T U : List TableValue) → AreAllAlike T U → (t : ℕ) → entities_at U t ≡ entities_at T t
 alike_entities T U h t = ap (map (λ (row : TableRow). row.entity)) ((alike_same T U h).rows t)
 
-pub roomed_entities : (T : List TableValue) (t room u : ℕ) → entities_at (set T t (with_room room (table_at T t))) u ≡ entities_at T u
-roomed_entities T t room u = alike_entities T (set T t (with_room room (table_at T t))) (roomed_alike T t room) u
-
 -- one after the other
 pub alike_twice : (T U V : List TableValue) → AreAllAlike T U → AreAllAlike U V → AreAllAlike T V
 alike_twice [] [] [] h k = k

@@ -142,9 +142,6 @@ rows_next A B C xs c apart h k = record {
   holders = λ i. k.holders i ∙ ap (cond (i == c.entity.index) (holder_if (components_left c.fate) c.entity.generation)) (h.holders i) ∙ sym (holder_last xs c i (holder_of A.holders i) apart);
 }
 
-pub rows_none : (A : ArchetypesValue) → HaveRows A [] A
-rows_none A = record { rows = λ i. refl; holders = λ i. refl }
-
 pub map_drop : {A B : Type 0} (f : A → B) (n : ℕ) (xs : List A) → map f (drop n xs) ≡ drop n (map f xs)
 map_drop f zero xs = refl
 map_drop f (suc n) [] = refl

@@ -1,5 +1,5 @@
 -- Rows as lists of stamped components.
-use Rattle.std.proofs.Common.{◌≡◌, ℕ, zero, suc, ◌+◌, ◌<◌, ◌≤◌, Bool, true, false, not, cond, ◌==◌, nat_lt, nat_le, ℤ, List, [], ◌∷◌, ◌++◌, length, get_or, map, sym, ◌∙◌, Option, Some, None, is_some, refl, ap, arith}
+use Rattle.std.proofs.Common.{◌≡◌, ℕ, zero, suc, ◌+◌, ◌<◌, ◌≤◌, Bool, true, false, not, cond, ◌==◌, nat_lt, nat_le, ℤ, List, [], ◌∷◌, ◌++◌, length, get_or, map, sym, ◌∙◌, Option, Some, None, refl, ap, arith}
 use Rattle.std.specs.List.{position, position_or_len, insert, remove}
 use Rattle.std.proofs.lemmas.List.{map-append}
 use Rattle.std.proofs.lemmas.Bool.Decides.{nat_tests}
@@ -8,7 +8,6 @@ use Rattle.kinds.specs.Value.{value_number, value_words}
 use Rattle.model.specs.state.State.{Cell, Component}
 use Rattle.model.specs.state.Rows.{cell_at, new_component, insert_component, remove_component}
 use Rattle.column_store.specs.declared.stamped.StampedValue.{StampedValue}
-use Rattle.column_store.proofs.Lists.{map-insert}
 use Rattle.column_store.proofs.Rows.{some_place}
 use Rattle.archetype_store.specs.Row.{component_of, added_at}
 
@@ -73,10 +72,6 @@ cell_at-none k (x ∷ xs) h = cell_none_step (value_number x.value) k _ (length 
 pub find-none : (k : ℕ) (xs : List StampedValue) → position (is_of k) xs ≡ None → cell_at (map component_of xs) k ≡ None
 find-none k xs h = cell_at-none k xs (position-none (is_of k) xs h)
 
-pub none_or_some : {A : Type 0} (o : Option A) → o ≡ None → is_some o ≡ true → ⊥
-none_or_some None e h = cc
-none_or_some (Some x) e h = cc
-
 pub put-none : (t : ℕ) (v : Value) (xs : List StampedValue) → position (is_from (value_number v)) xs ≡ None → map component_of (xs ++ added_at t v ∷ []) ≡ insert_component t (value_number v) (value_words v) (map component_of xs)
 put-none t v xs h = map-append component_of xs (added_at t v ∷ []) ∙ sym (insert-none t (value_number v) (value_words v) xs (position-none _ xs h))
 
@@ -91,13 +86,6 @@ absent_at : (k : ℕ) (xs : List StampedValue) (i : ℕ) (d : StampedValue) → 
 absent_at k [] i d h l = absurd (omega arith)
 absent_at k (x ∷ xs) zero d h l = λ e. some_cell (value_number x.value) k _ _ e h
 absent_at k (x ∷ xs) (suc i) d h l = absent_at k xs i d (no_cell (value_number x.value) k _ _ h) (omega arith)
-
-pub put-new : (t : ℕ) (v : Value) (xs : List StampedValue) (i : ℕ) → position (is_from (value_number v)) xs ≡ Some i → cell_at (map component_of xs) (value_number v) ≡ None →
-    map component_of (insert xs i (added_at t v)) ≡ insert_component t (value_number v) (value_words v) (map component_of xs)
-put-new t v xs i h absent =
-    let p = position-some (is_from (value_number v)) xs i h in
-    let new = insert-new t (value_number v) (value_words v) xs i (added_at t v) p.0 p.1 (absent_at (value_number v) xs i (added_at t v) absent p.1) in
-    map-insert component_of xs i (added_at t v) ∙ sym new
 
 -- ---- a removal
 

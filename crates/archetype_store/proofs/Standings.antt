@@ -3,7 +3,6 @@ use Rattle.std.proofs.Common.{◌≡◌, ℕ, zero, suc, ◌<◌, Bool, true, fa
 use Rattle.std.specs.List.{list_all, AllByRecursion}
 use Rattle.std.proofs.lemmas.List.{length-map}
 use Rattle.model.specs.Lists.{is_there}
-use Rattle.model.specs.state.State.{Component}
 use Rattle.model.specs.declared.entities.Entity.{Entity}
 use Rattle.model.proofs.lists.Lists.{map_index-same}
 use Rattle.column_store.specs.Kinds.{at_kind, AreBelow}
@@ -14,8 +13,7 @@ use Rattle.std.proofs.lemmas.Bool.{and_parts as both}
 use Rattle.archetype_store.specs.declared.locations.EntityLocation.{EntityLocation}
 use Rattle.archetype_store.specs.Layout.{Archetype, archetype_of, layout_of, AreAllHome}
 use Rattle.archetype_store.specs.Tables.{table_at, kinds_at, held_in, held_at, row_or_none, shape_of, is_unshared, AreShaped, AreUnlike, AreHome, AreOwned, AreUnshared, AreBareHome, AreAllAlike}
-use Rattle.archetype_store.specs.Archetypes.{ArchetypesValue, archetypes_of, row_of, row_in, holder_in, place_of, is_place, IsOfKinds, IsStored, HasRow, AreAlike, AreArchetypes}
-use Rattle.archetype_store.proofs.Moves.{row_from_alike}
+use Rattle.archetype_store.specs.Archetypes.{ArchetypesValue, archetypes_of, row_in, holder_in, place_of, is_place, IsOfKinds, IsStored, AreAlike, AreArchetypes}
 
 -- ---- all columns of a table
 
@@ -77,9 +75,6 @@ owned_at tables t l h = at_of (λ u. list_all is_owned u.standings ≡ true) tab
 
 pub not_away_at : (tables : List TableValue) (t n : ℕ) → t < length tables → AreHome tables → is_not_away (standing_of (table_at tables t) n) ≡ true
 not_away_at tables t n l h = not_away_in (table_at tables t).kinds n (table_at tables t).standings (home_at tables t l h)
-
-pub own_at : (tables : List TableValue) (t n : ℕ) → t < length tables → AreOwned tables → is_own_if (standing_of (table_at tables t) n) ≡ true
-own_at tables t n l h = own_in (table_at tables t).kinds n (table_at tables t).standings (owned_at tables t l h)
 
 pub owned_are_home : (tables : List TableValue) → AreOwned tables → AreHome tables
 owned_are_home [] h = tt
@@ -280,9 +275,3 @@ module _ (T T' : List TableValue) (P : List (Option EntityLocation)) (s s' : Boo
 
   pub alike_all_home : AreHome T → AreAllHome (layout_of T')
   alike_all_home home = home_layout T' (alike_home T T' alike home)
-
--- what is done from alike rows
-pub moved_from : (A B C : ArchetypesValue) (e : Entity) (f : List Component → List Component) (r : List Component) → AreAlike A B → r ≡ row_of B.rows e.index → HasRow B e (f r) C →
-    HasRow A e (f (row_of A.rows e.index)) C
-moved_from A B C e f r alike is h =
-    row_from_alike A B C e (f (row_of A.rows e.index)) alike (subst (λ x. HasRow B e (f x) C) (is ∙ alike.rows e.index) h)

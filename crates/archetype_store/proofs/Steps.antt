@@ -3,22 +3,18 @@ use Rattle.std.proofs.Common.{◌≡◌, ◌≢◌, ℕ, ◌<◌, true, false, �
 use Rattle.model.specs.Lists.{is_there}
 use Rattle.model.specs.state.State.{Component}
 use Rattle.model.specs.declared.entities.Entity.{Entity}
-use Rattle.model.specs.state.Rows.{cell_at, IsRising, insert_component, remove_component}
 use Rattle.model.specs.shown.Overlay.{row_after}
-use Rattle.model.proofs.shape.Rows.{rising-insert, rising-remove}
 use Rattle.column_store.specs.declared.stamped.StampedValue.{StampedValue}
 use Rattle.column_store.specs.Cells.{stamped_number}
-use Rattle.column_store.specs.Kinds.{AreBelow}
 use Rattle.column_store.specs.Table.{TableValue}
 use Rattle.archetype_store.specs.declared.locations.EntityLocation.{EntityLocation}
 use Rattle.archetype_store.specs.Row.{component_of, only}
 use Rattle.archetype_store.specs.Tables.{kinds_at, held_at, row_or_none, IsHeldNow}
 use Rattle.archetype_store.specs.Archetypes.{archetypes_of, place_of, row_in, holder_in, IsHolder, AreArchetypes, HasRow}
-use Rattle.archetype_store.proofs.Held.{held_within, shape_at}
 use Rattle.archetype_store.proofs.Laid.{moved_whole, moved_row, somewhere, kinds_there, row_there}
 use Rattle.archetype_store.proofs.Moves.{moved_joined, moved_cleared, moved_written, row_placed}
 use Rattle.archetype_store.proofs.Known.{placed_within}
-use Rattle.archetype_store.proofs.RowEdits.{there-inserted, kinds-written, kinds-components, below_from_rising, rising_from_below}
+use Rattle.archetype_store.proofs.RowEdits.{kinds-written, kinds-components}
 
 -- ---- a row that is laid
 
@@ -59,30 +55,12 @@ module _ (T : List TableValue) (P : List (Option EntityLocation)) (e : Entity) (
   kinds_held : map (λ (c : Component). c.kind) (row_or_none (held_at T p.table e)) ≡ kinds_at T p.table
   kinds_held = kinds_or_none (held_at T p.table e) refl is_held
 
-  below_held : AreBelow (kinds_at T p.table)
-  below_held = (shape_at T p.table (held_within T p.table e is_held) h.shaped).below
-
-  -- its row rises
-  rising_held : IsRising (row_or_none (held_at T p.table e))
-  rising_held = rising_from_below (row_or_none (held_at T p.table e)) (subst AreBelow (sym kinds_held) below_held)
-
   -- it is taken away
   pub cleared : (T' : List TableValue) → IsHeldNow T T' p.table e None →
       AreArchetypes T' (set P e.index None) × HasRow (archetypes_of T P) e [] (archetypes_of T' (set P e.index None))
   cleared T' now =
       let moved = moved_cleared T T' P e p h at (placed_within P e.index p at) now in
       (moved_whole T T' P (set P e.index None) e None [] h fits moved, moved_row T T' P (set P e.index None) e None [] moved)
-
-  -- a component is written
-  pub written : (T' : List TableValue) (t k : ℕ) (w : List ℤ) → IsHeldNow T T' p.table e (Some (row_after t (only k w) (row_or_none (held_at T p.table e)))) →
-      AreArchetypes T' P × HasRow (archetypes_of T P) e (row_after t (only k w) (row_in T e.index (place_of P e.index))) (archetypes_of T' P)
-  written T' t k w now =
-      let row = row_after t (only k w) (row_or_none (held_at T p.table e)) in
-      let kinds = kinds-written t (only k w) (row_or_none (held_at T p.table e)) ∙ kinds_held in
-      let moved = moved_written T T' P e p h at row gen_there kinds (row_there T P h e p.table row is_held kinds) now in (
-        moved_whole T T' P P e (Some p.table) row h fits moved,
-        subst (λ r. HasRow (archetypes_of T P) e (row_after t (only k w) r) (archetypes_of T' P)) (sym row_is) (moved_row T T' P P e (Some p.table) row moved),
-      )
 
   -- all of it is replaced
   pub renewed : (T' : List TableValue) (ss : List StampedValue) → ss ≢ [] → kinds_at T p.table ≡ map stamped_number ss → IsHeldNow T T' p.table e (Some (map component_of ss)) →
@@ -91,29 +69,9 @@ module _ (T : List TableValue) (P : List (Option EntityLocation)) (e : Entity) (
       let moved = moved_written T T' P e p h at (map component_of ss) gen_there (kinds-components ss ∙ sym kinds) (some_components ss some) now in
       (moved_whole T T' P P e (Some p.table) (map component_of ss) h fits moved, moved_row T T' P P e (Some p.table) (map component_of ss) moved)
 
-  -- an insertion of a kind that is there is a write
-  pub inserted_there : (t k : ℕ) (w : List ℤ) → is_some (cell_at (row_or_none (held_at T p.table e)) k) ≡ true →
-      insert_component t k w (row_in T e.index (place_of P e.index)) ≡ row_after t (only k w) (row_in T e.index (place_of P e.index))
-  inserted_there t k w some = ap (insert_component t k w) row_is ∙ there-inserted t k w (row_or_none (held_at T p.table e)) rising_held some ∙ sym (ap (row_after t (only k w)) row_is)
-
   -- its components
   pub row_read : (ss : List StampedValue) → held_at T p.table e ≡ Some (map component_of ss) → row_in T e.index (place_of P e.index) ≡ map component_of ss
   row_read ss k = row_is ∙ ap row_or_none k
-
-  rising_read : (ss : List StampedValue) → held_at T p.table e ≡ Some (map component_of ss) → IsRising (map component_of ss)
-  rising_read ss k = subst IsRising (ap row_or_none k) rising_held
-
-  -- with one more their kinds rise
-  pub below_inserted : (ss more : List StampedValue) (t k : ℕ) (w : List ℤ) → held_at T p.table e ≡ Some (map component_of ss) →
-      map component_of more ≡ insert_component t k w (map component_of ss) → AreBelow (map stamped_number more)
-  below_inserted ss more t k w at_is is = subst AreBelow (ap (map (λ (c : Component). c.kind)) (sym is) ∙ kinds-components more)
-      (below_from_rising (insert_component t k w (map component_of ss)) (rising-insert t k w (map component_of ss) (rising_read ss at_is)))
-
-  -- with one less too
-  pub below_removed : (ss less : List StampedValue) (k : ℕ) → held_at T p.table e ≡ Some (map component_of ss) →
-      map component_of less ≡ remove_component k (map component_of ss) → AreBelow (map stamped_number less)
-  below_removed ss less k at_is is = subst AreBelow (ap (map (λ (c : Component). c.kind)) (sym is) ∙ kinds-components less)
-      (below_from_rising (remove_component k (map component_of ss)) (rising-remove k (map component_of ss) (rising_read ss at_is)))
 
 -- the kinds of the row of an index are those of its table
 pub kinds_at_place : (T : List TableValue) (P : List (Option EntityLocation)) → AreArchetypes T P → (i : ℕ) (p : EntityLocation) → place_of P i ≡ Some p →
@@ -122,11 +80,6 @@ kinds_at_place T P h i p at =
     let e : Entity = record { index = i; generation = p.generation } in
     let fits : IsHolder e.generation (holder_in (place_of P e.index)) = subst (λ o. IsHolder p.generation (holder_in o)) (sym at) refl in
     ap (map (λ (c : Component). c.kind)) (row_is T P e p h fits at) ∙ kinds_held T P e p h fits at
-
--- a result that is there, by what it is seen as
-pub some_seen : {A B : Type 0} (f : A → B) (o : Option A) (x : Option B) → option_map f o ≡ x → is_some o ≡ true → is_some x ≡ true
-some_seen f None x h s = absurd (cc)
-some_seen f (Some a) x h s = ap is_some (sym h)
 
 -- one that isn't
 pub none_seen : {A B : Type 0} (f : A → B) (o : Option A) (x : Option B) → option_map f o ≡ x → is_some o ≡ false → x ≡ None

@@ -1,27 +1,26 @@
 -- What keeps a world in its shape.
-use Rattle.std.proofs.Common.{◌≡◌, ℕ, ◌≤◌, Bool, true, false, cond, ◌==◌, ◌&&◌, ◌⊎◌, inl, inr, Result, Ok, Err, ℤ, pos, List, [], ◌∷◌, length, get_or, sum, Some, None, refl, ap, sym, subst, ◌∙◌, arith, eqb-true}
+use Rattle.std.proofs.Common.{◌≡◌, ℕ, ◌≤◌, Bool, true, false, cond, ◌==◌, ◌&&◌, ◌⊎◌, inl, inr, Result, Ok, Err, ℤ, pos, List, [], ◌∷◌, length, get_or, sum, Some, refl, sym, subst, ◌∙◌, arith}
 use Rattle.std.specs.Prelude.{OnOk, OnErr, IsErrOf}
 use Rattle.std.specs.List.{AllByRecursion}
 use Rattle.kinds.specs.Components.{widths}
 use Rattle.model.specs.declared.entities.Entity.{Entity}
 use Rattle.model.specs.Lists.{update_at}
 use Rattle.model.specs.state.State.{Slot, World, fresh_slot, most_indices}
-use Rattle.model.specs.state.Rows.{IsRising, insert_component, remove_component}
+use Rattle.model.specs.state.Rows.{IsRising}
 use Rattle.model.specs.state.Ids.{has_ids, grant, has_ids_for_each, grant_each}
-use Rattle.model.specs.state.Commands.{is_alive, spawned, freed, with_row, release}
+use Rattle.model.specs.state.Commands.{spawned, release}
 use Rattle.model.specs.state.Loaded.{resource_given}
 use Rattle.model.specs.shown.Overlay.{resource_after}
 use Rattle.model.specs.state.Shape.{IsComponent, IsSlot, IsWorld}
 use Rattle.model.proofs.lists.Each.{each-update_at, each-map_index}
 use Rattle.model.proofs.lists.Lists.{length-update_at, length-map_index}
-use Rattle.model.proofs.shape.Slots.{slot-spawned, slot-inserted, slot-removed, slot-freed, slots-grant, length-grant, slots-release, length-release}
+use Rattle.model.proofs.shape.Slots.{slot-spawned, slot-freed, slots-grant, length-grant, slots-release, length-release}
 use Rattle.entity_table.specs.Ids.{spawned_all, settled}
 use Rattle.entity_table.proofs.Levels.{grant_each-is, has_ids_for_each-is}
 use Rattle.archetype_store.specs.declared.change.Fate.{Fate}
 use Rattle.archetype_store.specs.declared.change.Fate.TheVariants as the
 use Rattle.archetype_store.specs.declared.change.EntityChange.{EntityChange}
 use Rattle.archetype_store.specs.Changes.{components_left, slot_left, change_at, changed, CanChange}
-use Rattle.archetype_store.specs.Row.{only}
 use Rattle.archetype_store.specs.Store.{with_slots, with_slot, with_resource}
 
 -- ---- outcomes
@@ -58,25 +57,8 @@ first_of : (a b : Bool) → (a && b) ≡ true → a ≡ true
 first_of true b h = refl
 first_of false b h = cc
 
-pub world-insert : (W : ℕ → ℕ) (w : World) (e : Entity) (t k : ℕ) (v : List ℤ) → length v ≡ W k → t ≤ w.clock → is_alive w.slots e ≡ true → IsWorld W w → IsWorld W (with_slot e.index (with_row (insert_component t k v)) w)
-world-insert W w e t k v width l alive p = world-slot W w e.index (with_row (insert_component t k v)) (slot-inserted W w.clock t k v l width (get_or w.slots e.index fresh_slot) (first_of _ _ alive)) p
-
-pub world-remove : (W : ℕ → ℕ) (w : World) (e : Entity) (k : ℕ) → is_alive w.slots e ≡ true → IsWorld W w → IsWorld W (with_slot e.index (with_row (remove_component k)) w)
-world-remove W w e k alive p = world-slot W w e.index (with_row (remove_component k)) (slot-removed W w.clock k (get_or w.slots e.index fresh_slot) (first_of _ _ alive)) p
-
-pub world-despawn : (W : ℕ → ℕ) (w : World) (e : Entity) → IsWorld W w → IsWorld W (with_slot e.index freed w)
-world-despawn W w e p = world-slot W w e.index freed (slot-freed W w.clock (get_or w.slots e.index fresh_slot)) p
-
 pub world-spawn : (W : ℕ → ℕ) (w : World) (e : Entity) → IsWorld W w → IsWorld W (with_slot e.index (spawned e.generation) w)
 world-spawn W w e p = world-slot W w e.index (spawned e.generation) (slot-spawned W w.clock e.generation (get_or w.slots e.index fresh_slot)) p
-
--- the words that are written have the width of their kind
-only-width : (W : ℕ → ℕ) (k : ℕ) (v : List ℤ) → length v ≡ W k → (kind : ℕ) (words : List ℤ) → only k v kind ≡ Some words → length words ≡ W kind
-only-width W k v width kind words = go (kind == k) refl
-  where
-    go : (b : Bool) → (kind == k) ≡ b → cond b (Some v) None ≡ Some words → length words ≡ W kind
-    go true same e = (let is : v ≡ words = cc in sym (ap length is) ∙ width ∙ ap W (sym (eqb-true kind k same)))
-    go false other e = cc
 
 pub world-set : (W : ℕ → ℕ) (w : World) (n : ℕ) (v : ℤ) (t : ℕ) → t ≤ w.clock → IsWorld W w → IsWorld W (with_resource n v t w)
 world-set W w n v t l p = record {

@@ -1,7 +1,6 @@
 // The components of entities, in tables by archetype: the kinds that an entity has.
 
 ghost use Rattle.std.specs.Prelude.{◌≡◌, ◌<◌, true, false, not, [], length, Some, map, option_map, is_some, IfSome, IsTrue, IfOk, IsErr, OnOk, OnErr};
-ghost use Rattle.kinds.specs.Value.{value_number, value_words};
 ghost use Rattle.model.specs.Lists.{is_there};
 ghost use Rattle.model.specs.state.Rows.{cell_at, kinds_of, insert_component, remove_component};
 ghost use Rattle.column_store.specs.Cells.{stamped_number};
@@ -20,18 +19,16 @@ ghost use Rattle.archetype_store.specs.View.{kinds_seen, entities_seen};
 ghost use Rattle.archetype_store.specs.Archetypes.{row_of, holder_of, row_cells, IsHolder, AreAlike, HasRow, HaveRows, IsFilled, IsLaidOut};
 
 use crate::change::EntityChange;
-use crate::lay::{clear_in, insert_in, remove_in};
 use crate::lending::{column_at, home_at, lend_at, share_at, share_entities_at};
-use crate::locations::{EntityLocation, RowPlace, place_at, reach};
+use crate::locations::{EntityLocation, RowPlace, place_at};
 use crate::owning::{copied_tables, own_all};
 use crate::row_moves::change_in;
 use crate::shapes::Shape;
 use crate::table_index::TableIndex;
 use crate::tables::{ArchetypeView, components_at, find_at, has_at, view_at, views_of};
-use change_ticks::Tick;
 use column_store::{Components, StampedColumn, StampedValue, Table};
 use entity_table::Entity;
-use kinds::{Kind, Value};
+use kinds::Kind;
 use std::alloc::{AllocError, Global};
 use std::marker::Model;
 use std::sync::Arc;
@@ -312,56 +309,6 @@ impl Archetypes {
         home_at(&mut self.tables, table, column);
     }
 
-    /// Inserts a component of an entity at a tick: where its kind is there the value is replaced and counts as changed, else it is added.
-    /// Where an allocation fails all rows stay as they were.
-    pub fn insert(&mut self, e: Entity, value: Value, tick: Tick) -> Result<(), AllocError>
-        requires holder { IsHolder e.generation (holder_of self.old.holders e.index) }
-        requires home { AreAllHome self.old.layout }
-        ensures ok { OnOk result (HasRow self.old e (insert_component tick (value_number value) (value_words value) (row_of self.old.rows e.index)) self.new) }
-        ensures err { OnErr result (AreAlike self.old self.new) }
-        ensures home { AreAllHome self.new.layout }
-    {
-        reach(&mut self.places, &mut self.row_numbers, e.index)?;
-        own_all(&mut self.tables, &mut self.shared)?;
-        let inserted = insert_in(
-            &mut self.tables,
-            &mut self.index,
-            &mut self.places,
-            &mut self.row_numbers,
-            e,
-            value,
-            tick,
-        );
-        self.index.note_rows(&self.tables);
-        inserted
-    }
-
-    /// Removes the component of the kind with this number of an entity, where it has one: where it has none no memory is asked for. Where
-    /// an allocation fails all rows stay as they were.
-    pub fn remove(&mut self, e: Entity, number: u32) -> Result<(), AllocError>
-        requires holder { IsHolder e.generation (holder_of self.old.holders e.index) }
-        requires home { AreAllHome self.old.layout }
-        ensures ok { OnOk result (HasRow self.old e (remove_component number (row_of self.old.rows e.index)) self.new) }
-        ensures err { OnErr result (AreAlike self.old self.new) }
-        ensures home { AreAllHome self.new.layout }
-        ensures absent { IsErr result → kinds_of (row_of self.old.rows e.index) number ≡ true }
-    {
-        if !self.has(e.index, number) {
-            return Ok(());
-        }
-        own_all(&mut self.tables, &mut self.shared)?;
-        let removed = remove_in(
-            &mut self.tables,
-            &mut self.index,
-            &mut self.places,
-            &mut self.row_numbers,
-            e,
-            number,
-        );
-        self.index.note_rows(&self.tables);
-        removed
-    }
-
     /// Makes these changes, no two of one index: each entity is left with just the components that are told. Where an allocation fails all rows stay
     /// as they were.
     pub fn change(&mut self, changes: &[EntityChange]) -> Result<(), AllocError>
@@ -386,20 +333,5 @@ impl Archetypes {
         );
         self.index.note_rows(&self.tables);
         changed
-    }
-
-    /// Takes all components of an entity away. An allocation can fail only where columns were read elsewhere too; then all rows stay as
-    /// they were.
-    pub fn clear(&mut self, e: Entity) -> Result<(), AllocError>
-        requires holder { IsHolder e.generation (holder_of self.old.holders e.index) }
-        requires home { AreAllHome self.old.layout }
-        ensures ok { OnOk result (HasRow self.old e [] self.new) }
-        ensures err { OnErr result (AreAlike self.old self.new) }
-        ensures home { AreAllHome self.new.layout }
-    {
-        own_all(&mut self.tables, &mut self.shared)?;
-        clear_in(&mut self.tables, &mut self.places, &mut self.row_numbers, e);
-        self.index.note_rows(&self.tables);
-        Ok(())
     }
 }

@@ -37,38 +37,6 @@ fn place_of(components: &[StampedValue], number: u32) -> Option<usize>
     components.iter().position(|s| number <= s.value.number())
 }
 
-// Adds a component at a tick to those of a row that has none of its kind.
-pub(crate) fn insert_new(
-    components: &mut Components,
-    value: Value,
-    tick: Tick,
-) -> Result<(), AllocError>
-    requires { cell_at (map component_of components.old.items) (value_number value) ≡ None }
-    ensures row { OnOk result (map component_of components.new.items
-        ≡ insert_component tick (value_number value) (value_words value) (map component_of components.old.items)) }
-    ensures more { OnOk result (length components.new.items ≡ suc (length components.old.items)) }
-{
-    match place_of(components, value.number()) {
-        None => components.push(added(value, tick))?,
-        Some(place) => components.insert(place, added(value, tick))?,
-    }
-    Ok(())
-}
-
-// Takes the component of the kind with this number from those of a row that has one.
-pub(crate) fn take_out(components: &mut Components, number: u32)
-    requires { IsSome (cell_at (map component_of components.old.items) number) }
-    ensures row { map component_of components.new.items ≡ remove_component number (map component_of components.old.items) }
-    ensures fewer { suc (length components.new.items) ≡ length components.old.items }
-{
-    match index_of(components, number) {
-        None => unreachable!(),
-        Some(place) => {
-            components.remove(place);
-        }
-    }
-}
-
 /// Inserts a component at a tick into those of a row: one of its kind is replaced and keeps its added stamp.
 pub fn put_component(
     components: &mut Components,

@@ -8,7 +8,6 @@ pub mod components;
 pub mod fault;
 mod kind_sets;
 pub mod laws;
-mod lay;
 mod lending;
 mod locations;
 mod owning;

@@ -1,23 +1,25 @@
 // Rows of several entities that change at once: all that can fail is done first, then the rows that go elsewhere leave, the last one first,
 // and then one after the other comes where it goes.
 
-ghost use Rattle.std.specs.Prelude.{◌≡◌, ◌+◌, ◌<◌, ◌≤◌, ℕ, [], length, map, None, Some, IfOk, OnOk, OnErr};
+ghost use Rattle.std.specs.Prelude.{◌≡◌, ◌≢◌, ◌+◌, ◌<◌, ◌==◌, ◌≤◌, ℕ, [], length, map, None, Some, IfOk, OnOk, OnErr};
 ghost use Rattle.std.specs.List.{AllByRecursion};
+ghost use Rattle.model.specs.Lists.{with_at};
 ghost use Rattle.column_store.specs.Cells.{stamped_number};
 ghost use Rattle.column_store.specs.Kinds.{AreBelow};
 ghost use Rattle.archetype_store.specs.Changes.{row_left, components_left, AreOfOtherIndices};
+ghost use Rattle.archetype_store.specs.Row.{component_of};
 ghost use Rattle.archetype_store.specs.TableIndex.{IsFound};
-ghost use Rattle.archetype_store.specs.Tables.{room_at, shape_of, AreShaped, AreUnlike, AreOwned, AreAllAlike, IsGrown};
+ghost use Rattle.archetype_store.specs.Tables.{kinds_at, room_at, shape_of, AreShaped, AreUnlike, AreOwned, AreAllAlike, IsGrown};
 ghost use Rattle.archetype_store.specs.Archetypes.{archetypes_of, holder_in, place_of, AreAlike, AreArchetypes, HasRow, HaveRows, IsHolder};
 ghost use Rattle.archetype_store.specs.RowNumbers.{AreRowsKnown};
 ghost use Rattle.archetype_store.specs.RowMoves.{change_of, arrives_in, stays_in, one_if, is_table, HaveRoom, IsPlanned, IsTarget, AreAlikeBut, AreAlikeBefore};
 
 use crate::change::EntityChange;
-use crate::lay::{clear_in, join_in};
 use crate::locations::{EntityLocation, place_at, reach};
 use crate::table_index::TableIndex;
-use crate::tables::{release_at, renew_at, reserve_at, table_for};
-use column_store::Table;
+use crate::tables::{push_at, release_at, remove_at, renew_at, reserve_at, table_for};
+use column_store::{StampedValue, Table};
+use entity_table::Entity;
 use std::alloc::{AllocError, Global};
 
 /// What becomes of the row of an entity: the table of the row that it is left with.
@@ -150,6 +152,69 @@ fn release_all(tables: &mut Vec<Table>, places: &[Option<EntityLocation>], rows:
             release_at(tables, table);
         }
     }
+}
+
+// Takes the row of an entity away. The last row of its table takes its place, which is noted for the entity that has it.
+fn clear_in(
+    tables: &mut Vec<Table>,
+    places: &mut Vec<Option<EntityLocation>>,
+    numbers: &mut Vec<usize>,
+    e: Entity,
+)
+    requires whole { AreArchetypes tables.old.items places.old.items }
+    requires known { AreRowsKnown tables.old.items places.old.items numbers.old.items }
+    requires owned { AreOwned tables.old.items }
+    requires holder { IsHolder e.generation (holder_in (place_of places.old.items e.index)) }
+    ensures whole { AreArchetypes tables.new.items places.new.items }
+    ensures known { AreRowsKnown tables.new.items places.new.items numbers.new.items }
+    ensures owned { AreOwned tables.new.items }
+    ensures shapes { map shape_of tables.new.items ≡ map shape_of tables.old.items }
+    ensures cleared { HasRow (archetypes_of tables.old.items places.old.items) e [] (archetypes_of tables.new.items places.new.items) }
+    ensures places { (i : ℕ) → place_of places.new.items i ≡ with_at e.index None (place_of places.old.items) i }
+    ensures as_many { length places.new.items ≡ length places.old.items }
+    ensures rooms { (t : ℕ) → room_at tables.new.items t ≡ room_at tables.old.items t }
+{
+    if let Some(place) = place_at(places, e.index) {
+        let row = numbers[e.index as usize];
+        let moved = remove_at(tables, place.table, row);
+        numbers[moved.index as usize] = row;
+        places[e.index as usize] = None;
+    }
+}
+
+// Lays these components as the row of an entity that has none, in the table of their kinds, where room was made for it.
+fn join_in(
+    tables: &mut Vec<Table>,
+    places: &mut Vec<Option<EntityLocation>>,
+    numbers: &mut Vec<usize>,
+    e: Entity,
+    table: usize,
+    components: &[StampedValue],
+)
+    requires whole { AreArchetypes tables.old.items places.old.items }
+    requires known { AreRowsKnown tables.old.items places.old.items numbers.old.items }
+    requires owned { AreOwned tables.old.items }
+    requires within { e.index < length places.old.items }
+    requires none { place_of places.old.items e.index ≡ None }
+    requires there { table < length tables.old.items }
+    requires kinds { kinds_at tables.old.items table ≡ map stamped_number components.now }
+    requires some { components.now ≢ [] }
+    requires room { 0 < room_at tables.old.items table }
+    ensures whole { AreArchetypes tables.new.items places.new.items }
+    ensures known { AreRowsKnown tables.new.items places.new.items numbers.new.items }
+    ensures owned { AreOwned tables.new.items }
+    ensures shapes { map shape_of tables.new.items ≡ map shape_of tables.old.items }
+    ensures joined { HasRow (archetypes_of tables.old.items places.old.items) e (map component_of components.now) (archetypes_of tables.new.items places.new.items) }
+    ensures places { (i : ℕ) → place_of places.new.items i ≡ with_at e.index (Some (record { generation = e.generation; table = table })) (place_of places.old.items) i }
+    ensures as_many { length places.new.items ≡ length places.old.items }
+    ensures rooms { (t : ℕ) → room_at tables.old.items t ≤ one_if (t == table) + room_at tables.new.items t }
+{
+    let row = push_at(tables, table, e, components);
+    numbers[e.index as usize] = row;
+    places[e.index as usize] = Some(EntityLocation {
+        generation: e.generation,
+        table,
+    });
 }
 
 // Whether a row stays in the table where it is.

@@ -1,7 +1,6 @@
 // The slots by index: the id book, and the rows of the entities that live.
 
 ghost use Rattle.std.specs.Prelude.{◌≡◌, ◌++◌, ◌≤◌, ◌<◌, ◌↔◌, ℕ, true, false, [], Some, length, map, option_map, is_some, All, IsTrue, IfSome, IfNone, MatchOption, IfOk, OnOk, OnErr, IsErrOf};
-ghost use Rattle.kinds.specs.Value.{value_number, value_words};
 ghost use Rattle.model.specs.Lists.{update_at, is_there};
 ghost use Rattle.model.specs.state.Rows.{IsRising, row_at, insert_component, remove_component};
 ghost use Rattle.model.specs.state.Ids as ids;
@@ -26,16 +25,14 @@ ghost use Rattle.archetype_store.specs.View.{kinds_seen, entities_seen};
 
 use crate::archetypes::Archetypes;
 use crate::change::EntityChange;
-use crate::fault::StoreFault;
 use crate::locations::RowPlace;
 use crate::settling::settle_all;
 use crate::shapes::Shape;
 use crate::slot::Slot;
 use crate::tables::ArchetypeView;
-use change_ticks::Tick;
 use column_store::{Components, StampedColumn, StampedValue};
 use entity_table::{Entity, EntityTable, GrantFault};
-use kinds::{Kind, Value};
+use kinds::Kind;
 use std::alloc::{AllocError, Global};
 use std::marker::Model;
 use std::sync::Arc;
@@ -364,22 +361,6 @@ impl Slots {
         self.book.release(ids);
     }
 
-    /// Frees the index of an entity, and drops its components. After an error the slots are as they were.
-    pub fn despawn(&mut self, e: Entity) -> Result<(), StoreFault>
-        requires { AreAllHome self.old.layout }
-        ensures ok { OnOk result (self.new.slots ≡ update_at e.index freed self.old.slots) }
-        ensures dead { IsErrOf result StoreFault.NotAlive ↔ (is_alive self.old.slots e ≡ false) }
-        ensures err { OnErr result (self.new ≡ self.old) }
-        ensures home { AreAllHome self.new.layout }
-    {
-        if !self.lives(e) {
-            return Err(StoreFault::NotAlive);
-        }
-        self.archetypes.clear(e)?;
-        self.book.despawn(e);
-        Ok(())
-    }
-
     /// Makes these changes, no two of one index: each entity lives with just the components that are told, or no more. Where an allocation fails
     /// the slots are as they were.
     pub fn change(&mut self, changes: &[EntityChange]) -> Result<(), AllocError>
@@ -393,38 +374,6 @@ impl Slots {
     {
         self.archetypes.change(changes)?;
         settle_all(&mut self.book, changes);
-        Ok(())
-    }
-
-    /// Inserts a component into the row of an entity at a tick. After an error the slots are as they were.
-    pub fn insert(&mut self, e: Entity, value: Value, tick: Tick) -> Result<(), StoreFault>
-        requires { AreAllHome self.old.layout }
-        ensures ok { OnOk result (self.new.slots ≡ update_at e.index (with_row (insert_component tick (value_number value) (value_words value))) self.old.slots) }
-        ensures dead { IsErrOf result StoreFault.NotAlive ↔ (is_alive self.old.slots e ≡ false) }
-        ensures err { OnErr result (self.new ≡ self.old) }
-        ensures home { AreAllHome self.new.layout }
-    {
-        if !self.lives(e) {
-            return Err(StoreFault::NotAlive);
-        }
-        self.archetypes.insert(e, value, tick)?;
-        Ok(())
-    }
-
-    /// Removes the component of a kind from the row of an entity, where it has one: where it has none no memory is asked for. After an error
-    /// the slots are as they were.
-    pub fn remove(&mut self, e: Entity, number: u32) -> Result<(), StoreFault>
-        requires { AreAllHome self.old.layout }
-        ensures ok { OnOk result (self.new.slots ≡ update_at e.index (with_row (remove_component number)) self.old.slots) }
-        ensures dead { IsErrOf result StoreFault.NotAlive ↔ (is_alive self.old.slots e ≡ false) }
-        ensures err { OnErr result (self.new ≡ self.old) }
-        ensures home { AreAllHome self.new.layout }
-        ensures absent { IsErrOf result StoreFault.Memory → is_some (cell_of self.old.slots e number) ≡ true }
-    {
-        if !self.lives(e) {
-            return Err(StoreFault::NotAlive);
-        }
-        self.archetypes.remove(e, number)?;
         Ok(())
     }
 

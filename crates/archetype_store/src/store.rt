@@ -26,11 +26,12 @@ ghost use Rattle.column_store.specs.RowOrder.{OrdersRows};
 ghost use Rattle.archetype_store.specs.Shapes.{shape_number, fitting_from};
 ghost use Rattle.archetype_store.specs.View.{kinds_seen, entities_seen};
 ghost use Rattle.archetype_store.specs.Resources.{changed_of};
-ghost use Rattle.archetype_store.specs.Changes.{changed, AreOfOtherIndices, CanChange};
+ghost use Rattle.archetype_store.specs.Changes.{changed, slot_left, AreOfOtherIndices, CanChange};
 ghost use Rattle.archetype_store.specs.Store.{empty_world, with_slots, with_slot, with_resource, at_clock, stamp_of, homed_in, IsPast};
 
-use crate::change::EntityChange;
+use crate::change::{EntityChange, Fate};
 pub use crate::columns::{ColumnAt, SharedColumn, TakenColumn};
+use crate::components::{put_component, take_component};
 use crate::fault::{GrantFault, StoreFault};
 use crate::kind_sets::{entities_in, sets_of};
 pub use crate::locations::RowPlace;
@@ -46,6 +47,7 @@ use kinds::{Component, Kind, Res};
 use model::KindSets;
 use std::alloc::{AllocError, Global};
 use std::marker::Model;
+use std::mem;
 use std::sync::Arc;
 
 /// The world. Contracts see its state (slots by index, resources by number, the clock) and beside it how components are laid out: the
@@ -54,7 +56,12 @@ pub struct World {
     slots: Slots,
     resources: Resources,
     clock: Clock,
+    // The list of the changes that were made last, which is used again. It has no elements.
+    change_list: Vec<EntityChange>,
 }
+
+// The list of more changes than these is not kept: it would hold some 50 MB for as long as the world is there.
+const MOST_KEPT: usize = 262_144;
 
 // One function drops it wherever it is let go.
 impl Drop for World {
@@ -63,6 +70,7 @@ impl Drop for World {
             slots: _,
             resources: _,
             clock: _,
+            change_list: _,
         } = self;
     }
 }
@@ -97,6 +105,7 @@ impl World {
             slots: Slots::new(alloc),
             resources: Resources::new(),
             clock,
+            change_list: Vec::new(alloc),
         }
     }
 
@@ -111,6 +120,7 @@ impl World {
             slots,
             resources: self.resources.copy(),
             clock: self.clock,
+            change_list: Vec::new(alloc),
         })
     }
 
@@ -410,7 +420,11 @@ impl World {
         ensures err { OnErr result (self.new ≡ self.old) }
         ensures home { AreAllHome self.new.layout }
     {
-        self.slots.despawn(e)
+        if !self.lives(e) {
+            return Err(StoreFault::NotAlive);
+        }
+        self.change_one(e, Fate::Dies)?;
+        Ok(())
     }
 
     /// Whether an entity lives.
@@ -459,7 +473,15 @@ impl World {
         ensures err { OnErr result (self.new ≡ self.old) }
         ensures home { AreAllHome self.new.layout }
     {
-        self.slots.insert(e, component.into_value(), tick)
+        if !self.lives(e) {
+            return Err(StoreFault::NotAlive);
+        }
+        // Proves that the components of a world are of its shape.
+        let _now = self.now();
+        let mut row = self.row_of(e.index)?;
+        put_component(&mut row, component.into_value(), tick)?;
+        self.change_one(e, Fate::Lives(row))?;
+        Ok(())
     }
 
     /// Removes the component of a kind of an entity. Where it has none, nothing changes, and no memory is asked for. After an error nothing
@@ -472,7 +494,39 @@ impl World {
         ensures home { AreAllHome self.new.layout }
         ensures absent { IsErrOf result StoreFault.Memory → is_some (cell_of self.old.state.slots e (kind_number kind)) ≡ true }
     {
-        self.slots.remove(e, kind.number())
+        if !self.lives(e) {
+            return Err(StoreFault::NotAlive);
+        }
+        if !self.has(e, kind) {
+            return Ok(());
+        }
+        // Proves that the components of a world are of its shape.
+        let _now = self.now();
+        let mut row = self.row_of(e.index)?;
+        take_component(&mut row, kind.number());
+        self.change_one(e, Fate::Lives(row))?;
+        Ok(())
+    }
+
+    // The components of an index.
+    fn row_of(&self, index: u32) -> Result<Components, AllocError>
+        requires { AreAllHome self.now.layout }
+        ensures { IfOk result (λ row. map component_of row.items ≡ row_at self.now.state.slots index) }
+    {
+        let mut row = Components::new(*self.change_list.allocator());
+        self.components(index, &mut row)?;
+        Ok(row)
+    }
+
+    // Makes the change of one entity. Where an allocation fails nothing has changed.
+    fn change_one(&mut self, entity: Entity, fate: Fate) -> Result<(), AllocError>
+        requires home { AreAllHome self.old.layout }
+        requires can { CanChange self.old.state (record { entity = entity; fate = fate }) }
+        ensures ok { OnOk result (self.new.state ≡ with_slot entity.index (slot_left fate) self.old.state) }
+        ensures err { OnErr result (self.new ≡ self.old) }
+        ensures home { AreAllHome self.new.layout }
+    {
+        self.change(&[EntityChange { entity, fate }])
     }
 
     /// Makes these changes, no two of one index: an entity that is left alive has just the components that are told, and no other's change. Where
@@ -486,6 +540,26 @@ impl World {
         ensures home { AreAllHome self.new.layout }
     {
         self.slots.change(changes)
+    }
+
+    /// A list for changes, without elements: in the room of the changes that were made before, where it was kept. Contracts see no such list.
+    pub fn take_change_list(&mut self, alloc: Global) -> Vec<EntityChange>
+        ensures list { result.items ≡ [] }
+        ensures same { self.new ≡ self.old }
+    {
+        let mut list = mem::replace(&mut self.change_list, Vec::new(alloc));
+        list.clear();
+        list
+    }
+
+    /// Keeps a list of changes that are made, so that the next ones stand in its room. That of very many is dropped.
+    pub fn keep_change_list(&mut self, mut list: Vec<EntityChange>)
+        ensures { self.new ≡ self.old }
+    {
+        if list.capacity() <= MOST_KEPT {
+            list.clear();
+            self.change_list = list;
+        }
     }
 
     /// The component of this kind of an entity that lives.

@@ -20,10 +20,9 @@ ghost use Rattle.archetype_store.specs.TableIndex.{IsFound};
 ghost use Rattle.archetype_store.specs.Tables.{table_at, kinds_at, held_at, room_at, with_room, entities_at, entity_in_row, shape_of, row_or_none, AreShaped, AreUnlike, AreHome, AreOwned, IsHeldNow, IsGrown, IsOneTable};
 
 use crate::table_index::{TableIndex, word_of};
-use change_ticks::Tick;
 use column_store::{Components, RowOrder, StampedValue, Table};
 use entity_table::Entity;
-use kinds::{Kind, Value};
+use kinds::Kind;
 use std::alloc::{AllocError, Global};
 
 /// An archetype that has entities.
@@ -159,14 +158,6 @@ pub(crate) fn has_at(tables: &[Table], table: usize, number: u32) -> bool
     has_kind(tables[table].kinds(), number)
 }
 
-// How many kinds a table has.
-pub(crate) fn kind_count_at(tables: &[Table], table: usize) -> usize
-    requires { table < length tables.now }
-    ensures { result ≡ length (kinds_at tables.now table) }
-{
-    tables[table].kinds().len()
-}
-
 // Lists the components at a row of a table, in the order of its kinds, in the room of a list.
 pub(crate) fn components_at(
     tables: &[Table],
@@ -183,23 +174,6 @@ pub(crate) fn components_at(
     // Tells that no entity is there twice.
     let _entities = there.entities();
     there.read(row, components)
-}
-
-// Writes a component at a row of a table.
-pub(crate) fn write_at(tables: &mut Vec<Table>, table: usize, row: usize, value: Value, tick: Tick)
-    requires shaped { AreShaped tables.old.items }
-    requires row { IsSome (entity_in_row tables.old.items table row) }
-    requires there { (e : Entity) → entity_in_row tables.old.items table row ≡ Some e → IsSome (cell_at (row_or_none (held_at tables.old.items table e)) (value_number value)) }
-    requires owned { AreOwned tables.old.items }
-    ensures held { (e : Entity) → entity_in_row tables.old.items table row ≡ Some e → IsHeldNow tables.old.items tables.new.items table e
-        (Some (row_after tick (only (value_number value) (value_words value)) (row_or_none (held_at tables.old.items table e)))) }
-    ensures shapes { map shape_of tables.new.items ≡ map shape_of tables.old.items }
-    ensures entities { IsOneTable tables.old.items tables.new.items table (entities_at tables.old.items table) }
-{
-    let there = &mut tables[table];
-    // Tells that no entity is there twice.
-    let _entities = there.entities();
-    there.write(row, value, tick);
 }
 
 // Makes room for a further row of a table. Where an allocation fails the tables stay as they were.

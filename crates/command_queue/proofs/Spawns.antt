@@ -89,13 +89,6 @@ can_spawn-next tick target (Insert e kind words) cs h = can_spawn-if_alive e (wi
 can_spawn-next tick target (Remove e kind) cs h = can_spawn-if_alive e (with_row (remove_component kind)) target (spawned_by cs) h
 can_spawn-next tick target (Despawn e) cs h = can_spawn-if_alive e freed target (spawned_by cs) h
 
--- what the first command asks
-pub can_spawn-first : (slots : List Slot) (c : Command) (cs : List Command) → CanSpawn slots (spawned_by (c ∷ cs)) → CanSpawn slots (spawned_by (c ∷ []))
-can_spawn-first slots (Spawn e) cs h = (h.0, tt, tt)
-can_spawn-first slots (Insert e kind words) cs h = tt
-can_spawn-first slots (Remove e kind) cs h = tt
-can_spawn-first slots (Despawn e) cs h = tt
-
 -- ---- commands joined
 
 each_front : (P : Entity → Type 0) (xs ys : List Command) → AllByRecursion P (spawned_by (xs ++ ys)) → AllByRecursion P (spawned_by xs)

@@ -1,19 +1,19 @@
 -- What changes make of the slots of a world, and which entities then live.
-use Rattle.std.proofs.Common.{◌≡◌, ℕ, zero, suc, ◌<◌, ◌≤◌, true, false, cond, ◌==◌, ◌&&◌, ◌||◌, ◌⊎◌, inl, inr, List, [], ◌∷◌, length, get_or, set, map, min, Option, Some, None, refl, sym, ap, ap₂, subst, ◌∙◌, arith, eqb-true}
+use Rattle.std.proofs.Common.{◌≡◌, ℕ, zero, suc, ◌<◌, ◌≤◌, true, false, cond, ◌==◌, ◌&&◌, ◌||◌, ◌⊎◌, inl, inr, List, [], ◌∷◌, length, get_or, set, map, min, Option, Some, None, refl, sym, ap, subst, ◌∙◌, arith, eqb-true}
 use Rattle.std.specs.List.{AllByRecursion}
-use Rattle.std.proofs.lemmas.Bool.{and_parts, and_from, or_left, cond_both, cases_lt, eq-eqb, false≢true}
+use Rattle.std.proofs.lemmas.Bool.{and_parts, and_from, cond_both, cases_lt, eq-eqb, false≢true}
 use Rattle.std.proofs.lemmas.Bool.Decides.{nat_tests}
 use Rattle.std.proofs.lemmas.List.{get_or_past, get_or_default, get_or_push}
 use Rattle.kinds.specs.Components.{widths}
 use Rattle.model.specs.Lists.{map_index, update_at}
 use Rattle.model.specs.declared.entities.Entity.{Entity}
-use Rattle.model.specs.state.State.{Component, Slot, Status, World, fresh_slot, is_living, is_granted, last_generation, most_passed_over}
-use Rattle.model.specs.state.State.Status.{Vacant, Granted, Living, Retired}
+use Rattle.model.specs.state.State.{Component, Slot, World, fresh_slot, is_living, is_granted, last_generation, most_passed_over}
+use Rattle.model.specs.state.State.Status.{Vacant, Living, Retired}
 use Rattle.model.specs.state.Rows.{IsRising, row_at}
-use Rattle.model.specs.state.Shape.{IsComponent, IsSlot, IsWorld}
+use Rattle.model.specs.state.Shape.{IsComponent, IsWorld}
 use Rattle.model.specs.state.Commands.{CommandTarget, is_alive, freed, with_row, if_alive}
-use Rattle.model.proofs.lists.Lists.{map_index-same, get_or-map_index}
-use Rattle.model.proofs.lists.Each.{each-weaker, each-get_or, each-at}
+use Rattle.model.proofs.lists.Lists.{get_or-map_index}
+use Rattle.model.proofs.lists.Each.{each-at}
 use Rattle.entity_table.specs.Ids.{slot_at, IsGranted}
 use Rattle.entity_table.proofs.Edits.{update_at-id}
 use Rattle.entity_table.proofs.Releases.{lives-freed}
@@ -25,6 +25,7 @@ use Rattle.archetype_store.specs.Changes.{components_left, slot_left, change_at,
 use Rattle.command_queue.specs.Pending.{is_left_alive, place_of, put_change, AreChanges, IsKept}
 use Rattle.command_queue.proofs.Puts.{at_place, put_first, put_again, place_first, place_again, each_put, apart_put, change_put, change_none, change_some}
 use Rattle.archetype_store.proofs.Known.{same_pair}
+use Rattle.archetype_store.proofs.OneChange.{map_index-updated, can_change, row_rising, row_components, slot_stays}
 
 -- ---- lists
 
@@ -33,15 +34,6 @@ map_index-within : {A : Type 0} (f : ℕ → A → A) (xs : List A) (i : ℕ) (d
 map_index-within f [] i d l = absurd (omega arith)
 map_index-within f (x ∷ xs) zero d l = refl
 map_index-within f (x ∷ xs) (suc i) d l = map_index-within (λ j. f (suc j)) xs i d (omega arith)
-
--- two changes by index that differ by a change at one
-map_index-updated : {A : Type 0} (k : ℕ) (f : A → A) (g h : ℕ → A → A) (d : A) (xs : List A) →
-    ((i : ℕ) → i ≡ k → h i (get_or xs i d) ≡ f (g i (get_or xs i d))) → ((i : ℕ) → (i ≡ k → ⊥) → h i (get_or xs i d) ≡ g i (get_or xs i d)) → map_index h xs ≡ update_at k f (map_index g xs)
-map_index-updated k f g h d [] here other = refl
-map_index-updated zero f g h d (x ∷ xs) here other =
-    ap₂ ◌∷◌ (here zero refl) (map_index-same (λ i. h (suc i)) (λ i. g (suc i)) d xs (λ i. other (suc i) (λ e. absurd (cc))))
-map_index-updated (suc k) f g h d (x ∷ xs) here other =
-    ap₂ ◌∷◌ (other zero (λ e. absurd (cc))) (map_index-updated k f (λ i. g (suc i)) (λ i. h (suc i)) d xs (λ i e. here (suc i) (ap suc e)) (λ i e. other (suc i) (λ same. e (cc))))
 
 -- ---- one slot
 
@@ -131,45 +123,6 @@ slots_put slots cs c f h = map_index-updated c.entity.index f (change_at cs) (ch
     differs : (i : ℕ) → (i ≡ c.entity.index → ⊥) → (i == c.entity.index) ≡ false
     differs i e = grind (arith, nat_tests)
 
--- ---- what an entity's change is
-
--- an entity that lives is left as it is, or with other components of a world
-module _ (w : World) (e : Entity) (alive : is_alive w.slots e ≡ true) where
-  slot_living : is_living (slot_at w.slots e.index).status ≡ true
-  slot_living = (and_parts (is_living (slot_at w.slots e.index).status) ((slot_at w.slots e.index).generation == e.generation) alive).0
-
-  slot_generation : (slot_at w.slots e.index).generation ≡ e.generation
-  slot_generation = eqb-true (slot_at w.slots e.index).generation e.generation (and_parts (is_living (slot_at w.slots e.index).status) ((slot_at w.slots e.index).generation == e.generation) alive).1
-
-  pub can_change : (fate : Fate) → IsRising (components_left fate) → AllByRecursion (IsComponent widths w.clock) (components_left fate) → CanChange w (record { entity = e; fate = fate })
-  can_change fate rising components = record {
-    held = or_left (is_living (slot_at w.slots e.index).status) (is_granted (slot_at w.slots e.index).status) slot_living;
-    generation = slot_generation;
-    rising = rising;
-    components = components;
-  }
-
-  -- its row is one of a world
-  pub row_rising : IsWorld widths w → IsRising (row_at w.slots e.index)
-  row_rising h = each-get_or (λ (s : Slot). IsRising s.row) w.slots e.index fresh_slot tt (each-weaker (IsSlot widths w.clock) (λ (s : Slot). IsRising s.row) (λ s k. k.rising) w.slots h.slots)
-
-  pub row_components : IsWorld widths w → AllByRecursion (IsComponent widths w.clock) (row_at w.slots e.index)
-  row_components h = each-get_or (λ (s : Slot). AllByRecursion (IsComponent widths w.clock) s.row) w.slots e.index fresh_slot tt
-      (each-weaker (IsSlot widths w.clock) (λ (s : Slot). AllByRecursion (IsComponent widths w.clock) s.row) (λ s k. k.components) w.slots h.slots)
-
-  -- with its own row it stays
-  pub slot_stays : (components : List Component) → components ≡ row_at w.slots e.index →
-      (let s : Slot = record { generation = (slot_at w.slots e.index).generation; status = Living; row = components } in s) ≡ slot_at w.slots e.index
-  slot_stays components same = ap (λ r. let s : Slot = record { generation = (slot_at w.slots e.index).generation; status = Living; row = r } in s) same
-      ∙ stays (slot_at w.slots e.index).status slot_living refl
-    where
-      stays : (status : Status) → is_living status ≡ true → (slot_at w.slots e.index).status ≡ status →
-          (let s : Slot = record { generation = (slot_at w.slots e.index).generation; status = Living; row = row_at w.slots e.index } in s) ≡ slot_at w.slots e.index
-      stays Living l k = ap (λ status. let s : Slot = record { generation = (slot_at w.slots e.index).generation; status = status; row = row_at w.slots e.index } in s) (sym k)
-      stays Vacant l k = absurd (false≢true l)
-      stays Granted l k = absurd (false≢true l)
-      stays Retired l k = absurd (false≢true l)
-
 -- ---- the change of an entity that lives
 
 -- what stands at the place of an index and leaves the entity alive is its change
@@ -220,10 +173,6 @@ module _ (w : World) (cs : List EntityChange) (valid : AreChanges w cs) (e : Ent
   places_again q = ap (place_of q) (put_again c cs p place_same) ∙ place_again q c cs p place_same
 
 -- ---- what a command on an entity does
-
-pub if_dead : (e : Entity) (f : Slot → Slot) (target : CommandTarget) → is_alive target.slots e ≡ false → if_alive e f target ≡ record { slots = target.slots; passed_over = min (suc target.passed_over) most_passed_over }
-if_dead e f target h = ap (λ b. cond b (let t : CommandTarget = record { slots = update_at e.index f target.slots; passed_over = target.passed_over } in t)
-    (record { slots = target.slots; passed_over = min (suc target.passed_over) most_passed_over })) h
 
 pub if_lives : (e : Entity) (f : Slot → Slot) (target : CommandTarget) → is_alive target.slots e ≡ true → if_alive e f target ≡ record { slots = update_at e.index f target.slots; passed_over = target.passed_over }
 if_lives e f target h = ap (λ b. cond b (let t : CommandTarget = record { slots = update_at e.index f target.slots; passed_over = target.passed_over } in t)

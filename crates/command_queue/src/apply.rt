@@ -1,6 +1,6 @@
 // Commands are done in the world.
 
-ghost use Rattle.std.specs.Prelude.{◌≡◌, ◌≤◌, ◌<◌, length, All, IfOk, OnOk, OnErr};
+ghost use Rattle.std.specs.Prelude.{◌≡◌, ◌≤◌, ◌<◌, [], length, All, IfOk, OnOk, OnErr};
 ghost use Rattle.model.specs.state.Commands.{apply_buffer};
 ghost use Rattle.model.specs.shown.Outcome.{spawned_by};
 ghost use Rattle.entity_table.specs.Ids.{IsGranted, AreApart};
@@ -11,7 +11,7 @@ ghost use Rattle.command_queue.specs.Pending.{IsPending, target_of, CanSpawn};
 
 use crate::buffer::CommandBuffer;
 use crate::pending::Pending;
-use archetype_store::World;
+use archetype_store::{EntityChange, World};
 use change_ticks::Tick;
 use std::alloc::{AllocError, Global};
 
@@ -26,14 +26,16 @@ fn command_count(buffers: &[CommandBuffer], order: &[u32]) -> usize
     count
 }
 
-// What these buffers make of a world, which stays as it is.
+// What these buffers make of a world, which stays as it is. Changes stand in the room of this list.
 fn gather(
     alloc: Global,
     world: &World,
+    list: Vec<EntityChange>,
     buffers: &[CommandBuffer],
     order: &[u32],
     tick: Tick,
 ) -> Result<Pending, AllocError>
+    requires empty { list.items ≡ [] }
     requires past { tick ≤ world.now.state.clock }
     requires home { AreAllHome world.now.layout }
     requires known { All (λ n. n < length buffers.now) order.now }
@@ -41,7 +43,7 @@ fn gather(
     ensures pending { IfOk result (IsPending world.now.state) }
     ensures done { IfOk result (λ pending. target_of world.now.state pending ≡ apply_buffer tick (record { slots = world.now.state.slots; passed_over = 0 }) (commands_of buffers.now order.now)) }
 {
-    let mut pending = Pending::new(alloc, command_count(buffers, order))?;
+    let mut pending = Pending::new(list, command_count(buffers, order))?;
     for number in order {
         let commands = buffers[*number as usize].commands();
         pending.buffer(alloc, world, commands, tick)?;
@@ -69,7 +71,10 @@ pub fn apply(
     ensures err { OnErr result (world.new ≡ world.old) }
     ensures home { AreAllHome world.new.layout }
 {
-    let pending = gather(alloc, world, buffers, order, tick)?;
+    let list = world.take_change_list(alloc);
+    let pending = gather(alloc, world, list, buffers, order, tick)?;
     world.change(&pending.changes)?;
-    Ok(pending.passed_over)
+    let passed_over = pending.passed_over;
+    world.keep_change_list(pending.changes);
+    Ok(passed_over)
 }

@@ -102,13 +102,14 @@ fn places_of(
 }
 
 impl Pending {
-    // No command was done, with room for the changes of so many.
-    pub(crate) fn new(alloc: Global, commands: usize) -> Result<Self, AllocError>
+    // No command was done, with room for the changes of so many in this list.
+    pub(crate) fn new(mut changes: Vec<EntityChange>, commands: usize) -> Result<Self, AllocError>
+        requires { changes.items ≡ [] }
         ensures changes { IfOk result (λ pending. pending.changes.items ≡ []) }
         ensures places { IfOk result (λ pending. ArePlaced pending.places []) }
         ensures passed { IfOk result (λ pending. pending.passed_over ≡ 0) }
     {
-        let changes = Vec::with_capacity(alloc, commands)?;
+        changes.reserve(commands)?;
         Ok(Pending {
             changes,
             places: None,

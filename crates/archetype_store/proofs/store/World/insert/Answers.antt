@@ -1,17 +1,28 @@
-use Rattle.std.proofs.Common.{◌≡◌, ◌≤◌, length, ap, sym, ◌∙◌, arith, inl, inr}
-use Rattle.kinds.specs.Components.{widths}
+use Rattle.std.proofs.Common.{◌≡◌, true, map, ap, ap₂, ◌∙◌, rules}
 use Rattle.kinds.specs.Value.{value_number, value_words}
+use Rattle.model.specs.state.Rows.{row_at, insert_component}
 use Rattle.model.specs.state.Commands.{is_alive}
-use Rattle.archetype_store.specs.declared.fault.StoreFault.TheVariants as fault
-use Rattle.archetype_store.proofs.Worlds.{outcome_of, world-insert}
+use Rattle.archetype_store.specs.Row.{component_of}
+use Rattle.archetype_store.specs.Store.{with_slots}
+use Rattle.archetype_store.specs.declared.change.Fate.TheVariants as the
+use Rattle.archetype_store.proofs.OneChange.{can_insert, slots_with_row}
 use Rattle.archetype_store.proofs.store.World.insert.Goals as goal
 
-pub invariant_of-self : goal.invariant_of-self
-invariant_of-self g c =
-    let in_time : c.args.tick ≤ c.self.inside.clock = omega (arith, c.requires.past, ap (λ w. w.state.clock) c.self.view_is) in
-    let width : length (value_words c.into_value.result) ≡ widths (value_number c.into_value.result) =
-    ap length c.into_value.ensures.words ∙ g.met.C.Component.same_width c.args.component ∙ sym g.met.C.Component.width_of_number ∙ ap widths (sym c.into_value.ensures.number) in
-    elim (outcome_of c.insert.result fault.NotAlive (is_alive c.self.inside.slots.slots c.args.e) _ _ c.insert.ensures.ok c.insert.ensures.err c.insert.ensures.dead.1) [
-      | inl done ↦ rw done.1 (world-insert widths _ c.args.e c.args.tick (value_number c.into_value.result) (value_words c.into_value.result) width in_time done.0 c.self.invariant)
-      | inr kept ↦ rw kept c.self.invariant
-    ]
+pub change_one-requires-clause-can : goal.change_one-requires-clause-can
+change_one-requires-clause-can g c =
+    let w = c.args.self.now.state in
+    let v = c.into_value.result in
+    let alive : is_alive w.slots c.args.e ≡ true = search rules in
+    can_insert w c.args.e alive c.now-now.ensures.world (the.Lives c.put_component.new.components) c.args.tick v c.requires.past
+    (c.in_ok-put_component.ensures ∙ ap (insert_component c.args.tick (value_number v) (value_words v)) c.in_ok-row.ensures)
+
+pub returns-clause-ok : goal.returns-clause-ok
+returns-clause-ok g c =
+    let w = c.args.self.now.state in
+    let v = c.into_value.result in
+    let alive : is_alive w.slots c.args.e ≡ true = search rules in
+    let row = row_at w.slots c.args.e.index in
+    let left = c.in_ok-put_component.ensures ∙ ap (insert_component c.args.tick (value_number v) (value_words v)) c.in_ok-row.ensures
+    ∙ ap₂ (λ kind words. insert_component c.args.tick kind words row) c.into_value.ensures.number c.into_value.ensures.words in
+    c.in_ok-change_one.ensures.ok ∙ ap (λ slots. with_slots (λ _. slots) w)
+    (slots_with_row w c.args.e alive (insert_component c.args.tick g.C.Component.NUMBER (g.C.Component.words c.args.component)) (map component_of c.put_component.new.components.items) left)

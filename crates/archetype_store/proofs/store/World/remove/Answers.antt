@@ -1,13 +1,34 @@
-use Rattle.std.proofs.Common.{inl, inr}
-use Rattle.kinds.specs.Components.{widths}
+use Rattle.std.proofs.Common.{◌≡◌, true, false, map, is_some, ap, ◌∙◌, rules}
+use Rattle.kinds.specs.Kind.{kind_number}
+use Rattle.model.specs.state.Rows.{remove_component}
 use Rattle.model.specs.state.Commands.{is_alive}
-use Rattle.archetype_store.specs.declared.fault.StoreFault.TheVariants as fault
-use Rattle.archetype_store.proofs.Worlds.{outcome_of, world-remove}
+use Rattle.archetype_store.specs.Row.{component_of}
+use Rattle.archetype_store.specs.Slot.{cell_of}
+use Rattle.archetype_store.specs.Store.{with_slots}
+use Rattle.archetype_store.specs.declared.change.Fate.TheVariants as the
+use Rattle.archetype_store.proofs.OneChange.{can_remove, slots_with_row, slots_without}
 use Rattle.archetype_store.proofs.store.World.remove.Goals as goal
 
-pub invariant_of-self : goal.invariant_of-self
-invariant_of-self c =
-    elim (outcome_of c.remove.result fault.NotAlive (is_alive c.self.inside.slots.slots c.args.e) _ _ c.remove.ensures.ok c.remove.ensures.err c.remove.ensures.dead.1) [
-      | inl done ↦ rw done.1 (world-remove widths _ c.args.e c.number.result done.0 c.self.invariant)
-      | inr kept ↦ rw kept c.self.invariant
-    ]
+pub returns-then-not-has-clause-ok : goal.returns-then-not-has-clause-ok
+returns-then-not-has-clause-ok c =
+    let w = c.args.self.now.state in
+    let kind = kind_number c.args.kind in
+    let alive : is_alive w.slots c.args.e ≡ true = search rules in
+    let none : is_some (cell_of w.slots c.args.e kind) ≡ false = search rules in
+    ap (λ slots. with_slots (λ _. slots) w) (slots_without w c.args.e alive kind none)
+
+pub change_one-requires-clause-can : goal.change_one-requires-clause-can
+change_one-requires-clause-can c =
+    let w = c.args.self.now.state in
+    let kind = kind_number c.args.kind in
+    let alive : is_alive w.slots c.args.e ≡ true = search rules in
+    can_remove w c.args.e alive c.now-now.ensures.world (the.Lives c.take_component.new.components) kind
+    (c.take_component.ensures ∙ ap (λ k. remove_component k (map component_of c.in_ok-row.row.items)) c.number.ensures ∙ ap (remove_component kind) c.in_ok-row.ensures)
+
+pub returns-clause-ok : goal.returns-clause-ok
+returns-clause-ok c =
+    let w = c.args.self.now.state in
+    let kind = kind_number c.args.kind in
+    let alive : is_alive w.slots c.args.e ≡ true = search rules in
+    let left = c.take_component.ensures ∙ ap (λ k. remove_component k (map component_of c.in_ok-row.row.items)) c.number.ensures ∙ ap (remove_component kind) c.in_ok-row.ensures in
+    c.in_ok-change_one.ensures.ok ∙ ap (λ slots. with_slots (λ _. slots) w) (slots_with_row w c.args.e alive (remove_component kind) (map component_of c.take_component.new.components.items) left)

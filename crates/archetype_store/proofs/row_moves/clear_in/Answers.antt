@@ -10,7 +10,7 @@ use Rattle.archetype_store.proofs.Known.{placed_within, row_there, number_within
 use Rattle.archetype_store.proofs.Moves.{has_row_kept, placed_set, placed_kept}
 use Rattle.archetype_store.proofs.Steps.{cleared}
 use Rattle.archetype_store.proofs.Standings.{owned_kept}
-use Rattle.archetype_store.proofs.lay.clear_in.Goals as goal
+use Rattle.archetype_store.proofs.row_moves.clear_in.Goals as goal
 
 pub index-row-requires : goal.index-row-requires
 index-row-requires c =

@@ -9,7 +9,7 @@ use Rattle.archetype_store.proofs.Laid.{nowhere}
 use Rattle.archetype_store.proofs.Moves.{placed_set}
 use Rattle.archetype_store.proofs.Steps.{joined}
 use Rattle.archetype_store.proofs.Standings.{owned_kept}
-use Rattle.archetype_store.proofs.lay.join_in.Goals as goal
+use Rattle.archetype_store.proofs.row_moves.join_in.Goals as goal
 
 pub push_at-row-requires-clause-absent : goal.push_at-row-requires-clause-absent
 push_at-row-requires-clause-absent c = nowhere c.args.tables.now.items c.args.places.now.items c.requires.whole c.args.e c.requires.none c.args.table
