@@ -11,13 +11,6 @@ use Rattle.run_condition.specs.Tree.{condition_of}
 use Rattle.run_condition.specs.declared.cond.Tree.{Tree}
 use Rattle.body.specs.Told.{IsMeant}
 
--- lists of the same entities are both there or both not
-pub there_alike : {A B C : Type 0} (f : A → C) (g : B → C) (xs : List A) (ys : List B) → map f xs ≡ map g ys → is_there xs ≡ is_there ys
-there_alike f g [] [] e = refl
-there_alike f g [] (y ∷ ys) e = cc
-there_alike f g (x ∷ xs) [] e = cc
-there_alike f g (x ∷ xs) (y ∷ ys) e = refl
-
 -- what holds of all of two lists holds of all of each
 pub all_first : {A : Type 0} (P : A → Type 0) (xs ys : List A) → AllByRecursion P (xs ++ ys) → AllByRecursion P xs
 all_first P [] ys all = tt
@@ -61,25 +54,8 @@ within_is P t inner whole part tree is same at count all = (
   subst (λ (x : Tree). AllByRecursion P (queries_of (condition_of x))) (sym same) (is.1 (subst (λ (x : Tree). AllByRecursion P (queries_of (condition_of x))) at all)),
 )
 
--- both answers
-pub meant_both : (c d : Condition) (world : World) (events : List EventQueue) (last_run : ℕ) (cursors middle : List ℕ) (one other : Bool) →
-    IsMeant c world events last_run cursors one → middle ≡ cursors_after c cursors → IsMeant d world events last_run middle other →
-    IsMeant (And c d) world events last_run cursors (one && other)
-meant_both c d world events last_run cursors middle one other left after right state w e =
-    ap (λ b. b && other) (left state w e) ∙ ap (λ b. holds c last_run cursors state && b) (right state w e ∙ ap (λ (xs : List ℕ). holds d last_run xs state) after)
-
 pub meant_either : (c d : Condition) (world : World) (events : List EventQueue) (last_run : ℕ) (cursors middle : List ℕ) (one other : Bool) →
     IsMeant c world events last_run cursors one → middle ≡ cursors_after c cursors → IsMeant d world events last_run middle other →
     IsMeant (Or c d) world events last_run cursors (one || other)
 meant_either c d world events last_run cursors middle one other left after right state w e =
     ap (λ b. b || other) (left state w e) ∙ ap (λ b. holds c last_run cursors state || b) (right state w e ∙ ap (λ (xs : List ℕ). holds d last_run xs state) after)
-
--- the other answer
-pub meant_not : (c : Condition) (world : World) (events : List EventQueue) (last_run : ℕ) (cursors : List ℕ) (answer : Bool) →
-    IsMeant c world events last_run cursors answer → IsMeant (Not c) world events last_run cursors (not answer)
-meant_not c world events last_run cursors answer told state w e = ap not (told state w e)
-
--- whether a query has a row
-pub meant_rows : (query : List Term) (world : World) (events : List EventQueue) (last_run : ℕ) (cursors : List ℕ) (answer : Bool) →
-    answer ≡ is_there (rows_of query last_run world.slots) → IsMeant (AnyWith query) world events last_run cursors answer
-meant_rows query world events last_run cursors answer is state w e = is ∙ ap (λ (x : World). is_there (rows_of query last_run x.slots)) (sym w)

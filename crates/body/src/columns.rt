@@ -1,6 +1,6 @@
 // The columns of a query of a view: taken of a world, or shared by it.
 
-ghost use Rattle.std.specs.Prelude.{◌≡◌, ◌+◌, ◌≤◌, ◌++◌, map, IfOk, OnOk, OnErr};
+ghost use Rattle.std.specs.Prelude.{◌≡◌, ◌+◌, ◌≤◌, ◌++◌, [], map, IfOk, OnOk, OnErr};
 ghost use Rattle.std.specs.Vec.{vec_len, vec_capacity};
 ghost use Rattle.query_plan.specs.Picks.{pick_seen};
 ghost use Rattle.body.specs.HeldColumns.{held_seen};
@@ -25,7 +25,10 @@ pub(crate) struct ColumnRequests {
 
 impl ColumnRequests {
     // Of no picks.
-    pub(crate) fn none(alloc: Global) -> Self {
+    pub(crate) fn none(alloc: Global) -> Self
+        ensures own { result.own.items ≡ [] }
+        ensures read { result.read.items ≡ [] }
+    {
         ColumnRequests {
             own: Vec::new(alloc),
             read: Vec::new(alloc),

@@ -60,14 +60,28 @@ pub(crate) fn listed_in_turn(rows: &Rows, listed: &[u32]) -> usize
     count
 }
 
-// How many rows are looked at, and how many of them are to stand in turn, one with another.
+// How many rows are looked at to tell how many stand in turn.
 const LOOKED_AT: usize = 128;
 
-const IN_TURN: usize = 4;
+// From how many rows in turn on, one with another, they are read and written in one go.
+pub(crate) const IN_TURN: usize = 4;
 
-// Whether the first rows stand in turn, four and more of them one with another: a guess, by which rows are read and written, and nothing
-// more.
-pub(crate) fn are_in_turns(rows: &Rows) -> bool {
+// From how many on nothing is gained by another order.
+pub(crate) const LONG_TURN: usize = 16;
+
+// How many rows stand in turn, one with another, where so many were looked at that stand in so many turns. Of one turn alone it isn't known
+// how long it goes on.
+fn mean_turn(rows: usize, turns: usize) -> usize
+    requires { turns ≤ rows }
+    ensures { 0 < result }
+{
+    if turns <= 1 { usize::MAX } else { rows / turns }
+}
+
+// How many rows stand in turn, one with another, as far as is looked: a guess, by which rows are read and written, and nothing more.
+pub(crate) fn turn_length(rows: &Rows) -> usize
+    ensures { 0 < result }
+{
     let count = rows.len();
     let end = if count < LOOKED_AT { count } else { LOOKED_AT };
     let mut row = 0;
@@ -76,12 +90,13 @@ pub(crate) fn are_in_turns(rows: &Rows) -> bool {
         row += in_turn(rows, row, end - row);
         turns += 1;
     }
-    turns <= end / IN_TURN || turns <= 1
+    mean_turn(end, turns)
 }
 
 // The same of the rows with these numbers.
-pub(crate) fn are_listed_in_turns(rows: &Rows, listed: &[u32]) -> bool
+pub(crate) fn listed_turn_length(rows: &Rows, listed: &[u32]) -> usize
     requires { (i : ℕ) → i < length listed.now → get_or listed.now i 0 < length rows.now }
+    ensures { 0 < result }
 {
     let count = listed.len();
     let end = if count < LOOKED_AT { count } else { LOOKED_AT };
@@ -91,5 +106,5 @@ pub(crate) fn are_listed_in_turns(rows: &Rows, listed: &[u32]) -> bool
         done += listed_in_turn(rows, &listed[done..end]);
         turns += 1;
     }
-    turns <= end / IN_TURN || turns <= 1
+    mean_turn(end, turns)
 }

@@ -1,6 +1,6 @@
 // A view: what a system is shown at its start, and its outcome so far, where the columns lie.
 
-ghost use Rattle.std.specs.Prelude.{◌≡◌, ◌↔◌, ◌+◌, ◌<◌, ◌≤◌, ℕ, true, false, [], length, get_or, pos, option_map, is_some, unwrap_or, IfOk, IsErrOf, IsTrue, OnOk, OnErr};
+ghost use Rattle.std.specs.Prelude.{◌≡◌, ◌↔◌, ◌+◌, ◌<◌, ◌≤◌, ℕ, true, false, [], length, get_or, pos, option_map, is_some, unwrap_or, IfOk, IsErrOf, IsTrue, OnOk, OnErr, IfSome};
 ghost use Rattle.std.specs.List.{AllByRecursion};
 ghost use Rattle.kinds.specs.Kind.{kind_number};
 ghost use Rattle.kinds.specs.Res.{res_number, event_number};
@@ -409,25 +409,20 @@ impl View {
 }
 
 impl View {
-    /// Whether the rows of a query stand in turn where they are stored, as far as was looked, so that a field of many is best read and written
-    /// from one row on. Where they do not it is best read and written in their order.
-    pub fn stand_in_turns(&self, query: usize) -> bool
-        requires { query < length self.now.shown.rows }
-    {
-        let query = &self.queries[query];
-        query.stand_in_turns()
-    }
-
-    /// The order in which the rows of a query stand. Its list is that of an order that was given back, if any.
-    pub fn order(&mut self, query: usize) -> Result<RowOrder, AllocError>
+    /// The order in which the rows of a query stand, where many more of them stand in turn by it than in rising index, as far as was looked: a field
+    /// of many is best read and written so. None where nothing is gained by it. Its list is that of an order that was given back, if any.
+    pub fn order(&mut self, query: usize) -> Result<Option<RowOrder>, AllocError>
         requires { query < length self.old.shown.rows }
-        ensures order { IfOk result (λ order. IsOrder (length (rows_at self.old.shown query)) order) }
+        ensures order { IfOk result (λ found. IfSome found (λ order. IsOrder (length (rows_at self.old.shown query)) order)) }
         ensures same { self.new ≡ self.old }
     {
         let mut order = self.take_order();
         let query = &self.queries[query];
-        query.put_in_order(&mut order)?;
-        Ok(order)
+        if query.put_in_order(&mut order)? {
+            return Ok(Some(order));
+        }
+        self.give_order(order);
+        Ok(None)
     }
 
     // The list of an order.

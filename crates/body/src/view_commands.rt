@@ -1,6 +1,6 @@
 // The ids that a system is granted at its start, and the commands that it issues.
 
-ghost use Rattle.std.specs.Prelude.{◌≡◌, ◌<◌, true, false, [], length, is_some, OnOk, OnErr};
+ghost use Rattle.std.specs.Prelude.{◌≡◌, ◌<◌, true, false, [], None, length, is_some, OnOk, OnErr};
 ghost use Rattle.kinds.specs.Kind.{kind_number};
 ghost use Rattle.kinds.specs.Value.{value_number, value_words};
 ghost use Rattle.model.specs.shown.Outcome.Command.{Spawn, Insert, Remove, Despawn};
@@ -35,7 +35,9 @@ impl Model for ViewCommands {
 
 impl ViewCommands {
     // No ids, and no command.
-    pub(crate) fn blank(alloc: Global) -> Self {
+    pub(crate) fn blank(alloc: Global) -> Self
+        ensures { result ≡ record { spawns = None; granted = []; commands = [] } }
+    {
         ViewCommands {
             spawns: None,
             granted: Vec::new(alloc),

@@ -1,6 +1,6 @@
 // A query of a view: its rows stand in columns, are read there and written there.
 
-ghost use Rattle.std.specs.Prelude.{◌≡◌, ◌+◌, ◌<◌, ◌≤◌, ℕ, pos, [], ◌∷◌, map, length, take, get_or, option_map, unwrap_or, IfSome, IsTrue, OnOk};
+ghost use Rattle.std.specs.Prelude.{◌≡◌, ◌+◌, ◌<◌, ◌≤◌, ℕ, pos, [], ◌∷◌, map, length, take, get_or, option_map, unwrap_or, IfSome, IsTrue, OnOk, IfOk, true};
 ghost use Rattle.column_store.specs.Cells.{changed_cell};
 ghost use Rattle.kinds.specs.Kind.{kind_number};
 ghost use Rattle.kinds.specs.Components.{widths};
@@ -19,7 +19,7 @@ ghost use Rattle.body.specs.Sheet.{slot_in, slot_cell, seen_at, at_slot, row_of,
 
 use crate::room::QueryRoom;
 use crate::row_order::RowOrder;
-use crate::turns::{are_in_turns, in_turn, listed_in_turn};
+use crate::turns::{IN_TURN, LONG_TURN, in_turn, listed_in_turn, turn_length};
 use crate::view_column::ViewColumn;
 use change_ticks::Tick;
 use entity_table::Entity;
@@ -43,8 +43,8 @@ struct RowSource {
     query: Snapshot<Query>,
     slots: Vec<ColumnIndex>,
     rows: Rows,
-    // Whether many rows stand in turn, as far as was looked: then they are read and written in one go, else each by itself.
-    is_in_turns: bool,
+    // How many rows stand in turn, one with another, as far as was looked: where many do they are read and written in one go, else each by itself.
+    turn: usize,
 }
 
 /// A query of a view. Contracts see its terms, its rows as they were shown, what was written in them, the columns as they were taken, and
@@ -97,14 +97,14 @@ impl ViewQuery {
         ensures tick { result.tick ≡ tick }
     {
         let taken = Snapshot::of(&columns);
-        let is_in_turns = are_in_turns(&rows);
+        let turn = turn_length(&rows);
         ViewQuery {
             source: RowSource {
                 tick,
                 query: Snapshot::of(query),
                 slots,
                 rows,
-                is_in_turns,
+                turn,
             },
             columns,
             taken,
@@ -207,7 +207,7 @@ impl ViewQuery {
         ensures length { length values.new ≡ length values.old }
         ensures values { (i : ℕ) → i < length values.old → get_or values.new i (pos 0) ≡ field_seen self.now (from + i) (kind_number kind) place }
     {
-        if self.source.is_in_turns {
+        if self.source.turn >= IN_TURN {
             read_turns(self, kind, from, place, values);
         } else {
             read_each(self, kind, from, place, values);
@@ -245,7 +245,7 @@ impl ViewQuery {
         requires place { place < widths (kind_number kind) }
         ensures { self.new ≡ sheet_with_fields self.old (kind_number kind) place from values.now }
     {
-        if self.source.is_in_turns {
+        if self.source.turn >= IN_TURN {
             write_turns(self, kind, from, place, values);
         } else {
             write_each(self, kind, from, place, values);
@@ -277,15 +277,14 @@ impl ViewQuery {
         count
     }
 
-    /// Whether many rows stand in turn, as far as was looked.
-    pub fn stand_in_turns(&self) -> bool {
-        self.source.is_in_turns
-    }
-
-    // Makes this the order in which the rows stand.
-    pub(crate) fn put_in_order(&self, order: &mut RowOrder) -> Result<(), AllocError>
-        ensures { OnOk result (IsOrder (length self.now.rows) order.new) }
+    // Makes this the order in which the rows stand, and tells whether more stand in turn by it than in rising index. Where already many do it is left
+    // as it was.
+    pub(crate) fn put_in_order(&self, order: &mut RowOrder) -> Result<bool, AllocError>
+        ensures { IfOk result (λ found. found ≡ true → IsOrder (length self.now.rows) order.new) }
     {
+        if self.source.turn >= LONG_TURN {
+            return Ok(false);
+        }
         order.put(&self.source.rows)
     }
 

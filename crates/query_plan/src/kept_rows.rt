@@ -94,6 +94,16 @@ impl Rows {
         }
     }
 
+    /// The rows, where they are listed one by one.
+    pub fn as_listed(&self) -> Option<&[Row]>
+        ensures { IfSome result (λ rows. rows.now ≡ self.now) }
+    {
+        match &self.kept {
+            KeptRows::All(_archetype, _count, _entities) => None,
+            KeptRows::Listed(rows) => Some(rows.as_slice()),
+        }
+    }
+
     /// The number of the archetype whose rows these are, each at its own place. None where they are listed one by one.
     pub fn archetype(&self) -> Option<u32>
         ensures { IfSome result (λ number. AreEvery number self.now) }

@@ -49,10 +49,6 @@ read-more f xs i d named next s known h k is =
     subst (λ words. AreRead words next) (sym (ap (map f) (take_more xs i d known) ∙ map-append f (take i xs) (get_or xs i d ∷ [])))
     (read-next (map f (take i xs)) (f (get_or xs i d)) named next s h k is)
 
--- what is read of all words
-pub reads-named : (words : List (List ℕ)) (named : Mentions) → AreRead words named → Reads IsNamedBy words (Some named)
-reads-named words named h = ((h.sources, h.spelled, h.is), λ other k. k.2 ∙ ap named_by (h.only k.0 k.1) ∙ sym h.is)
-
 -- the source at a place
 pub source-at : {A : Type 0} (f : A → List ℕ) (xs : List A) (others : List Source) (i : ℕ) (d : A) → AreSources others (map f xs) → i < length xs → (s : Source) × IsSource s (f (get_or xs i d))
 source-at f [] others i d h l = absurd (omega arith)

@@ -1,5 +1,5 @@
 use Rattle.std.proofs.Common.{◌-◌, ◌≤◌}
-use Rattle.body.proofs.turns.are_listed_in_turns.Given as goal
+use Rattle.body.proofs.turns.listed_turn_length.Given as goal
 
 -- no more turns than rows
 abbrev pub invariant-loop-done : goal.invariant-loop-done
