@@ -1,5 +1,5 @@
 -- What a command line may ask for, and the exit status of one that is at fault.
-use Rattle.std.specs.Prelude.{ℕ, ◌≤◌, Bool, false, List, [], ◌∷◌, ◌++◌, codes, string_bytes}
+use Rattle.std.specs.Prelude.{ℕ, ◌≡◌, ◌≤◌, Bool, false, List, [], ◌∷◌, ◌++◌, codes, string_bytes}
 use Rattle.command_line.specs.declared.args.Work.{Work}
 use Rattle.command_line.specs.declared.args.Work.TheVariants.{Run, Ambiguities, Check, Replay}
 use Rattle.command_line.specs.declared.args.LineFault.{LineFault}
@@ -41,3 +41,9 @@ abbrev pub line_text_of : LineFault → List ℕ
 line_text_of (Help text) = string_bytes text
 line_text_of (Usage text) = string_bytes text
 line_text_of Memory = codes "error memory" ++ 10 ∷ []
+
+-- a line at fault that is told by a text, where there is memory for it
+abbrev pub IsToldBy : List ℕ → LineFault → Type 0
+IsToldBy text (Help told) = ⊥
+IsToldBy text (Usage told) = string_bytes told ≡ text
+IsToldBy text Memory = Unit {0}

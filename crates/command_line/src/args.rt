@@ -1,7 +1,7 @@
 // The command line.
 
 ghost use Rattle.std.specs.Prelude.{◌≡◌, IfOk};
-ghost use Rattle.command_line.specs.Args.{IsWithin, is_recorded, line_status_of, line_text_of};
+ghost use Rattle.command_line.specs.Args.{IsToldBy, IsWithin, is_recorded, line_status_of, line_text_of};
 
 use crate::grammar::{Argument, Grammar, Subcommand};
 use clap::error::ErrorKind;
@@ -219,7 +219,9 @@ impl LineFault {
     }
 
     /// A line outside what the program takes, told by this text.
-    pub fn usage(alloc: Global, text: &str) -> LineFault {
+    pub fn usage(alloc: Global, text: &str) -> LineFault
+        ensures { IsToldBy text.now result }
+    {
         match String::from_str(alloc, text) {
             Ok(text) => LineFault::Usage(text),
             Err(_) => LineFault::Memory,

@@ -66,14 +66,3 @@ next-noted width s z bodies others w middle w' m n k recorded old new gs same_sc
   kept = kept noted.traces noted.many noted.kept;
   there = there;
 }
-
--- the record of all runs, where it was kept
-pub all-noted : (width : ℕ) (s : Schedule) (bodies : List BodyMeaning) (w w' : State) (done times : ℕ) (recorded : Bool) (text : String Global) → done ≡ times → HaveKept width s bodies w done recorded w' (Some text)
-    → HaveNoted width s bodies w times recorded w' (string_bytes text)
-all-noted width s bodies w w' done times recorded text all h = record { traces = h.traces; many = h.many ∙ all; runs = h.runs; kept = h.kept }
-
--- and where it is too long
-pub none-kept : (width : ℕ) (s : Schedule) (bodies : List BodyMeaning) (w w' : State) (done times : ℕ) (recorded : Bool) → done ≡ times → HaveKept width s bodies w done recorded w' None
-    → (recorded ≡ true) × IsRecordTooLong width s bodies w times
-none-kept width s bodies w w' done times true all h = (refl, record { traces = h.traces; many = h.many ∙ all; final = w'; runs = h.runs; beyond = h.kept refl })
-none-kept width s bodies w w' done times false all h = absurd (false≢true (h.there (λ e. false≢true e)))

@@ -75,7 +75,7 @@ fn changes_of(
     requires { length ids.now ≡ length entities.now }
     ensures { IfOk result (λ changes. AreGiven ids.now (map entity_given entities.now) changes.items) }
 {
-    let mut changes = Vec::new(alloc);
+    let mut changes = Vec::with_capacity(alloc, entities.len())?;
     for (index, values) in entities.iter().enumerate() {
         let fate = Fate::Lives(row_of(alloc, values.as_slice())?);
         let entity = ids[index];
