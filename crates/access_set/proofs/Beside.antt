@@ -88,9 +88,3 @@ pub twice_found : {A : Type 0} (f : A → ℕ) (all rest more : List A) (one : A
     true ≡ has (f one) (map f more) → true ≡ has_twice (map f all)
 twice_found f all rest more one same is found =
     sym (same ∙ (ap (λ xs. has_twice (map f xs)) is ∙ or_left (has (f one) (map f more)) (has_twice (map f more)) (sym found)))
-
--- where it does not, what is behind the first says as much as the whole
-pub twice_behind : {A : Type 0} (f : A → ℕ) (all rest more : List A) (one : A) → has_twice (map f all) ≡ has_twice (map f rest) → rest ≡ one ∷ more →
-    false ≡ has (f one) (map f more) → has_twice (map f all) ≡ has_twice (map f more)
-twice_behind f all rest more one same is unfound =
-    same ∙ (ap (λ xs. has_twice (map f xs)) is ∙ ap (λ b. b || has_twice (map f more)) (sym unfound))

@@ -119,8 +119,4 @@ get-there (y ∷ ys) (suc i) x l e = get-there ys i x (omega arith) e
 pub length-removed : {A B : Type 0} (xs : List A) (ys : List B) (i : ℕ) (d : B) → length xs ≡ length ys → i < length ys → length (swap_removed xs i) ≡ length (swap_remove ys i d)
 length-removed xs ys i d h l = omega (arith, length-swap_removed xs i (omega arith), length-swap_removed ys i l, ap length (swap_removed-is ys i d l))
 
--- room for both
-pub room-both : (n a b : ℕ) → n < min a b → (n < a) × (n < b)
-room-both n a b h = (omega arith, omega arith)
-
 pub ruleset cell_edits = (length-cells_of, get-cells_of, cells_of-set, cells_of-replace, cells_of-append, cells_of-swap_removed, words-cells_of, stamp-cells_of, get-there, length-removed)

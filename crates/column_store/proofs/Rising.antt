@@ -63,11 +63,6 @@ gap_from_point e (x ∷ xs) (suc i) le h = (
   gap_from_point e xs i (omega arith) (λ k d low high. h.0 (suc k) d (omega arith) (omega arith), λ k d low high. h.1 (suc k) d (omega arith) (omega arith)),
 )
 
--- where the last one comes before an id, all do
-pub gap_past : (e : Entity) (xs : List Entity) (d : Entity) (i : ℕ) → AreRising xs → i ≡ length xs → 0 < i → is_before (get_or xs (i - 1) d) e ≡ true → IsGap e xs i
-gap_past e xs d i r all some h =
-    gap_from_point e xs i (omega arith) (λ k c low high. parted_before e xs r k (i - 1) c (omega arith) (omega arith) (ap (λ (x : Entity). is_before x e) (get_or_default xs (i - 1) c d (omega arith)) ∙ h), λ k c low high. absurd (omega arith))
-
 -- past one that comes after, none is the id
 pub nowhere_after : (e x : Entity) (xs : List Entity) → is_before e x ≡ true → AllByRecursion (λ y. is_before x y ≡ true) xs → IsNowhere (λ y. is_same y e) xs
 nowhere_after e x xs h r = each-weaker (λ y. is_before x y ≡ true) (λ y. is_same y e ≡ false) (λ y k. after_apart y e (before_trans e x y h k)) xs r

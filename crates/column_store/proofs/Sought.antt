@@ -88,11 +88,6 @@ pub known_number : {A : Type 0} (o : Option A) (n r : ℕ) → Some r ≡ option
 known_number None n r h = absurd (cc)
 known_number (Some x) n r h = cc
 
--- an entity that has a component is there
-pub some_before : {A B : Type 0} (f : A → Option B) (o : Option A) → IsSome (option_and_then f o) → IsSome o
-some_before f None h = absurd (cc)
-some_before f (Some x) h = refl
-
 -- the row of an entity that is there is its own
 row_its : (e : Entity) (rows : List TableRow) (row : TableRow) → row_of e rows ≡ Some row → row.entity ≡ e
 row_its e [] row h = absurd (cc)

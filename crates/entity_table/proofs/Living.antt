@@ -94,7 +94,3 @@ pub alive-settled : (used unused : List Entity) (xs : List Slot) (e : Entity) �
 alive-settled used unused xs e h = alive-release unused (spawned_all used xs) e (alive-spawned_all used xs e h)
 
 -- ---- an index that is freed
-
--- all others live on
-pub alive-freed_other : (i : ℕ) (xs : List Slot) (e : Entity) → i ≢ e.index → is_alive xs e ≡ true → is_alive (update_at i freed xs) e ≡ true
-alive-freed_other i xs e other h = alive-kept xs (update_at i freed xs) e (λ lives. get_or-update_at_other i e.index freed xs fresh_slot other) h

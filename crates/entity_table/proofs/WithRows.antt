@@ -143,10 +143,6 @@ update_at-with_rows (suc i) f g rows others (s ∷ ss) here there =
     ap₂ (λ row rest. with_row (λ old. row) s ∷ rest) (there zero (λ e. omega arith))
     (update_at-with_rows i f g (λ j. rows (suc j)) (λ j. others (suc j)) ss (λ l. here (omega arith)) (λ j other. there (suc j) (λ e. other (omega arith))))
 
--- the rows with another row at an index
-other_rows : (i j : ℕ) (row : List Component) (rows : ℕ → List Component) → j ≢ i → rows j ≡ with_at i row rows j
-other_rows i j row rows other = sym (ap (λ b. cond b row (rows j)) (ne_eqb j i other))
-
 same_row : (i : ℕ) (row : List Component) (rows : ℕ → List Component) → with_at i row rows i ≡ row
 same_row i row rows = ap (λ b. cond b row (rows i)) (eq-eqb i i refl)
 
@@ -174,25 +170,10 @@ freed_row s row = go (s.generation == last_generation)
     go true = refl
     go false = refl
 
--- an index that is freed: its row is empty then
-pub freed-with_rows : (i : ℕ) (rows : ℕ → List Component) (slots : List Slot) → update_at i freed (with_rows rows slots) ≡ with_rows (with_at i [] rows) (update_at i freed slots)
-freed-with_rows i rows slots = update_at-with_rows i freed freed rows (with_at i [] rows) slots
-    (λ l. freed_row (slot_at slots i) (rows i) ∙ ap (λ row. with_row (λ old. row) (freed (slot_at slots i))) (sym (same_row i [] rows)))
-    (λ j other. other_rows i j [] rows other)
-
 update_at-nothing : (i : ℕ) (slots : List Slot) → update_at i (λ s. s) slots ≡ slots
 update_at-nothing i [] = refl
 update_at-nothing zero (s ∷ ss) = refl
 update_at-nothing (suc i) (s ∷ ss) = ap (◌∷◌ s) (update_at-nothing i ss)
-
--- a row that is changed: the book stays
-pub with_row-with_rows : (i : ℕ) (f : List Component → List Component) (rows : ℕ → List Component) (slots : List Slot) →
-    update_at i (with_row f) (with_rows rows slots) ≡ with_rows (with_at i (f (rows i)) rows) slots
-with_row-with_rows i f rows slots =
-    update_at-with_rows i (with_row f) (λ s. s) rows (with_at i (f (rows i)) rows) slots
-    (λ l. ap (λ row. with_row (λ old. row) (slot_at slots i)) (sym (same_row i (f (rows i)) rows)))
-    (λ j other. other_rows i j (f (rows i)) rows other)
-    ∙ ap (with_rows (with_at i (f (rows i)) rows)) (update_at-nothing i slots)
 
 -- ---- a release
 

@@ -73,15 +73,6 @@ shifted : (i : ℕ) (o : Option ℕ) → option_map (λ n. i + n) (option_map su
 shifted i None = refl
 shifted i (Some n) = ap Some (omega arith)
 
--- the place of a kind, from a list that is not of it to the next, and where it is found
-pub place-next : (lists : List ListValue) (i k : ℕ) (d : ListValue) → i < length lists → ((get_or lists i d).kind == k) ≡ false →
-    option_map (λ n. i + n) (place_in (map (λ (l : ListValue). l.kind) (drop i lists)) k) ≡ option_map (λ n. (i + 1) + n) (place_in (map (λ (l : ListValue). l.kind) (drop (i + 1) lists)) k)
-place-next lists i k d l e =
-    let rest = map (λ (l : ListValue). l.kind) (drop (i + 1) lists) in
-    ap (λ xs. option_map (λ n. i + n) (place_in (map (λ (l : ListValue). l.kind) xs) k)) (drop_more lists i d l)
-    ∙ ap (option_map (λ n. i + n)) (choose ((get_or lists i d).kind == k) false (Some 0) (option_map suc (place_in rest k)) e)
-    ∙ shifted i (place_in rest k)
-
 pub place-here : (lists : List ListValue) (i k : ℕ) (d : ListValue) → i < length lists → ((get_or lists i d).kind == k) ≡ true →
     option_map (λ n. i + n) (place_in (map (λ (l : ListValue). l.kind) (drop i lists)) k) ≡ Some i
 place-here lists i k d l e =

@@ -141,10 +141,6 @@ renewed_more count made number P rows row low are new = record {
     before n (inl l) below = l
     before n (inr l) below = absurd (omega arith)
 
--- at the end all are made anew
-pub all_renewed : (count made number : ℕ) (P : ℕ → ℕ → Type 0) (rows : List (List ℕ)) → made ≤ number → AreRenewed count made P rows number → AreRows count made P rows
-all_renewed count made number P rows past are = record { long = are.roomy.long; each = λ n low. are.each n (omega (arith, low)) }
-
 -- rows have room
 pub roomy_of : (count made : ℕ) (P : ℕ → ℕ → Type 0) (rows : List (List ℕ)) → AreRows count made P rows → AreRoomy count made rows
 roomy_of count made P rows are = record { long = are.long; each = λ n low. (are.each n low).room }

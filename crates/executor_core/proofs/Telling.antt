@@ -39,10 +39,6 @@ tells_fault s h step (Err fault) judged = judged
 
 -- ---- what is ready
 
--- a system that isn't one of the schedule offers nothing
-pub unknown_offers-nothing : (s : Schedule) (h : List Step) (n : ℕ) → length s.systems ≤ n → OffersNothing s h n
-unknown_offers-nothing s h n past r offers = let free : IsFree s h n = offers.0 in omega (arith, free.known)
-
 -- nor does one that doesn't wait
 pub busy_offers-nothing : (core : Stand) (sets : Option (List (List ℕ))) (h : List Step) (n : ℕ) → Stands core sets h → (IsWaiting core n → ⊥) → OffersNothing (recording core.schedule sets) h n
 busy_offers-nothing core sets h n stands none r offers = none (waiting_free core sets h n stands offers.0)
@@ -112,20 +108,6 @@ ready_from core sets h r stands (suc place) low rest =
           (begun_offers-nothing core sets h (get_or core.schedule.order place 0) stands (stands.passed place (omega arith))) rest
       | inr past ↦ subst (λ (xs : List ℕ). IsReadyAmong (recording core.schedule sets) h xs r) (drop_all (suc place) core.schedule.order (omega arith) ∙ sym (drop_all place core.schedule.order past)) rest
     ])
-
--- what a system offers is ready, where those before it offer nothing
-pub ready_there : (core : Stand) (sets : Option (List (List ℕ))) (h : List Step) (place : ℕ) (offer : Ready) → place < length core.schedule.order →
-    ((r : Option Ready) → IsReadyAmong (recording core.schedule sets) h (drop place core.schedule.order) r → IsReady (recording core.schedule sets) h r) →
-    Offers (recording core.schedule sets) h (get_or core.schedule.order place 0) offer → IsReady (recording core.schedule sets) h (Some offer)
-ready_there core sets h place offer low before offers =
-    before (Some offer) (subst (λ (xs : List ℕ). IsReadyAmong (recording core.schedule sets) h xs (Some offer)) (sym (drop_more core.schedule.order place 0 low)) (inl (offer, refl, offers)))
-
--- where no system offers anything the sync point is ready
-pub ready_last : (core : Stand) (sets : Option (List (List ℕ))) (h : List Step) (place : ℕ) (r : Option Ready) → length core.schedule.order ≤ place →
-    ((x : Option Ready) → IsReadyAmong (recording core.schedule sets) h (drop place core.schedule.order) x → IsReady (recording core.schedule sets) h x) →
-    IsReadyAmong (recording core.schedule sets) h [] r → IsReady (recording core.schedule sets) h r
-ready_last core sets h place r past before is =
-    before r (subst (λ (xs : List ℕ). IsReadyAmong (recording core.schedule sets) h xs r) (sym (drop_all place core.schedule.order past)) is)
 
 -- what is ready is accepted
 pub ready_may : (s : Schedule) (h : List Step) (r : Option Ready) → IsBuilt s → IsLawful s h → IsReady s h r → IfSome r (λ offer. (answer : Bool) → May s h (step_of offer answer))

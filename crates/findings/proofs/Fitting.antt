@@ -24,7 +24,3 @@ fitting_suit s scripts state fitting memories = record {
 -- what suits one state suits another that has the memories
 pub suits_beside : (s : Schedule) (scripts : List ScriptBody) (state beside : State) → Suits script_suits s (map Some scripts) state → HasMemories s beside → Suits script_suits s (map Some scripts) beside
 suits_beside s scripts state beside suits memories = record { body_count = suits.body_count; memories = memories; fit = suits.fit }
-
--- scripts that fit suit a state that has the memories
-pub suits_of_fit : (s : Schedule) (scripts : List ScriptBody) (state : State) → AreFit script_suits s (map Some scripts) → HasMemories s state → Suits script_suits s (map Some scripts) state
-suits_of_fit s scripts state fit memories = record { body_count = fit.body_count; memories = memories; fit = fit.fit }

@@ -61,29 +61,6 @@ IsKind kind word = word ≡ kind_name kind
 abbrev pub name_of_kind : ℕ → List ℕ
 name_of_kind number = get_or (kind_name Position ∷ kind_name Velocity ∷ kind_name Health ∷ kind_name Damage ∷ kind_name Team ∷ kind_name Timer ∷ kind_name Score ∷ kind_name Energy ∷ kind_name Charge ∷ kind_name Target ∷ kind_name Frozen ∷ kind_name Hidden ∷ kind_name Home ∷ kind_name Mass ∷ kind_name Armor ∷ kind_name Range ∷ kind_name Level ∷ kind_name Rank ∷ kind_name Sleeping ∷ kind_name Marked ∷ []) number []
 
--- a kind has one name, by itself and by its number
-pub name_of_kind-kind_number : (kind : Kind) → name_of_kind (kind_number kind) ≡ kind_name kind
-name_of_kind-kind_number Position = refl
-name_of_kind-kind_number Velocity = refl
-name_of_kind-kind_number Health = refl
-name_of_kind-kind_number Damage = refl
-name_of_kind-kind_number Team = refl
-name_of_kind-kind_number Timer = refl
-name_of_kind-kind_number Score = refl
-name_of_kind-kind_number Energy = refl
-name_of_kind-kind_number Charge = refl
-name_of_kind-kind_number Target = refl
-name_of_kind-kind_number Frozen = refl
-name_of_kind-kind_number Hidden = refl
-name_of_kind-kind_number Home = refl
-name_of_kind-kind_number Mass = refl
-name_of_kind-kind_number Armor = refl
-name_of_kind-kind_number Range = refl
-name_of_kind-kind_number Level = refl
-name_of_kind-kind_number Rank = refl
-name_of_kind-kind_number Sleeping = refl
-name_of_kind-kind_number Marked = refl
-
 -- so many numbers from one on
 abbrev pub numbers_from : ℕ → ℕ → List ℕ
 numbers_from first zero = []

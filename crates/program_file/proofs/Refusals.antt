@@ -32,37 +32,10 @@ NoneIs-never P Value h = h
 NoneIs-never P Text h = h
 NoneIs-never P Memory h = tt
 
--- the same fault, told of a place
-pub NoneIs-told : {X : Type 0} (P : X → Type 0) (place : Place) (fault : PlaceFault) → NoneIs P fault → NoneIsAt P (fault_at place fault)
-NoneIs-told P place Value h = h
-NoneIs-told P place Text h = h
-NoneIs-told P place Memory h = tt
-
 -- the exit of a `?` with a fault
 pub NoneIs-exit : {X T : Type 0} (P : X → Type 0) (r : Result T PlaceFault) (fault : PlaceFault) → IsErrAnd r (λ told. told ≡ fault) → NoneIs P fault → IfErr r (NoneIs P)
 NoneIs-exit P (Ok x) fault told h = absurd told
 NoneIs-exit P (Err e) fault told h = subst (NoneIs P) (sym told) h
-
--- the same part, where a result is handed on
-pub NoneIs-in : {X Y T : Type 0} (P : X → Type 0) (Q : Y → Type 0) (r : Result T PlaceFault) → ((y : Y) → Q y → (x : X) × P x) → IfErr r (NoneIs P) → IfErr r (NoneIs Q)
-NoneIs-in P Q (Ok x) part h = tt
-NoneIs-in P Q (Err e) part h = NoneIs-part P Q e part h
-
--- the fault of a place, where it was told
-pub NoneIs-mapped : {X T : Type 0} (P : X → Type 0) (r : Result T PlaceFault) (told : Result T FileFault) (fault : FileFault) (Told : PlaceFault → FileFault → Type 0)
-    → MatchResult r (λ x. told ≡ Ok x) (λ e. IsErrAnd told (Told e)) → told ≡ Err fault → IfErr r (NoneIs P)
-    → ((e : PlaceFault) (f : FileFault) → Told e f → (place : Place) × (f ≡ fault_at place e)) → NoneIsAt P fault
-NoneIs-mapped P (Ok x) told fault Told cases is h place_of = absurd (let no : Ok x ≡ Err fault = sym cases ∙ is in cc)
-NoneIs-mapped P (Err e) (Ok x) fault Told cases is h place_of = absurd cases
-NoneIs-mapped P (Err e) (Err f) fault Told cases is h place_of =
-    let (place, told) = place_of e f cases in
-    let same : f ≡ fault = cc in
-    subst (NoneIsAt P) (sym told ∙ same) (NoneIs-told P place e h)
-
--- the exit of a `?` with such a fault
-pub NoneIsAt-exit : {X T : Type 0} (P : X → Type 0) (r : Result T FileFault) (fault : FileFault) → IsErrAnd r (λ told. told ≡ fault) → NoneIsAt P fault → IfErr r (NoneIsAt P)
-NoneIsAt-exit P (Ok x) fault told h = absurd told
-NoneIsAt-exit P (Err e) fault told h = subst (NoneIsAt P) (sym told) h
 
 -- nothing is what has a part that nothing is
 pub NoneIsAt-part : {X Y : Type 0} (P : X → Type 0) (Q : Y → Type 0) (fault : FileFault) → ((y : Y) → Q y → (x : X) × P x) → NoneIsAt P fault → NoneIsAt Q fault

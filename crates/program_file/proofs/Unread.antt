@@ -88,21 +88,6 @@ conditions-of table item conditions there given = spelled-one IsCondition (codes
 
 -- ---- tables at a key
 
--- what each table at a key says, of the tables that are lent
-pub tables-said : {Y : Type 0} (R : Members → Y → Type 0) (key : List ℕ) (owner : Members) (inners : List (Bor (BTreeMap (String Global) TomlValue))) (tables : List Members) (ys : List Y)
-    → HasTables key (map (λ inner. table_view inner.now) inners) owner → HasTables key tables owner → AllZip R tables ys → AllZip (λ inner y. R (table_view inner.now) y) inners ys
-tables-said {Y} R key owner inners tables ys there given each =
-    zip-seen R (λ (inner : Bor (BTreeMap (String Global) TomlValue)). table_view inner.now) inners ys
-    (subst (λ (ts : List Members). AllZip R ts ys) (one-tables key owner tables (map (λ (inner : Bor (BTreeMap (String Global) TomlValue)). table_view inner.now) inners) given there) each)
-
--- what has tables at a key of which one is refused
-pub tables-refused : {Y Z : Type 0} (R : Members → Y → Type 0) (key : List ℕ) (owner : Members) (slice inners : List (Bor (BTreeMap (String Global) TomlValue))) (Q : Z → Type 0) (fault : FileFault)
-    → slice ≡ inners → HasTables key (map (λ inner. table_view inner.now) inners) owner → ((z : Z) → Q z → (tables : List Members) × (ys : List Y) × HasTables key tables owner × AllZip R tables ys)
-    → NoneIsAt (AllZip (λ inner y. R (table_view inner.now) y) slice) fault → NoneIsAt Q fault
-tables-refused {Y} R key owner slice inners Q fault same there part =
-    NoneIsAt-part (AllZip (λ (inner : Bor (BTreeMap (String Global) TomlValue)) (y : Y). R (table_view inner.now) y) slice) Q fault
-    (λ z q. let (tables, ys, given, each) = part z q in (ys, rw same (tables-said R key owner inners tables ys there given each)))
-
 -- ---- blocks
 
 code-of : (table : Members) (texts : BlockTexts) (block : Block) → IsBlockTextsIn table texts → IsBlockIn table block → IsCodeOf texts block.code.items

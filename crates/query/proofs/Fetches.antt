@@ -28,9 +28,3 @@ pub found_once : (all : List Term) (rest : List Code) (t : Code) (ts : List Code
     → any_names fetched ts kind ≡ false → fetches_twice all ≡ fetches_twice (map term_of ts)
 found_once all rest t ts kind same is fetching h = same ∙ ap (λ xs. fetches_twice (map term_of xs)) is ∙ twice-first t ts kind fetching
     ∙ ap (λ b. b || fetches_twice (map term_of ts)) (sym (named-among fetched kind ts) ∙ h)
-
--- it fetches nothing
-pub found_none : (all : List Term) (rest : List Code) (t : Code) (ts : List Code)
-    → fetches_twice all ≡ fetches_twice (map term_of rest) → rest ≡ t ∷ ts → None ≡ fetched (term_of t) → fetches_twice all ≡ fetches_twice (map term_of ts)
-found_none all rest t ts same is fetching = same ∙ ap (λ xs. fetches_twice (map term_of xs)) is
-    ∙ ap (λ o. has_twice (cons_option o (filter_map fetched (map term_of ts)))) (sym fetching)

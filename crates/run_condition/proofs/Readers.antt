@@ -31,11 +31,6 @@ module _ {A : Type 0} (R S : A × List ℕ → List ℕ → Type 0) (t u : List 
 
 -- ---- an error as it comes
 
--- a failed allocation says nothing
-pub refuses_memory : {A T : Type 0} (R : A → T → Type 0) (t : T) (e : ReadError) → e ≡ Memory → Refuses R t e
-refuses_memory R t Outside h = absurd cc
-refuses_memory R t Memory h = tt
-
 -- an error that is handed on
 pub rest_refused : {A : Type 0} (S : A × List ℕ → List ℕ → Type 0) (t : List ℕ) (r : Result (A × Bor (List ℕ)) ReadError) (e : ReadError)
     → IsErrAnd r (λ d. d ≡ e) → Refuses S t e → ReadsRest S t r

@@ -15,13 +15,6 @@ use Rattle.model.proofs.lists.Places.{has-append}
 
 -- ---- lists of systems
 
--- the empty list names no number below 0
-pub listing_none : (Q : ℕ → Type 0) → IsListing (λ m. (m < 0) × Q m) []
-listing_none Q = record {
-  names = λ m. ((λ e. absurd (false≢true e)), (λ p. absurd (omega (arith, p.0))));
-  once = λ i low. absurd (omega arith);
-}
-
 -- a list of the numbers below one with a property, with that one where it has it
 pub listing_more : (Q : ℕ → Type 0) (n : ℕ) (xs longer : List ℕ) → IsListing (λ m. (m < n) × Q m) xs → longer ≡ xs ++ n ∷ [] → Q n → IsListing (λ m. (m < n + 1) × Q m) longer
 listing_more Q n xs longer is same here = subst (λ (ys : List ℕ). IsListing (λ m. (m < n + 1) × Q m) ys) (sym same) (record {

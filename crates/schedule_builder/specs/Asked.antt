@@ -52,10 +52,6 @@ TellsWriting conditions (Some c) = (c < length conditions) × HasWriting (querie
 
 -- ---- conditions of a schedule
 
--- a schedule of these conditions alone
-abbrev pub with_conditions : List ScheduledCondition → Schedule
-with_conditions conditions = schedule_with [] conditions 1 [] []
-
 -- a condition of a schedule by what it asks and the systems that it covers
 abbrev pub scheduled_condition : Condition → List ℕ → ScheduledCondition
 scheduled_condition condition covers = record { condition = condition; covers = covers }

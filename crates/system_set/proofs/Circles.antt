@@ -9,10 +9,6 @@ use Rattle.cycle_search.proofs.Walks.{walk_weaker, no_round}
 use Rattle.system_set.specs.Pairs.{hierarchy_of, lesser_of, with_self, TellsSelf}
 use Rattle.system_set.proofs.Reaching.{held_place, held_of_step, step_of_held}
 
--- a place below one more is below, or the last
-last_or : (j k : ℕ) → j < k + 1 → (j < k) ⊎ (j ≡ k)
-last_or j k low = elim (cases_lt j k) [ inl below ↦ inl below | inr above ↦ inr (omega arith) ]
-
 -- the pair at the last place puts its item into itself
 record IsLast (orders : List Order) (k : ℕ) (o : Order) : Type 0 where
   low : k < length orders
@@ -28,59 +24,6 @@ first_here orders k o last j d same = ap (λ (i : ℕ). (get_or orders i d).firs
 
 second_here : (orders : List Order) (k : ℕ) (o : Order) → IsLast orders k o → (j : ℕ) (d : Order) → j ≡ k → (get_or orders j d).second ≡ o.second
 second_here orders k o last j d same = ap (λ (i : ℕ). (get_or orders i d).second) same ∙ ap (λ (x : Order). x.second) (last.here d)
-
--- where the last pair puts its item into itself
-self_least : (orders : List Order) (k : ℕ) (o : Order) (least : Option ℕ) → IsLast orders k o → o.first ≡ o.second → TellsSelf orders k least → TellsSelf orders (k + 1) (lesser_of least o.first)
-self_least orders k o None last same tells = (
-  last_step orders k o last same,
-  λ j d low e. elim (last_or j k low) [
-    | inl below ↦ absurd (tells j d below e)
-    | inr at ↦ let first = first_here orders k o last j d at in omega arith
-  ],
-)
-self_least orders k o (Some m) last same tells = go (nat_lt m o.first) refl
-  where
-    go : (b : Bool) → nat_lt m o.first ≡ b → TellsSelf orders (k + 1) (if b then Some m else Some o.first)
-    go true f = (
-      tells.0,
-      λ j d low e. elim (last_or j k low) [
-        | inl below ↦ tells.1 j d below e
-        | inr at ↦ let first = first_here orders k o last j d at in let less : m < o.first = ltb-true m o.first f in omega arith
-      ],
-    )
-    go false f = (
-      last_step orders k o last same,
-      λ j d low e. elim (last_or j k low) [
-        | inl below ↦
-            let least_so_far = tells.1 j d below e in
-            let not_less : o.first ≤ m = elim (cases_lt m o.first) [ inl less ↦ absurd (both_ways _ f (lt-ltb m o.first less)) | inr more ↦ more ] in
-            omega arith
-        | inr at ↦ let first = first_here orders k o last j d at in omega arith
-      ],
-    )
-
--- where it doesn't
-self_same : (orders : List Order) (k : ℕ) (o : Order) (least : Option ℕ) → IsLast orders k o → (o.first ≡ o.second → ⊥) → TellsSelf orders k least → TellsSelf orders (k + 1) least
-self_same orders k o None last other tells = λ j d low e. elim (last_or j k low) [
-  | inl below ↦ tells j d below e
-  | inr at ↦ other (sym (first_here orders k o last j d at) ∙ (e ∙ second_here orders k o last j d at))
-]
-self_same orders k o (Some m) last other tells = (
-  tells.0,
-  λ j d low e. elim (last_or j k low) [
-    | inl below ↦ tells.1 j d below e
-    | inr at ↦ absurd (other (sym (first_here orders k o last j d at) ∙ (e ∙ second_here orders k o last j d at)))
-  ],
-)
-
--- one more pair
-pub self_more : (orders : List Order) (k : ℕ) (o : Order) (least : Option ℕ) → k < length orders → ((d : Order) → get_or orders k d ≡ o) → TellsSelf orders k least →
-    TellsSelf orders (k + 1) (with_self least o)
-self_more orders k o least low here tells = go (eqb o.first o.second) refl
-  where
-    go : (b : Bool) → eqb o.first o.second ≡ b → TellsSelf orders (k + 1) (if b then lesser_of least o.first else least)
-    go true e = self_least orders k o least (record { low = low; here = here }) (eqb-true o.first o.second e) tells
-    go false e = self_same orders k o least (record { low = low; here = here }) (λ same. both_ways _ e (eq-eqb o.first o.second same)) tells
 
 -- ---- what is told of all pairs
 

@@ -54,10 +54,6 @@ reaches_by orders holder marks m n sound held leads = elim (or_cases (eqb n hold
   | inr there ↦ let further = sound.sound n there in (n ∷ further.0, (held, further.1))
 ]
 
--- no mark is sound
-pub none_sound : (orders : List Order) (holder : ℕ) (marks : List Bool) → ((n : ℕ) → is_marked marks n ≡ false) → AreSound orders holder marks
-none_sound orders holder marks none = record { sound = λ n e. absurd (both_ways _ (none n) e) }
-
 -- one more mark is sound
 pub sound_more : (orders : List Order) (holder : ℕ) (marks : List Bool) (item : ℕ) → AreSound orders holder marks → Reaches (hierarchy_of 0 0 orders) item holder →
     AreSound orders holder (set marks item true)

@@ -143,10 +143,6 @@ listed_at (Some lists) h later front listed e =
 
 -- ---- what a core stands for
 
--- at the opening
-pub stands_in : (core : Stand) (lists : List (List ℕ)) → 0 < length lists → Stands core (Some (get_or lists 0 [] ∷ [])) [] → Stands core (sets_so_far (Some lists) []) []
-stands_in core lists some stands = subst (λ (sets : Option (List (List ℕ))). Stands core sets []) (ap Some (sym (take-suc lists 0 [] some))) stands
-
 -- after a step at which no kind sets are recorded
 pub stands_plain : (core : Stand) (sets : Option (List (List ℕ))) (h : List Step) (step : Step) → IsPlainStep sets step → (IsPlainStep (sets_so_far sets h) step → Stands core (sets_so_far sets h) (step ∷ h)) →
     Stands core (sets_so_far sets (step ∷ h)) (step ∷ h)
