@@ -1,6 +1,6 @@
 // What is found, as text: witnesses of races, where two traces part, and the worlds of a run.
 
-ghost use Rattle.std.specs.Prelude.{◌<◌, ◌^◌, length, IfOk};
+ghost use Rattle.std.specs.Prelude.{◌<◌, ◌≤◌, ◌^◌, length, IfOk};
 ghost use Rattle.engine.specs.Meanings.{HasMemories};
 ghost use Rattle.program.specs.Setup.{AreScriptsOf};
 
@@ -90,6 +90,7 @@ pub fn diverge_text<F: Read>(
     other: &mut F,
 ) -> Result<(String, u8), Fault>
     requires { AreScriptsOf loaded.built loaded.bodies.items }
+    ensures { IfOk result (λ shown. shown.1 ≤ 1) }
 {
     let one = traces_of(alloc, trace)?;
     let two = traces_of(alloc, other)?;

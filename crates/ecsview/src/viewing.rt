@@ -1,5 +1,7 @@
 // The work of a command line, on readers and writers.
 
+ghost use Rattle.std.specs.Prelude.{◌≡◌, ◌≤◌, IfOk};
+ghost use Rattle.ecsview.specs.Viewed.{IsViewed};
 ghost use Rattle.program.specs.Setup.{AreScriptsOf};
 
 use crate::args::{Args, Work};
@@ -23,7 +25,7 @@ pub struct Shown {
 }
 
 /// Does the work of a command line. What it prints goes to `out`, whole; what goes wrong is told to `faults` in one line, and nothing else is. Gives
-/// the exit status.
+/// the exit status: 0 or 1 where all is printed, else that of the fault.
 pub fn view<F: Read, O: Write, E: Write>(
     alloc: Global,
     args: &Args<'_>,
@@ -32,7 +34,9 @@ pub fn view<F: Read, O: Write, E: Write>(
     other: &mut F,
     out: &mut O,
     faults: &mut E,
-) -> u8 {
+) -> u8
+    ensures { IsViewed result (O.contents out.old, O.contents out.new) (E.contents faults.old, E.contents faults.new) }
+{
     let view = match view_of(alloc, args.work, file, trace, other) {
         Ok(view) => view,
         Err(fault) => return tell(alloc, faults, &fault),
@@ -50,7 +54,9 @@ fn view_of<F: Read>(
     file: &mut F,
     trace: &mut F,
     other: &mut F,
-) -> Result<Shown, Fault> {
+) -> Result<Shown, Fault>
+    ensures { IfOk result (λ shown. shown.status ≤ 1) }
+{
     let document = document_in(alloc, file)?;
     let loaded = load(alloc, &document)?;
     answer(alloc, work, loaded, trace, other)
@@ -65,6 +71,7 @@ fn answer<F: Read>(
     other: &mut F,
 ) -> Result<Shown, Fault>
     requires { AreScriptsOf loaded.file.built loaded.file.bodies.items }
+    ensures { IfOk result (λ shown. shown.status ≤ 1) }
 {
     match work {
         Work::Schedule => Ok(done(schedule_text(alloc, &loaded)?)),
@@ -79,6 +86,8 @@ fn answer<F: Read>(
 }
 
 // A text that is printed, with status 0.
-fn done(text: String) -> Shown {
+fn done(text: String) -> Shown
+    ensures { result.status ≡ 0 }
+{
     Shown { text, status: 0 }
 }

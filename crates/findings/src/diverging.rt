@@ -1,6 +1,6 @@
 // Where two traces of one file part: the first run after which the worlds that they leave differ.
 
-ghost use Rattle.std.specs.Prelude.{◌≡◌, ◌≢◌, ◌<◌, ◌^◌, true, false, length, map, Some, IfOk, string_bytes};
+ghost use Rattle.std.specs.Prelude.{◌≡◌, ◌≢◌, ◌<◌, ◌≤◌, ◌^◌, true, false, length, map, Some, IfOk, IfSome, string_bytes};
 ghost use Rattle.engine.specs.Meanings.{HasMemories, Suits};
 ghost use Rattle.findings.specs.Parting.{IsParting};
 ghost use Rattle.model.specs.runs.Replays.{IsReplayed};
@@ -127,7 +127,9 @@ fn text_of(alloc: Global, runs: u32, state: &State) -> Result<String, Fault>
 }
 
 /// The first step in which two traces differ.
-pub fn first_difference(one: &[Trace], other: &[Trace]) -> Option<Place> {
+pub fn first_difference(one: &[Trace], other: &[Trace]) -> Option<Place>
+    ensures { IfSome result (λ place. (1 ≤ place.run) × (1 ≤ place.step)) }
+{
     let runs = one.len().max(other.len());
     for run in 0..runs {
         let steps = steps_at(one, run);

@@ -1,7 +1,6 @@
 // The sets of a program file, and their members.
 
-ghost use Rattle.std.specs.Prelude.{◌≡◌, map, IfOk};
-ghost use Rattle.program.specs.Said.{names_said};
+ghost use Rattle.std.specs.Prelude.{◌≡◌, length, IfOk};
 
 use program_file::{ItemTable, SystemTable};
 use std::alloc::{AllocError, Global};
@@ -15,12 +14,15 @@ pub struct Sets<'a> {
     pub members: Vec<Vec<u32>>,
 }
 
-/// The sets of these tables, with their members among these systems.
+/// The sets of these tables, with their members among these systems: of each a name, and a list of members.
 pub fn sets_of<'a>(
     alloc: Global,
     sets: &[ItemTable<'a>],
     systems: &[SystemTable<'a>],
-) -> Result<Sets<'a>, AllocError> {
+) -> Result<Sets<'a>, AllocError>
+    ensures names { IfOk result (λ found. length found.names.items ≡ length sets.now) }
+    ensures members { IfOk result (λ found. length found.members.items ≡ length sets.now) }
+{
     let mut names = Vec::with_capacity(alloc, sets.len())?;
     let mut members = Vec::with_capacity(alloc, sets.len())?;
     for set in sets {
