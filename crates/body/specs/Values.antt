@@ -1,9 +1,9 @@
 -- The resources and the registers of a view.
-use Rattle.std.specs.Prelude.{ℕ, ℤ, pos, ◌≡◌, true, List, length, get_or, map, Option, Some, None}
+use Rattle.std.specs.Prelude.{ℕ, ℤ, pos, ◌≡◌, true, List, length, get_or, map, replicate, Option, Some, None}
 use Rattle.model.specs.Lists.{has}
 use Rattle.model.specs.access.Access.{Params}
 use Rattle.model.specs.shown.Input.{value_of}
-use Rattle.model.specs.state.State.{Resource, resource_count}
+use Rattle.model.specs.state.State.{Resource, resource_count, register_count}
 
 -- the resources that are named, read and written, what each of them is shown as, what was written of these, and the registers, as they were
 -- shown and now
@@ -34,6 +34,10 @@ values_over params values written registers_shown registers = record {
   registers_shown = registers_shown;
   registers = registers;
 }
+
+-- all resources and registers are 0, and nothing is written
+abbrev pub blank_values : Params → ValuesSeen
+blank_values params = values_over params (replicate resource_count (pos 0)) (replicate resource_count None) (replicate register_count (pos 0)) (replicate register_count (pos 0))
 
 -- what is written is written of resources that may be
 pub record AreWritable (params : Params) (written : List (Option ℤ)) : Type 0 where

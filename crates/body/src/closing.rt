@@ -12,6 +12,7 @@ use crate::room::QueryRoom;
 use crate::view_column::{ColumnAccess, ViewColumn};
 use crate::view_query::ViewQuery;
 use archetype_store::World;
+use query_plan::spares::give_list;
 
 // Brings a column home, where it was lent.
 fn put_held(held: ViewColumn, world: &mut World)
@@ -51,6 +52,6 @@ pub(crate) fn put_home(queries: &mut Vec<ViewQuery>, world: &mut World, room: &m
 {
     while let Some(query) = queries.pop() {
         let columns = query.close(room);
-        room.give_columns(put_columns(columns, world));
+        give_list(&mut room.columns, put_columns(columns, world));
     }
 }

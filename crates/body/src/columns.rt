@@ -12,6 +12,7 @@ use crate::view_column::{ColumnAccess, ViewColumn};
 use archetype_store::World;
 use archetype_store::store::{ColumnAt, SharedColumn, TakenColumn};
 use query_plan::Pick;
+use query_plan::spares::take_list;
 use std::alloc::{AllocError, Global};
 use std::mem;
 use std::snapshot::Snapshot;
@@ -115,7 +116,7 @@ pub(crate) fn take_picked(
     ensures away { IfOk result (λ columns. world.new ≡ record { state = world.old.state; layout = with_away (lent_of (map held_seen columns.items)) world.old.layout }) }
     ensures err { OnErr result (world.new ≡ world.old) }
 {
-    let mut columns = room.take_columns(alloc);
+    let mut columns = take_list(&mut room.columns, alloc);
     if picks.is_empty() {
         return Ok(columns);
     }

@@ -18,6 +18,7 @@ use event_buffers::Events;
 use kinds::Event;
 use query::Query;
 use query_plan::plan::plan_by;
+use query_plan::spares::give_list;
 use query_plan::{RowBuffers, shape_of};
 use run_condition::{Cond, Tree};
 use std::alloc::{AllocError, Global};
@@ -111,8 +112,8 @@ fn has_row(
     let shape = shape_of(query).number();
     let plan = plan_by(alloc, world, shape, query, last_run, room)?;
     let is_empty = plan.rows.is_empty(world);
-    room.give_places(plan.rows);
-    room.give_picks(plan.picks);
+    plan.rows.give_back(room);
+    give_list(&mut room.picks, plan.picks);
     Ok(!is_empty)
 }
 

@@ -284,7 +284,7 @@ impl OpenState {
         ensures back { IfOk result (λ view. with_back (lent_in view.value.opening.taken) self.new.layout ≡ self.old.layout) }
         ensures err { OnErr result (self.new ≡ self.old) }
     {
-        let mut view = self.room.take_view(alloc, params)?;
+        let mut view = kept_or_blank(alloc, self.room.views.take(), params)?;
         view.open(
             alloc,
             params,
@@ -369,7 +369,7 @@ impl OpenState {
         view.send(&mut self.events)?;
         let (registers, commands) = view.close(&mut self.world, &mut self.room.queries);
         keep_registers(&mut self.systems, system, registers);
-        self.room.keep_view(view);
+        self.room.views.give(view);
         Ok(commands)
     }
 }
@@ -403,5 +403,17 @@ fn counted_on(before: u64, more: u64) -> u64
         sum
     } else {
         MOST_PASSED_OVER
+    }
+}
+
+// A view that is to be opened: one that was closed, where one is kept, else a new one.
+fn kept_or_blank(
+    alloc: Global,
+    kept: Option<Box<View>>,
+    params: &Params,
+) -> Result<Box<View>, AllocError> {
+    match kept {
+        Some(view) => Ok(view),
+        None => Ok(Box::new(alloc, View::blank(alloc, params))?),
     }
 }

@@ -21,6 +21,7 @@ use archetype_store::World;
 use change_ticks::Tick;
 use query::Query;
 use query_plan::plan::plan_by;
+use query_plan::spares::{give_list, take_list};
 use query_plan::{Rows, shape_of};
 use std::alloc::{AllocError, Global};
 
@@ -52,10 +53,13 @@ pub(crate) fn open_query(
     let Ok(count) = u32::try_from(plan.picks.len()) else {
         return Err(AllocError);
     };
-    let mut slots = no_slots(room.take_slots(alloc), plan.archetypes as usize + 1)?;
+    let mut slots = no_slots(
+        take_list(&mut room.slots, alloc),
+        plan.archetypes as usize + 1,
+    )?;
     let rows = Rows::of(alloc, plan.rows, world)?;
     let columns = take_picked(alloc, plan.picks.as_slice(), world, room)?;
-    room.rows.give_picks(plan.picks);
+    give_list(&mut room.rows.picks, plan.picks);
     fill_slots(&mut slots, query.terms(), columns.as_slice(), count);
     Ok(ViewQuery::open(tick, query, slots, rows, columns))
 }

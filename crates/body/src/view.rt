@@ -22,6 +22,7 @@ ghost use Rattle.body.specs.Laid.{world_after};
 ghost use Rattle.body.specs.Lent.{AreLent, lent_in, with_away, with_back};
 ghost use Rattle.body.specs.Orders.{IsOrder};
 ghost use Rattle.body.specs.Out.{IsWrittenBy};
+ghost use Rattle.body.specs.SeenOver.{blank_seen};
 ghost use Rattle.body.specs.Turns.{AreInTurnAt};
 ghost use Rattle.body.specs.Seen.{query_at, rows_at, places_at, row_at, read_at, with_written, resource_read, with_resource, with_register, events_shown, with_emitted, granted_at, with_command};
 
@@ -42,7 +43,6 @@ use event_buffers::{EventLists, Events, SendFault};
 use kinds::{Component, Event, Fields, Kind, Res, Value};
 use std::alloc::{AllocError, Global};
 use std::marker::Model;
-use std::mem;
 
 /// What a system is shown at its start, and what it writes. Contracts see the parameters, what is shown, the outcome so far, and what it
 /// was opened over.
@@ -86,7 +86,9 @@ impl Model for View {
 
 impl View {
     // A view that is to be opened, which has no queries. Allocates nothing.
-    pub(crate) fn blank(alloc: Global, params: &Params) -> Self {
+    pub(crate) fn blank(alloc: Global, params: &Params) -> Self
+        ensures { result ≡ blank_seen params.now }
+    {
         View {
             tick: 0,
             queries: Vec::new(alloc),
@@ -429,8 +431,7 @@ impl View {
     fn take_order(&mut self) -> RowOrder
         ensures { self.new ≡ self.old }
     {
-        let none = RowOrder::new(self.order.allocator());
-        mem::replace(&mut self.order, none)
+        self.order.take()
     }
 
     /// Keeps an order that is done with, so that the next one has its list.

@@ -25,6 +25,7 @@ use change_ticks::Tick;
 use entity_table::Entity;
 use kinds::{Component, Fields, Kind, Value};
 use query::Query;
+use query_plan::spares::give_list;
 use query_plan::{Row, Rows};
 use std::alloc::AllocError;
 use std::marker::Model;
@@ -360,7 +361,7 @@ impl ViewQuery {
             taken: _taken,
         } = self;
         source.rows.give_back(&mut room.rows);
-        room.give_slots(source.slots);
+        give_list(&mut room.slots, source.slots);
         columns
     }
 }

@@ -9,7 +9,7 @@ ghost use Rattle.model.specs.shown.Overlay.{resources_after};
 ghost use Rattle.model.specs.state.State.{register_count};
 ghost use Rattle.body.specs.Laid.{with_resources};
 ghost use Rattle.body.specs.Seen.{value_read, with_value};
-ghost use Rattle.body.specs.Values.{first_values, value_at};
+ghost use Rattle.body.specs.Values.{blank_values, first_values, value_at};
 
 use crate::memory::Memory;
 use access_set::Params;
@@ -42,7 +42,9 @@ impl Model for ViewValues {
 
 impl ViewValues {
     // Values that are to be opened, with these parameters: all 0, and nothing written.
-    pub(crate) fn blank(params: &Params) -> Self {
+    pub(crate) fn blank(params: &Params) -> Self
+        ensures { result ≡ blank_values params.now }
+    {
         let registers = [0; 8];
         ViewValues {
             params: Snapshot::of(params),

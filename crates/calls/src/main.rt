@@ -5,33 +5,20 @@
 
 ghost use Rattle.std.specs.Prelude.{};
 
-mod again;
-mod board;
-mod bodies;
-mod commands;
-mod engines;
-mod gates;
-mod moving;
-mod plans;
-mod random;
-mod resources;
-mod runs;
-mod store;
-mod threads;
-mod trials;
-mod worlds;
+mod tests;
 
-use crate::board::{one_slot, two_hands};
-use crate::commands::kept_again;
-use crate::moving::{
+use crate::tests::again;
+use crate::tests::board::{one_slot, two_hands};
+use crate::tests::commands::kept_again;
+use crate::tests::moving::{
     boxed, boxed_on_threads, kept_at_the_last_tick, kept_state, refused_engines, spent_clock,
     stamps,
 };
-use crate::random::random_worlds;
-use crate::resources::{kept_total, three_tallies};
-use crate::store::{buffers, entities, steps, texts, unions};
-use crate::threads::{judged, refuse, refuse_on_threads};
-use crate::trials::TRIALS;
+use crate::tests::random::random_worlds;
+use crate::tests::resources::{kept_total, three_tallies};
+use crate::tests::store::{buffers, entities, steps, texts, unions};
+use crate::tests::threads::{judged, refuse, refuse_on_threads};
+use crate::tests::trials::TRIALS;
 use std::alloc::Global;
 use std::env;
 use std::io::{self, Write};

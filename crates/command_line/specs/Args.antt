@@ -1,5 +1,13 @@
 -- What a command line may ask for, and the exit status of one that is at fault.
-use Rattle.std.specs.Prelude.{ℕ, ◌≡◌, ◌≤◌, Bool, false, List, [], ◌∷◌, ◌++◌, codes, string_bytes}
+use Rattle.std.specs.Prelude.{ℕ, ◌≡◌, ◌≤◌, ◌==◌, ◌||◌, Bool, true, false, List, [], ◌∷◌, ◌++◌, Option, Some, None, codes, string_bytes, drop, take_while, slice_index, not}
+use Rattle.std.specs.List.{list_any}
+use Rattle.std.specs.Str.{bytes_eq}
+use Rattle.std.specs.declared.string.String.{String}
+use Rattle.std.specs.declared.alloc.Global.{Global}
+use Rattle.clap.specs.Matches.{first_value}
+use Rattle.clap.specs.declared.parser.matches.Found.{Found}
+use Rattle.clap.specs.declared.error.kind.ErrorKind.{ErrorKind}
+use Rattle.clap.specs.declared.error.kind.ErrorKind.TheVariants.{DisplayHelp, DisplayVersion}
 use Rattle.command_line.specs.declared.args.Work.{Work}
 use Rattle.command_line.specs.declared.args.Work.TheVariants.{Run, Ambiguities, Check, Replay}
 use Rattle.command_line.specs.declared.args.LineFault.{LineFault}
@@ -47,3 +55,28 @@ abbrev pub IsToldBy : List ℕ → LineFault → Type 0
 IsToldBy text (Help told) = ⊥
 IsToldBy text (Usage told) = string_bytes told ≡ text
 IsToldBy text Memory = Unit {0}
+
+-- whether the parser says by this kind that help was asked for
+abbrev pub is_help : ErrorKind → Bool
+is_help DisplayHelp = true
+is_help DisplayVersion = true
+is_help _ = false
+
+-- help is told where it was asked for, and else a line at fault, where there is memory for the text
+abbrev pub IsToldOf : ErrorKind → LineFault → Type 0
+IsToldOf kind (Help told) = is_help kind ≡ true
+IsToldOf kind (Usage told) = is_help kind ≡ false
+IsToldOf kind Memory = Unit {0}
+
+-- whether the value of an argument begins with a plus
+abbrev pub begins_with_plus : Option (List ℕ) → Bool
+begins_with_plus None = false
+begins_with_plus (Some value) = slice_index value 0 == 43
+
+-- whether a word asks for help
+abbrev pub is_help_word : List ℕ → Bool
+is_help_word word = bytes_eq word (codes "--help") || bytes_eq word (codes "-h")
+
+-- whether it is asked for behind the program's own name, before the word that ends the options
+abbrev pub asks_help : List (String Global) → Bool
+asks_help words = list_any (λ word. is_help_word (string_bytes word)) (take_while (λ word. not (bytes_eq (string_bytes word) (codes "--"))) (drop 1 words))

@@ -1,7 +1,9 @@
 // The command line.
 
 ghost use Rattle.std.specs.Prelude.{◌≡◌, IfOk};
-ghost use Rattle.command_line.specs.Args.{IsToldBy, IsWithin, is_recorded, line_status_of, line_text_of};
+ghost use Rattle.clap.specs.Matches.{found_of, first_value};
+ghost use Rattle.clap.specs.Values.{kind_of};
+ghost use Rattle.command_line.specs.Args.{IsToldBy, IsToldOf, IsWithin, begins_with_plus, is_recorded, line_status_of, line_text_of};
 
 use crate::grammar::{Argument, Grammar, Subcommand};
 use clap::error::ErrorKind;
@@ -228,15 +230,27 @@ impl LineFault {
         }
     }
 
-    /// What an answer of the parser without matches is here.
-    pub fn of(alloc: Global, error: &Error) -> LineFault {
+    /// What an answer of the parser without matches is here: help where it was asked for, else a line at fault, told by the parser's text.
+    pub fn of(alloc: Global, error: &Error) -> LineFault
+        ensures memory { kind_of error.now ≡ ErrorKind.OutOfMemory → result ≡ LineFault.Memory }
+        ensures told { IsToldOf (kind_of error.now) result }
+    {
         if error.kind() == ErrorKind::OutOfMemory {
             return LineFault::Memory;
         }
         match error.to_string(alloc) {
-            Ok(text) if error.use_stderr() => LineFault::Usage(text),
-            Ok(text) => LineFault::Help(text),
+            Ok(text) => LineFault::told_of(error.kind(), text),
             Err(_) => LineFault::Memory,
+        }
+    }
+
+    // The same, where the parser tells it by this text.
+    fn told_of(kind: ErrorKind, text: String) -> LineFault
+        ensures { IsToldOf kind result }
+    {
+        match kind {
+            ErrorKind::DisplayHelp | ErrorKind::DisplayVersion => LineFault::Help(text),
+            _ => LineFault::Usage(text),
         }
     }
 }
@@ -248,7 +262,9 @@ impl From<AllocError> for LineFault {
 }
 
 /// Whether the value of an argument begins with a plus.
-pub fn has_plus(matches: &ArgMatches<'_>, name: &str) -> bool {
+pub fn has_plus(matches: &ArgMatches<'_>, name: &str) -> bool
+    ensures { result ≡ begins_with_plus (first_value (found_of matches.now) name.now) }
+{
     match matches.get_str(name) {
         Some(value) => value.starts_with('+'),
         None => false,

@@ -1,5 +1,8 @@
 // What the parser of a command line is told, as plain data, and what it finds in a line.
 
+ghost use Rattle.std.specs.Prelude.{◌≡◌, ◌||◌, false, IfOk};
+ghost use Rattle.command_line.specs.Args.{asks_help, is_help_word};
+
 use crate::args::LineFault;
 use clap::builder::ValueParser;
 use clap::{Arg, ArgMatches, Command};
@@ -41,11 +44,9 @@ pub struct Grammar {
 impl Grammar {
     /// What the words of a command line name, of which the first is the program's own name. Where `--help` stands in a line it is asked for,
     /// whatever else is at fault there.
-    pub fn read<'a>(
-        &self,
-        alloc: Global,
-        words: &'a [String],
-    ) -> Result<ArgMatches<'a>, LineFault> {
+    pub fn read<'a>(&self, alloc: Global, words: &'a [String]) -> Result<ArgMatches<'a>, LineFault>
+        ensures { IfOk result (λ _. asks_help words.now ≡ false) }
+    {
         if asks_for_help(words) {
             return Err(self.help_for(alloc, words));
         }
@@ -109,12 +110,21 @@ impl Grammar {
 }
 
 // Whether `--help` stands among some words, before the word that ends the options.
-fn asks_for_help(words: &[String]) -> bool {
+fn asks_for_help(words: &[String]) -> bool
+    ensures { result ≡ asks_help words.now }
+{
     words
         .iter()
         .skip(1)
         .take_while(|word| word.as_str() != "--")
-        .any(|word| word.as_str() == "--help" || word.as_str() == "-h")
+        .any(|word| is_help(word.as_str()))
+}
+
+// Whether a word asks for help.
+fn is_help(word: &str) -> bool
+    ensures { result ≡ is_help_word word.now }
+{
+    word == "--help" || word == "-h"
 }
 
 // These commands as the parser is told them.

@@ -1,5 +1,7 @@
 // The words of the command line, as texts.
 
+ghost use Rattle.std.specs.Prelude.{◌≡◌, IfErr};
+
 use crate::args::LineFault;
 use std::alloc::{AllocError, Global};
 use std::env::FillError;
@@ -11,9 +13,14 @@ const FIRST_ROOM: usize = 256;
 const MOST_DOUBLINGS: u32 = 24;
 
 /// The words of the command line, of which the first is the program's own name, each as a text. In a word that is no text each byte that is
-/// in no letter is written as a NUL, which stands in no word, and the letter of its number.
-pub fn words_of<R: Env + AllocGlobal>(rt: &R) -> Result<Vec<String>, LineFault> {
-    Ok(texts_of(rt)?)
+/// in no letter is written as a NUL, which stands in no word, and the letter of its number. Fails only for a failed allocation.
+pub fn words_of<R: Env + AllocGlobal>(rt: &R) -> Result<Vec<String>, LineFault>
+    ensures { IfErr result (λ fault. fault ≡ LineFault.Memory) }
+{
+    match texts_of(rt) {
+        Ok(words) => Ok(words),
+        Err(AllocError) => Err(LineFault::Memory),
+    }
 }
 
 // The words as texts.

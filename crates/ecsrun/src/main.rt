@@ -3,18 +3,17 @@
 
 use command_line::words::words_of;
 use command_line::{Args, Work};
-use program::Created;
 use program::line_faults::tell_line_fault;
-use program::opened::open;
 use program::serve::serve;
 use program::stand_ins::open_stand_ins;
 use program::workers::serve_in_scope;
+use program::{Created, Opened};
 use std::alloc::Global;
 use std::io::Write;
 use std::process::ExitCode;
 use std::sync::Wait;
-use std::thread;
 use std::thread::Threads;
+use std::{fs, thread};
 use worker_pool::Single;
 
 // What a command line asks for. The exit status of one that is at fault, which is told.
@@ -36,8 +35,8 @@ fn serve_here(rt: HostRuntime, args: &Args<'_>) -> u8 {
         rt.alloc(),
         args,
         &Single,
-        &mut open(&rt, args.file),
-        &mut open(&rt, args.trace),
+        &mut Opened::from(fs::open(&rt, args.file)),
+        &mut Opened::from(fs::open(&rt, args.trace)),
         &mut Created::new(rt, args.record),
         &mut rt.stdout(),
         &mut rt.stderr(),
@@ -58,8 +57,8 @@ fn serve_on_threads<H: Threads + Wait + Copy + Send + Sync + 'static>(
             workers,
             rt.alloc(),
             args,
-            &mut open(&rt, args.file),
-            &mut open(&rt, args.trace),
+            &mut Opened::from(fs::open(&rt, args.file)),
+            &mut Opened::from(fs::open(&rt, args.trace)),
             &mut Created::new(rt, args.record),
             &mut rt.stdout(),
             &mut rt.stderr(),

@@ -9,28 +9,35 @@ const ROUNDS: usize = 20;
 
 const LOOKS: usize = 100;
 
-/// A bell: some ring it, and others wait for that.
-#[derive(Drop)]
+/// What some ring, and others wait for. Its calls promise nothing, since no proof can name what an atomic word holds: what is proved of a board holds
+/// however often a bell rings, and whenever it is heard.
+pub trait Ring {
+    /// How often it has rung. Who waits asks this first, then looks for what it waits for, and sleeps if it finds nothing.
+    fn heard(&self) -> u64;
+
+    /// Waits until it has rung after `heard`, or less.
+    fn sleep<R: Wait>(&self, rt: &R, heard: u64);
+
+    /// Rings, and wakes one of those that sleep.
+    fn ring_one(&self);
+
+    /// Rings, and wakes all that sleep.
+    fn ring_all(&self);
+}
+
+/// A bell: a count of its rings, on which others sleep.
+#[derive(Default, Drop)]
 pub struct Bell {
     rings: AtomicU64,
     sleepers: AtomicU64,
 }
 
-impl Bell {
-    pub(crate) fn new() -> Bell {
-        Bell {
-            rings: AtomicU64::new(0),
-            sleepers: AtomicU64::new(0),
-        }
-    }
-
-    /// How often it has rung. Who waits asks this first, then looks for what it waits for, and sleeps if it finds nothing.
-    pub fn heard(&self) -> u64 {
+impl Ring for Bell {
+    fn heard(&self) -> u64 {
         self.rings.load(Ordering::SeqCst)
     }
 
-    /// Waits until it has rung after `heard`, or less.
-    pub fn sleep<R: Wait>(&self, rt: &R, heard: u64) {
+    fn sleep<R: Wait>(&self, rt: &R, heard: u64) {
         if self.rings_soon(heard) {
             return;
         }
@@ -41,6 +48,22 @@ impl Bell {
         self.sleepers.fetch_sub(1, Ordering::SeqCst);
     }
 
+    fn ring_one(&self) {
+        self.rings.fetch_add(1, Ordering::SeqCst);
+        if self.sleepers.load(Ordering::SeqCst) != 0 {
+            self.rings.wake_one();
+        }
+    }
+
+    fn ring_all(&self) {
+        self.rings.fetch_add(1, Ordering::SeqCst);
+        if self.sleepers.load(Ordering::SeqCst) != 0 {
+            self.rings.wake_all();
+        }
+    }
+}
+
+impl Bell {
     // A sleep and a wake cost more than a while of looking.
     fn rings_soon(&self, heard: u64) -> bool {
         for _ in 0..ROUNDS {
@@ -53,36 +76,11 @@ impl Bell {
         }
         false
     }
-
-    /// Rings, and wakes one of those that sleep.
-    pub(crate) fn ring_one(&self) {
-        self.rings.fetch_add(1, Ordering::SeqCst);
-        if self.sleepers.load(Ordering::SeqCst) != 0 {
-            self.rings.wake_one();
-        }
-    }
-
-    /// Rings, and wakes all that sleep.
-    pub(crate) fn ring_all(&self) {
-        self.rings.fetch_add(1, Ordering::SeqCst);
-        if self.sleepers.load(Ordering::SeqCst) != 0 {
-            self.rings.wake_all();
-        }
-    }
 }
 
 // The bells of a board: what hands wait for is a job or the end, what the lead waits for is an outcome.
-#[derive(Drop)]
+#[derive(Default, Drop)]
 pub(crate) struct Bells {
     pub(crate) hands: Bell,
     pub(crate) lead: Bell,
-}
-
-impl Bells {
-    pub(crate) fn new() -> Bells {
-        Bells {
-            hands: Bell::new(),
-            lead: Bell::new(),
-        }
-    }
 }

@@ -33,7 +33,7 @@ impl Board {
         let words = Vec::from_elem(alloc, 0u64, count)?;
         let (table, seat): (Words<T>, _) = Table::vacant(alloc, words.as_slice(), slots, &())?;
         let board = Arc::new(alloc, table)?;
-        let bells = Arc::new(alloc, Bells::new())?;
+        let bells = Arc::new(alloc, Bells::default())?;
         let mut all = Vec::with_capacity(alloc, hands)?;
         for made in 0..hands {
             let words = Arc::try_clone(&board)?;

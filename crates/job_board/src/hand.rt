@@ -6,7 +6,7 @@ ghost use Rattle.std.specs.VecDeque.{deque_capacity};
 ghost use Rattle.std.specs.Arc.{arc_value};
 ghost use Rattle.job_board.specs.Held.{HoldsEmpty, IsBasket};
 
-use crate::bells::{Bell, Bells};
+use crate::bells::{Bell, Bells, Ring};
 use crate::plays::{Enter, Finish, Look, Take};
 use crate::slot_state::SlotState;
 use crate::task::{JobNumber, Task};
@@ -47,7 +47,7 @@ fn place_of(held: &VecDeque<(JobNumber, usize)>, number: JobNumber) -> Option<us
 impl<T: Task> Hand<T> {
     ghost use Rattle.std.specs.Prelude.{◌-◌, List, [], ◌∷◌, IfNone, IfOk, true, false};
     ghost use Rattle.job_board.specs.Views.{having_read, after_take, after_done, HasJob, Missed, MissedAll};
-    ghost use Rattle.job_board.specs.Ends.{hand_view, hand_slots, hand_table};
+    ghost use Rattle.job_board.specs.Ends.{hand_view, hand_slots, hand_table, hand_bell};
 
     // A hand that comes to a board.
     pub(crate) fn join(
@@ -175,7 +175,9 @@ impl<T: Task> Hand<T> {
     }
 
     /// The bell that rings when a job is posted, and when the board is closed.
-    pub fn bell(&self) -> &Bell {
+    pub fn bell(&self) -> &Bell
+        ensures { result.now ≡ hand_bell self.now }
+    {
         &self.bells.hands
     }
 }

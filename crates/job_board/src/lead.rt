@@ -4,7 +4,7 @@ ghost use Rattle.std.specs.Arc.{arc_value};
 ghost use Rattle.job_board.specs.Views.{IsTally};
 ghost use Rattle.job_board.specs.Held.{IsStack};
 
-use crate::bells::{Bell, Bells};
+use crate::bells::{Bell, Bells, Ring};
 use crate::plays::{Claim, Close, Collect, Post, Seek};
 use crate::slot_state::SlotState;
 use crate::task::{JobNumber, Task};
@@ -38,7 +38,7 @@ impl<T: Task> Lead<T> {
     ghost use Rattle.std.specs.Prelude.{ℕ, ◌≢◌, ◌⊎◌, ◌-◌, List, [], ◌∷◌, MatchOption, MatchResult, IfOk};
     ghost use Rattle.job_board.specs.Words.{finished_word};
     ghost use Rattle.job_board.specs.Views.{opener, having_read, after_post, after_collect, after_close, HasPosted, Uncollected, NoneFinished};
-    ghost use Rattle.job_board.specs.Ends.{lead_view, lead_slots, lead_table};
+    ghost use Rattle.job_board.specs.Ends.{lead_view, lead_slots, lead_table, lead_bell};
 
     // A lead that takes its seat at a new board, and makes each slot its own.
     pub(crate) fn open(
@@ -144,7 +144,9 @@ impl<T: Task> Lead<T> {
     }
 
     /// The bell that rings when a job is done.
-    pub fn bell(&self) -> &Bell {
+    pub fn bell(&self) -> &Bell
+        ensures { result.now ≡ lead_bell self.now }
+    {
         &self.bells.lead
     }
 

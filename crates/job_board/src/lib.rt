@@ -12,7 +12,7 @@ pub mod task;
 pub mod view;
 pub mod words;
 
-pub use bells::Bell;
+pub use bells::{Bell, Ring};
 pub use board::Board;
 pub use hand::Hand;
 pub use lead::Lead;

@@ -10,3 +10,5 @@ pub mod Served
 pub mod Setup
 pub mod Refused
 pub mod Said
+pub mod StandIns
+pub mod ToCreate

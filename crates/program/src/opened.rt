@@ -1,8 +1,7 @@
 // A file that is read, also one that can't be opened.
 
+use std::io;
 use std::io::{ErrorKind, Read};
-use std::rt::Files;
-use std::{fs, io};
 
 /// The reader of a file. Where the file can't be opened each read fails.
 #[derive(Drop)]
@@ -10,10 +9,9 @@ pub struct Opened<F: Drop> {
     file: Option<F>,
 }
 
-/// Opens a file to be read.
-pub fn open<R: Files>(rt: &R, path: &str) -> Opened<R::File> {
-    Opened {
-        file: fs::open(rt, path).ok(),
+impl<F: Drop> From<io::Result<F>> for Opened<F> {
+    fn from(opened: io::Result<F>) -> Self {
+        Opened { file: opened.ok() }
     }
 }
 

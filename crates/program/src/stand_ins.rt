@@ -1,5 +1,9 @@
 // What stands where a standard stream is closed.
 
+ghost use Rattle.std.specs.Prelude.{◌∷◌};
+ghost use Rattle.std.specs.List.{AllByRecursion};
+ghost use Rattle.program.specs.StandIns.{IsStandIn};
+
 use std::fs;
 use std::fs::File;
 use std::os::fd::AsRawFd;
@@ -11,16 +15,19 @@ const LAST_STREAM: i32 = 2;
 /// Opens the root folder in the place of each standard stream that is closed. The system gives the least number that is free to what is opened, so
 /// without these the next file that the program opens would be such a stream, and get what is written to it. A folder gives and takes no bytes, so
 /// each read and each write of such a stream fails, for as long as what is returned is kept.
-pub fn open_stand_ins<R: Files<File = File>>(files: &R) -> [Option<File>; 3] {
-    let mut held = [None, None, None];
-    for place in &mut held {
-        let Ok(folder) = fs::open(files, "/") else {
-            break;
-        };
-        if folder.as_raw_fd() > LAST_STREAM {
-            break;
-        }
-        *place = Some(folder);
+pub fn open_stand_ins<R: Files<File = File>>(files: &R) -> [Option<File>; 3]
+    ensures { AllByRecursion IsStandIn result }
+{
+    [stand_in(files), stand_in(files), stand_in(files)]
+}
+
+// The root folder, where it has the place of a standard stream.
+fn stand_in<R: Files<File = File>>(files: &R) -> Option<File>
+    ensures { IsStandIn result }
+{
+    let folder = fs::open(files, "/").ok()?;
+    if folder.as_raw_fd() > LAST_STREAM {
+        return None;
     }
-    held
+    Some(folder)
 }

@@ -6,3 +6,4 @@ pub mod Filters
 pub mod Marks
 pub mod Places
 pub mod Kept
+pub mod Spares

@@ -15,6 +15,7 @@ ghost use Rattle.query_plan.specs.Standing.{is_row_at, IsStanding};
 use crate::picks::matches_kinds;
 use crate::row::Row;
 use crate::row_buffers::RowBuffers;
+use crate::spares::{give_list, take_list};
 use archetype_store::World;
 use query::{Query, Term};
 use std::alloc::{AllocError, Global};
@@ -45,9 +46,9 @@ pub(crate) fn walked(
     if asks_stamps(query) {
         return Ok(None);
     }
-    let mut marks = room.take_marks(alloc);
+    let mut marks = take_list(&mut room.marks, alloc);
     let found = walked_by(alloc, query, world, archetypes, &mut marks, room);
-    room.give_marks(marks);
+    give_list(&mut room.marks, marks);
     found
 }
 
@@ -167,7 +168,7 @@ fn walk(
     let Ok(count) = u32::try_from(world.archetype_count()) else {
         return Err(AllocError);
     };
-    let mut rows = room.take(alloc);
+    let mut rows = take_list(&mut room.rows, alloc);
     rows.reserve(likely)?;
     for index in 0..world.slot_count() {
         let Some(row) = row_at(query, world, marks, takes_bare, count, index)? else {

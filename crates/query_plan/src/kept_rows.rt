@@ -3,11 +3,13 @@
 ghost use Rattle.std.specs.Prelude.{◌≡◌, ◌<◌, get_or, length, IfSome, IfOk};
 ghost use Rattle.std.specs.Arc.{arc_value};
 ghost use Rattle.archetype_store.specs.Layout.{archetype_at};
+ghost use Rattle.query_plan.specs.Spares.{IsGiven};
 ghost use Rattle.query_plan.specs.Places.{every_row, rows_of_places, AreEvery, IsCounted};
 
 use crate::matched_rows::MatchedRows;
 use crate::row::Row;
 use crate::row_buffers::RowBuffers;
+use crate::spares::give_list;
 use archetype_store::World;
 use entity_table::Entity;
 use std::alloc::{AllocError, Global};
@@ -77,10 +79,12 @@ impl Rows {
     }
 
     /// Gives the buffer of the rows back, where they are listed.
-    pub fn give_back(self, room: &mut RowBuffers) {
+    pub fn give_back(self, room: &mut RowBuffers)
+        ensures { IsGiven room.old.rows room.new.rows }
+    {
         let Rows { kept } = self;
         if let KeptRows::Listed(rows) = kept {
-            room.give(rows);
+            give_list(&mut room.rows, rows);
         }
     }
 

@@ -13,6 +13,7 @@ pub mod planned;
 pub mod row;
 pub mod row_buffers;
 pub mod shape;
+pub mod spares;
 
 ghost use Rattle.query_plan.specs.Standing.{HomeTellsPicks};
 
@@ -28,3 +29,4 @@ pub use planned::Plan;
 pub use row::Row;
 pub use row_buffers::RowBuffers;
 pub use shape::shape_of;
+pub use spares::Spares;

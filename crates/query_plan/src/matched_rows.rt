@@ -3,10 +3,12 @@
 ghost use Rattle.std.specs.Prelude.{◌≡◌, not, IfOk};
 ghost use Rattle.archetype_store.specs.Layout.{archetype_at};
 ghost use Rattle.model.specs.Lists.{is_there};
+ghost use Rattle.query_plan.specs.Spares.{IsGiven};
 ghost use Rattle.query_plan.specs.Places.{every_row, rows_of_places, IsCounted};
 
 use crate::row::Row;
 use crate::row_buffers::RowBuffers;
+use crate::spares::{give_list, take_list};
 use archetype_store::World;
 use entity_table::Entity;
 use std::alloc::{AllocError, Global};
@@ -29,6 +31,15 @@ impl MatchedRows {
         match self {
             MatchedRows::All(_archetype, count) => *count == 0,
             MatchedRows::Listed(rows) => rows.is_empty(),
+        }
+    }
+
+    /// Gives the buffer of the rows back, where they are listed.
+    pub fn give_back(self, room: &mut RowBuffers)
+        ensures { IsGiven room.old.rows room.new.rows }
+    {
+        if let MatchedRows::Listed(rows) = self {
+            give_list(&mut room.rows, rows);
         }
     }
 
@@ -83,7 +94,7 @@ fn every_row(
     let Ok(count) = u32::try_from(entities.len()) else {
         return Err(AllocError);
     };
-    let mut rows = room.take(alloc);
+    let mut rows = take_list(&mut room.rows, alloc);
     rows.reserve(entities.len())?;
     for place in 0..count {
         rows.push(Row {

@@ -14,6 +14,7 @@ use crate::archetype_rows::rows_in;
 use crate::picks::picks_in;
 use crate::planned::Plan;
 use crate::row_buffers::RowBuffers;
+use crate::spares::{give_list, take_list};
 use archetype_store::World;
 use query::Query;
 use std::alloc::{AllocError, Global};
@@ -38,10 +39,10 @@ pub fn plan(
     ensures archetypes { IfOk result (λ plan. plan.archetypes ≡ length world.now.layout) }
     ensures apart { IfOk result (λ plan. AllByRecursion (λ a. AreApart a.entities) world.now.layout) }
 {
-    let mut archetypes = room.take_archetypes(alloc);
+    let mut archetypes = take_list(&mut room.archetypes, alloc);
     all_archetypes(world, &mut archetypes)?;
     let planned = plan_among(alloc, query, world, &archetypes, last_run, room);
-    room.give_archetypes(archetypes);
+    give_list(&mut room.archetypes, archetypes);
     planned
 }
 
@@ -66,14 +67,14 @@ pub fn plan_by(
 {
     // Proves that the kinds of the query have bits.
     let _terms = query.terms();
-    let mut archetypes = room.take_archetypes(alloc);
+    let mut archetypes = take_list(&mut room.archetypes, alloc);
     let is_kept = world.fitting(shape, &mut archetypes)?;
     if !is_kept {
-        room.give_archetypes(archetypes);
+        give_list(&mut room.archetypes, archetypes);
         return plan(alloc, query, world, last_run, room);
     }
     let planned = plan_among(alloc, query, world, &archetypes, last_run, room);
-    room.give_archetypes(archetypes);
+    give_list(&mut room.archetypes, archetypes);
     planned
 }
 
@@ -114,7 +115,7 @@ fn plan_among(
         return Err(AllocError);
     };
     let rows = rows_in(alloc, query, world, archetypes, last_run, room)?;
-    let picks = picks_in(query, world, archetypes, room.take_picks(alloc))?;
+    let picks = picks_in(query, world, archetypes, take_list(&mut room.picks, alloc))?;
     Ok(Plan {
         rows,
         picks,

@@ -154,7 +154,9 @@ pub(crate) fn places_by_set(
     alloc: Global,
     items: usize,
     pairs: &[Order],
-) -> Result<Vec<Vec<usize>>, AllocError> {
+) -> Result<Vec<Vec<usize>>, AllocError>
+    ensures { IfOk result (λ lists. length lists.items ≡ items) }
+{
     let mut lists = Vec::new(alloc);
     for _ in 0..items {
         lists.push(Vec::new(alloc))?;

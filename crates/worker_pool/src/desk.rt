@@ -8,7 +8,7 @@ ghost use Rattle.job_board.specs.Views.{having_read, after_collect, HasPosted, U
 ghost use Rattle.worker_pool.specs.AreOut.{AreOut};
 
 use crate::mode::Joins;
-use job_board::{JobNumber, Lead, Task};
+use job_board::{JobNumber, Lead, Ring, Task};
 use std::snapshot::Snapshot;
 
 /// Under which number a job was posted.

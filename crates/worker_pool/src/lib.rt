@@ -3,7 +3,6 @@
 
 mod desk;
 pub mod fault;
-mod hands;
 pub mod mode;
 pub mod pool;
 pub mod single;

@@ -118,13 +118,14 @@ impl<B: Body> Pool<B> {
         }
     }
 
-    /// Ends a pool: workers that stand leave, and each is waited for.
-    pub fn end<'s, M: Mode<'s>>(self, mode: &M)
+    /// Ends a pool: workers that stand leave, and each is waited for. Tells how many jobs were still out: they are lost.
+    pub fn end<'s, M: Mode<'s>>(self, mode: &M) -> usize
     where
         B: 's,
+        ensures { result ≡ length self }
     {
         match self.form {
-            Form::Threads(_) => {}
+            Form::Threads(jobs) => jobs.count(),
             Form::Stands(jobs) => jobs.end(mode),
         }
     }

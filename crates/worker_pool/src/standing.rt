@@ -1,19 +1,61 @@
-// Workers that stand, and the jobs that are posted for them.
+// Workers that stand, what each does, and the jobs that are posted for them.
 
 ghost use Rattle.std.specs.Prelude.{◌≡◌, ℕ, ◌+◌, ◌<◌, ◌⊎◌, true, Err, [], ◌∷◌, ◌++◌, length, slice_get, remove, IfOk, IfErr, IfSome, IfNone, IsSome, IsTrue, IsSomeAnd, OnOk, OnErr};
+ghost use Rattle.job_board.specs.Ends.{hand_view};
+ghost use Rattle.job_board.specs.Views.{HasJob};
 ghost use Rattle.worker_pool.specs.Ran.{Ran};
 
 use crate::desk::{Ticket, collect, post};
 use crate::fault::HandFault;
-use crate::hands::start_worker;
 use crate::mode::{Gate, Joins, Line};
 use crate::start::{JobResult, Start};
-use crate::task::StartTask;
+use crate::task::{Runs, StartTask};
 use body::Body;
-use job_board::{Board, Hand, Lead};
+use job_board::{Board, Hand, JobNumber, Lead, Ring};
 use std::alloc::{AllocError, Global};
 use std::marker::Model;
 use std::thread::{JoinHandle, Scope};
+
+// Waits for a job. None once the board is closed.
+fn take<N: Line, T: Runs>(line: N, hand: &mut Hand<T>) -> Option<(JobNumber, T::Job)>
+    ensures { IfSome result (λ t. (slot : ℕ) × HasJob (hand_view hand.new) t.0 slot t.1) }
+{
+    for _ in 0..u64::MAX {
+        let heard = hand.bell().heard();
+        if let Some(taken) = hand.try_take() {
+            return Some(taken);
+        }
+        if hand.look_closed() {
+            return None;
+        }
+        line.listen(hand.bell(), heard);
+    }
+    None
+}
+
+// Runs each job that it takes, through a gate.
+fn work<N: Line, G: Gate, T: Runs>(line: N, gate: &G, mut hand: Hand<T>) {
+    for _ in 0..u64::MAX {
+        let Some((number, job)) = take(line, &mut hand) else {
+            break;
+        };
+        let start = T::number(&job);
+        gate.enter(start);
+        let outcome = T::run(job);
+        gate.leave(start);
+        hand.done(number, outcome);
+    }
+}
+
+// Starts a worker in a thread of a scope. None where no thread can be started.
+fn start_worker<'s, E: 's, N: Line + 's, G: Gate, T: Runs + Send + 's>(
+    scope: &Scope<'s, E>,
+    line: N,
+    gate: &'s G,
+    hand: Hand<T>,
+) -> Option<JoinHandle<()>> {
+    scope.spawn(move || work(line, gate, hand)).ok()
+}
 
 /// Workers that stand, and the jobs that are out with them. Contracts see these as a list, in the order in which they were handed out.
 #[derive(Drop)]
@@ -130,8 +172,11 @@ impl<B: Body> Standing<B> {
         collect(&mut self.lead, &mut self.tickets, mode)
     }
 
-    // Sends the workers away, and waits until each has left.
-    pub(crate) fn end<J: Joins>(self, mode: &J) {
+    // Sends the workers away, and waits until each has left. Tells how many jobs are still out: they are lost.
+    pub(crate) fn end<J: Joins>(self, mode: &J) -> usize
+        ensures { result ≡ length self }
+    {
+        let lost = self.count();
         let Standing {
             mut lead,
             workers,
@@ -141,5 +186,6 @@ impl<B: Body> Standing<B> {
         for worker in workers {
             mode.see_off(worker);
         }
+        lost
     }
 }

@@ -4,7 +4,7 @@ ghost use Rattle.std.specs.Prelude.{◌≡◌, ◌<◌, ◌≤◌, true};
 
 use crate::mode::{Gate, Hosts, Joins, Line, Mode};
 use crossbeam_channel::{Receiver, Sender};
-use job_board::Bell;
+use job_board::{Bell, Ring};
 use std::sync::Wait;
 use std::thread::{JoinHandle, Promise, PromisedHandle, Scope, Threads};
 
