@@ -11,7 +11,7 @@ use query_plan::{RowBuffers, Spares};
 use std::alloc::Global;
 
 /// The lists of queries that are closed, which are used again: so a query that opens takes no memory for them once one like it was closed.
-/// Contracts see nothing of them: what is taken has no elements.
+/// What is taken has no elements.
 #[derive(Drop)]
 pub struct QueryRoom {
     /// The buffers of rows.
@@ -45,8 +45,7 @@ impl QueryRoom {
     }
 }
 
-/// The lists of queries and views that are closed, which are used again: so a start takes no memory for them once one like it was done. Contracts
-/// see nothing of them.
+/// The lists of queries and views that are closed, which are used again: so a start takes no memory for them once one like it was done.
 #[derive(Drop)]
 pub(crate) struct Room {
     /// The lists of queries.
