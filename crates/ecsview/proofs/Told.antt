@@ -1,6 +1,5 @@
--- What is told of the pairs of a report, one more; and the texts of a file.
-use Rattle.std.proofs.Common.{◌≡◌, ◌<◌, ◌+◌, ℕ, zero, suc, List, [], ◌∷◌, ◌++◌, length, map, drop, get_or, Option, IfSome, ap, subst, ◌∙◌, arith}
-use Rattle.ambiguity_report.specs.Report.{IsReport}
+-- What is told of the pairs of a report, one more; and the text of a file.
+use Rattle.std.proofs.Common.{◌≡◌, ◌<◌, ◌+◌, ℕ, zero, suc, List, [], ◌∷◌, ◌++◌, length, drop, get_or, Option, IfSome, ap, subst, ◌∙◌, arith}
 use Rattle.ambiguity_report.specs.declared.report.Pair.{Pair}
 use Rattle.findings.specs.Stories.{IsStory, count_text}
 use Rattle.findings.specs.Telling.{pair_text}
@@ -13,7 +12,7 @@ use Rattle.program.specs.Setup.{meanings_of_scripts}
 use Rattle.program.specs.declared.loading.Loaded.{Loaded}
 use Rattle.script.specs.declared.script_body.ScriptBody.{ScriptBody}
 use Rattle.trace_checker.specs.Grammar.{trace_text}
-use Rattle.ecsview.specs.Found.{AreRaces, IsFindingText, IsRacesText, IsStepsText, first_of, races_line}
+use Rattle.ecsview.specs.Found.{AreRaces, IsFindingText, IsStepsText, first_of}
 
 -- a pair that is told leads on to those behind it
 races_from : (s : Schedule) (bodies : List BodyMeaning) (start : State) (names : List (List ℕ)) (pairs : List Pair) (i : ℕ) (d pair : Pair) (found : Option Witness) (more text later whole : List ℕ)
@@ -36,19 +35,6 @@ races_next s bodies meant start names pairs i d pair found more text headed late
     races_from s bodies start names pairs i d pair found more text later whole known at (subst (λ (bs : List BodyMeaning). IfSome found (IsWitness s bs start pair)) means witness) told
     (is ∙ ap (λ (words : List ℕ). words ++ more) head)
     (subst (λ n. AreRaces s bodies start names (drop n pairs) later whole) (next i) rest)
-
--- the pairs of the report of a file, by its names and scripts, from the state with which its first run begins
-pub races_of : (l : Loaded) (pairs shown : List Pair) (bodies : List ScriptBody) (start : State) (names : List (List ℕ)) (text : List ℕ) → IsReport l.built pairs → shown ≡ pairs → bodies ≡ l.bodies.items → start ≡ first_of l
-    → names ≡ map (λ name. name.now) l.names.items → AreRaces l.built (meanings_of_scripts l.built bodies) start names shown (races_line (length shown)) text → IsRacesText l text
-races_of l pairs shown bodies start names text report is_shown is_bodies is_start is_names told = record {
-  pairs = pairs;
-  report = report;
-  told =
-      subst (λ (ps : List Pair). AreRaces l.built (meanings_of_scripts l.built l.bodies.items) (first_of l) (map (λ name. name.now) l.names.items) ps (races_line (length ps)) text) is_shown
-      (subst (λ (ns : List (List ℕ)). AreRaces l.built (meanings_of_scripts l.built l.bodies.items) (first_of l) ns shown (races_line (length shown)) text) is_names
-      (subst (λ (first : State). AreRaces l.built (meanings_of_scripts l.built l.bodies.items) first names shown (races_line (length shown)) text) is_start
-      (subst (λ (bs : List ScriptBody). AreRaces l.built (meanings_of_scripts l.built bs) start names shown (races_line (length shown)) text) is_bodies told)));
-}
 
 -- the story of the runs of a trace, on a file
 pub steps_of : (l : Loaded) (trace : Option (List ℕ)) (asked : Option ℕ) (runs shown : List Recorded) (bodies : List ScriptBody) (start : State) (text : List ℕ) → IfSome trace (λ bytes. bytes ≡ trace_text runs) → shown ≡ runs
