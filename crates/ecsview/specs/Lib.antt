@@ -1,2 +1,4 @@
+pub mod Asked
 pub mod Drawings
+pub mod Found
 pub mod Viewed

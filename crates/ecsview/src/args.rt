@@ -1,5 +1,8 @@
 // The command line.
 
+ghost use Rattle.std.specs.Prelude.{◌≡◌, IfOk};
+ghost use Rattle.ecsview.specs.Asked.{IsCounted};
+
 use clap::ArgMatches;
 use command_line::LineFault;
 use command_line::args::has_plus;
@@ -98,13 +101,17 @@ const GRAMMAR: Grammar = Grammar {
 };
 
 impl<'a> Args<'a> {
-    /// Reads the words of a command line, of which the first is the program's own name.
-    pub fn read(alloc: Global, words: &'a [String]) -> Result<Args<'a>, LineFault> {
+    /// Reads the words of a command line, of which the first is the program's own name. A run that is asked for is counted from 1.
+    pub fn read(alloc: Global, words: &'a [String]) -> Result<Args<'a>, LineFault>
+        ensures { IfOk result (λ args. IsCounted args.work) }
+    {
         Args::of_matches(alloc, &GRAMMAR.read(alloc, words)?)
     }
 
     // The work that the matches of a line ask for.
-    fn of_matches(alloc: Global, matches: &ArgMatches<'a>) -> Result<Args<'a>, LineFault> {
+    fn of_matches(alloc: Global, matches: &ArgMatches<'a>) -> Result<Args<'a>, LineFault>
+        ensures { IfOk result (λ args. IsCounted args.work) }
+    {
         if let Some(found) = matches.subcommand_matches("schedule") {
             return Ok(Args::of(found, Work::Schedule));
         }
@@ -124,15 +131,23 @@ impl<'a> Args<'a> {
     }
 
     // The worlds that the matches of `steps` ask for.
-    fn of_steps(alloc: Global, found: &ArgMatches<'a>) -> Result<Args<'a>, LineFault> {
+    fn of_steps(alloc: Global, found: &ArgMatches<'a>) -> Result<Args<'a>, LineFault>
+        ensures { IfOk result (λ args. IsCounted args.work) }
+    {
         if has_plus(found, "run") {
             return Err(LineFault::usage(alloc, "error: a number has no plus\n"));
         }
-        Ok(Args::of(found, Work::Steps(found.get_one::<u32>("run"))))
+        let run = found.get_one::<u32>("run");
+        if run == Some(0) {
+            return Err(LineFault::usage(alloc, "error: runs are counted from 1\n"));
+        }
+        Ok(Args::of(found, Work::Steps(run)))
     }
 
     // The work, on the files that the matches name.
-    fn of(matches: &ArgMatches<'a>, work: Work) -> Args<'a> {
+    fn of(matches: &ArgMatches<'a>, work: Work) -> Args<'a>
+        ensures { result.work ≡ work }
+    {
         Args {
             file: matches.get_str("file").unwrap_or(""),
             trace: matches.get_str("trace").unwrap_or(""),

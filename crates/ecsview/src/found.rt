@@ -1,8 +1,11 @@
 // What is found, as text: witnesses of races, where two traces part, and the worlds of a run.
 
-ghost use Rattle.std.specs.Prelude.{◌<◌, ◌≤◌, ◌^◌, length, IfOk};
+ghost use Rattle.std.specs.Prelude.{◌≡◌, ◌<◌, ◌≤◌, ◌^◌, ◌++◌, ℕ, List, length, map, IfOk, OnOk, string_bytes};
+ghost use Rattle.ecsview.specs.Found.{AreRaces, IsFindingText, IsRacesText, IsStepsText, races_line};
 ghost use Rattle.engine.specs.Meanings.{HasMemories};
-ghost use Rattle.program.specs.Setup.{AreScriptsOf};
+ghost use Rattle.model.specs.state.Loaded.{loaded as loaded_state};
+ghost use Rattle.program.specs.Load.{entity_given};
+ghost use Rattle.program.specs.Setup.{AreScriptsOf, meanings_of_scripts};
 
 use ambiguity_report::Pair;
 use ambiguity_report::report::report;
@@ -22,7 +25,9 @@ use std::alloc::{AllocError, Global};
 use std::io::Read;
 
 /// A witness for each pair that races.
-pub fn races_text(alloc: Global, loaded: Loaded<'_>) -> Result<String, Fault> {
+pub fn races_text(alloc: Global, loaded: Loaded<'_>) -> Result<String, Fault>
+    ensures { IfOk result (λ text. IsRacesText loaded.entry (string_bytes text)) }
+{
     let Loaded {
         built,
         names,
@@ -33,14 +38,9 @@ pub fn races_text(alloc: Global, loaded: Loaded<'_>) -> Result<String, Fault> {
     let pairs = report(alloc, &built)?;
     let first = begun(alloc, &built, entities.as_slice(), &resources)?;
     let names = names.as_slice();
-    witnesses_of(
-        alloc,
-        &built,
-        names,
-        bodies.as_mut_slice(),
-        &first,
-        pairs.as_slice(),
-    )
+    let bodies = bodies.as_mut_slice();
+    let text = witnesses_of(alloc, &built, names, bodies, &first, pairs.as_slice())?;
+    Ok(text)
 }
 
 // The same of these pairs.
@@ -53,6 +53,7 @@ fn witnesses_of(
     pairs: &[Pair],
 ) -> Result<String, Fault>
     requires { HasMemories built.now first.now }
+    ensures { IfOk result (λ text. AreRaces built.now (meanings_of_scripts built.now bodies.old) first.now (map (λ name. name.now) names.now) pairs.now (races_line (length pairs.now)) (string_bytes text)) }
 {
     let mut text = String::new(alloc);
     let count = pairs.len();
@@ -72,7 +73,9 @@ fn push_found(
     names: &[&str],
     pair: Pair,
     found: Option<Witness>,
-) -> Result<(), AllocError> {
+) -> Result<(), AllocError>
+    ensures { OnOk result ((more : List ℕ) × IsFindingText (map (λ name. name.now) names.now) pair found more × (string_bytes text.new ≡ string_bytes text.old ++ more)) }
+{
     match found {
         Some(witness) => push_witness(alloc, text, names, pair, &witness),
         None => {
@@ -141,6 +144,7 @@ pub fn steps_text<T: Read>(
     asked: Option<u32>,
 ) -> Result<String, Fault>
     requires { AreScriptsOf loaded.built loaded.bodies.items }
+    ensures { IfOk result (λ text. IsStepsText loaded.entry (T.remaining trace.old) asked (string_bytes text)) }
 {
     let traces = traces_of(alloc, trace)?;
     let Loaded {
@@ -152,7 +156,8 @@ pub fn steps_text<T: Read>(
     } = loaded;
     let first = begun(alloc, &built, entities.as_slice(), &resources)?;
     let bodies = bodies.as_mut_slice();
-    story_of(alloc, &built, bodies, first, traces.as_slice(), asked)
+    let text = story_of(alloc, &built, bodies, first, traces.as_slice(), asked)?;
+    Ok(text)
 }
 
 // The state with which the first run begins.
@@ -162,7 +167,8 @@ fn begun(
     entities: &[Vec<Value>],
     resources: &[i64; 8],
 ) -> Result<State, Fault>
-    ensures { IfOk result (HasMemories built.now) }
+    ensures memories { IfOk result (HasMemories built.now) }
+    ensures first { IfOk result (λ state. state ≡ loaded_state built.now (map entity_given entities.now) resources.now) }
 {
     let state = opening(alloc, built, entities, resources)?;
     Ok(state)

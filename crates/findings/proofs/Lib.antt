@@ -1,5 +1,8 @@
+pub mod Apart
 pub mod Fitting
 pub mod Partings
+pub mod Rows
 pub mod Scenes
 pub mod StoryRuns
+pub mod Tellings
 pub mod Witnesses

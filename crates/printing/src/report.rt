@@ -34,8 +34,8 @@ fn push_pairs(text: &mut String, names: &[&str], pairs: &[Pair]) -> Result<(), A
     Ok(())
 }
 
-// Adds the line of a pair.
-fn push_pair(text: &mut String, names: &[&str], pair: Pair) -> Result<(), AllocError>
+/// Adds the line of a pair.
+pub fn push_pair(text: &mut String, names: &[&str], pair: Pair) -> Result<(), AllocError>
     ensures { OnOk result (string_bytes text.new ≡ string_bytes text.old ++ pair_line (map (λ name. name.now) names.now) pair) }
 {
     push_racer(text, names, pair.first)?;
@@ -47,8 +47,8 @@ fn push_pair(text: &mut String, names: &[&str], pair: Pair) -> Result<(), AllocE
     writeln!(text, " {second} {datum}")
 }
 
-// Adds what races: the name of a system, or the number of a condition.
-fn push_racer(text: &mut String, names: &[&str], racer: Racer) -> Result<(), AllocError>
+/// Adds what races: the name of a system, or the number of a condition.
+pub fn push_racer(text: &mut String, names: &[&str], racer: Racer) -> Result<(), AllocError>
     ensures { OnOk result (string_bytes text.new ≡ string_bytes text.old ++ racer_text (map (λ name. name.now) names.now) racer) }
 {
     match racer {
@@ -60,8 +60,8 @@ fn push_racer(text: &mut String, names: &[&str], racer: Racer) -> Result<(), All
     }
 }
 
-// The name of a system, and no text where there is none.
-fn name_of<'a>(names: &[&'a str], system: u32) -> &'a str
+/// The name of a system, and no text where there is none.
+pub fn name_of<'a>(names: &[&'a str], system: u32) -> &'a str
     ensures { result.now ≡ get_or (map (λ name. name.now) names.now) system [] }
 {
     match names.get(system as usize) {

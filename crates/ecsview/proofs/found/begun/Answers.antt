@@ -4,5 +4,5 @@ use Rattle.engine.proofs.Beginning.{has_first}
 use Rattle.ecsview.proofs.found.begun.Goals as goal
 
 -- it has the memories of the schedule
-pub returns : goal.returns
-returns c = subst (HasMemories c.args.built.now) (sym c.in_ok-state.ensures) (has_first c.args.built.now _)
+pub returns-clause-memories : goal.returns-clause-memories
+returns-clause-memories c = subst (HasMemories c.args.built.now) (sym c.in_ok-state.ensures) (has_first c.args.built.now _)
