@@ -172,7 +172,7 @@ impl Params {
         Ok(())
     }
 
-    /// Gives the system Commands, with so many ids that it is granted at each start.
+    /// Gives the system Commands, with `count` ids that it is granted at each start.
     pub fn set_spawns(&mut self, count: u32)
         ensures { self.new ≡ record self.old { spawns = Some count } }
     {

@@ -208,7 +208,7 @@ impl Archetypes {
     }
 
     /// Lists the archetypes that fit the shape of a number, by their numbers in rising order, in the room of a list. Whether a shape of this
-    /// number is kept: where none is the list tells nothing.
+    /// number is kept: where none is the list means nothing.
     pub fn fitting(&self, shape: usize, found: &mut Vec<usize>) -> Result<bool, AllocError>
         ensures { IfOk result (λ kept. IsTrue kept → found.new.items ≡ fitting_from shape 0 self.now.layout) }
     {
@@ -309,7 +309,7 @@ impl Archetypes {
         home_at(&mut self.tables, table, column);
     }
 
-    /// Makes these changes, no two of one index: each entity is left with just the components that are told. Where an allocation fails all rows stay
+    /// Makes these changes, no two of one index: each entity is left with just the components of its change. Where an allocation fails all rows stay
     /// as they were.
     pub fn change(&mut self, changes: &[EntityChange]) -> Result<(), AllocError>
         requires apart { AreOfOtherIndices changes.now }

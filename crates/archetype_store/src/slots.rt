@@ -280,7 +280,7 @@ impl Slots {
     }
 
     /// Lists the archetypes that fit the shape of a number, by their numbers in rising order, in the room of a list. Whether a shape of this
-    /// number is kept: where none is the list tells nothing.
+    /// number is kept: where none is the list means nothing.
     pub fn fitting(&self, shape: usize, found: &mut Vec<usize>) -> Result<bool, AllocError>
         ensures { IfOk result (λ kept. IsTrue kept → found.new.items ≡ fitting_from shape 0 self.now.layout) }
     {
@@ -301,7 +301,7 @@ impl Slots {
         self.archetypes.prove_apart();
     }
 
-    /// Grants so many ids: the least vacant indices, at their generations. After an error the slots are as they were.
+    /// Grants `count` ids: the least vacant indices, at their generations. After an error the slots are as they were.
     pub fn grant(&mut self, alloc: Global, count: u32) -> Result<Vec<Entity>, GrantFault>
         ensures ok { IfOk result (λ granted. granted.items ≡ ids.granted_ids count self.old.slots) }
         ensures granted { OnOk result (self.new.slots ≡ ids.grant count self.old.slots) }
@@ -361,7 +361,7 @@ impl Slots {
         self.book.release(ids);
     }
 
-    /// Makes these changes, no two of one index: each entity lives with just the components that are told, or no more. Where an allocation fails
+    /// Makes these changes, no two of one index: each entity lives with just the components of its change, or no more. Where an allocation fails
     /// the slots are as they were.
     pub fn change(&mut self, changes: &[EntityChange]) -> Result<(), AllocError>
         requires home { AreAllHome self.old.layout }

@@ -181,7 +181,7 @@ impl World {
     }
 
     /// Lists the archetypes that fit the shape of a number, by their numbers in rising order, in the room of a list. Whether a shape of this
-    /// number is kept: where none is the list tells nothing.
+    /// number is kept: where none is the list means nothing.
     pub fn fitting(&self, shape: usize, found: &mut Vec<usize>) -> Result<bool, AllocError>
         ensures { IfOk result (λ kept. IsTrue kept → found.new.items ≡ fitting_from shape 0 self.now.layout) }
     {
@@ -351,7 +351,7 @@ impl World {
         self.slots.prove_apart();
     }
 
-    /// Grants so many ids: the least vacant indices, at their generations. After an error nothing has changed.
+    /// Grants `count` ids: the least vacant indices, at their generations. After an error nothing has changed.
     pub fn grant(&mut self, alloc: Global, count: u32) -> Result<Vec<Entity>, GrantFault>
         ensures ok { IfOk result (λ granted. granted.items ≡ ids.granted_ids count self.old.state.slots) }
         ensures granted { OnOk result (self.new.state ≡ with_slots (ids.grant count) self.old.state) }
@@ -529,7 +529,7 @@ impl World {
         self.change(&[EntityChange { entity, fate }])
     }
 
-    /// Makes these changes, no two of one index: an entity that is left alive has just the components that are told, and no other's change. Where
+    /// Makes these changes, no two of one index: an entity that is left alive has just the components of its change, and no other entity changes. Where
     /// an allocation fails nothing has changed.
     pub fn change(&mut self, changes: &[EntityChange]) -> Result<(), AllocError>
         requires home { AreAllHome self.old.layout }

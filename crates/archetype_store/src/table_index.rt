@@ -94,7 +94,7 @@ impl TableIndex {
         self.by_word.find(word)
     }
 
-    /// Adds a table of other kinds, whose word is told. Where an allocation fails there is none.
+    /// Adds a table of other kinds, with its word. Where an allocation fails there is none.
     pub(crate) fn add(
         &mut self,
         tables: &mut Vec<Table>,
@@ -182,7 +182,7 @@ impl TableIndex {
         }
     }
 
-    /// Lists the archetypes that fit the shape of a number, in order, in the room of a list. Whether the shape is kept: else the list tells
+    /// Lists the archetypes that fit the shape of a number, in order, in the room of a list. Whether the shape is kept: else the list means
     /// nothing.
     pub(crate) fn find_fitting(
         &self,

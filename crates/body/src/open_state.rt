@@ -199,7 +199,7 @@ impl OpenState {
         self.world.next()
     }
 
-    /// Grants so many ids: the least vacant indices, at their generations. After an error nothing has changed.
+    /// Grants `count` ids: the least vacant indices, at their generations. After an error nothing has changed.
     pub fn grant(&mut self, alloc: Global, count: u32) -> Result<Vec<Entity>, GrantFault>
         ensures ok { IfOk result (λ granted. granted.items ≡ ids.granted_ids count self.old.state.world.slots) }
         ensures granted { OnOk result (self.new ≡ record { state = with_slots_in (ids.grant count self.old.state.world.slots) self.old.state; layout = self.old.layout }) }

@@ -23,7 +23,7 @@ pub enum BodyFault {
 }
 
 /// What runs in a system. `meaning` is what the body makes of parameters and what is shown: an outcome, or the number of a refusal. `fits`
-/// tells the parameters that it keeps within.
+/// says which parameters it keeps within.
 pub trait Body: Send + Drop {
     ghost meaning: { Self → Uses → Shown → Result Outcome ℕ };
 

@@ -32,7 +32,7 @@ pub struct ViewColumn {
     pub archetype: usize,
     /// Its components.
     pub cells: ColumnAccess,
-    /// The world that it is of, which tells whose components they are. It has no bytes.
+    /// The world that it is of, by which contracts see whose components they are. It has no bytes.
     pub world: Snapshot<World>,
 }
 

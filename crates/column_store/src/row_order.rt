@@ -45,7 +45,7 @@ impl RowOrder<'_> {
         }
     }
 
-    /// How many row numbers there are, where there are so many rows.
+    /// How many row numbers there are, by how many rows there are.
     pub fn len(&self, count: u32) -> usize
         ensures { result ≡ length (rows_in count self.now) }
     {
@@ -55,7 +55,7 @@ impl RowOrder<'_> {
         }
     }
 
-    /// The row number at a place of the order, where there are so many rows.
+    /// The row number at a place of the order, by how many rows there are.
     pub fn row(&self, count: u32, at: usize) -> u32
         requires { at < length (rows_in count self.now) }
         ensures { result ≡ get_or (rows_in count self.now) at 0 }

@@ -227,7 +227,7 @@ impl StampedColumn {
         self.stamps.swap_remove(place);
     }
 
-    /// Makes room for so many further components. Where an allocation fails there may be room for fewer.
+    /// Makes room for `further` more components. Where an allocation fails there may be room for fewer.
     pub fn reserve(&mut self, further: usize) -> Result<(), AllocError>
         ensures same { self.new ≡ record self.old { room = self.new.room } }
         ensures room { self.old.room ≤ self.new.room }

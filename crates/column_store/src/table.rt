@@ -267,7 +267,7 @@ impl Table {
         );
     }
 
-    /// Makes room for so many rows more than before. Where an allocation fails the table stays as it was.
+    /// Makes room for `further` more rows. Where an allocation fails the table stays as it was.
     pub fn reserve(&mut self, further: usize) -> Result<(), AllocError>
         requires { IsTrue (list_all is_owned self.old.standings) }
         ensures ok { OnOk result (self.new ≡ record self.old { room = self.old.room + further }) }

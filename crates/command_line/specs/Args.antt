@@ -1,5 +1,5 @@
 -- What a command line may ask for, and the exit status of one that is at fault.
-use Rattle.std.specs.Prelude.{ℕ, ◌≡◌, ◌≤◌, ◌==◌, ◌||◌, Bool, true, false, List, [], ◌∷◌, ◌++◌, Option, Some, None, codes, string_bytes, drop, take_while, slice_index, not}
+use Rattle.std.specs.Prelude.{ℕ, ◌≡◌, ◌≤◌, ◌||◌, Bool, true, false, List, [], ◌∷◌, ◌++◌, codes, string_bytes, drop, take_while, not}
 use Rattle.std.specs.List.{list_any}
 use Rattle.std.specs.Str.{bytes_eq}
 use Rattle.std.specs.declared.string.String.{String}
@@ -65,11 +65,6 @@ abbrev pub IsToldOf : ErrorKind → LineFault → Type 0
 IsToldOf kind (Help told) = is_help kind ≡ true
 IsToldOf kind (Usage told) = is_help kind ≡ false
 IsToldOf kind Memory = Unit {0}
-
--- whether the value of an argument begins with a plus
-abbrev pub begins_with_plus : Option (List ℕ) → Bool
-begins_with_plus None = false
-begins_with_plus (Some value) = slice_index value 0 == 43
 
 -- whether a word asks for help
 abbrev pub is_help_word : List ℕ → Bool

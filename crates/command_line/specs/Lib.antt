@@ -1,1 +1,4 @@
 pub mod Args
+pub mod Grammar
+pub mod Values
+pub mod Asked

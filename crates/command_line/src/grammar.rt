@@ -1,7 +1,9 @@
-// What the parser of a command line is told, as plain data, and what it finds in a line.
+// The commands of a program as plain data, for the parser of its command line, and what the parser finds in a line.
 
-ghost use Rattle.std.specs.Prelude.{◌≡◌, ◌||◌, false, IfOk};
+ghost use Rattle.std.specs.Prelude.{◌≡◌, ◌++◌, ◌∷◌, [], IfErr, IfOk, OnOk, map};
+ghost use Rattle.clap.specs.Words.{app_of};
 ghost use Rattle.command_line.specs.Args.{asks_help, is_help_word};
+ghost use Rattle.command_line.specs.Grammar.{IsFound, IsHelpOrMemory, IsMatched, IsUnfound, IsUnmatched, app_of_grammar, arg_read, argument_placed, argument_read, command_read, subcommand_read};
 
 use crate::args::LineFault;
 use clap::builder::ValueParser;
@@ -34,6 +36,7 @@ pub struct Subcommand {
 }
 
 /// What a program takes: one of its commands, with its arguments.
+#[derive(Drop)]
 pub struct Grammar {
     /// The name of the program.
     pub program: &'static str,
@@ -45,7 +48,8 @@ impl Grammar {
     /// What the words of a command line name, of which the first is the program's own name. Where `--help` stands in a line it is asked for,
     /// whatever else is at fault there.
     pub fn read<'a>(&self, alloc: Global, words: &'a [String]) -> Result<ArgMatches<'a>, LineFault>
-        ensures { IfOk result (λ _. asks_help words.now ≡ false) }
+        ensures ok { IfOk result (IsMatched self.now words.now) }
+        ensures err { IfErr result (IsUnmatched self.now words.now) }
     {
         if asks_for_help(words) {
             return Err(self.help_for(alloc, words));
@@ -54,7 +58,9 @@ impl Grammar {
     }
 
     // The help for the command that some words name, or for the program where they name none.
-    fn help_for(&self, alloc: Global, words: &[String]) -> LineFault {
+    fn help_for(&self, alloc: Global, words: &[String]) -> LineFault
+        ensures { IsHelpOrMemory result }
+    {
         match words.get(1) {
             Some(name) if self.has_subcommand(name.as_str()) => {
                 self.help_on(alloc, self.program, name.as_str())
@@ -64,7 +70,9 @@ impl Grammar {
     }
 
     // The help for a command of the program of this name.
-    fn help_on<'b>(&self, alloc: Global, program: &'b str, subcommand: &'b str) -> LineFault {
+    fn help_on<'b>(&self, alloc: Global, program: &'b str, subcommand: &'b str) -> LineFault
+        ensures { IsHelpOrMemory result }
+    {
         self.help_of(alloc, &[program, subcommand, "--help"])
     }
 
@@ -75,11 +83,14 @@ impl Grammar {
             .any(|subcommand| subcommand.name == name)
     }
 
-    // The help that a line asks for.
-    fn help_of(&self, alloc: Global, words: &[&str]) -> LineFault {
+    // What the parser prints for a line that asks for help, as help. (It finds no work in such a line.)
+    fn help_of(&self, alloc: Global, words: &[&str]) -> LineFault
+        ensures { IsHelpOrMemory result }
+    {
         match self.matches_of(alloc, words) {
-            Ok(_) => LineFault::usage(alloc, "error: no help is there\n"),
-            Err(fault) => fault,
+            Ok(_) => LineFault::Help(String::new(alloc)),
+            Err(LineFault::Help(text) | LineFault::Usage(text)) => LineFault::Help(text),
+            Err(LineFault::Memory) => LineFault::Memory,
         }
     }
 
@@ -88,20 +99,27 @@ impl Grammar {
         &self,
         alloc: Global,
         words: &'a [S],
-    ) -> Result<ArgMatches<'a>, LineFault> {
+    ) -> Result<ArgMatches<'a>, LineFault>
+        ensures ok { IfOk result (IsFound (app_of_grammar self.now) (map S.text words.now)) }
+        ensures err { IfErr result (IsUnfound (app_of_grammar self.now) (map S.text words.now)) }
+    {
         match self.command(alloc)?.try_get_matches_from(words) {
             Ok(matches) => Ok(matches),
             Err(error) => Err(LineFault::of(alloc, &error)),
         }
     }
 
-    // The program as the parser is told it.
-    fn command<'a>(&self, alloc: Global) -> Result<Command<'a>, AllocError> {
+    // The program as the parser has it.
+    fn command<'a>(&self, alloc: Global) -> Result<Command<'a>, AllocError>
+        ensures { IfOk result (λ command. app_of command ≡ app_of_grammar self.now) }
+    {
         self.parser(alloc)?.bin_name(self.program)
     }
 
     // The same, before it has a name in what it prints.
-    fn parser<'a>(&self, alloc: Global) -> Result<Command<'a>, AllocError> {
+    fn parser<'a>(&self, alloc: Global) -> Result<Command<'a>, AllocError>
+        ensures { IfOk result (λ command. app_of command ≡ app_of_grammar self.now) }
+    {
         let commands = commands(alloc, self.subcommands)?;
         Command::new(alloc, self.program)
             .subcommand_required(true)
@@ -127,8 +145,10 @@ fn is_help(word: &str) -> bool
     word == "--help" || word == "-h"
 }
 
-// These commands as the parser is told them.
-fn commands<'a>(alloc: Global, subcommands: &[Subcommand]) -> Result<Vec<Command<'a>>, AllocError> {
+// These commands as the parser has them.
+fn commands<'a>(alloc: Global, subcommands: &[Subcommand]) -> Result<Vec<Command<'a>>, AllocError>
+    ensures { IfOk result (λ commands. map command_read commands.items ≡ map subcommand_read subcommands.now) }
+{
     let mut commands = Vec::new(alloc);
     for subcommand in subcommands {
         add_command(alloc, subcommand, &mut commands)?;
@@ -141,22 +161,28 @@ fn add_command<'a>(
     alloc: Global,
     subcommand: &Subcommand,
     commands: &mut Vec<Command<'a>>,
-) -> Result<(), AllocError> {
+) -> Result<(), AllocError>
+    ensures { OnOk result (map command_read commands.new.items ≡ map command_read commands.old.items ++ subcommand_read subcommand.now ∷ []) }
+{
     let command = command_of(alloc, subcommand)?;
     commands.push(command)?;
     Ok(())
 }
 
-// A command as the parser is told it.
-fn command_of<'a>(alloc: Global, subcommand: &Subcommand) -> Result<Command<'a>, AllocError> {
+// A command as the parser has it.
+fn command_of<'a>(alloc: Global, subcommand: &Subcommand) -> Result<Command<'a>, AllocError>
+    ensures { IfOk result (λ command. command_read command ≡ subcommand_read subcommand.now) }
+{
     let args = arguments(alloc, subcommand.arguments)?;
     Command::new(alloc, subcommand.name)
         .about(subcommand.about)
         .args(args)
 }
 
-// These arguments as the parser is told them.
-fn arguments<'a>(alloc: Global, arguments: &[Argument]) -> Result<Vec<Arg<'a>>, AllocError> {
+// These arguments as the parser has them.
+fn arguments<'a>(alloc: Global, arguments: &[Argument]) -> Result<Vec<Arg<'a>>, AllocError>
+    ensures { IfOk result (λ args. map arg_read args.items ≡ map argument_read arguments.now) }
+{
     let mut args = Vec::new(alloc);
     for argument in arguments {
         add_argument(alloc, argument, &mut args)?;
@@ -169,13 +195,17 @@ fn add_argument<'a>(
     alloc: Global,
     argument: &Argument,
     args: &mut Vec<Arg<'a>>,
-) -> Result<(), AllocError> {
+) -> Result<(), AllocError>
+    ensures { OnOk result (map arg_read args.new.items ≡ map arg_read args.old.items ++ argument_read argument.now ∷ []) }
+{
     args.push(argument_of(alloc, argument))?;
     Ok(())
 }
 
-// An argument as the parser is told it, whose value is a number where it has a range.
-fn argument_of<'a>(alloc: Global, argument: &Argument) -> Arg<'a> {
+// An argument as the parser has it, whose value is a number where it has a range.
+fn argument_of<'a>(alloc: Global, argument: &Argument) -> Arg<'a>
+    ensures { arg_read result ≡ argument_read argument.now }
+{
     let arg = placed(alloc, argument);
     match argument.range {
         Some((least, most)) => arg.value_parser(ValueParser::Signed(least, most)),
@@ -184,7 +214,9 @@ fn argument_of<'a>(alloc: Global, argument: &Argument) -> Arg<'a> {
 }
 
 // The same, whatever its value. One without a long name has to be given.
-fn placed<'a>(alloc: Global, argument: &Argument) -> Arg<'a> {
+fn placed<'a>(alloc: Global, argument: &Argument) -> Arg<'a>
+    ensures { arg_read result ≡ argument_placed argument.now }
+{
     let arg = Arg::new(alloc, argument.id)
         .value_name(argument.value)
         .help(argument.help);

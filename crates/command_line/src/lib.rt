@@ -1,8 +1,10 @@
-// The command line: its words, what a parser is told of it, and what a user asks for.
+// The command line: its words, the commands that a parser reads in them, and what a user asks for.
 #![tactic(auto)]
 
 pub mod args;
 pub mod grammar;
+mod reading;
+pub mod values;
 pub mod words;
 
 pub use args::{Args, LineFault, Work};

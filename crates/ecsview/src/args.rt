@@ -1,12 +1,14 @@
 // The command line.
 
-ghost use Rattle.std.specs.Prelude.{◌≡◌, IfOk};
-ghost use Rattle.ecsview.specs.Asked.{IsCounted};
+ghost use Rattle.std.specs.Prelude.{◌≡◌, IfErr, IfOk, Some, codes};
+ghost use Rattle.clap.specs.Words.{first_of, found_of, rows_of, subcommand_rows_of};
+ghost use Rattle.command_line.specs.Grammar.{IsIdle, IsNoWork, app_of_grammar, asked_for, work_in};
+ghost use Rattle.ecsview.specs.Asked.{asked_by, asked_of, asked_on, ecsview_program, steps_asked, steps_of_run, work_asked};
 
 use clap::ArgMatches;
 use command_line::LineFault;
-use command_line::args::has_plus;
 use command_line::grammar::{Argument, Grammar, Subcommand};
+use command_line::values::{number_between, value_of};
 use std::alloc::Global;
 
 /// What is asked for.
@@ -101,58 +103,95 @@ const GRAMMAR: Grammar = Grammar {
 };
 
 impl<'a> Args<'a> {
-    /// Reads the words of a command line, of which the first is the program's own name. A run that is asked for is counted from 1.
+    /// Reads the words of a command line, of which the first is the program's own name: `schedule FILE`, `lanes FILE TRACE`, `races FILE`,
+    /// `diverge FILE TRACE OTHER` or `steps FILE TRACE [--run N]`, where N is from 1 to 4,294,967,295, spelled in decimal digits alone. Where
+    /// `--help` stands in a line it is asked for, whatever else is at fault there.
     pub fn read(alloc: Global, words: &'a [String]) -> Result<Args<'a>, LineFault>
-        ensures { IfOk result (λ args. IsCounted args.work) }
+        ensures ok { IfOk result (λ args. asked_for asked_by ecsview_program words.now ≡ Some (asked_of args)) }
+        ensures err { IfErr result (IsNoWork asked_by ecsview_program words.now) }
     {
-        Args::of_matches(alloc, &GRAMMAR.read(alloc, words)?)
+        let grammar = grammar();
+        let matches = grammar.read(alloc, words)?;
+        Args::of_matches(alloc, &matches)
     }
 
-    // The work that the matches of a line ask for.
+    // What the matches of a line ask for.
     fn of_matches(alloc: Global, matches: &ArgMatches<'a>) -> Result<Args<'a>, LineFault>
-        ensures { IfOk result (λ args. IsCounted args.work) }
+        ensures ok { IfOk result (λ args. work_in asked_by (subcommand_rows_of matches.now) ≡ Some (asked_of args)) }
+        ensures err { IfErr result (IsIdle (work_in asked_by (subcommand_rows_of matches.now))) }
     {
-        if let Some(found) = matches.subcommand_matches("schedule") {
-            return Ok(Args::of(found, Work::Schedule));
+        match matches.subcommand() {
+            Some((name, found)) => Args::of_command(alloc, name, found),
+            None => Err(LineFault::usage(alloc, "error: no command is named\n")),
         }
-        if let Some(found) = matches.subcommand_matches("lanes") {
-            return Ok(Args::of(found, Work::Lanes));
-        }
-        if let Some(found) = matches.subcommand_matches("races") {
-            return Ok(Args::of(found, Work::Races));
-        }
-        if let Some(found) = matches.subcommand_matches("diverge") {
-            return Ok(Args::of(found, Work::Diverge));
-        }
-        if let Some(found) = matches.subcommand_matches("steps") {
-            return Args::of_steps(alloc, found);
-        }
-        Err(LineFault::usage(alloc, "error: no command is named\n"))
     }
 
-    // The worlds that the matches of `steps` ask for.
-    fn of_steps(alloc: Global, found: &ArgMatches<'a>) -> Result<Args<'a>, LineFault>
-        ensures { IfOk result (λ args. IsCounted args.work) }
+    // What a command of this name with these values asks for.
+    fn of_command(
+        alloc: Global,
+        name: &str,
+        found: &ArgMatches<'a>,
+    ) -> Result<Args<'a>, LineFault>
+        ensures ok { IfOk result (λ args. asked_by name.now (rows_of (found_of found.now)) ≡ Some (asked_of args)) }
+        ensures err { IfErr result (IsIdle (asked_by name.now (rows_of (found_of found.now)))) }
     {
-        if has_plus(found, "run") {
-            return Err(LineFault::usage(alloc, "error: a number has no plus\n"));
+        match work_of(name, found) {
+            Some(work) => Ok(Args::of(found, work)),
+            None => Err(LineFault::usage(
+                alloc,
+                "error: runs are counted from 1, in digits alone\n",
+            )),
         }
-        let run = found.get_one::<u32>("run");
-        if run == Some(0) {
-            return Err(LineFault::usage(alloc, "error: runs are counted from 1\n"));
-        }
-        Ok(Args::of(found, Work::Steps(run)))
     }
 
     // The work, on the files that the matches name.
-    fn of(matches: &ArgMatches<'a>, work: Work) -> Args<'a>
-        ensures { result.work ≡ work }
+    fn of(found: &ArgMatches<'a>, work: Work) -> Args<'a>
+        ensures { asked_of result ≡ asked_on (rows_of (found_of found.now)) work }
     {
         Args {
-            file: matches.get_str("file").unwrap_or(""),
-            trace: matches.get_str("trace").unwrap_or(""),
-            other: matches.get_str("other").unwrap_or(""),
+            file: value_of(found, "file"),
+            trace: value_of(found, "trace"),
+            other: value_of(found, "other"),
             work,
         }
     }
+}
+
+// These commands, which are those of the definitions.
+fn grammar() -> Grammar
+    ensures { app_of_grammar result ≡ ecsview_program }
+{
+    GRAMMAR
+}
+
+// The work of a command of this name with these values.
+fn work_of(name: &str, found: &ArgMatches<'_>) -> Option<Work>
+    ensures { result ≡ work_asked name.now (rows_of (found_of found.now)) }
+{
+    match name {
+        "schedule" => Some(Work::Schedule),
+        "lanes" => Some(Work::Lanes),
+        "races" => Some(Work::Races),
+        "diverge" => Some(Work::Diverge),
+        "steps" => steps_of(found),
+        _ => None,
+    }
+}
+
+// The steps of the run that an option names, or of all.
+fn steps_of(found: &ArgMatches<'_>) -> Option<Work>
+    ensures { result ≡ steps_asked (first_of (codes "run") (rows_of (found_of found.now))) }
+{
+    match found.get_str("run") {
+        Some(text) => steps_of_run(text),
+        None => Some(Work::Steps(None)),
+    }
+}
+
+// The steps of the run of this number.
+fn steps_of_run(text: &str) -> Option<Work>
+    ensures { result ≡ steps_of_run text.now }
+{
+    let run = number_between(text, 1, u32::MAX)?;
+    Some(Work::Steps(Some(run)))
 }

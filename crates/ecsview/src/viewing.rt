@@ -24,7 +24,7 @@ pub struct Shown {
     pub status: u8,
 }
 
-/// Does the work of a command line. What it prints goes to `out`, whole; what goes wrong is told to `faults` in one line, and nothing else is. Gives
+/// Does the work of a command line. What it prints goes to `out`, whole; what goes wrong is reported to `faults` in one line, and nothing else is. Gives
 /// the exit status: 0 or 1 where all is printed, else that of the fault.
 pub fn view<F: Read, O: Write, E: Write>(
     alloc: Global,

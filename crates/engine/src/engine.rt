@@ -86,7 +86,7 @@ impl<B: Body> Engine<B> {
         })
     }
 
-    /// Runs the schedule so many times, in the mode: each run opens, does what is ready while fewer systems run than the mode has room for,
+    /// Runs the schedule `times` times, in the mode: each run opens, does what is ready while fewer systems run than the mode has room for,
     /// waits for one that ends else, and answers its trace once all have ended. `Memory` where an allocation fails, `ClockSpent` where a step
     /// has no next tick or an event no number, `IdsSpent` where a start lacks its ids, `BodyFault` where a body refuses, `NoWorker` where a
     /// thread couldn't be started; each spoils the engine, and from then on every run answers `Spoiled` and changes nothing. What the state is

@@ -10,7 +10,7 @@ use change_ticks::ClockSpent;
 use event_buffers::SendFault;
 use std::alloc::{AllocError, AllocFailed};
 
-/// Why a step of a run stops it. A run tells of it by a `RunFault`.
+/// Why a step of a run stops it. A run reports it as a `RunFault`.
 #[derive(Clone, Copy)]
 pub enum Stop {
     /// An allocation failed.

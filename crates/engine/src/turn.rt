@@ -38,7 +38,7 @@ impl Done {
     }
 }
 
-/// What is next with so many systems running and room for so many: what is ready where there is room, else a job that comes back. None
+/// What is next, by how many systems run and for how many there is room: what is ready where there is room, else a job that comes back. None
 /// where nothing is ready and nothing runs.
 pub(crate) fn next_turn(core: &Core<'_>, running: usize, width: usize) -> Option<Turn>
     requires room { running ≤ width }

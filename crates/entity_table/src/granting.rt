@@ -22,7 +22,7 @@ pub(crate) fn sum_of(counts: &[u32]) -> usize
     total
 }
 
-/// Makes these lists ready for the ids of each count: a list for each, empty and with room for so many ids. What was in them is gone. The
+/// Makes these lists ready for the ids of each count: a list for each, empty and with room for as many ids. What was in them is gone. The
 /// lists that are there keep their room, so where that is enough no memory is taken.
 pub(crate) fn make_ready(
     alloc: Global,
@@ -79,7 +79,7 @@ pub(crate) fn grant_lists(
     }
 }
 
-/// Grants so many ids one after the other, for which there is room.
+/// Grants `count` ids one after the other, for which there is room.
 pub(crate) fn grant_each(
     places: &mut Vec<EntityMeta>,
     vacant: &mut MinHeap,

@@ -36,7 +36,7 @@ impl MinHeap {
         }
     }
 
-    /// The same numbers, with room for so many in all.
+    /// The same numbers, with room for `room` in all.
     pub fn copy(&self, alloc: Global, room: usize) -> Result<Self, AllocError>
         ensures same { IfOk result (λ copy. copy.rising ≡ self.now.rising) }
         ensures room { IfOk result (λ copy. room ≤ copy.room) }
@@ -57,7 +57,7 @@ impl MinHeap {
         self.heap.len()
     }
 
-    /// Makes room for so many numbers in all.
+    /// Makes room for `count` numbers in all.
     pub fn make_room(&mut self, count: usize) -> Result<(), AllocError>
         ensures same { self.new.rising ≡ self.old.rising }
         ensures room { self.old.room ≤ self.new.room }

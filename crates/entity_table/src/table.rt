@@ -133,7 +133,7 @@ impl EntityTable {
         next_living_in(self.places.as_slice(), from)
     }
 
-    /// Grants so many ids: the least vacant indices, at their generations. It makes the room that `settle`, `release` and `despawn`
+    /// Grants `count` ids: the least vacant indices, at their generations. It makes the room that `settle`, `release` and `despawn`
     /// need later. After an error nothing has changed.
     pub fn grant(&mut self, alloc: Global, count: u32) -> Result<Vec<Entity>, GrantFault>
         ensures ok { IfOk result (λ granted. granted.items ≡ ids.granted_ids count self.old) }

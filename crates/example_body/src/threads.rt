@@ -46,7 +46,7 @@ fn text_of<B: Body>(alloc: Global, engine: &Engine<B>, times: u32) -> Option<Str
     text_of_world(alloc, times, state.world(), state.passed_over()).ok()
 }
 
-/// The text of the world after so many runs, each body in a thread of its own. None where a run stops by a fault.
+/// The text of the world after some runs, each body in a thread of its own. None where a run stops by a fault.
 pub fn text_after<R: Threads + Wait + Copy + Send + Sync + 'static, B: Body + 'static>(
     runtime: R,
     alloc: Global,

@@ -140,7 +140,7 @@ impl<'a> Core<'a> {
         self.judge(step)
     }
 
-    /// Takes a step: accepted exactly where it may come, else the first fault of it is told and nothing changes. Of a run that records kind
+    /// Takes a step: accepted exactly where it may come, else its first fault is returned and nothing changes. Of a run that records kind
     /// sets a sync point is taken by `sync_in`: after one that is taken here nothing is known of such a core.
     pub fn step(&mut self, step: Step) -> Result<(), StepFault>
         ensures accepts { (sets : Option (List (List ℕ))) (h : List Step) → Stands self.old sets h → IsOk result ↔ May (recording self.old.schedule sets) h step }
@@ -165,7 +165,7 @@ impl<'a> Core<'a> {
         self.take(step);
     }
 
-    /// Takes a sync point of a run that records kind sets: these after it. Accepted exactly where it may come, else its first fault is told and
+    /// Takes a sync point of a run that records kind sets: these after it. Accepted exactly where it may come, else its first fault is returned and
     /// nothing changes.
     pub fn sync_in(&mut self, sync: u32, sets: &KindSets) -> Result<(), StepFault>
         ensures accepts { (lists : Option (List (List ℕ))) (h : List Step) → Stands self.old lists h → IsOk result ↔ May (recording self.old.schedule lists) h (Sync sync) }

@@ -20,9 +20,9 @@ use std::alloc::Global;
 /// What two traces come to.
 #[derive(Drop)]
 pub enum Parting {
-    /// The worlds are the same after each of so many runs, which is all of both.
+    /// The worlds are the same after each run, and both traces have this many.
     None(usize),
-    /// So are those of the first runs, and one trace has more.
+    /// The worlds are the same after each of the first runs, and one trace has more.
     Longer(usize),
     /// After this run, counted from 1, the worlds differ for the first time: their texts.
     After(usize, String, String),

@@ -21,7 +21,7 @@ use std::alloc::Global;
 use trace_checker::ReplayFault;
 
 /// The runs of a trace, taken again one after the other: how many there are, and the world after each sync point of the run that is asked for, counted
-/// from 1, or of all. Each world is told as one behind the runs before it.
+/// from 1, or of all. Each world is printed as one behind the runs before it.
 pub fn story_of(
     alloc: Global,
     built: &Built,

@@ -40,14 +40,14 @@ pub fn lists_go_on()
     ensures ready { ReadyIsAccepted }
 {}
 
-/// A step that may not come has a fault that is told, one that may has none, and no step has two. The fault can be computed.
+/// A step that may not come has a fault that is reported, one that may has none, and no step has two. The fault can be computed.
 pub fn faults_are_exact()
     ensures exact { FaultsAreExact }
     ensures computed { FaultsAreComputed }
     ensures lists { ListsAreComputed }
 {}
 
-/// In a list with room for so many running systems no more run at any place, and where there is room and something is ready no finish is
+/// In a list with room for n running systems no more than n run at any place, and where there is room and something is ready no finish is
 /// taken.
 pub fn wide_lists_keep_width()
     ensures most { AtMostRun }

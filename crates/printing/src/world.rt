@@ -12,7 +12,7 @@ use column_store::{Components, StampedValue};
 use kinds::{Res, Value};
 use std::alloc::{AllocError, Global};
 
-/// The text of a world after so many runs, in which so many commands were passed over: the number of runs, each resource, each
+/// The text of a world after `runs` runs, in which `passed_over` commands were passed over: the number of runs, each resource, each
 /// living entity in rising index, the count of commands passed over, a line for each.
 pub fn text_of_world(
     alloc: Global,

@@ -38,7 +38,7 @@ pub enum Fault {
     TraceLine(usize),
     /// This line of a trace, counted from 1, begins another run than the next one, or is a step before any run.
     TraceOrder(usize),
-    /// Where this line of a trace, counted from 1, stands or is missing, kind sets are wanted and not told, or told and not wanted.
+    /// Where this line of a trace, counted from 1, stands or is missing, kind sets are wanted and missing, or there and not wanted.
     TraceLists(usize),
     /// This step of this run of a trace, both counted from 1, is the first that may not come, for this fault.
     BadStep {

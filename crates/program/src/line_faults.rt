@@ -1,4 +1,4 @@
-// What is told of a command line that asks for no work.
+// What is printed for a command line that asks for no work.
 
 ghost use Rattle.program.specs.LineTold.{IsHelp, IsLineTold};
 
@@ -9,8 +9,8 @@ use std::alloc::Global;
 use std::io::Write;
 use streams::writing::write_whole;
 
-/// Tells of a command line that asks for no work, and gives the exit status. Help goes to `out`, and what is at fault to `faults`. Where help can't
-/// be written that is told as a failure of the output is.
+/// Prints help or reports what is wrong, for a command line that asks for no work, and gives the exit status. Help goes to `out`, and what is at fault to `faults`. Where help can't
+/// be written that is reported as a failure of the output is.
 pub fn tell_line_fault<O: Write, E: Write>(
     alloc: Global,
     out: &mut O,

@@ -19,7 +19,7 @@ use schedule_builder::{Built, ChainDesc, ItemDesc, ScheduleDesc, SystemDesc};
 use script::{Block, CheckFault, ScriptBody};
 use std::alloc::{AllocError, Global};
 
-/// What a system of a program file does: the name by which it is told, and its blocks.
+/// What a system of a program file does: the name by which it is reported, and its blocks.
 #[derive(Drop)]
 pub(crate) struct Code<'a> {
     /// The name of the system.
@@ -240,7 +240,7 @@ pub(crate) fn names_of<'a>(alloc: Global, codes: &[Code<'a>]) -> Result<Vec<&'a 
     Ok(names)
 }
 
-/// The scripts of the systems of a schedule, each of the blocks of its code. The first that doesn't fit its system is told with the
+/// The scripts of the systems of a schedule, each of the blocks of its code. The first that doesn't fit its system is reported with the
 /// system's name.
 pub(crate) fn bodies_of(
     alloc: Global,

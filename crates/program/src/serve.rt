@@ -41,8 +41,8 @@ use toml::Table;
 use worker_pool::Mode;
 
 /// Does the work of a command line: reads the program file, and the trace where one is checked or replayed, and writes to `out` the world
-/// that so many runs of its schedule in the mode leave, the report of which of its systems race, what it says of the trace, or the world
-/// that the runs of the trace leave. Runs that are recorded are written to `traces` first. What goes wrong is told to `faults` in one line,
+/// that the runs of its schedule in the mode leave, the report of which of its systems race, what it says of the trace, or the world
+/// that the runs of the trace leave. Runs that are recorded are written to `traces` first. What goes wrong is reported to `faults` in one line,
 /// and nothing else is. Gives the exit status: 0 where the work is done, 1 where the content is refused or a run of the trace is not
 /// complete, 3 where input, output, memory or a thread fail.
 pub fn serve<'s, M: Mode<'s>, F: Read, T: Read, R: Write, O: Write, E: Write>(
@@ -235,7 +235,7 @@ fn write_record<R: Write>(traces: &mut R, work: Work, text: &str) -> Result<(), 
 }
 
 /// Tells of a fault in one line, written in one call where the writer takes it whole, and gives the exit status. The status stays where
-/// the line can't be written. Where an allocation fails for the line, that is told, with the status of it.
+/// the line can't be written. Where an allocation fails for the line, that is reported, with its status.
 pub fn tell<E: Write>(alloc: Global, faults: &mut E, fault: &Fault) -> u8
     ensures { Tells fault.now result (E.contents faults.old, E.contents faults.new) }
 {

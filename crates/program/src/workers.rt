@@ -14,7 +14,7 @@ use worker_pool::{NoGate, Workers};
 // The gate of the program's workers, which lets all pass.
 const NO_GATE: NoGate = NoGate;
 
-/// Does the work of a command line with so many workers, at least one and at most 64, in threads of the scope.
+/// Does the work of a command line with `workers` workers, at least one and at most 64, in threads of the scope.
 pub fn serve_in_scope<
     's,
     V: 's,

@@ -9,7 +9,7 @@ use std::alloc::{AllocError, AllocFailed};
 use std::error::Error;
 use std::fmt;
 
-/// Why a program file is not read. It is printed as the line that tells of it, without its end.
+/// Why a program file is not read. It is printed as the line that reports it, without its end.
 #[derive(Clone, Copy, PartialEq, Eq, Debug)]
 pub enum FileFault {
     /// The file is no TOML document.

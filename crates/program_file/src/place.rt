@@ -5,7 +5,7 @@ ghost use Rattle.program_file.specs.FaultText.{place_text};
 
 use std::fmt;
 
-/// A place of a program file, by which a refusal is told. Entities, sets, systems and chains are numbered from 0 in the
+/// A place of a program file, as a refusal names it. Entities, sets, systems and chains are numbered from 0 in the
 /// order of the file.
 #[derive(Clone, Copy, PartialEq, Eq, Debug)]
 pub enum Place {

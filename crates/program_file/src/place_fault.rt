@@ -21,7 +21,7 @@ pub enum PlaceFault {
 }
 
 impl PlaceFault {
-    /// The fault that is told of a place.
+    /// The fault that is reported of a place.
     pub fn at(self, place: Place) -> FileFault
         ensures fault { result ≡ fault_at place self }
         ensures of_place { IsOfPlace result }

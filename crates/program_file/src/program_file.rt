@@ -174,7 +174,7 @@ const BLOCK_KEYS: [&str; 3] = ["each", "events", "code"];
 
 impl<'a> ProgramFile<'a> {
     /// Reads a document. The places are looked at in this order: the top, the resources, each entity, each set, each system,
-    /// each chain. A fault is told with its place.
+    /// each chain. A fault is reported with its place.
     pub fn read(alloc: Global, document: &'a Table) -> Result<ProgramFile<'a>, FileFault>
         ensures keys { IfOk result (λ _. HasOnly keys_of_document (table_view document.now)) }
         ensures resources { IfOk result (λ file. AreResourcesIn (table_view document.now) file.resources) }

@@ -17,7 +17,7 @@ use run_condition::Cond;
 use script::Instruction;
 use std::alloc::Global;
 
-/// The queries that texts spell, in order. `Text` tells of one that spells none.
+/// The queries that texts spell, in order. `Text` is for one that spells none.
 pub fn queries_of(alloc: Global, texts: &[&str]) -> Result<Vec<Query>, PlaceFault>
     ensures ok { IfOk result (λ queries. AreSpelled IsQuery queries.items (map (λ text. text.now) texts.now)) }
     ensures count { IfOk result (λ queries. vec_len queries ≡ length texts.now) }
@@ -32,7 +32,7 @@ pub fn queries_of(alloc: Global, texts: &[&str]) -> Result<Vec<Query>, PlaceFaul
     Ok(queries)
 }
 
-/// The conditions that texts spell, in order. `Text` tells of one that spells none.
+/// The conditions that texts spell, in order. `Text` is for one that spells none.
 pub fn conditions_of(alloc: Global, texts: &[&str]) -> Result<Vec<Cond>, PlaceFault>
     ensures ok { IfOk result (λ conditions. AreSpelled IsCondition conditions.items (map (λ text. text.now) texts.now)) }
     ensures outside { IsErrOf result PlaceFault.Text → Any (λ text. SpellsNone IsCondition text.now) texts.now }
@@ -46,7 +46,7 @@ pub fn conditions_of(alloc: Global, texts: &[&str]) -> Result<Vec<Cond>, PlaceFa
     Ok(conditions)
 }
 
-/// The instructions that texts spell, in order. `Text` tells of one that spells none.
+/// The instructions that texts spell, in order. `Text` is for one that spells none.
 pub fn instructions_of(alloc: Global, texts: &[&str]) -> Result<Vec<Instruction>, PlaceFault>
     ensures ok { IfOk result (λ code. AreSpelled IsInstruction code.items (map (λ text. text.now) texts.now)) }
     ensures outside { IsErrOf result PlaceFault.Text → Any (λ text. SpellsNone IsInstruction text.now) texts.now }

@@ -29,7 +29,7 @@ pub enum BadQuery {
 }
 
 impl BadQuery {
-    /// The number of the fault, by which the least is told.
+    /// The number of the fault: of several, the least is reported.
     pub fn number(self) -> u32
         ensures { result ≡ fault_number self }
     {

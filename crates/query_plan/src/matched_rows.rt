@@ -16,7 +16,7 @@ use std::alloc::{AllocError, Global};
 /// Where the rows of a query stand in a world.
 #[derive(Drop)]
 pub enum MatchedRows {
-    /// The rows are the entities of the archetype of a number, all of them, in order. There are so many.
+    /// The rows are the entities of the archetype of a number, all of them, in order. With their count.
     All(u32, u32),
     /// The rows one by one.
     Listed(Vec<Row>),

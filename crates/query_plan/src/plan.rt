@@ -21,7 +21,7 @@ use std::alloc::{AllocError, Global};
 
 /// The plan of a query for an observer with this last run: its rows, in rising index, each with the place where its components are,
 /// and the columns that it picks. Archetypes that the query doesn't match are passed over, and no column is read but those whose stamps its
-/// filters ask for. Where one archetype alone is matched, its rows stand in rising ids and no filter asks for stamps, the rows are told by its
+/// filters ask for. Where one archetype alone is matched, its rows stand in rising ids and no filter asks for stamps, the rows are given by its
 /// number, and nothing grows with their count; listed rows come in buffers of this room, and the picks in a list of it. Over several archetypes
 /// they are found by a walk over the indices, where that is likely sooner than to merge those of each. The columns that it picks are at home.
 pub fn plan(

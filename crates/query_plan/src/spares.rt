@@ -1,6 +1,6 @@
 // What is used again: lists and boxes that nobody reads any more.
 
-ghost use Rattle.std.specs.Prelude.{◌≡◌, []};
+ghost use Rattle.std.specs.Prelude.{◌≡◌, ◌-◌, []};
 ghost use Rattle.query_plan.specs.Spares.{IsTaken, IsGiven};
 
 use std::alloc::Global;
@@ -47,7 +47,8 @@ impl<T: Drop> Spares<T> {
 
 /// A list without elements: one of these, emptied, where one is kept.
 pub fn take_list<T: Drop>(spares: &mut Spares<Vec<T>>, alloc: Global) -> Vec<T>
-    ensures { result.items ≡ [] }
+    ensures empty { result.items ≡ [] }
+    ensures fewer { spares.new ≡ spares.old - 1 }
 {
     let Some(mut list) = spares.take() else {
         return Vec::new(alloc);

@@ -80,7 +80,7 @@ fn push_other(numbers: &mut Vec<u32>, pair: Order, system: usize) -> Result<(), 
     Ok(())
 }
 
-/// For each of so many systems those with which a pair has it, either way.
+/// For each system those with which a pair has it, either way.
 pub(crate) fn silences_of(
     alloc: Global,
     count: usize,

@@ -469,7 +469,7 @@ fn levelled(alloc: Global, systems: Vec<System>, levels: &[u32]) -> Result<Vec<S
 /// The schedule of declared sets, systems and chains: an edge from each member of the first item of a declared order to each member of
 /// the second, the level of each system and as many sync points as there are levels, the conditions, those of sets before those of
 /// systems, each of which covers the members of its item, the pairs of systems that may be ambiguous, and the schedule order. Nothing is
-/// built where something is at fault; the first fault is told: a name that no item has, or no set to be in; an item with an earlier item's
+/// built where something is at fault; the first fault is reported: a name that no item has, or no set to be in; an item with an earlier item's
 /// name; a set in itself; sets in a circle; an item ordered with itself; an order between an item and a set that holds it; two ordered
 /// sets that share a system; a cycle of items; a system of which two parameters conflict; a query at fault, those of systems before those
 /// of conditions; a condition that writes; more than 256 systems; more than 64 sets; more than 512 conditions; a system with more than 8

@@ -9,7 +9,7 @@ use std::alloc::{AllocError, AllocFailed};
 use std::error::Error;
 use std::fmt;
 
-/// Why a schedule is refused. It is printed as the program tells it, as `refused B6 a b c a`.
+/// Why a schedule is refused. It is printed as the program reports it, as `refused B6 a b c a`.
 #[derive(Drop)]
 pub enum BuildFault {
     /// B1: no item has this name, which is the first such name that is looked up.

@@ -42,7 +42,7 @@ fn place_of(desc: &ScheduleDesc, places: &BTreeMap<String, usize>, name: &String
 
 // ---- names
 
-/// Refuses the first of these names that none of the first so many items has.
+/// Refuses the first of these names that none of the first `bound` items has.
 fn check_names(
     desc: &ScheduleDesc,
     places: &BTreeMap<String, usize>,
@@ -324,7 +324,7 @@ fn silences_of(
     Ok(pairs)
 }
 
-/// What is in which sets, the declared orders, and which items may be ambiguous. The error tells the first name looked up that no item has, or no set where it is that
+/// What is in which sets, the declared orders, and which items may be ambiguous. The error is the first name looked up that no item has, or no set where it is that
 /// of a set to be in.
 pub(crate) fn resolve(
     alloc: Global,

@@ -8,7 +8,7 @@ use std::alloc::AllocError;
 use std::fmt;
 use thiserror::Error;
 
-/// What is wrong with a block or an instruction. Printed as the program tells it.
+/// What is wrong with a block or an instruction. Printed as the program reports it.
 #[derive(Clone, Copy, PartialEq, Eq, Debug)]
 pub enum Cause {
     /// X1: the block names no query of the system, a kind is not fetched by the query, the target has no `mut` term, or the query shows no entity.
@@ -62,7 +62,7 @@ impl fmt::Display for Cause {
     }
 }
 
-/// The first fault of a script. A block's own fault is told at instruction 0.
+/// The first fault of a script. A block's own fault is reported at instruction 0.
 #[derive(Clone, Copy, PartialEq, Eq, Debug, Error)]
 #[error("block {block}, instruction {instruction}")]
 pub struct ScriptFault {

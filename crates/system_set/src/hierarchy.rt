@@ -43,7 +43,7 @@ impl Model for SetHierarchy {
 }
 
 impl SetHierarchy {
-    /// So many sets and so many systems after them, with nothing in any set.
+    /// `sets` sets and `systems` systems after them, with nothing in any set.
     pub fn new(alloc: Global, sets: usize, systems: usize) -> Self
         requires { sets + systems < 2 ^ 64 }
         ensures { result ≡ record { sets = sets; items = sets + systems; inside = [] } }

@@ -57,7 +57,7 @@ impl fmt::Display for Verdict {
     }
 }
 
-/// The number of a fault, 1 to 9: of those that hold of a step, the least is told.
+/// The number of a fault, 1 to 9: of those that hold of a step, the least is reported.
 pub fn number_of(fault: StepFault) -> u8
     ensures { result ≡ fault_number fault }
 {

@@ -46,7 +46,7 @@ impl fmt::Display for Line {
     }
 }
 
-/// Kind sets, as the line that tells them.
+/// A line of kind sets.
 #[derive(Clone, Copy)]
 pub(crate) struct Told<'a>(pub &'a KindSets);
 

@@ -16,7 +16,7 @@ use parsing::ReadError;
 use std::alloc::{AllocError, AllocFailed, Global};
 use thiserror::Error;
 
-/// Why a text is not read. Lines are counted from 1, and the first line at fault is told, for one line the first of these faults.
+/// Why a text is not read. Lines are counted from 1, and the first line at fault is reported, for one line the first of these faults.
 #[derive(Clone, Copy, PartialEq, Eq, Debug, Error)]
 pub enum TextFault {
     /// This line is outside the grammar, or is the last one and has no end.
@@ -25,7 +25,7 @@ pub enum TextFault {
     /// This line begins another run than the next one, or is a step before any run.
     #[error("line {0} is out of order")]
     Order(usize),
-    /// Where this line stands, or would stand, kind sets are wanted and it tells none, or it tells them where none are wanted. They are
+    /// Where this line stands, or would stand, kind sets are wanted and it has none, or it has them where none are wanted. They are
     /// wanted behind the line that begins a run and behind that of a sync point, where the second line of the text begins as one of them.
     #[error("line {0} is where kind sets are wanted, or tells them where none are")]
     Lists(usize),
@@ -56,7 +56,7 @@ impl<T: Drop> From<AllocFailed<T>> for TextFault {
     }
 }
 
-/// What was begun in a text that tells kind sets, and waits for them.
+/// What was begun in a text with kind sets, and waits for them.
 #[derive(Clone, Copy)]
 pub enum Due {
     /// Nothing.

@@ -48,9 +48,9 @@ pub trait Joins {
         ensures { IsTrue (joins self.now) → ⊥ };
 }
 
-/// How a worker tells that it is done, and how that is heard.
+/// How a worker signals that it is done, and how that is received.
 pub trait Line: Copy + Send {
-    /// Tells that the start of this number is done.
+    /// Signals that the start of this number is done.
     fn ring(&self, to: &Sender<u64>, number: u64);
 
     /// The number of a start that is done, none where none is heard.
@@ -62,7 +62,7 @@ pub trait Line: Copy + Send {
 
 /// How the systems of a run are executed.
 pub trait Mode<'s>: Hosts<'s> + Joins + Drop {
-    /// How its workers tell that they are done.
+    /// How its workers signal that they are done.
     type Line: Line + 's;
     /// What its workers pass.
     type Gate: Gate + 's;

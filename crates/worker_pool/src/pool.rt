@@ -50,7 +50,7 @@ impl<B: Body> Pool<B> {
         }
     }
 
-    /// A pool with no job out, for a call: up to so many workers come to stand as jobs want them, until `end` sends them away. With 0 none does.
+    /// A pool with no job out, for a call: up to `workers` workers come to stand as jobs want them, until `end` sends them away. With 0 none does.
     pub fn begin(alloc: Global, workers: usize) -> Result<Self, AllocError>
         ensures { IfOk result (λ p. p ≡ []) }
     {

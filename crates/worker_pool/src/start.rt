@@ -13,7 +13,7 @@ use std::thread::Promise;
 /// is written yet.
 #[derive(Drop)]
 pub struct Start<B: Body> {
-    /// The number of the start in its run, which a gate is told.
+    /// The number of the start in its run, which a gate is called with.
     pub number: u64,
     /// The system.
     pub system: u32,

@@ -9,7 +9,7 @@ use std::marker::PhantomData;
 
 /// Jobs that are run, each with the number of its start.
 pub trait Runs: Task {
-    /// The number of the start, which a gate is told.
+    /// The number of the start, which a gate is called with.
     fn number(job: &Self::Job) -> u64;
 
     /// Runs a job.

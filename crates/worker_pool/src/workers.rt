@@ -8,7 +8,7 @@ use job_board::{Bell, Ring};
 use std::sync::Wait;
 use std::thread::{JoinHandle, Promise, PromisedHandle, Scope, Threads};
 
-/// So many systems at once, in threads of a scope, through a gate.
+/// Some systems at once, in threads of a scope, through a gate.
 #[derive(Drop)]
 pub struct Workers<'a, 's, E, R, G> {
     count: usize,
@@ -20,7 +20,7 @@ pub struct Workers<'a, 's, E, R, G> {
 }
 
 impl<'a, 's, E: 's, R, G> Workers<'a, 's, E, R, G> {
-    /// So many systems at once, at least one and at most 64, by as many workers, through the gate. Each is a thread of the scope, which stands from when
+    /// `count` systems at once, at least one and at most 64, by as many workers, through the gate. Each is a thread of the scope, which stands from when
     /// it is first wanted to the end of the pool, and takes one job after the other.
     pub fn new(count: usize, scope: &'a Scope<'s, E>, runtime: R, gate: &'s G) -> Self
         requires some { 1 ≤ count }
@@ -45,7 +45,7 @@ impl<'a, 's, E: 's, R, G> Workers<'a, 's, E, R, G> {
     }
 }
 
-/// A channel on which numbers of starts are told.
+/// A channel on which numbers of starts are sent.
 #[derive(Clone, Copy)]
 pub struct Wire<R> {
     runtime: R,

@@ -23,7 +23,7 @@ struct SpareParts {
 }
 
 impl<B: Body> Engine<B> {
-    /// Runs the schedule so many times, as `run` does where it answers `Ok`. A fault leaves no trace: the state is as it was at the call, the
+    /// Runs the schedule `times` times, as `run` does where it answers `Ok`. A fault leaves no trace: the state is as it was at the call, the
     /// bodies are home and mean what they meant, and the engine isn't spoiled, so that runs may go on. A copy of the state is taken first:
     /// `Memory` also where an allocation fails for it. Where the mode has threads the bodies run in workers that stand, also in a mode with a
     /// thread for each start: so none is lost. On an engine that is spoiled already the answer is `Spoiled`, and nothing changes.

@@ -1,0 +1,4 @@
+pub mod Parsers
+pub mod Numerals
+pub mod Asking
+pub mod Examples
