@@ -12,12 +12,12 @@ use Rattle.ecsview.specs.declared.args.Work.TheVariants.{Schedule, Lanes, Races,
 -- the commands of `ecsview`: what the parser takes of their arguments
 abbrev pub ecsview_program : App
 ecsview_program = program (codes "ecsview") (
-  command (codes "schedule") (positional (codes "file") ∷ [])
-  ∷ command (codes "lanes") (positional (codes "file") ∷ positional (codes "trace") ∷ [])
-  ∷ command (codes "races") (positional (codes "file") ∷ [])
-  ∷ command (codes "diverge") (positional (codes "file") ∷ positional (codes "trace") ∷ positional (codes "other") ∷ [])
-  ∷ command (codes "steps") (positional (codes "file") ∷ positional (codes "trace") ∷ number (codes "run") (codes "run") 1 4294967295 ∷ [])
-  ∷ [])
+    command (codes "schedule") (positional (codes "file") ∷ [])
+    ∷ command (codes "lanes") (positional (codes "file") ∷ positional (codes "trace") ∷ [])
+    ∷ command (codes "races") (positional (codes "file") ∷ [])
+    ∷ command (codes "diverge") (positional (codes "file") ∷ positional (codes "trace") ∷ positional (codes "other") ∷ [])
+    ∷ command (codes "steps") (positional (codes "file") ∷ positional (codes "trace") ∷ number (codes "run") (codes "run") 1 4294967295 ∷ [])
+    ∷ [])
 
 -- the work, and the paths of the program file and of one or two traces, each empty where none is named
 pub record Asked : Type 0 where

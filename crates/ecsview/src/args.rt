@@ -127,11 +127,7 @@ impl<'a> Args<'a> {
     }
 
     // What a command of this name with these values asks for.
-    fn of_command(
-        alloc: Global,
-        name: &str,
-        found: &ArgMatches<'a>,
-    ) -> Result<Args<'a>, LineFault>
+    fn of_command(alloc: Global, name: &str, found: &ArgMatches<'a>) -> Result<Args<'a>, LineFault>
         ensures ok { IfOk result (λ args. asked_by name.now (rows_of (found_of found.now)) ≡ Some (asked_of args)) }
         ensures err { IfErr result (IsIdle (asked_by name.now (rows_of (found_of found.now)))) }
     {
