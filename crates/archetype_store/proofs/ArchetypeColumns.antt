@@ -23,7 +23,7 @@ use Rattle.column_store.proofs.Apart.{same_self, same_entity}
 use Rattle.archetype_store.specs.declared.locations.EntityLocation.{EntityLocation}
 use Rattle.archetype_store.specs.Layout.{Archetype, archetype_of, layout_of, archetype_at, column_home, with_column, with_home}
 use Rattle.archetype_store.specs.Tables.{table_at, kinds_at, held_in, held_at, row_or_none, is_unshared, cells_at, number_of, AreUnshared, IsTableOf}
-use Rattle.archetype_store.specs.Archetypes.{ArchetypesValue, archetypes_of, row_of, row_in, holder_of, holder_in, place_of, is_place, row_cells, cell_for, cell_held, row_with, IsOfKinds, IsStored, IsFilled, AreArchetypes}
+use Rattle.archetype_store.specs.Storage.{StorageValue, archetypes_of, row_of, row_in, holder_of, holder_in, place_of, is_place, row_cells, cell_for, cell_held, row_with, IsOfKinds, IsStored, IsFilled, AreArchetypes}
 use Rattle.archetype_store.proofs.Held.{shape_at}
 use Rattle.archetype_store.proofs.Laid.{row_seen, holder_seen, not_elsewhere}
 use Rattle.archetype_store.proofs.Standings.{AreSame, same_whole, same_rows, shaped_kinds, unlike_kinds}
@@ -221,7 +221,7 @@ value_lent T P n t k at =
     let new = lent u k in
     let seen : archetype_of new ≡ with_column false k (archetype_of u) =
     ap (λ homes. let a : Archetype = record { kinds = u.kinds; entities = map (λ (row : TableRow). row.entity) u.rows; homes = homes } in a) (map-update_kind is_home Away u.kinds k u.standings) in
-    ap₂ (λ rows layout. let a : ArchetypesValue = record { rows = rows; holders = map holder_in P; layout = layout } in a)
+    ap₂ (λ rows layout. let a : StorageValue = record { rows = rows; holders = map holder_in P; layout = layout } in a)
     (same_rows T (set T t new) (same_set T t new at.within refl refl (length-update_kind (table_at T t).kinds k Away (table_at T t).standings)) P) (layout_set (with_column false k) T n t new at at.peopled seen)
 
 -- ---- what a column holds

@@ -9,16 +9,16 @@ use Rattle.model.specs.state.Commands.{is_alive}
 use Rattle.entity_table.specs.Ids.{slot_at}
 use Rattle.entity_table.specs.Rows.{with_rows}
 use Rattle.entity_table.proofs.WithRows.{status-with_rows, generation-with_rows}
-use Rattle.archetype_store.specs.Archetypes.{ArchetypesValue, row_of}
+use Rattle.archetype_store.specs.Storage.{StorageValue, row_of}
 use Rattle.archetype_store.specs.Slot.{bare_of}
-use Rattle.archetype_store.specs.Slots.{HasRows}
+use Rattle.archetype_store.specs.Entities.{HasRows}
 use Rattle.archetype_store.proofs.SlotRows.{row_at_slots}
 
 and_one : (b c : Bool) → c ≡ true → (b && c) ≡ b
 and_one true c h = h
 and_one false c h = refl
 
-module _ (book : List Slot) (a : ArchetypesValue) (h : HasRows book a) (i : ℕ) (slots : List Slot) (same : with_rows (row_of a.rows) book ≡ slots) where
+module _ (book : List Slot) (a : StorageValue) (h : HasRows book a) (i : ℕ) (slots : List Slot) (same : with_rows (row_of a.rows) book ≡ slots) where
   -- the id of an index at its generation lives where the index does
   living : is_alive book (record { index = i; generation = (slot_at book i).generation }) ≡ is_living (slot_at slots i).status
   living =

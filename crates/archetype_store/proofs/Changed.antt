@@ -6,7 +6,7 @@ use Rattle.archetype_store.specs.declared.change.EntityChange.{EntityChange}
 use Rattle.archetype_store.specs.declared.locations.EntityLocation.{EntityLocation}
 use Rattle.archetype_store.specs.declared.row_moves.RowMove.{RowMove}
 use Rattle.archetype_store.specs.Tables.{kinds_at, AreShaped, AreUnlike, IsGrown}
-use Rattle.archetype_store.specs.Archetypes.{ArchetypesValue, archetypes_of, place_of, holder_in, IsHolder, AreAlike, HaveRows, row_changed, holder_changed}
+use Rattle.archetype_store.specs.Storage.{StorageValue, archetypes_of, place_of, holder_in, IsHolder, AreAlike, HaveRows, row_changed, holder_changed}
 use Rattle.archetype_store.specs.RowMoves.{IsPlanned}
 use Rattle.archetype_store.proofs.Moves.{alike_trans, grown_alike, reached_alike}
 
@@ -55,7 +55,7 @@ planned_kept T T' P P' m g same longer plan = record {
 }
 
 -- what is done from alike rows
-pub rows_from_alike : (A B C : ArchetypesValue) (cs : List EntityChange) → AreAlike A B → HaveRows B cs C → HaveRows A cs C
+pub rows_from_alike : (A B C : StorageValue) (cs : List EntityChange) → AreAlike A B → HaveRows B cs C → HaveRows A cs C
 rows_from_alike A B C cs alike h = record { rows = λ i. h.rows i ∙ ap (row_changed cs i) (alike.rows i); holders = λ i. h.holders i ∙ ap (holder_changed cs i) (alike.holders i) }
 
 -- tables that grew, and places that are alike

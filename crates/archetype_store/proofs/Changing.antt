@@ -5,7 +5,7 @@ use Rattle.model.proofs.lists.Each.{each-weaker}
 use Rattle.column_store.specs.Table.{TableValue}
 use Rattle.archetype_store.specs.declared.locations.EntityLocation.{EntityLocation}
 use Rattle.archetype_store.specs.declared.row_moves.RowMove.{RowMove}
-use Rattle.archetype_store.specs.Archetypes.{archetypes_of, place_of, AreAlike, AreArchetypes}
+use Rattle.archetype_store.specs.Storage.{archetypes_of, place_of, AreAlike, AreArchetypes}
 use Rattle.archetype_store.specs.RowMoves.{IsPlanned}
 use Rattle.archetype_store.specs.RowNumbers.{AreRowsKnown}
 use Rattle.archetype_store.specs.Tables.{shape_of, AreOwned, AreAllAlike, IsGrown}

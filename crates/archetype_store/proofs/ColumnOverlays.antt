@@ -16,7 +16,7 @@ use Rattle.column_store.proofs.Apart.{same_entity}
 use Rattle.column_store.proofs.Apart.{same_self}
 use Rattle.archetype_store.specs.declared.columns.TakenColumn.{TakenColumn}
 use Rattle.archetype_store.specs.Layout.{Archetype, archetype_at, with_column, with_home, has_index, IsLayoutOf}
-use Rattle.archetype_store.specs.Archetypes.{cell_for, row_with}
+use Rattle.archetype_store.specs.Storage.{cell_for, row_with}
 use Rattle.archetype_store.specs.Slot.{cell_of}
 use Rattle.archetype_store.specs.Store.{StoreValue, with_slots, slots_with}
 use Rattle.archetype_store.specs.Lending.{all_home}

@@ -15,9 +15,9 @@ use Rattle.entity_table.specs.Rows.{with_rows}
 use Rattle.entity_table.proofs.WithRows.{is_alive-with_rows}
 use Rattle.column_store.proofs.Apart.{same_self}
 use Rattle.archetype_store.specs.Layout.{archetype_at, is_in_archetype}
-use Rattle.archetype_store.specs.Archetypes.{ArchetypesValue, row_of, holder_of, row_cells, cell_for, cell_held, row_with, IsFilled, IsLaidOut}
+use Rattle.archetype_store.specs.Storage.{StorageValue, row_of, holder_of, row_cells, cell_for, cell_held, row_with, IsFilled, IsLaidOut}
 use Rattle.archetype_store.specs.Slot.{cell_of, column_cells}
-use Rattle.archetype_store.specs.Slots.{HasRows}
+use Rattle.archetype_store.specs.Entities.{HasRows}
 use Rattle.archetype_store.specs.Store.{with_slots, slots_with, IsPast}
 use Rattle.archetype_store.proofs.ArchetypeColumns.{row_with_kinds}
 use Rattle.archetype_store.proofs.RowEdits.{below_from_rising, rising_from_below}
@@ -27,7 +27,7 @@ use Rattle.column_store.specs.Kinds.{AreBelow}
 
 -- ---- cells of slots
 
-module _ (book : List Slot) (a : ArchetypesValue) (h : HasRows book a) (laid : IsLaidOut a) (n k : ℕ) where
+module _ (book : List Slot) (a : StorageValue) (h : HasRows book a) (laid : IsLaidOut a) (n k : ℕ) where
   cell_seen : (e : Entity) → is_in_archetype e (archetype_at a.layout n) ≡ true → cell_at (row_of a.rows e.index) k ≡ cell_of (with_rows (row_of a.rows) book) e k
   cell_seen e there =
       let slots = with_rows (row_of a.rows) book in
@@ -45,7 +45,7 @@ row_with_nil : (k : ℕ) (o : Option Cell) → row_with k o [] ≡ []
 row_with_nil k None = refl
 row_with_nil k (Some c) = refl
 
-module _ (book : List Slot) (a b : ArchetypesValue) (n k : ℕ) (cells : List Cell) (filled : IsFilled a n k cells b) (h : HasRows book a) where
+module _ (book : List Slot) (a b : StorageValue) (n k : ℕ) (cells : List Cell) (filled : IsFilled a n k cells b) (h : HasRows book a) where
   bare_after : (i : ℕ) (o : Option ℕ) → holder_of a.holders i ≡ o → o ≡ None → row_of b.rows i ≡ []
   bare_after i None at none = filled.rows i ∙ ap (row_with k (cell_held (archetype_at a.layout n).entities cells i (holder_of a.holders i))) (h.bare i at)
       ∙ row_with_nil k (cell_held (archetype_at a.layout n).entities cells i (holder_of a.holders i))

@@ -8,7 +8,7 @@ use Rattle.archetype_store.specs.declared.locations.EntityLocation.{EntityLocati
 use Rattle.archetype_store.specs.declared.table_index.TableIndex.{TableIndex}
 use Rattle.archetype_store.specs.TableIndex.{IsIndexed}
 use Rattle.archetype_store.specs.Tables.{AreHome, AreOwned, AreAllAlike}
-use Rattle.archetype_store.specs.Archetypes.{archetypes_of}
+use Rattle.archetype_store.specs.Storage.{archetypes_of}
 use Rattle.archetype_store.proofs.Standings.{owned_all, alike_value, alike_whole, owned_stored}
 use Rattle.archetype_store.proofs.TableIndex.{alike_indexed}
 use Rattle.archetype_store.specs.Whole.{IsWhole}

@@ -6,7 +6,7 @@ use Rattle.column_store.specs.Table.{TableValue}
 use Rattle.archetype_store.specs.declared.change.EntityChange.{EntityChange}
 use Rattle.archetype_store.specs.declared.locations.EntityLocation.{EntityLocation}
 use Rattle.archetype_store.specs.declared.row_moves.RowMove.{RowMove}
-use Rattle.archetype_store.specs.Archetypes.{ArchetypesValue, row_of, holder_of, place_of, holder_in, row_changed, holder_changed, holder_if, IsHolder, HasRow, HaveRows}
+use Rattle.archetype_store.specs.Storage.{StorageValue, row_of, holder_of, place_of, holder_in, row_changed, holder_changed, holder_if, IsHolder, HasRow, HaveRows}
 use Rattle.archetype_store.specs.Changes.{components_left, AreOfOtherIndices}
 use Rattle.archetype_store.specs.RowMoves.{change_of, other_table, arrives_in, stays_there, stays_in, is_table, one_if, coming_count, HaveRoom, IsPlanned, AreAlikeBut, AreAlikeBefore}
 use Rattle.archetype_store.specs.Tables.{room_at, shape_of}
@@ -32,7 +32,7 @@ planned_cleared T T' P P' m shapes many plan none = record {
   none = plan.none;
 }
 
-pub cleared_but : (A B : ArchetypesValue) (index generation : ℕ) → HasRow A (record { index = index; generation = generation }) [] B → AreAlikeBut A index B
+pub cleared_but : (A B : StorageValue) (index generation : ℕ) → HasRow A (record { index = index; generation = generation }) [] B → AreAlikeBut A index B
 cleared_but A B index generation h = record {
   rows = λ i other. h.rows i ∙ ap (λ b. cond b [] (row_of A.rows i)) other;
   holders = λ i other. h.holders i ∙ ap (λ b. cond b None (holder_of A.holders i)) other;
@@ -93,11 +93,11 @@ holder_either (d ∷ cs) zero c i x y l is at =
     ap (λ b. cond b left (holder_changed cs i x)) e ∙ sym (ap (λ b. cond b left (holder_changed cs i y)) e)
 holder_either (d ∷ cs) (suc n) c i x y l is at = ap (cond (i == d.entity.index) (holder_if (components_left d.fate) d.entity.generation)) (holder_either cs n c i x y (omega arith) is at)
 
-pub alike_first : (A : ArchetypesValue) (cs : List EntityChange) → AreAlikeBefore A cs A
+pub alike_first : (A : StorageValue) (cs : List EntityChange) → AreAlikeBefore A cs A
 alike_first A cs = record { rows = λ i. refl; holders = λ i. refl }
 
 -- the row of one of those that change may be what it will
-pub alike_next : (A B C : ArchetypesValue) (cs : List EntityChange) (n : ℕ) (c : EntityChange) → n < length cs → get_or cs n c ≡ c → AreAlikeBefore A cs B → AreAlikeBut B c.entity.index C → AreAlikeBefore A cs C
+pub alike_next : (A B C : StorageValue) (cs : List EntityChange) (n : ℕ) (c : EntityChange) → n < length cs → get_or cs n c ≡ c → AreAlikeBefore A cs B → AreAlikeBut B c.entity.index C → AreAlikeBefore A cs C
 alike_next A B C cs n c l is h k = record { rows = λ i. rows_at i (i == c.entity.index) refl ∙ h.rows i; holders = λ i. holders_at i (i == c.entity.index) refl ∙ h.holders i }
   where
     rows_at : (i : ℕ) (b : Bool) → (i == c.entity.index) ≡ b → row_changed cs i (row_of C.rows i) ≡ row_changed cs i (row_of B.rows i)
@@ -108,5 +108,5 @@ alike_next A B C cs n c l is h k = record { rows = λ i. rows_at i (i == c.entit
     holders_at i true at = holder_either cs n c i (holder_of C.holders i) (holder_of B.holders i) l is at
     holders_at i false other = ap (holder_changed cs i) (k.holders i other)
 
-pub rows_from_before : (A B C : ArchetypesValue) (cs : List EntityChange) → AreAlikeBefore A cs B → HaveRows B cs C → HaveRows A cs C
+pub rows_from_before : (A B C : StorageValue) (cs : List EntityChange) → AreAlikeBefore A cs B → HaveRows B cs C → HaveRows A cs C
 rows_from_before A B C cs alike h = record { rows = λ i. h.rows i ∙ alike.rows i; holders = λ i. h.holders i ∙ alike.holders i }

@@ -18,7 +18,7 @@ use Rattle.column_store.proofs.Lists.{get-map}
 use Rattle.column_store.proofs.Swapped.{get-swap_here, get-swap_other}
 use Rattle.archetype_store.specs.declared.locations.EntityLocation.{EntityLocation}
 use Rattle.archetype_store.specs.Layout.{archetype_of, layout_of}
-use Rattle.archetype_store.specs.Archetypes.{place_of, is_place, AreArchetypes}
+use Rattle.archetype_store.specs.Storage.{place_of, is_place, AreArchetypes}
 use Rattle.archetype_store.specs.RowNumbers.{number_of_row, AreRowsKnown}
 use Rattle.archetype_store.specs.Tables.{table_at, held_at, entities_at, entity_in_row, IsOneTable}
 use Rattle.archetype_store.proofs.Held.{row_at}

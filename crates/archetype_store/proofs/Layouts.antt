@@ -13,8 +13,8 @@ use Rattle.entity_table.proofs.WithRows.{is_alive-with_rows}
 use Rattle.archetype_store.specs.declared.locations.EntityLocation.{EntityLocation}
 use Rattle.archetype_store.specs.Layout.{Archetype, archetype_of, layout_of, archetype_at, is_in_archetype, IsShape, IsArchetype, AreOfOtherKinds, IsLayoutOf}
 use Rattle.archetype_store.specs.Tables.{table_at, kinds_at, held_at, AreShaped, AreUnlike}
-use Rattle.archetype_store.specs.Archetypes.{ArchetypesValue, archetypes_of, row_of, holder_of, place_of, row_in, holder_in, is_place, IsHolder, AreArchetypes, IsLaidOut}
-use Rattle.archetype_store.specs.Slots.{HasRows}
+use Rattle.archetype_store.specs.Storage.{StorageValue, archetypes_of, row_of, holder_of, place_of, row_in, holder_in, is_place, IsHolder, AreArchetypes, IsLaidOut}
+use Rattle.archetype_store.specs.Entities.{HasRows}
 use Rattle.archetype_store.proofs.Laid.{row_seen, holder_seen, somewhere}
 use Rattle.archetype_store.proofs.Steps.{kinds_at_place}
 use Rattle.archetype_store.proofs.SlotRows.{holder_lives, row_at_slots}
@@ -164,7 +164,7 @@ module _ (T : List TableValue) (P : List (Option EntityLocation)) (h : AreArchet
     unlike = unlike_of T h.unlike;
   }
 
-module _ (book : List Slot) (a : ArchetypesValue) (h : HasRows book a) (laid : IsLaidOut a) where
+module _ (book : List Slot) (a : StorageValue) (h : HasRows book a) (laid : IsLaidOut a) where
   holder_some : (e : Entity) (o : Option ℕ) → holder_of a.holders e.index ≡ o → IsHolder e.generation o → is_there (row_of a.rows e.index) ≡ true → o ≡ Some e.generation
   holder_some e None at fits there = absurd (let none : is_there (row_of a.rows e.index) ≡ false = ap is_there (h.bare e.index at) in cc)
   holder_some e (Some g) at fits there = ap (λ k. Some k) fits

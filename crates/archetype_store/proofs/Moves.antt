@@ -8,7 +8,7 @@ use Rattle.model.specs.declared.entities.Entity.{Entity}
 use Rattle.column_store.specs.Table.{TableValue}
 use Rattle.archetype_store.specs.declared.locations.EntityLocation.{EntityLocation}
 use Rattle.archetype_store.specs.Tables.{kinds_at, held_at, row_or_none, IsHeldNow, IsGrown}
-use Rattle.archetype_store.specs.Archetypes.{ArchetypesValue, archetypes_of, row_of, holder_of, holder_if, place_of, row_in, holder_in, IsHolder, IsOfKinds, AreAlike, AreArchetypes, HasRow}
+use Rattle.archetype_store.specs.Storage.{StorageValue, archetypes_of, row_of, holder_of, holder_if, place_of, row_in, holder_in, IsHolder, IsOfKinds, AreAlike, AreArchetypes, HasRow}
 use Rattle.archetype_store.proofs.Held.{held_within}
 use Rattle.archetype_store.proofs.Laid.{with_at_same, with_at_apart, row_seen, holder_seen, IsMoved, nowhere, not_elsewhere, somewhere, kinds_there, row_there}
 
@@ -143,7 +143,7 @@ module _ (T T' : List TableValue) (P : List (Option EntityLocation)) (g : IsGrow
     layout = g.layout;
   }
 
-pub alike_trans : (A B C : ArchetypesValue) → AreAlike A B → AreAlike B C → AreAlike A C
+pub alike_trans : (A B C : StorageValue) → AreAlike A B → AreAlike B C → AreAlike A C
 alike_trans A B C h k = record { rows = λ i. k.rows i ∙ h.rows i; holders = λ i. k.holders i ∙ h.holders i; layout = k.layout ∙ h.layout }
 
 -- places that are alike
@@ -165,7 +165,7 @@ on_ok_holds (Ok a) Q fine q = q
 on_ok_holds (Err e) Q fine q = absurd (true≢false fine)
 
 -- one row after another of one entity
-pub has_row_twice : (A B C : ArchetypesValue) (e : Entity) (first row : List Component) → HasRow A e first B → HasRow B e row C → HasRow A e row C
+pub has_row_twice : (A B C : StorageValue) (e : Entity) (first row : List Component) → HasRow A e first B → HasRow B e row C → HasRow A e row C
 has_row_twice A B C e first row h k = record {
   rows = λ i. k.rows i ∙ ap (cond (i == e.index) row) (h.rows i) ∙ once (i == e.index) row first (row_of A.rows i);
   holders = λ i. k.holders i ∙ ap (cond (i == e.index) (holder_if row e.generation)) (h.holders i) ∙ once (i == e.index) (holder_if row e.generation) (holder_if first e.generation) (holder_of A.holders i);

@@ -6,7 +6,7 @@ use Rattle.column_store.specs.declared.stamped.StampedValue.{StampedValue}
 use Rattle.column_store.specs.Table.{TableValue}
 use Rattle.archetype_store.specs.declared.locations.EntityLocation.{EntityLocation}
 use Rattle.archetype_store.specs.declared.row_moves.RowMove.{RowMove}
-use Rattle.archetype_store.specs.Archetypes.{place_of}
+use Rattle.archetype_store.specs.Storage.{place_of}
 use Rattle.archetype_store.specs.RowMoves.{other_table, arrives_in, is_table, one_if}
 use Rattle.archetype_store.specs.Tables.{room_at, is_in}
 use Rattle.archetype_store.proofs.Laid.{with_at_apart}

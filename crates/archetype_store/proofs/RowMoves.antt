@@ -10,7 +10,7 @@ use Rattle.column_store.specs.Table.{TableValue, empty_table}
 use Rattle.archetype_store.specs.declared.change.EntityChange.{EntityChange}
 use Rattle.archetype_store.specs.declared.locations.EntityLocation.{EntityLocation}
 use Rattle.archetype_store.specs.declared.row_moves.RowMove.{RowMove}
-use Rattle.archetype_store.specs.Archetypes.{ArchetypesValue, row_of, holder_of, holder_if, place_of, holder_in, IsHolder, HasRow, HaveRows, row_changed, holder_changed}
+use Rattle.archetype_store.specs.Storage.{StorageValue, row_of, holder_of, holder_if, place_of, holder_in, IsHolder, HasRow, HaveRows, row_changed, holder_changed}
 use Rattle.archetype_store.specs.Changes.{components_left}
 use Rattle.archetype_store.specs.RowMoves.{change_of, other_table, arrives_in, is_table, one_if, coming_count, HaveRoom, IsPlanned}
 use Rattle.archetype_store.specs.Tables.{table_at, room_at, with_room, shape_of, is_in}
@@ -135,7 +135,7 @@ holder_last (x ∷ xs) c i holder h = ap (cond (i == x.entity.index) (holder_if 
     (not_both i x.entity.index c.entity.index h.0)
 
 -- one change more
-pub rows_next : (A B C : ArchetypesValue) (xs : List EntityChange) (c : EntityChange) → AllByRecursion (λ (d : EntityChange). (d.entity.index == c.entity.index) ≡ false) xs →
+pub rows_next : (A B C : StorageValue) (xs : List EntityChange) (c : EntityChange) → AllByRecursion (λ (d : EntityChange). (d.entity.index == c.entity.index) ≡ false) xs →
     HaveRows A xs B → HasRow B c.entity (components_left c.fate) C → HaveRows A (xs ++ c ∷ []) C
 rows_next A B C xs c apart h k = record {
   rows = λ i. k.rows i ∙ ap (cond (i == c.entity.index) (components_left c.fate)) (h.rows i) ∙ sym (row_last xs c i (row_of A.rows i) apart);

@@ -22,8 +22,8 @@ use Rattle.archetype_store.specs.declared.change.Fate.{Fate}
 use Rattle.archetype_store.specs.declared.change.Fate.TheVariants as the
 use Rattle.archetype_store.specs.declared.change.EntityChange.{EntityChange}
 use Rattle.archetype_store.specs.Changes.{row_left, components_left, slot_left, change_at, changed, living_slot, settled_slot, book_changed, AreOfOtherIndices, IsHeldBy}
-use Rattle.archetype_store.specs.Archetypes.{ArchetypesValue, row_of, holder_of, holder_if, HaveRows, row_changed, holder_changed}
-use Rattle.archetype_store.specs.Slots.{HasRows}
+use Rattle.archetype_store.specs.Storage.{StorageValue, row_of, holder_of, holder_if, HaveRows, row_changed, holder_changed}
+use Rattle.archetype_store.specs.Entities.{HasRows}
 use Rattle.archetype_store.specs.Row.{component_of}
 use Rattle.archetype_store.proofs.RowEdits.{kinds-components, below_from_rising}
 use Rattle.archetype_store.proofs.RowMoves.{index_flipped}
@@ -219,7 +219,7 @@ held_within [] i h = absurd (let x : false ≡ true = h in cc)
 held_within (x ∷ xs) zero h = omega arith
 held_within (x ∷ xs) (suc i) h = let l = held_within xs i h in omega arith
 
-module _ (book : List Slot) (a b : ArchetypesValue) (h : HasRows book a) where
+module _ (book : List Slot) (a b : StorageValue) (h : HasRows book a) where
   record LivesAt (cs : List EntityChange) (i g : ℕ) : Type 0 where
     within : i < length book
     lives : (is_living (settled_at cs i (slot_at book i)).status && ((settled_at cs i (slot_at book i)).generation == g)) ≡ true

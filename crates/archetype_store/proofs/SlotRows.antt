@@ -11,13 +11,13 @@ use Rattle.entity_table.specs.Ids.{slot_at, lives_at}
 use Rattle.entity_table.specs.Rows.{with_rows}
 use Rattle.entity_table.proofs.Releases.{granted-lives}
 use Rattle.entity_table.proofs.WithRows.{length-with_rows, row_at-with_rows}
-use Rattle.archetype_store.specs.Archetypes.{ArchetypesValue, row_of, holder_of, holder_if, IsHolder, HasRow}
-use Rattle.archetype_store.specs.Slots.{HasRows}
+use Rattle.archetype_store.specs.Storage.{StorageValue, row_of, holder_of, holder_if, IsHolder, HasRow}
+use Rattle.archetype_store.specs.Entities.{HasRows}
 use Rattle.archetype_store.proofs.Laid.{with_at_same, with_at_apart}
 
 -- ---- who lives
 
-module _ (book : List Slot) (a : ArchetypesValue) (h : HasRows book a) where
+module _ (book : List Slot) (a : StorageValue) (h : HasRows book a) where
   -- an entity that lives is the one that has the row of its index
   pub holder_lives : (e : Entity) → is_alive book e ≡ true → IsHolder e.generation (holder_of a.holders e.index)
   holder_lives e alive = go (holder_of a.holders e.index) refl
@@ -58,12 +58,12 @@ module _ (book : List Slot) (a : ArchetypesValue) (h : HasRows book a) where
 -- ---- what keeps rows
 
 -- another book, where who lives lives on
-pub rows-kept : (book other : List Slot) (a : ArchetypesValue) → ((e : Entity) → is_alive book e ≡ true → is_alive other e ≡ true) → HasRows book a → HasRows other a
+pub rows-kept : (book other : List Slot) (a : StorageValue) → ((e : Entity) → is_alive book e ≡ true → is_alive other e ≡ true) → HasRows book a → HasRows other a
 rows-kept book other a on h = record { live = λ i g k. on (record { index = i; generation = g }) (h.live i g k); bare = h.bare }
 
 -- ---- what is seen
 
-module _ (book : List Slot) (a : ArchetypesValue) (h : HasRows book a) where
+module _ (book : List Slot) (a : StorageValue) (h : HasRows book a) where
   -- the row of an index
   pub row_at_slots : (i : ℕ) → row_at (with_rows (row_of a.rows) book) i ≡ row_of a.rows i
   row_at_slots i = go (cases_lt i (length book))

@@ -13,7 +13,7 @@ use Rattle.std.proofs.lemmas.Bool.{and_parts as both}
 use Rattle.archetype_store.specs.declared.locations.EntityLocation.{EntityLocation}
 use Rattle.archetype_store.specs.Layout.{Archetype, archetype_of, layout_of, AreAllHome}
 use Rattle.archetype_store.specs.Tables.{table_at, kinds_at, held_in, held_at, row_or_none, shape_of, is_unshared, AreShaped, AreUnlike, AreHome, AreOwned, AreUnshared, AreBareHome, AreAllAlike}
-use Rattle.archetype_store.specs.Archetypes.{ArchetypesValue, archetypes_of, row_in, holder_in, place_of, is_place, IsOfKinds, IsStored, AreAlike, AreArchetypes}
+use Rattle.archetype_store.specs.Storage.{StorageValue, archetypes_of, row_in, holder_in, place_of, is_place, IsOfKinds, IsStored, AreAlike, AreArchetypes}
 
 -- ---- all columns of a table
 
@@ -244,9 +244,9 @@ module _ (ts us : List TableValue) (same : AreSame ts us) where
 -- what contracts see of alike tables is one
 pub alike_value : (ts us : List TableValue) (P : List (Option EntityLocation)) → AreAllAlike ts us → archetypes_of us P ≡ archetypes_of ts P
 alike_value ts us P h =
-    ap₂ (λ rows layout. let a : ArchetypesValue = record { rows = rows; holders = map holder_in P; layout = layout } in a) (same_rows ts us (alike_same ts us h) P) (alike_layout ts us h)
+    ap₂ (λ rows layout. let a : StorageValue = record { rows = rows; holders = map holder_in P; layout = layout } in a) (same_rows ts us (alike_same ts us h) P) (alike_layout ts us h)
 
-pub value_alike : (a b : ArchetypesValue) → b ≡ a → AreAlike a b
+pub value_alike : (a b : StorageValue) → b ≡ a → AreAlike a b
 value_alike a b h = subst (AreAlike a) (sym h) (record { rows = λ i. refl; holders = λ i. refl; layout = refl })
 
 -- places that are alike keep what is whole

@@ -10,7 +10,7 @@ use Rattle.column_store.specs.Table.{TableValue}
 use Rattle.archetype_store.specs.declared.locations.EntityLocation.{EntityLocation}
 use Rattle.archetype_store.specs.Row.{component_of, only}
 use Rattle.archetype_store.specs.Tables.{kinds_at, held_at, row_or_none, IsHeldNow}
-use Rattle.archetype_store.specs.Archetypes.{archetypes_of, place_of, row_in, holder_in, IsHolder, AreArchetypes, HasRow}
+use Rattle.archetype_store.specs.Storage.{archetypes_of, place_of, row_in, holder_in, IsHolder, AreArchetypes, HasRow}
 use Rattle.archetype_store.proofs.Laid.{moved_whole, moved_row, somewhere, kinds_there, row_there}
 use Rattle.archetype_store.proofs.Moves.{moved_joined, moved_cleared, moved_written, row_placed}
 use Rattle.archetype_store.proofs.Known.{placed_within}

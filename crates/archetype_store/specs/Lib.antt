@@ -1,11 +1,11 @@
 pub mod Row
 pub mod Layout
 pub mod Tables
-pub mod Archetypes
+pub mod Storage
 pub mod RowNumbers
 pub mod Whole
 pub mod Slot
-pub mod Slots
+pub mod Entities
 pub mod Places
 pub mod LivingSets
 pub mod Resources

@@ -9,7 +9,7 @@ use Rattle.archetype_store.specs.declared.locations.EntityLocation.{EntityLocati
 use Rattle.archetype_store.specs.declared.row_moves.RowMove.{RowMove}
 use Rattle.archetype_store.specs.Changes.{row_left}
 use Rattle.archetype_store.specs.Tables.{kinds_at, room_at, is_in}
-use Rattle.archetype_store.specs.Archetypes.{ArchetypesValue, place_of, holder_in, row_of, holder_of, row_changed, holder_changed, IsHolder}
+use Rattle.archetype_store.specs.Storage.{StorageValue, place_of, holder_in, row_of, holder_of, row_changed, holder_changed, IsHolder}
 
 -- the change that a row is moved for
 abbrev pub change_of : RowMove → EntityChange
@@ -68,11 +68,11 @@ pub record IsPlanned (tables : List TableValue) (places : List (Option EntityLoc
   pub none : m.to ≡ None → components_moved m ≡ []
 
 -- rows that are alike but for one index
-pub record AreAlikeBut (old : ArchetypesValue) (index : ℕ) (new : ArchetypesValue) : Type 0 where
+pub record AreAlikeBut (old : StorageValue) (index : ℕ) (new : StorageValue) : Type 0 where
   pub rows : (i : ℕ) → (i == index) ≡ false → row_of new.rows i ≡ row_of old.rows i
   pub holders : (i : ℕ) → (i == index) ≡ false → holder_of new.holders i ≡ holder_of old.holders i
 
 -- rows that are alike but where these changes are: once they are made, it is as if they were made of the old ones
-pub record AreAlikeBefore (old : ArchetypesValue) (cs : List EntityChange) (new : ArchetypesValue) : Type 0 where
+pub record AreAlikeBefore (old : StorageValue) (cs : List EntityChange) (new : StorageValue) : Type 0 where
   pub rows : (i : ℕ) → row_changed cs i (row_of new.rows i) ≡ row_changed cs i (row_of old.rows i)
   pub holders : (i : ℕ) → holder_changed cs i (holder_of new.holders i) ≡ holder_changed cs i (holder_of old.holders i)

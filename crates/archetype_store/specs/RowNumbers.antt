@@ -3,7 +3,7 @@ use Rattle.std.specs.Prelude.{◌≡◌, ℕ, ◌≤◌, List, length, get_or, O
 use Rattle.column_store.specs.Order.{AreApart}
 use Rattle.column_store.specs.Table.{TableValue}
 use Rattle.archetype_store.specs.declared.locations.EntityLocation.{EntityLocation}
-use Rattle.archetype_store.specs.Archetypes.{place_of}
+use Rattle.archetype_store.specs.Storage.{place_of}
 use Rattle.archetype_store.specs.Tables.{entities_at, entity_in_row}
 
 -- the row number of an index

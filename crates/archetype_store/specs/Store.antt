@@ -7,7 +7,7 @@ use Rattle.model.specs.state.State.{Cell, Slot, World, resource_count}
 use Rattle.model.specs.state.Loaded.{resource_given}
 use Rattle.model.specs.shown.Overlay.{resource_after}
 use Rattle.archetype_store.specs.Layout.{Archetype, archetype_at, with_home}
-use Rattle.archetype_store.specs.Archetypes.{cell_for, row_with}
+use Rattle.archetype_store.specs.Storage.{cell_for, row_with}
 use Rattle.change_ticks.specs.declared.stamp.Stamp.{Stamp}
 
 -- a store: its state, and beside it the archetypes that have entities

@@ -1,10 +1,11 @@
 // The store: what the world holds by entity, its resources and its clock. Components stand in tables, one for each archetype.
 #![tactic(auto)]
 
-mod archetypes;
 pub mod change;
 mod columns;
 pub mod components;
+mod entities;
+pub mod entity_ref;
 pub mod fault;
 mod kind_sets;
 pub mod laws;
@@ -15,15 +16,14 @@ mod resources;
 mod row_moves;
 mod settling;
 pub mod shapes;
-pub mod slot;
-mod slots;
+mod storage;
 pub mod store;
 mod table_index;
 mod table_words;
 mod tables;
 
 pub use change::{EntityChange, Fate};
+pub use entity_ref::{EntityRef, RowRef};
 pub use fault::StoreFault;
 pub use shapes::Shape;
-pub use slot::{RowView, Slot};
 pub use store::World;

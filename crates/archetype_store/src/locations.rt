@@ -1,7 +1,7 @@
 // Where the entities of indices are: in which table, and at which generation.
 
 ghost use Rattle.std.specs.Prelude.{◌≡◌, ◌<◌, ◌≤◌, ℕ, length, OnOk};
-ghost use Rattle.archetype_store.specs.Archetypes.{place_of};
+ghost use Rattle.archetype_store.specs.Storage.{place_of};
 ghost use Rattle.archetype_store.specs.RowNumbers.{number_of_row};
 
 use entity_table::Entity;

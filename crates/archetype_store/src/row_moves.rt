@@ -10,7 +10,7 @@ ghost use Rattle.archetype_store.specs.Changes.{row_left, components_left, AreOf
 ghost use Rattle.archetype_store.specs.Row.{component_of};
 ghost use Rattle.archetype_store.specs.TableIndex.{IsFound};
 ghost use Rattle.archetype_store.specs.Tables.{kinds_at, room_at, shape_of, AreShaped, AreUnlike, AreOwned, AreAllAlike, IsGrown};
-ghost use Rattle.archetype_store.specs.Archetypes.{archetypes_of, holder_in, place_of, AreAlike, AreArchetypes, HasRow, HaveRows, IsHolder};
+ghost use Rattle.archetype_store.specs.Storage.{archetypes_of, holder_in, place_of, AreAlike, AreArchetypes, HasRow, HaveRows, IsHolder};
 ghost use Rattle.archetype_store.specs.RowNumbers.{AreRowsKnown};
 ghost use Rattle.archetype_store.specs.RowMoves.{change_of, arrives_in, stays_in, one_if, is_table, HaveRoom, IsPlanned, IsTarget, AreAlikeBut, AreAlikeBefore};
 

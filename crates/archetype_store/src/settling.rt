@@ -33,7 +33,7 @@ fn settle_one(book: &mut EntityTable, change: &EntityChange)
     }
 }
 
-// Such entities live or live no more, as is told of each. It allocates nothing.
+// Such entities live or live no more, as each change says. It allocates nothing.
 pub(crate) fn settle_all(book: &mut EntityTable, changes: &[EntityChange])
     requires apart { AreOfOtherIndices changes.now }
     requires held { AllByRecursion (IsHeldBy book.old) changes.now }

@@ -32,13 +32,13 @@ ghost use Rattle.archetype_store.specs.Store.{empty_world, with_slots, with_slot
 use crate::change::{EntityChange, Fate};
 pub use crate::columns::{ColumnAt, SharedColumn, TakenColumn};
 use crate::components::{put_component, take_component};
+use crate::entities::Entities;
+use crate::entity_ref::EntityRef;
 use crate::fault::{GrantFault, StoreFault};
 use crate::kind_sets::{entities_in, sets_of};
 pub use crate::locations::RowPlace;
 use crate::resources::Resources;
 use crate::shapes::Shape;
-use crate::slot::Slot;
-use crate::slots::Slots;
 pub use crate::tables::ArchetypeView;
 use change_ticks::{Clock, ClockSpent, Stamp, Tick};
 use column_store::{Components, StampedColumn};
@@ -53,7 +53,7 @@ use std::sync::Arc;
 /// The world. Contracts see its state (slots by index, resources by number, the clock) and beside it how components are laid out: the
 /// archetypes that have entities.
 pub struct World {
-    slots: Slots,
+    slots: Entities,
     resources: Resources,
     clock: Clock,
     // The list of the changes that were made last, which is used again. It has no elements.
@@ -102,7 +102,7 @@ impl World {
         // Proves that the clock stands at one of its ticks.
         let _now = clock.now();
         World {
-            slots: Slots::new(alloc),
+            slots: Entities::new(alloc),
             resources: Resources::new(),
             clock,
             change_list: Vec::new(alloc),
@@ -622,7 +622,7 @@ impl World {
     }
 
     /// The slot of an index.
-    pub fn slot_at(&self, index: u32) -> Slot<'_>
+    pub fn slot_at(&self, index: u32) -> EntityRef<'_>
         requires within { index < length self.now.state.slots }
         requires home { AreAllHome self.now.layout }
         ensures { result ≡ slot_at self.now.state.slots index }

@@ -196,7 +196,7 @@ pub(crate) fn release_at(tables: &mut Vec<Table>, table: usize)
     there.release();
 }
 
-// Adds the row of an entity that isn't in the table, which room was made for, and tells its number. It allocates nothing.
+// Adds the row of an entity that isn't in the table, which room was made for, and returns its number. It allocates nothing.
 pub(crate) fn push_at(
     tables: &mut Vec<Table>,
     table: usize,
@@ -239,7 +239,7 @@ pub(crate) fn renew_at(
     there.renew(row, components);
 }
 
-// Removes a row of a table, and tells whose row takes its place: the last one's.
+// Removes a row of a table, and returns whose row takes its place: the last one's.
 pub(crate) fn remove_at(tables: &mut Vec<Table>, table: usize, row: usize) -> Entity
     requires there { IsSome (entity_in_row tables.old.items table row) }
     requires owned { AreOwned tables.old.items }

@@ -9,7 +9,7 @@ use Rattle.model.specs.shown.Input.{rows_of}
 use Rattle.model.specs.state.State.{World, EventQueue}
 use Rattle.run_condition.specs.Tree.{condition_of}
 use Rattle.run_condition.specs.declared.cond.Tree.{Tree}
-use Rattle.body.specs.Told.{IsMeant}
+use Rattle.body.specs.Evaluated.{IsMeant}
 
 -- what holds of all of two lists holds of all of each
 pub all_first : {A : Type 0} (P : A → Type 0) (xs ys : List A) → AllByRecursion P (xs ++ ys) → AllByRecursion P xs

@@ -20,4 +20,4 @@ pub mod Lent
 pub mod Answers
 pub mod Keeps
 pub mod Out
-pub mod Told
+pub mod Evaluated

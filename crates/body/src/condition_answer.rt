@@ -10,7 +10,7 @@ ghost use Rattle.model.specs.access.Condition.{holds, cursors_after, queries_of}
 ghost use Rattle.kinds.specs.Res.{event_number};
 ghost use Rattle.query_plan.specs.Standing.{ArePickedHome};
 ghost use Rattle.run_condition.specs.Tree.{condition_of};
-ghost use Rattle.body.specs.Told.{IsMeant};
+ghost use Rattle.body.specs.Evaluated.{IsMeant};
 
 use archetype_store::World;
 use change_ticks::Tick;
@@ -25,7 +25,7 @@ use std::alloc::{AllocError, Global};
 
 // What a condition answers, and what is left of the cursors.
 #[derive(Clone, Copy)]
-struct Told<'a> {
+struct Evaluated<'a> {
     answer: bool,
     cursors: &'a [u64],
 }
@@ -45,12 +45,12 @@ pub(crate) fn ask(
     requires { AllByRecursion (λ query. ArePickedHome query world.now.layout) (queries_of cond.now) }
     ensures { IfOk result (λ answer. (state : State) → state.world ≡ world.now.state → state.events ≡ events.now → answer ≡ holds cond.now last_run cursors.now state) }
 {
-    let told = tell(alloc, cond.tree(), world, events, last_run, cursors, room)?;
-    Ok(told.answer)
+    let part = evaluate(alloc, cond.tree(), world, events, last_run, cursors, room)?;
+    Ok(part.answer)
 }
 
 // What the parts of a condition answer. The cursors of its readers come first.
-fn tell<'a>(
+fn evaluate<'a>(
     alloc: Global,
     tree: &Tree,
     world: &World,
@@ -58,44 +58,44 @@ fn tell<'a>(
     last_run: Tick,
     cursors: &'a [u64],
     room: &mut RowBuffers,
-) -> Result<Told<'a>, AllocError>
+) -> Result<Evaluated<'a>, AllocError>
     requires home { AllByRecursion (λ query. ArePickedHome query world.now.layout) (queries_of (condition_of tree.now)) }
-    ensures answer { IfOk result (λ told. IsMeant (condition_of tree.now) world.now.state events.now last_run cursors.now told.answer) }
-    ensures cursors { IfOk result (λ told. told.cursors.now ≡ cursors_after (condition_of tree.now) cursors.now) }
+    ensures answer { IfOk result (λ part. IsMeant (condition_of tree.now) world.now.state events.now last_run cursors.now part.answer) }
+    ensures cursors { IfOk result (λ part. part.cursors.now ≡ cursors_after (condition_of tree.now) cursors.now) }
 {
     match tree {
-        Tree::RunOnce => Ok(alone(last_run == 0, cursors)),
-        Tree::ResourceEquals(res, value) => Ok(alone(world.res(*res) == *value, cursors)),
-        Tree::ResourceAtLeast(res, value) => Ok(alone(*value <= world.res(*res), cursors)),
-        Tree::ResourceChanged(res) => Ok(alone(last_run < world.res_changed(*res), cursors)),
+        Tree::RunOnce => Ok(answered(last_run == 0, cursors)),
+        Tree::ResourceEquals(res, value) => Ok(answered(world.res(*res) == *value, cursors)),
+        Tree::ResourceAtLeast(res, value) => Ok(answered(*value <= world.res(*res), cursors)),
+        Tree::ResourceChanged(res) => Ok(answered(last_run < world.res_changed(*res), cursors)),
         Tree::AnyWith(query) => {
             let answer = has_row(alloc, query, world, last_run, room)?;
-            Ok(alone(answer, cursors))
+            Ok(answered(answer, cursors))
         }
         Tree::OnEvent(event) => Ok(first_read(events, *event, cursors)),
         Tree::Not(inner) => {
-            let told = tell(alloc, inner, world, events, last_run, cursors, room)?;
-            Ok(alone(!told.answer, told.cursors))
+            let part = evaluate(alloc, inner, world, events, last_run, cursors, room)?;
+            Ok(answered(!part.answer, part.cursors))
         }
         Tree::And(left, right) => {
-            let one = tell(alloc, left, world, events, last_run, cursors, room)?;
-            let other = tell(alloc, right, world, events, last_run, one.cursors, room)?;
-            Ok(alone(one.answer & other.answer, other.cursors))
+            let one = evaluate(alloc, left, world, events, last_run, cursors, room)?;
+            let other = evaluate(alloc, right, world, events, last_run, one.cursors, room)?;
+            Ok(answered(one.answer & other.answer, other.cursors))
         }
         Tree::Or(left, right) => {
-            let one = tell(alloc, left, world, events, last_run, cursors, room)?;
-            let other = tell(alloc, right, world, events, last_run, one.cursors, room)?;
-            Ok(alone(one.answer | other.answer, other.cursors))
+            let one = evaluate(alloc, left, world, events, last_run, cursors, room)?;
+            let other = evaluate(alloc, right, world, events, last_run, one.cursors, room)?;
+            Ok(answered(one.answer | other.answer, other.cursors))
         }
     }
 }
 
 // An answer, where these cursors are left.
-fn alone<'a>(answer: bool, cursors: &'a [u64]) -> Told<'a>
+fn answered<'a>(answer: bool, cursors: &'a [u64]) -> Evaluated<'a>
     ensures answer { result.answer ≡ answer }
     ensures cursors { result.cursors.now ≡ cursors.now }
 {
-    Told { answer, cursors }
+    Evaluated { answer, cursors }
 }
 
 // Whether a query has a row. The buffers of its plan go back to the room.
@@ -118,13 +118,13 @@ fn has_row(
 }
 
 // Whether an event of the kind is there from the first cursor on, 0 where there is none.
-fn first_read<'a>(events: &Events, event: Event, cursors: &'a [u64]) -> Told<'a>
+fn first_read<'a>(events: &Events, event: Event, cursors: &'a [u64]) -> Evaluated<'a>
     ensures answer { result.answer ≡ is_there (unread (queue_of events.now (event_number event)) (head_or 0 cursors.now)) }
     ensures cursors { result.cursors.now ≡ tail_of cursors.now }
 {
     match cursors.split_first() {
-        Some((cursor, rest)) => alone(has_unread(events, event, *cursor), rest),
-        None => alone(has_unread(events, event, 0), cursors),
+        Some((cursor, rest)) => answered(has_unread(events, event, *cursor), rest),
+        None => answered(has_unread(events, event, 0), cursors),
     }
 }
 

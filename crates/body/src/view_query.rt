@@ -253,7 +253,7 @@ impl ViewQuery {
         }
     }
 
-    // Writes the values of the first of the rows from one on, those that stand in turn, and tells how many they are.
+    // Writes the values of the first of the rows from one on, those that stand in turn, and returns how many they are.
     fn write_turn(&mut self, kind: Kind, from: usize, place: usize, values: &[i64]) -> usize
         requires some { 0 < length values.now }
         requires rows { from + length values.now ≤ length self.old.rows }
@@ -278,7 +278,7 @@ impl ViewQuery {
         count
     }
 
-    // Makes this the order in which the rows stand, and tells whether more stand in turn by it than in rising index. Where already many do it is left
+    // Makes this the order in which the rows stand, and returns whether more stand in turn by it than in rising index. Where already many do it is left
     // as it was.
     pub(crate) fn put_in_order(&self, order: &mut RowOrder) -> Result<bool, AllocError>
         ensures { IfOk result (λ found. found ≡ true → IsOrder (length self.now.rows) order.new) }

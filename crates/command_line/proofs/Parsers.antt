@@ -11,7 +11,7 @@ use Rattle.clap.specs.declared.builder.command.Command.TheViews.{out-Command}
 use Rattle.clap.specs.declared.error.kind.ErrorKind.{ErrorKind}
 use Rattle.clap.specs.declared.error.kind.ErrorKind.TheVariants.{OutOfMemory}
 use Rattle.clap.specs.declared.parser.matches.ArgMatches.{ArgMatches}
-use Rattle.command_line.specs.Args.{IsToldOf, is_help}
+use Rattle.command_line.specs.Args.{IsReportedOf, is_help}
 use Rattle.command_line.specs.declared.args.LineFault.{LineFault}
 use Rattle.command_line.specs.declared.args.LineFault.TheVariants.{Help, Usage, Memory}
 use Rattle.command_line.specs.Grammar.{IsFound, IsUnfound, app_of_grammar, app_of_subcommand, new_program, arg_read, argument_read, command_read, rule_of_argument, shape_of_subcommand, subcommand_read}
@@ -81,10 +81,10 @@ found_by a b words m e faults matches =
     subst (λ (app : App). IsFound app words m) e (λ simple. (faults simple, (matches (and_parts _ _ simple).0).1))
 
 pub unfound_by : (a b : App) (words : List Text) (kind : ErrorKind) (fault : LineFault) → a ≡ b → (is_simple_and_free a ≡ true → (kind ≡ OutOfMemory) ⊎ IsAmong kind (fault_of a words)) →
-    (kind ≡ OutOfMemory → fault ≡ Memory) → IsToldOf kind fault → IsUnfound b words fault
+    (kind ≡ OutOfMemory → fault ≡ Memory) → IsReportedOf kind fault → IsUnfound b words fault
 unfound_by a b words kind fault e kinds memory told = subst (λ (app : App). IsUnfound app words fault) e (go fault memory told)
   where
-    go : (fault : LineFault) → (kind ≡ OutOfMemory → fault ≡ Memory) → IsToldOf kind fault → IsUnfound a words fault
+    go : (fault : LineFault) → (kind ≡ OutOfMemory → fault ≡ Memory) → IsReportedOf kind fault → IsUnfound a words fault
     go (Help text) memory told = λ simple. elim (kinds simple) [
       | inl spent ↦
           let bad : Help text ≡ Memory = memory spent in

@@ -49,10 +49,10 @@ line_text_of (Usage text) = string_bytes text
 line_text_of Memory = codes "error memory" ++ 10 ∷ []
 
 -- a line at fault that is told by a text, where there is memory for it
-abbrev pub IsToldBy : List ℕ → LineFault → Type 0
-IsToldBy text (Help told) = ⊥
-IsToldBy text (Usage told) = string_bytes told ≡ text
-IsToldBy text Memory = Unit {0}
+abbrev pub IsReportedBy : List ℕ → LineFault → Type 0
+IsReportedBy text (Help told) = ⊥
+IsReportedBy text (Usage told) = string_bytes told ≡ text
+IsReportedBy text Memory = Unit {0}
 
 -- whether the parser says by this kind that help was asked for
 abbrev pub is_help : ErrorKind → Bool
@@ -61,10 +61,10 @@ is_help DisplayVersion = true
 is_help _ = false
 
 -- help is told where it was asked for, and else a line at fault, where there is memory for the text
-abbrev pub IsToldOf : ErrorKind → LineFault → Type 0
-IsToldOf kind (Help told) = is_help kind ≡ true
-IsToldOf kind (Usage told) = is_help kind ≡ false
-IsToldOf kind Memory = Unit {0}
+abbrev pub IsReportedOf : ErrorKind → LineFault → Type 0
+IsReportedOf kind (Help told) = is_help kind ≡ true
+IsReportedOf kind (Usage told) = is_help kind ≡ false
+IsReportedOf kind Memory = Unit {0}
 
 -- whether a word asks for help
 abbrev pub is_help_word : List ℕ → Bool

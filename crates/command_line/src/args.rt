@@ -2,7 +2,7 @@
 
 ghost use Rattle.std.specs.Prelude.{◌≡◌};
 ghost use Rattle.clap.specs.Words.{kind_of};
-ghost use Rattle.command_line.specs.Args.{IsToldBy, IsToldOf, IsWithin, is_recorded, line_status_of, line_text_of};
+ghost use Rattle.command_line.specs.Args.{IsReportedBy, IsReportedOf, IsWithin, is_recorded, line_status_of, line_text_of};
 ghost use Rattle.command_line.specs.declared.args.LineFault.TheVariants as line_fault;
 
 use clap::Error;
@@ -90,7 +90,7 @@ impl LineFault {
 
     /// A line outside what the program takes, reported by this text.
     pub fn usage(alloc: Global, text: &str) -> LineFault
-        ensures { IsToldBy text.now result }
+        ensures { IsReportedBy text.now result }
     {
         match String::from_str(alloc, text) {
             Ok(text) => LineFault::Usage(text),
@@ -101,7 +101,7 @@ impl LineFault {
     /// What an answer of the parser without matches is here: help where it was asked for, else a line at fault, reported by the parser's text.
     pub fn of(alloc: Global, error: &Error) -> LineFault
         ensures memory { kind_of error.now ≡ ErrorKind.OutOfMemory → result ≡ LineFault.Memory }
-        ensures told { IsToldOf (kind_of error.now) result }
+        ensures told { IsReportedOf (kind_of error.now) result }
     {
         if error.kind() == ErrorKind::OutOfMemory {
             return LineFault::Memory;
@@ -114,7 +114,7 @@ impl LineFault {
 
     // The same, where the parser's text is this.
     fn told_of(kind: ErrorKind, text: String) -> LineFault
-        ensures { IsToldOf kind result }
+        ensures { IsReportedOf kind result }
     {
         match kind {
             ErrorKind::DisplayHelp | ErrorKind::DisplayVersion => LineFault::Help(text),

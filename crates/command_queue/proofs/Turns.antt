@@ -8,7 +8,7 @@ use Rattle.archetype_store.specs.Changes.{AreOfOtherIndices}
 use Rattle.archetype_store.proofs.RowMoves.{index_flipped as turned}
 use Rattle.command_queue.specs.declared.change_places.ChangePlaces.{ChangePlaces}
 use Rattle.command_queue.specs.ChangePlaces.{place_told}
-use Rattle.command_queue.specs.Pending.{place_of, put_change, AreInTurn, ArePlaced, IsNoted, IsLast, IsTold}
+use Rattle.command_queue.specs.Pending.{place_of, put_change, AreInTurn, ArePlaced, IsNoted, IsLast, IsKnownPlace}
 use Rattle.command_queue.proofs.Puts.{at_place, put_first, place_first, place_last}
 
 -- where each index has the place that it had, the places that were told are still told
@@ -70,7 +70,7 @@ turn_put c cs turn last none = λ i j p q x y less.
 -- ---- a change more
 
 pub placed_put : (old new : Option ChangePlaces) (c : EntityChange) (cs : List EntityChange) (n : ℕ) → n ≡ length cs → IsNoted old c.entity.index n new →
-    ArePlaced old cs → IsTold old cs c.entity.index → place_of c.entity.index cs ≡ None → ArePlaced new (put_change c cs)
+    ArePlaced old cs → IsKnownPlace old cs c.entity.index → place_of c.entity.index cs ≡ None → ArePlaced new (put_change c cs)
 placed_put None None c cs n many noted h told none = turn_put c cs h told none
 placed_put None (Some m) c cs n many noted h told none = absurd noted
 placed_put (Some l) None c cs n many noted h told none = absurd noted

@@ -55,9 +55,9 @@ abbrev pub IsLast : List EntityChange → ℕ → Type 0
 IsLast cs index = (i p : ℕ) → place_of i cs ≡ Some p → i ≤ index
 
 -- the place of an index is told, or is the last one if any
-abbrev pub IsTold : Option ChangePlaces → List EntityChange → ℕ → Type 0
-IsTold None cs index = IsLast cs index
-IsTold (Some places) cs index = Unit {0}
+abbrev pub IsKnownPlace : Option ChangePlaces → List EntityChange → ℕ → Type 0
+IsKnownPlace None cs index = IsLast cs index
+IsKnownPlace (Some places) cs index = Unit {0}
 
 -- changes that a world can make, no two of one index
 pub record AreChanges (w : World) (cs : List EntityChange) : Type 0 where

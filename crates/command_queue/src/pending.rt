@@ -10,7 +10,7 @@ ghost use Rattle.model.specs.shown.Outcome.Command.{Insert, Remove, Despawn};
 ghost use Rattle.archetype_store.specs.Layout.{AreAllHome};
 ghost use Rattle.archetype_store.specs.Changes.{AreOfOtherIndices};
 ghost use Rattle.command_queue.specs.Commands.{command_of, index_in};
-ghost use Rattle.command_queue.specs.Pending.{bare_change, place_of, put_change, AreInTurn, ArePlaced, IsNoted, IsLast, IsTold, IsPending, target_of, Stands, IsOpen, CanSpawn};
+ghost use Rattle.command_queue.specs.Pending.{bare_change, place_of, put_change, AreInTurn, ArePlaced, IsNoted, IsLast, IsKnownPlace, IsPending, target_of, Stands, IsOpen, CanSpawn};
 
 use crate::change_places::ChangePlaces;
 use crate::command::Command;
@@ -46,7 +46,7 @@ pub(crate) struct Pending {
     pub(crate) changes: Vec<EntityChange>,
     // The place of each change by its index, once a command came whose index is before that of the last change: up to then indices rise.
     places: Option<ChangePlaces>,
-    // The places of indices below this one are told by a list.
+    // The places of indices below this one are kept in a list.
     listed: usize,
     pub(crate) passed_over: u64,
 }
@@ -75,7 +75,7 @@ fn comes_last(changes: &[EntityChange], index: u32) -> bool
     changes[count - 1].entity.index <= index
 }
 
-// Notes the place of the change of a further index, where places are told.
+// Notes the place of the change of a further index, where places are kept.
 fn note_place(places: &mut Option<ChangePlaces>, index: u32, place: usize) -> Result<(), AllocError>
     ensures { OnOk result (IsNoted places.old index place places.new) }
 {
@@ -118,14 +118,14 @@ impl Pending {
         })
     }
 
-    // Has the places of changes told, where an index is before that of the last one.
+    // Has the places of changes kept, where an index is before that of the last one.
     fn tell(&mut self, alloc: Global, index: u32) -> Result<(), AllocError>
         requires apart { AreOfOtherIndices self.old.changes.items }
         requires placed { ArePlaced self.old.places self.old.changes.items }
         ensures changes { self.new.changes ≡ self.old.changes }
         ensures passed { self.new.passed_over ≡ self.old.passed_over }
         ensures placed { ArePlaced self.new.places self.new.changes.items }
-        ensures told { OnOk result (IsTold self.new.places self.new.changes.items index) }
+        ensures told { OnOk result (IsKnownPlace self.new.places self.new.changes.items index) }
     {
         if let Some(_places) = &self.places {
             return Ok(());
@@ -141,7 +141,7 @@ impl Pending {
     // Adds the first change of an index.
     fn add(&mut self, change: EntityChange) -> Result<(), AllocError>
         requires placed { ArePlaced self.old.places self.old.changes.items }
-        requires told { IsTold self.old.places self.old.changes.items change.entity.index }
+        requires told { IsKnownPlace self.old.places self.old.changes.items change.entity.index }
         requires first { place_of change.entity.index self.old.changes.items ≡ None }
         ensures changes { OnOk result (self.new.changes.items ≡ put_change change self.old.changes.items) }
         ensures placed { OnOk result (ArePlaced self.new.places self.new.changes.items) }
@@ -155,7 +155,7 @@ impl Pending {
     // Adds the first change of an index: its entity lives, without components.
     fn add_bare(&mut self, alloc: Global, e: Entity) -> Result<(), AllocError>
         requires placed { ArePlaced self.old.places self.old.changes.items }
-        requires told { IsTold self.old.places self.old.changes.items e.index }
+        requires told { IsKnownPlace self.old.places self.old.changes.items e.index }
         requires first { place_of e.index self.old.changes.items ≡ None }
         ensures changes { OnOk result (self.new.changes.items ≡ put_change (bare_change e) self.old.changes.items) }
         ensures placed { OnOk result (ArePlaced self.new.places self.new.changes.items) }
@@ -186,7 +186,7 @@ impl Pending {
     fn place(&self, index: u32) -> Option<usize>
         requires apart { AreOfOtherIndices self.now.changes.items }
         requires placed { ArePlaced self.now.places self.now.changes.items }
-        requires told { IsTold self.now.places self.now.changes.items index }
+        requires told { IsKnownPlace self.now.places self.now.changes.items index }
         ensures { result ≡ place_of index self.now.changes.items }
     {
         let count = self.changes.len();
@@ -205,7 +205,7 @@ impl Pending {
     // How an entity stands.
     fn find(&self, world: &World, e: Entity) -> EntityState
         requires pending { IsPending world.now.state self.now }
-        requires told { IsTold self.now.places self.now.changes.items e.index }
+        requires told { IsKnownPlace self.now.places self.now.changes.items e.index }
         ensures { Stands world.now.state.slots self.now.changes.items e result }
     {
         match self.place(e.index) {
@@ -230,7 +230,7 @@ impl Pending {
     fn open(&mut self, alloc: Global, world: &World, e: Entity) -> Result<Option<usize>, AllocError>
         requires home { AreAllHome world.now.layout }
         requires pending { IsPending world.now.state self.old }
-        requires told { IsTold self.old.places self.old.changes.items e.index }
+        requires told { IsKnownPlace self.old.places self.old.changes.items e.index }
         ensures pending { OnOk result (IsPending world.now.state self.new) }
         ensures same { OnOk result (target_of world.now.state self.new ≡ target_of world.now.state self.old) }
         ensures open { IfOk result (IsOpen world.now.state.slots self.new.changes.items e) }
@@ -261,7 +261,7 @@ impl Pending {
         requires past { tick ≤ world.now.state.clock }
         requires home { AreAllHome world.now.layout }
         requires pending { IsPending world.now.state self.old }
-        requires told { IsTold self.old.places self.old.changes.items e.index }
+        requires told { IsKnownPlace self.old.places self.old.changes.items e.index }
         ensures pending { OnOk result (IsPending world.now.state self.new) }
         ensures done { OnOk result (target_of world.now.state self.new ≡ apply_command tick (target_of world.now.state self.old) (Insert e (value_number value) (value_words value))) }
     {
@@ -282,7 +282,7 @@ impl Pending {
     ) -> Result<(), AllocError>
         requires home { AreAllHome world.now.layout }
         requires pending { IsPending world.now.state self.old }
-        requires told { IsTold self.old.places self.old.changes.items e.index }
+        requires told { IsKnownPlace self.old.places self.old.changes.items e.index }
         ensures pending { OnOk result (IsPending world.now.state self.new) }
         ensures done { (tick : ℕ) → OnOk result (target_of world.now.state self.new ≡ apply_command tick (target_of world.now.state self.old) (Remove e (kind_number kind))) }
     {
@@ -296,7 +296,7 @@ impl Pending {
     // An entity that lives dies.
     fn despawn(&mut self, world: &World, e: Entity) -> Result<(), AllocError>
         requires pending { IsPending world.now.state self.old }
-        requires told { IsTold self.old.places self.old.changes.items e.index }
+        requires told { IsKnownPlace self.old.places self.old.changes.items e.index }
         ensures pending { OnOk result (IsPending world.now.state self.new) }
         ensures done { (tick : ℕ) → OnOk result (target_of world.now.state self.new ≡ apply_command tick (target_of world.now.state self.old) (Despawn e)) }
     {
@@ -311,7 +311,7 @@ impl Pending {
         Ok(())
     }
 
-    // Does one command, where the place of the change of its entity is told.
+    // Does one command, where the place of the change of its entity is kept.
     fn known_command(
         &mut self,
         alloc: Global,
@@ -322,7 +322,7 @@ impl Pending {
         requires past { tick ≤ world.now.state.clock }
         requires home { AreAllHome world.now.layout }
         requires pending { IsPending world.now.state self.old }
-        requires told { IsTold self.old.places self.old.changes.items (index_in command) }
+        requires told { IsKnownPlace self.old.places self.old.changes.items (index_in command) }
         requires spawns { CanSpawn (target_of world.now.state self.old).slots (spawned_by (command_of command ∷ [])) }
         ensures pending { OnOk result (IsPending world.now.state self.new) }
         ensures done { OnOk result (target_of world.now.state self.new ≡ apply_command tick (target_of world.now.state self.old) (command_of command)) }

@@ -16,7 +16,7 @@ use std::thread::Threads;
 use std::{fs, thread};
 use worker_pool::Single;
 
-// What a command line asks for. The exit status of one that is at fault, which is told.
+// What a command line asks for. The exit status of one that is at fault, which is reported.
 fn args_of<'a, O: Write, E: Write>(
     alloc: Global,
     words: &'a [String],

@@ -1,2 +1,2 @@
-pub mod Told
+pub mod PairTexts
 pub mod Lines

@@ -3,7 +3,7 @@ use Rattle.std.specs.Prelude.{ℕ, ◌≡◌, List, [], ◌∷◌, ◌++◌, cod
 use Rattle.ambiguity_report.specs.Report.{IsReport}
 use Rattle.ambiguity_report.specs.declared.report.Pair.{Pair}
 use Rattle.findings.specs.Stories.{IsStory, count_text}
-use Rattle.findings.specs.Telling.{IsWitnessText, pair_text}
+use Rattle.findings.specs.Texts.{IsWitnessText, pair_text}
 use Rattle.findings.specs.Witness.{IsWitness}
 use Rattle.findings.specs.declared.witness.Witness.{Witness}
 use Rattle.model.specs.shown.Outcome.{BodyMeaning}

@@ -67,7 +67,7 @@ const RUN: Argument = Argument {
     id: "run",
     long: "run",
     value: "N",
-    help: "the run that is told, from 1; all if left out",
+    help: "the run to show, from 1; all if left out",
     range: Some((1, 4_294_967_295)),
 };
 

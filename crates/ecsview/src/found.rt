@@ -14,7 +14,7 @@ use executor_core::Trace;
 use findings::diverging::{Parting, first_difference, parting_of};
 use findings::loading::opening;
 use findings::stories::story_of;
-use findings::telling::{push_pair, push_witness, text_of_parting};
+use findings::texts::{push_pair, push_witness, text_of_parting};
 use findings::witness::{Witness, witness_of};
 use kinds::Value;
 use program::checking::traces_of;

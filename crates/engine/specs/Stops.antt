@@ -75,12 +75,12 @@ fault_of stop.NoEventNumber = fault.ClockSpent
 fault_of (stop.Refused n) = fault.BodyFault n
 
 -- which fault tells of a cause
-abbrev pub IsToldAs : Cause → RunFault → Type 0
-IsToldAs cause.NoTick fault.ClockSpent = Unit {0}
-IsToldAs cause.NoIds fault.IdsSpent = Unit {0}
-IsToldAs cause.NoEventNumber fault.ClockSpent = Unit {0}
-IsToldAs (cause.Refused n) (fault.BodyFault m) = n ≡ m
-IsToldAs met told = ⊥
+abbrev pub IsReportedAs : Cause → RunFault → Type 0
+IsReportedAs cause.NoTick fault.ClockSpent = Unit {0}
+IsReportedAs cause.NoIds fault.IdsSpent = Unit {0}
+IsReportedAs cause.NoEventNumber fault.ClockSpent = Unit {0}
+IsReportedAs (cause.Refused n) (fault.BodyFault m) = n ≡ m
+IsReportedAs met told = ⊥
 
 -- so many runs stop for a cause: with room for so many, and on one thread, where so many runs have then no meaning
 pub record AreStopped (width : ℕ) (s : Schedule) (bodies : List BodyMeaning) (times : ℕ) (w : State) (met : Cause) : Type 0 where
@@ -93,4 +93,4 @@ abbrev pub StopsAs : Bool → ℕ → Schedule → List BodyMeaning → ℕ → 
 StopsAs there width s bodies times w fault.Memory = Unit {0}
 StopsAs there width s bodies times w fault.Spoiled = Unit {0}
 StopsAs there width s bodies times w fault.NoWorker = there ≡ true
-StopsAs there width s bodies times w told = (met : Cause) × IsToldAs met told × AreStopped width s bodies times w met
+StopsAs there width s bodies times w told = (met : Cause) × IsReportedAs met told × AreStopped width s bodies times w met

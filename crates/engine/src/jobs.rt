@@ -19,7 +19,7 @@ use crate::run_state::RunState;
 use crate::stop::Stop;
 use body::Body;
 use schedule_builder::Built;
-use worker_pool::{HandFault, JobResult, Mode, Pool, Start};
+use worker_pool::{HandOutFault, JobResult, Mode, Pool, Start};
 
 /// The bodies of a run, and the jobs that are out.
 #[derive(Drop)]
@@ -65,17 +65,17 @@ pub(crate) fn start<'s, M: Mode<'s>, B: Body + 's>(
         },
     ) {
         Ok(()) => Ok(()),
-        Err(HandFault::Memory(start)) => {
+        Err(HandOutFault::Memory(start)) => {
             let Start { body, .. } = start;
             jobs.bodies.put(system as usize, body);
             Err(Stop::Memory)
         }
-        Err(HandFault::NoWorker(start)) => {
+        Err(HandOutFault::NoWorker(start)) => {
             let Start { body, .. } = start;
             jobs.bodies.put(system as usize, body);
             Err(Stop::NoWorker)
         }
-        Err(HandFault::Lost) => Err(Stop::NoWorker),
+        Err(HandOutFault::Lost) => Err(Stop::NoWorker),
     }
 }
 

@@ -1,2 +1,2 @@
 pub mod Drift
-pub mod Told
+pub mod Printed

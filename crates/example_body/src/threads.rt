@@ -3,7 +3,7 @@
 ghost use Rattle.std.specs.Prelude.{◌≡◌, IfSome, string_bytes};
 ghost use Rattle.engine.specs.Meanings.{meanings};
 ghost use Rattle.printing.specs.WorldText.{world_text};
-ghost use Rattle.example_body.specs.Told.{IsTold};
+ghost use Rattle.example_body.specs.Printed.{IsPrinted};
 
 use body::Body;
 use engine::Engine;
@@ -28,7 +28,7 @@ fn text_in_scope<'s, E: 's, R: Threads + Wait + Copy + Send + 's, B: Body + 's>(
     engine: Engine<B>,
     times: u32,
 ) -> Option<String>
-    ensures { IfSome result (λ text. IsTold times engine.schedule (meanings B.meaning engine.schedule engine.bodies) engine.state (string_bytes text)) }
+    ensures { IfSome result (λ text. IsPrinted times engine.schedule (meanings B.meaning engine.schedule engine.bodies) engine.state (string_bytes text)) }
 {
     let mut engine = engine;
     let mode = Workers::new(WORKERS, scope, runtime, &NO_GATE);
@@ -53,13 +53,13 @@ pub fn text_after<R: Threads + Wait + Copy + Send + Sync + 'static, B: Body + 's
     engine: Engine<B>,
     times: u32,
 ) -> Option<String>
-    ensures { IfSome result (λ text. IsTold times engine.schedule (meanings B.meaning engine.schedule engine.bodies) engine.state (string_bytes text)) }
+    ensures { IfSome result (λ text. IsPrinted times engine.schedule (meanings B.meaning engine.schedule engine.bodies) engine.state (string_bytes text)) }
 {
     thread::scope(
         thread::scope_env(),
         &runtime,
         |scope| -> Option<String>
-            ensures { IfSome result (λ text. IsTold times engine.schedule (meanings B.meaning engine.schedule engine.bodies) engine.state (string_bytes text)) }
+            ensures { IfSome result (λ text. IsPrinted times engine.schedule (meanings B.meaning engine.schedule engine.bodies) engine.state (string_bytes text)) }
         { text_in_scope(scope, runtime, alloc, engine, times) },
     )
 }

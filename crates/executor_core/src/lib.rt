@@ -1,4 +1,4 @@
-// Which steps of a run may come: which are accepted, which fault is told of one that isn't, and what is ready.
+// Which steps of a run may come: which are accepted, which fault is reported of one that isn't, and what is ready.
 #![tactic(auto)]
 
 mod counts;

@@ -3,7 +3,7 @@ use Rattle.std.proofs.Common.{◌≡◌, ℕ, zero, suc, ◌+◌, ◌<◌, List,
 use Rattle.std.specs.Prelude.{◌≢◌, ◌⊎◌}
 use Rattle.std.specs.List.{slice_get}
 use Rattle.std.specs.Str.Lines.{lines}
-use Rattle.findings.specs.Telling.{IsDifference, IsFirstApart, apart_text}
+use Rattle.findings.specs.Texts.{IsDifference, IsFirstApart, apart_text}
 
 -- one line more that is the same
 more_same : (xs ys : List (List ℕ)) (i : ℕ) → i < length xs → slice_get xs i ≡ slice_get ys i → take i xs ≡ take i ys → take (suc i) xs ≡ take (suc i) ys

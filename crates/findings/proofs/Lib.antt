@@ -4,5 +4,5 @@ pub mod Partings
 pub mod Rows
 pub mod Scenes
 pub mod StoryRuns
-pub mod Tellings
+pub mod TextSteps
 pub mod Witnesses

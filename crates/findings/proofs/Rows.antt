@@ -5,7 +5,7 @@ use Rattle.std.specs.Option.{option_to_list}
 use Rattle.std.proofs.lemmas.Grind.{flat_map-append}
 use Rattle.std.proofs.lemmas.Option.{slice_get_within, slice_get-get_or}
 use Rattle.std.specs.Option.{option_map}
-use Rattle.findings.specs.Telling.{AreRows, IsOfOne, IsSideOf, Row, row_text}
+use Rattle.findings.specs.Texts.{AreRows, IsOfOne, IsSideOf, Row, row_text}
 
 -- the lines so far, and the line that is next
 take_at : (xs : List (List ℕ)) (at : ℕ) → take at xs ++ option_to_list (slice_get xs at) ≡ take (at + length (option_to_list (slice_get xs at))) xs

@@ -6,10 +6,10 @@ use Rattle.model.specs.declared.steps.Step.{Step}
 use Rattle.model.specs.shown.Outcome.{BodyMeaning}
 use Rattle.model.specs.state.State.{State}
 use Rattle.model.specs.steps.Schedule.{Schedule}
-use Rattle.findings.specs.declared.witness.Told.{Told}
-use Rattle.findings.specs.Witness.{IsLeftBy, IsTold, is_in_turn}
+use Rattle.findings.specs.declared.witness.RunOutcome.{RunOutcome}
+use Rattle.findings.specs.Witness.{IsLeftBy, IsOutcome, is_in_turn}
 
 -- its steps are in the order that they say from the first on
-pub told : (s : Schedule) (bodies : List BodyMeaning) (start : State) (r : Racer) (n : ℕ) (swapped : Bool) (t : Told) (steps : List Step) → t.list.steps ≡ reverse steps → is_in_turn r n swapped steps ≡ true
-    → IsLeftBy s bodies start t.list (string_bytes t.world) → IsTold s bodies start r n swapped t
+pub told : (s : Schedule) (bodies : List BodyMeaning) (start : State) (r : Racer) (n : ℕ) (swapped : Bool) (t : RunOutcome) (steps : List Step) → t.list.steps ≡ reverse steps → is_in_turn r n swapped steps ≡ true
+    → IsLeftBy s bodies start t.list (string_bytes t.world) → IsOutcome s bodies start r n swapped t
 told s bodies start r n swapped t steps listed order left = record { order = ap (is_in_turn r n swapped) (ap reverse listed ∙ reverse-reverse steps) ∙ order; left = left }

@@ -1,6 +1,6 @@
 pub mod Loaded
 pub mod Parting
 pub mod Stories
-pub mod Telling
+pub mod Texts
 pub mod Witness
 pub mod Worlds

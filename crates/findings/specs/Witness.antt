@@ -10,7 +10,7 @@ use Rattle.model.specs.shown.Outcome.{BodyMeaning}
 use Rattle.model.specs.state.State.{State}
 use Rattle.model.specs.steps.Schedule.{Schedule, Recorded, recording}
 use Rattle.printing.specs.WorldText.{world_text}
-use Rattle.findings.specs.declared.witness.Told.{Told}
+use Rattle.findings.specs.declared.witness.RunOutcome.{RunOutcome}
 use Rattle.findings.specs.declared.witness.Witness.{Witness}
 
 -- whether a system starts or is skipped by a step
@@ -47,11 +47,11 @@ pub record IsLeftBy (s : Schedule) (bodies : List BodyMeaning) (start : State) (
   pub world : text ≡ world_text 1 final
 
 -- a list of one run from a state, with the text of the world that it leaves, in which of a pair the first, or where they are swapped the system, comes first
-pub record IsTold (s : Schedule) (bodies : List BodyMeaning) (start : State) (r : Racer) (n : ℕ) (swapped : Bool) (t : Told) : Type 0 where
+pub record IsOutcome (s : Schedule) (bodies : List BodyMeaning) (start : State) (r : Racer) (n : ℕ) (swapped : Bool) (t : RunOutcome) : Type 0 where
   pub order : is_in_turn r n swapped (reverse t.list.steps) ≡ true
   pub left : IsLeftBy s bodies start t.list (string_bytes t.world)
 
 -- both lists of a pair
 pub record IsWitness (s : Schedule) (bodies : List BodyMeaning) (start : State) (p : Pair) (w : Witness) : Type 0 where
-  pub before : IsTold s bodies start p.first p.second false w.before
-  pub behind : IsTold s bodies start p.first p.second true w.behind
+  pub before : IsOutcome s bodies start p.first p.second false w.before
+  pub behind : IsOutcome s bodies start p.first p.second true w.behind

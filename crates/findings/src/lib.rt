@@ -6,7 +6,7 @@ pub mod listing;
 pub mod loading;
 pub mod sets;
 pub mod stories;
-pub mod telling;
+pub mod texts;
 pub mod witness;
 mod worlds;
 

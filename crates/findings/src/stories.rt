@@ -53,7 +53,7 @@ pub fn story_of(
     Ok(text)
 }
 
-// A run: how many come before it, and whether it is told.
+// A run: how many come before it, and whether it is shown.
 #[derive(Clone, Copy)]
 struct Part {
     before: u32,
@@ -70,7 +70,7 @@ fn is_asked(asked: Option<u32>, number: u32) -> bool
     }
 }
 
-// Takes a run again, and tells its worlds, where they are asked for.
+// Takes a run again, and returns its worlds, where they are asked for.
 fn taken(
     alloc: Global,
     built: &Built,
@@ -93,7 +93,7 @@ fn taken(
     Ok((left, String::new(alloc)))
 }
 
-// Takes a run again that is told: from a copy of its state it is taken once more for its worlds.
+// Takes a run again that is shown: from a copy of its state it is taken once more for its worlds.
 fn told_run(
     alloc: Global,
     built: &Built,
@@ -114,7 +114,7 @@ fn told_run(
     Ok((left, told))
 }
 
-// The worlds of a run that has been taken again, told by taking its steps once more: now only memory can fail.
+// The worlds of a run that has been taken again, found by taking its steps once more: now only memory can fail.
 fn told_of(
     alloc: Global,
     built: &Built,
@@ -135,7 +135,7 @@ fn told_of(
     }
 }
 
-// What is told where a run that has been taken again once stops: memory fails.
+// What is reported where a run that has been taken again once stops: memory fails.
 fn fault_of(fault: ReplayFault) -> Fault {
     match fault {
         ReplayFault::Run(RunFault::ClockSpent) => Fault::ClockSpent,

@@ -2,7 +2,7 @@
 
 ghost use Rattle.std.specs.Prelude.{◌≡◌, ◌<◌, length, IfOk, IfSome, IsTrue, string_bytes, map, Some};
 ghost use Rattle.engine.specs.Meanings.{HasMemories, Suits};
-ghost use Rattle.findings.specs.Witness.{IsLeftBy, IsTold, IsWitness};
+ghost use Rattle.findings.specs.Witness.{IsLeftBy, IsOutcome, IsWitness};
 ghost use Rattle.program.specs.Setup.{AreScriptsOf, fits_at, meanings_of_scripts, script_suits};
 
 use crate::listing::{Turn, is_in_turn, list_of};
@@ -18,7 +18,7 @@ use std::alloc::{AllocError, Global};
 
 /// A complete lawful list of the first run, with the text of the world that it leaves.
 #[derive(Drop)]
-pub struct Told {
+pub struct RunOutcome {
     /// The list.
     pub list: Trace,
     /// The text of the world that it leaves.
@@ -29,9 +29,9 @@ pub struct Told {
 #[derive(Drop)]
 pub struct Witness {
     /// The list in which it comes before the system.
-    pub before: Told,
+    pub before: RunOutcome,
     /// The list in which it comes behind.
-    pub behind: Told,
+    pub behind: RunOutcome,
 }
 
 /// A witness of a pair, from the state with which the first run begins: in each of its lists the two come in one of the orders, and the list is lawful and
@@ -47,10 +47,10 @@ pub fn witness_of(
     ensures witness { IfOk result (λ found. IfSome found (IsWitness built.now (meanings_of_scripts built.now bodies.old) first.now pair)) }
     ensures meanings { meanings_of_scripts built.now bodies.new ≡ meanings_of_scripts built.now bodies.old }
 {
-    let Some(before) = told_in(alloc, built, bodies, first, turn_of(pair, false))? else {
+    let Some(before) = outcome_in(alloc, built, bodies, first, turn_of(pair, false))? else {
         return Ok(None);
     };
-    let Some(behind) = told_in(alloc, built, bodies, first, turn_of(pair, true))? else {
+    let Some(behind) = outcome_in(alloc, built, bodies, first, turn_of(pair, true))? else {
         return Ok(None);
     };
     Ok(Some(Witness { before, behind }))
@@ -72,15 +72,15 @@ fn turn_of(pair: Pair, swapped: bool) -> Turn
 // A list in which a pair comes in this order. Answers of conditions are guessed first; the first that a replay tells to be wrong is turned, and all
 // before it stay, so that there are no more tries than conditions, and one.
 #[tactic(auto, using(crate::proofs::Fitting::fitting_suit))]
-fn told_in(
+fn outcome_in(
     alloc: Global,
     built: &Built,
     bodies: &mut [ScriptBody],
     first: &State,
     turn: Turn,
-) -> Result<Option<Told>, Fault>
+) -> Result<Option<RunOutcome>, Fault>
     requires { HasMemories built.now first.now }
-    ensures told { IfOk result (λ found. IfSome found (IsTold built.now (meanings_of_scripts built.now bodies.old) first.now turn.racer turn.system turn.swapped)) }
+    ensures outcome { IfOk result (λ found. IfSome found (IsOutcome built.now (meanings_of_scripts built.now bodies.old) first.now turn.racer turn.system turn.swapped)) }
     ensures meanings { meanings_of_scripts built.now bodies.new ≡ meanings_of_scripts built.now bodies.old }
 {
     let mut answers = vec![in alloc; true; built.condition_count() as usize]?;
@@ -93,7 +93,7 @@ fn told_in(
             return Ok(None);
         }
         match left_by(alloc, built, bodies, first, &list) {
-            Ok(world) => return Ok(Some(Told { list, world })),
+            Ok(world) => return Ok(Some(RunOutcome { list, world })),
             Err(Fault::WrongAnswer { step, .. }) => turn_answer(&mut answers, list.steps(), step),
             Err(fault) => return Err(fault),
         }

@@ -1,4 +1,4 @@
-// The kinds of steps, and what each tells the seat that makes it. These types are for proofs alone.
+// The kinds of steps, and what each says to the seat that makes it. These types are for proofs alone.
 ghost use Rattle.job_board.specs.Plays.{entered, looked, sought, claimed, gave_job, took_job, gave_outcome, took_outcome, shut};
 
 use crate::task::Task;

@@ -74,7 +74,7 @@ impl KindSets {
     }
 }
 
-// How many of the first of rising ones are less than this number. It looks from the end: numbers are told in rising order for the most part.
+// How many of the first of rising ones are less than this number. It looks from the end: numbers are given in rising order for the most part.
 fn lesser(numbers: &[u32], number: u32) -> usize
     requires { IsRising numbers.now }
     ensures within { result ≤ length numbers.now }

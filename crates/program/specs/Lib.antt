@@ -1,7 +1,7 @@
 pub mod Accepted
 pub mod Checked
 pub mod Fault
-pub mod LineTold
+pub mod LineReported
 pub mod Loaded
 pub mod Load
 pub mod Recorded

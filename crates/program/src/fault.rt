@@ -1,4 +1,4 @@
-// Why the program ends with another status than 0, each told by one line.
+// Why the program ends with another status than 0, each reported by one line.
 
 ghost use Rattle.std.specs.Prelude.{◌≡◌, Some};
 ghost use Rattle.program.specs.Fault.{status_of, fault_text, fault_of_read, fault_of_file, fault_of_build, fault_of_grant, fault_of_text, IsScriptFault};

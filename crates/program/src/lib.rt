@@ -1,5 +1,5 @@
 // What a command line asks for, done on readers and writers: the schedule, the scripts and the world that a file gives, the runs, what is
-// told of them, and the faults.
+// reported of them, and the faults.
 #![tactic(auto)]
 
 mod answer;

@@ -1,6 +1,6 @@
 // What is printed for a command line that asks for no work.
 
-ghost use Rattle.program.specs.LineTold.{IsHelp, IsLineTold};
+ghost use Rattle.program.specs.LineReported.{IsHelp, IsLineReported};
 
 use crate::fault::Fault;
 use crate::serve::{tell, tell_line};
@@ -17,7 +17,7 @@ pub fn tell_line_fault<O: Write, E: Write>(
     faults: &mut E,
     fault: &LineFault,
 ) -> u8
-    ensures { IsLineTold fault.now result (O.contents out.old, O.contents out.new) (E.contents faults.old, E.contents faults.new) }
+    ensures { IsLineReported fault.now result (O.contents out.old, O.contents out.new) (E.contents faults.old, E.contents faults.new) }
 {
     match fault {
         LineFault::Help(text) => print_help(alloc, out, faults, text.as_str()),

@@ -170,7 +170,7 @@ fn run<'s, M: Mode<'s>>(
 const RUNS_AT_ONCE: u32 = 256;
 
 // Runs a schedule so many times, one run after the other, and gives their record. The steps of runs are dropped before the next ones
-// begin. Runs go on where their record is too long already: what stops one of them is told first.
+// begin. Runs go on where their record is too long already: what stops one of them is reported first.
 fn run_times<'s, M: Mode<'s>>(
     alloc: Global,
     engine: &mut Engine<ScriptBody>,

@@ -483,7 +483,7 @@ pub fn build(alloc: Global, desc: ScheduleDesc) -> Result<Built, BuildFault>
     ensures conditions { IfOk result (HasDeclaredConditions desc) }
     ensures silences { IfOk result (HasDeclaredSilences desc) }
 
-    // A failed allocation tells nothing of what is declared.
+    // A failed allocation says nothing of what is declared.
     ensures refused { IfErr result (IsAnswered desc) }
 {
     let found = checked(alloc, &desc)?;

@@ -1,4 +1,4 @@
-// A built schedule, and what it tells of its systems.
+// A built schedule, and what it says of its systems.
 
 ghost use Rattle.std.specs.Prelude.{◌≡◌, ◌<◌, ℕ, [], None, length, get_or, IfOk};
 ghost use Rattle.model.specs.access.SelfConflict.{ConflictWithin};

@@ -1,4 +1,4 @@
-// Why a schedule is refused, as the program tells it.
+// Why a schedule is refused, as the program reports it.
 
 ghost use Rattle.std.specs.Prelude.{◌≡◌, ◌∷◌, ◌++◌, Some, codes, decimal};
 ghost use Rattle.std.specs.Fmt.{WritesOnOk};

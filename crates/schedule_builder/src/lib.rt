@@ -1,4 +1,4 @@
-// The builder: declared systems and orders become a built schedule, or the first thing at fault is told.
+// The builder: declared systems and orders become a built schedule, or the first thing at fault is reported.
 #![tactic(auto)]
 
 mod ascending_list;

@@ -28,7 +28,7 @@ pub enum Cause {
 }
 
 impl Cause {
-    // The number that it is told by.
+    // The number that it is reported by.
     fn number(self) -> u32
         ensures { result ≡ cause_number self }
     {

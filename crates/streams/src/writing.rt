@@ -26,7 +26,7 @@ pub fn write_whole<W: Write>(writer: &mut W, text: &str) -> Result<(), WriteFaul
     flush(writer)
 }
 
-// Writes some of these bytes, at least one, and tells how many.
+// Writes some of these bytes, at least one, and returns how many.
 fn write_part<W: Write>(writer: &mut W, bytes: &[u8]) -> Result<usize, WriteFault>
     ensures some { IfOk result (λ count. 0 < count) }
     ensures within { IfOk result (λ count. count ≤ length bytes.now) }

@@ -2,7 +2,7 @@
 use Rattle.std.proofs.Common.{ℕ, ◌+◌, ◌<◌, ◌≤◌, ◌≡◌, Bool, true, false, eqb, nat_lt, ◌⊎◌, inl, inr, if◌then◌else◌, List, [], ◌∷◌, ◌++◌, length, take, get_or, Option, Some, None, refl, sym, ap, ◌∙◌, arith, ltb-true, lt-ltb, eqb-true, eq-eqb}
 use Rattle.std.proofs.lemmas.Bool.{both_ways, cases_lt}
 use Rattle.model.specs.declarations.Walks.{IsWalk}
-use Rattle.model.specs.declarations.Hierarchy.{IsHeld, HasNoSelf, IsFirstSelf, HasNoSetCycle, IsToldSetCycle}
+use Rattle.model.specs.declarations.Hierarchy.{IsHeld, HasNoSelf, IsFirstSelf, HasNoSetCycle, IsReportedSetCycle}
 use Rattle.cycle_search.specs.declared.order.Order.{Order}
 use Rattle.cycle_search.specs.Cycles.{IsStep, IsRankable, IsRound, BeginsLeast}
 use Rattle.cycle_search.proofs.Walks.{walk_weaker, no_round}
@@ -60,7 +60,7 @@ two_of sets items orders none (x ∷ []) some walk = absurd (none x (held_of_ste
 two_of sets items orders none (x ∷ y ∷ circle) some walk = omega arith
 
 pub told_set_cycle : (sets items : ℕ) (orders : List Order) → HasNoSelf (hierarchy_of sets items orders) → (circle : List ℕ) → IsRound (IsStep orders) circle → BeginsLeast circle →
-    IsToldSetCycle (hierarchy_of sets items orders) circle
+    IsReportedSetCycle (hierarchy_of sets items orders) circle
 told_set_cycle sets items orders none circle round least = record {
   cycle = record {
     two = two_of sets items orders none circle round.some round.walk;

@@ -6,7 +6,7 @@ use Rattle.std.proofs.lemmas.Bool.{false≢true, both_ways, or_cases, or_left, o
 use Rattle.model.specs.Lists.{has, IsIn}
 use Rattle.model.specs.declarations.Walks.{IsOnceEach, IsWalk}
 use Rattle.model.specs.declarations.Hierarchy.{Hierarchy, IsHeld, Reaches, IsMember}
-use Rattle.model.specs.declarations.Edges.{IsMemberOf, HasNoLoop, HasNoCrossing, AreApart, IsFollowed, IsCycle, HasNoCycle, IsToldCycle}
+use Rattle.model.specs.declarations.Edges.{IsMemberOf, HasNoLoop, HasNoCrossing, AreApart, IsFollowed, IsCycle, HasNoCycle, IsReportedCycle}
 use Rattle.model.proofs.lists.Lists.{IsIn-append, IsIn_left, IsIn_right}
 use Rattle.model.proofs.lists.Members.{in-map}
 use Rattle.model.proofs.lists.Firsts.{each_in}
@@ -459,7 +459,7 @@ told_by h orders loop crossing apart first [] walk = absurd (not_followed h orde
 told_by h orders loop crossing apart first (x ∷ rest) walk = omega arith
 
 told : (h : Hierarchy) (orders : List (ℕ × ℕ)) → IsWhole h orders → IsRankable (IsHeld h) → HasNoLoop orders → HasNoCrossing h orders → AreApart h orders → (nodes : List ℕ) →
-    IsRound (IsNodeStep h orders) nodes → BeginsLeast nodes → IsToldCycle h orders (items_among h.items nodes)
+    IsRound (IsNodeStep h orders) nodes → BeginsLeast nodes → IsReportedCycle h orders (items_among h.items nodes)
 told h orders whole r loop crossing apart [] round least = let some : 0 < 0 = round.some in absurd (omega arith)
 told h orders whole r loop crossing apart (first ∷ rest) round least =
     let low : first < h.items = begins_item h orders whole r first rest round.walk least in
@@ -471,7 +471,7 @@ told h orders whole r loop crossing apart (first ∷ rest) round least =
     let once : IsOnceEach (first ∷ items_among h.items rest) = subst (λ (xs : List ℕ). IsOnceEach xs) begins (among_once h.items (first ∷ rest) round.once) in
     let cycle : IsCycle h orders (first ∷ items_among h.items rest) =
     record { two = told_by h orders loop crossing apart first (items_among h.items rest) walk; once = once; followed = walk } in
-    subst (λ (xs : List ℕ). IsToldCycle h orders xs) (sym begins) (record {
+    subst (λ (xs : List ℕ). IsReportedCycle h orders xs) (sym begins) (record {
       cycle = cycle;
       earliest = λ n e. least n (among_has h.items n (first ∷ rest) (subst (λ (xs : List ℕ). has n xs ≡ true) (sym begins) e));
     })
@@ -673,7 +673,7 @@ tells_none sets items pairs orders steps same r =
 
 pub tells_some : (sets items : ℕ) (pairs orders steps : List Order) (nodes : List ℕ) → ArePlaced sets items pairs → All (IsBetween items) orders → IsRankable (IsStep pairs) →
     HasNoLoop (pairs_of orders) → HasNoCrossing (hierarchy_of sets items pairs) (pairs_of orders) → AreApart (hierarchy_of sets items pairs) (pairs_of orders) →
-    steps ≡ steps_of sets items pairs orders → IsRound (IsStep steps) nodes → BeginsLeast nodes → IsToldCycle (hierarchy_of sets items pairs) (pairs_of orders) (items_among items nodes)
+    steps ≡ steps_of sets items pairs orders → IsRound (IsStep steps) nodes → BeginsLeast nodes → IsReportedCycle (hierarchy_of sets items pairs) (pairs_of orders) (items_among items nodes)
 tells_some sets items pairs orders steps nodes placed between ranked loop crossing apart same round least =
     let h : Hierarchy = hierarchy_of sets items pairs in
     let over : IsRound (IsNodeStep h (pairs_of orders)) nodes = record {

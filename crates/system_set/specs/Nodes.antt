@@ -4,7 +4,7 @@ use Rattle.std.specs.Prelude.{Vec, ℕ, ◌+◌, nat_lt, if◌then◌else◌, Li
 use Rattle.std.specs.List.{filter}
 use Rattle.std.specs.declared.alloc.Global.{Global}
 use Rattle.model.specs.declarations.Hierarchy.{Hierarchy}
-use Rattle.model.specs.declarations.Edges.{IsFollowed, HasNoCycle, IsToldCycle}
+use Rattle.model.specs.declarations.Edges.{IsFollowed, HasNoCycle, IsReportedCycle}
 use Rattle.cycle_search.specs.declared.order.Order.{Order}
 use Rattle.cycle_search.specs.Cycles.{IsRankable}
 
@@ -38,4 +38,4 @@ items_among items nodes = filter (λ n. nat_lt n items) nodes
 -- a cycle of items from its earliest; where there is none, ranks that fall from each item to what follows it
 abbrev pub TellsCycle : Hierarchy → List (ℕ × ℕ) → Option (Vec ℕ Global) → Type 0
 TellsCycle h orders None = HasNoCycle h orders × IsRankable (IsFollowed h orders)
-TellsCycle h orders (Some items) = IsToldCycle h orders items.items
+TellsCycle h orders (Some items) = IsReportedCycle h orders items.items

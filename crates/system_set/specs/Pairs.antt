@@ -2,7 +2,7 @@
 use Rattle.std.specs.Prelude.{ℕ, ◌<◌, ◌≤◌, ◌≡◌, ◌↔◌, ◌==◌, ◌&&◌, ◌||◌, not, Bool, true, false, nat_lt, if◌then◌else◌, List, map, get_or, Option, Some, None}
 use Rattle.std.specs.List.{All}
 use Rattle.model.specs.Lists.{has}
-use Rattle.model.specs.declarations.Hierarchy.{Hierarchy, HasNoSelf, IsFirstSelf, IsToldSetCycle, Reaches, IsRising}
+use Rattle.model.specs.declarations.Hierarchy.{Hierarchy, HasNoSelf, IsFirstSelf, IsReportedSetCycle, Reaches, IsRising}
 use Rattle.cycle_search.specs.declared.order.Order.{Order}
 use Rattle.cycle_search.specs.Cycles.{IsStep}
 use Rattle.system_set.specs.declared.fault.HierarchyFault.{HierarchyFault}
@@ -32,7 +32,7 @@ hierarchy_of sets items orders = record { sets = sets; items = items; inside = p
 -- the fault that is told of sets; a failed allocation says nothing of them
 abbrev pub IsHierarchyFault : Hierarchy → HierarchyFault → Type 0
 IsHierarchyFault h (Loop n) = IsFirstSelf h n
-IsHierarchyFault h (Cycle items) = HasNoSelf h × IsToldSetCycle h items.items
+IsHierarchyFault h (Cycle items) = HasNoSelf h × IsReportedSetCycle h items.items
 IsHierarchyFault h Memory = Unit {0}
 
 -- the lesser of a number that may be there and one that is

@@ -15,13 +15,13 @@ use Rattle.trace_checker.specs.declared.replay.ReplayFault.{ReplayFault}
 use Rattle.trace_checker.specs.declared.replay.ReplayFault.TheVariants as replay
 use Rattle.trace_checker.specs.Verdicts.{IsSaidOf, is_complete}
 use Rattle.model.specs.runs.Replays.{IsReplayed, IsWrongAnswer, AreWrongSets, IsReplayStopped}
-use Rattle.engine.specs.Stops.{IsToldAs}
+use Rattle.engine.specs.Stops.{IsReportedAs}
 use Rattle.trace_checker.specs.ReplayFaults.{IsReplayOf, IsFaultOf}
 use Rattle.trace_checker.proofs.Verdicts.{same_verdict}
 use Rattle.model.proofs.serial.Replaying.{replayed_stopped, replayed_wrong, replayed_sets, replayed_replayed, stopped_stopped, wrong_stopped, wrong_wrong, sets_stopped, sets_wrong, sets_sets}
 
 -- one fault tells of a cause
-same_fault : (cause : Cause) (f g : RunFault) → IsToldAs cause f → IsToldAs cause g → f ≡ g
+same_fault : (cause : Cause) (f g : RunFault) → IsReportedAs cause f → IsReportedAs cause g → f ≡ g
 same_fault NoTick ClockSpent ClockSpent a b = refl
 same_fault NoIds IdsSpent IdsSpent a b = refl
 same_fault NoEventNumber ClockSpent ClockSpent a b = refl
@@ -103,7 +103,7 @@ module _ (s : Schedule) (bodies : List BodyMeaning) (w : State) (h : List Step) 
     cause : Cause
     is : r ≡ Err (replay.Run fault)
     complete : IsSaidOf s h Complete
-    told : IsToldAs cause fault
+    told : IsReportedAs cause fault
     stopped : IsReplayStopped s bodies w h cause
 
   abbrev Came : Result State ReplayFault → Type 0
@@ -162,7 +162,7 @@ module _ (s : Schedule) (bodies : List BodyMeaning) (w : State) (h : List Step) 
     stopped-other x (inr (inr (inr (inl y)))) = absurd (sets_stopped s bodies w h y.step x.cause y.wrong x.stopped)
     stopped-other x (inr (inr (inr (inr y)))) =
         let cause = stopped_stopped s bodies w h x.cause y.cause x.stopped y.stopped in
-        x.is ∙ ap (λ f. Err (replay.Run f)) (same_fault y.cause x.fault y.fault (subst (λ c. IsToldAs c x.fault) cause x.told) y.told) ∙ sym y.is
+        x.is ∙ ap (λ f. Err (replay.Run f)) (same_fault y.cause x.fault y.fault (subst (λ c. IsReportedAs c x.fault) cause x.told) y.told) ∙ sym y.is
 
     same-came : Came r → Came t → r ≡ t
     same-came (inl x) y = ended-other x y

@@ -14,7 +14,7 @@ use Rattle.body.specs.Seen.{Seen}
 use Rattle.body.specs.declared.system_body.BodyFault.{BodyFault}
 use Rattle.engine.specs.declared.faults.RunFault.{RunFault}
 use Rattle.engine.specs.declared.faults.RunFault.TheVariants.{Memory}
-use Rattle.engine.specs.Stops.{IsToldAs}
+use Rattle.engine.specs.Stops.{IsReportedAs}
 use Rattle.trace_checker.specs.declared.check.Verdict.TheVariants as verdict
 use Rattle.trace_checker.specs.declared.replay.ReplayFault.{ReplayFault}
 use Rattle.trace_checker.specs.declared.replay.ReplayFault.TheVariants as replay
@@ -25,7 +25,7 @@ use Rattle.model.specs.runs.Replays.{IsWrongHere}
 -- what stops a complete run: a failed allocation at any time, or the cause that the serial meaning meets first
 abbrev pub IsStoppedAs : Schedule → List BodyMeaning → State → List Step → RunFault → Type 0
 IsStoppedAs s bodies w h Memory = Unit {0}
-IsStoppedAs s bodies w h fault = (cause : Cause) × IsToldAs cause fault × IsReplayStopped s bodies w h cause
+IsStoppedAs s bodies w h fault = (cause : Cause) × IsReportedAs cause fault × IsReplayStopped s bodies w h cause
 
 -- a fault of a replay of a history, which has the latest step first: what is said of it, else the first wrong answer, the first wrong kind sets
 -- or what stops it
@@ -62,7 +62,7 @@ IsKnown s step = Unit {0}
 -- what stops a step
 abbrev pub IsStoppedHere : Schedule → List BodyMeaning → RunState → Step → RunFault → Type 0
 IsStoppedHere s bodies run step Memory = Unit {0}
-IsStoppedHere s bodies run step fault = (cause : Cause) × IsToldAs cause fault × (serial_cause_of s bodies step run ≡ Some cause)
+IsStoppedHere s bodies run step fault = (cause : Cause) × IsReportedAs cause fault × (serial_cause_of s bodies step run ≡ Some cause)
 
 -- a fault of a step of this number
 abbrev pub IsStepFault : Schedule → List BodyMeaning → RunState → Step → ℕ → ReplayFault → Type 0

@@ -39,8 +39,8 @@ impl fmt::Display for Line {
             Line::Take(Step::Finish(system)) => write!(f, "F {system}"),
             Line::Take(Step::Sync(sync)) => write!(f, "Y {sync}"),
             Line::There(sets) => {
-                let told = Told(sets);
-                write!(f, "{told}")
+                let text = SetsText(sets);
+                write!(f, "{text}")
             }
         }
     }
@@ -48,13 +48,13 @@ impl fmt::Display for Line {
 
 /// A line of kind sets.
 #[derive(Clone, Copy)]
-pub(crate) struct Told<'a>(pub &'a KindSets);
+pub(crate) struct SetsText<'a>(pub &'a KindSets);
 
-impl fmt::Display for Told<'_> {
+impl fmt::Display for SetsText<'_> {
     ghost use Rattle.std.specs.Prelude.{Some, ◌∷◌};
     ghost use Rattle.trace_checker.specs.Grammar.{sets_text};
 
-    ghost output = { λ told. Some (65 ∷ sets_text told.0.now) };
+    ghost output = { λ sets. Some (65 ∷ sets_text sets.0.now) };
 
     fn fmt<W: fmt::Write>(&self, f: &mut fmt::Formatter<W>) -> fmt::Result {
         write!(f, "A")?;
@@ -87,7 +87,7 @@ impl Line {
     }
 }
 
-// Reads a line that tells no kind sets, without its end.
+// Reads a line without kind sets, without its end.
 fn plain_line(bytes: &[u8]) -> Option<Line>
     requires { get_or bytes.now 0 0 ≢ 65 }
     ensures { Reads IsLine bytes.now result }

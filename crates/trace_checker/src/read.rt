@@ -104,7 +104,7 @@ pub fn read_traces(alloc: Global, text: &[u8]) -> Result<Vec<Trace>, TextFault>
     }
 }
 
-// Whether a text tells kind sets.
+// Whether a text has kind sets.
 fn lists_in(text: &[u8]) -> bool
     ensures { result ≡ is_listed text.now }
 {
@@ -150,7 +150,7 @@ fn is_out_of_order(traces: &[Trace], due: Due, line: &Line) -> bool
     }
 }
 
-// Whether a line is another one where kind sets are due, or tells them where none are.
+// Whether a line is another one where kind sets are due, or has them where none are.
 fn stands_wrong(due: Due, line: &Line) -> bool
     ensures { result ≡ is_misplaced due line.now }
 {
@@ -178,7 +178,7 @@ fn add_line(
     match line {
         Line::Begin(_) => begin(alloc, lists, traces),
         Line::Take(step) => take_step(lists, traces, step),
-        Line::There(sets) => tell(alloc, traces, due, sets),
+        Line::There(sets) => note_sets(alloc, traces, due, sets),
     }
 }
 
@@ -215,7 +215,12 @@ fn take_step(lists: bool, traces: &mut Vec<Trace>, step: Step) -> Result<Due, Al
 }
 
 // Adds the kind sets that are due.
-fn tell(alloc: Global, traces: &mut Vec<Trace>, due: Due, sets: KindSets) -> Result<Due, AllocError>
+fn note_sets(
+    alloc: Global,
+    traces: &mut Vec<Trace>,
+    due: Due,
+    sets: KindSets,
+) -> Result<Due, AllocError>
     requires begun { AreBegun true traces.old.items due }
     requires due { is_due due ≡ true }
     ensures begun { IfOk result (λ next. AreBegun true traces.new.items next) }

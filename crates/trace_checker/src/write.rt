@@ -3,7 +3,7 @@
 ghost use Rattle.std.specs.Prelude.{◌≡◌, ◌<◌, ◌≤◌, ◌^◌, ◌++◌, ◌∷◌, [], length, string_bytes, IfOk, OnOk, IsErrOf};
 ghost use Rattle.trace_checker.specs.Grammar.{AreAlike, AreWithin, lines_text, run_lines, sets_line, trace_text};
 
-use crate::line::{Line, Told};
+use crate::line::{Line, SetsText};
 use executor_core::Trace;
 use model::Step;
 use std::alloc::{AllocError, Global};
@@ -78,8 +78,8 @@ fn push_sets(text: &mut String, trace: &Trace, place: usize) -> Result<(), Alloc
     let Some(lists) = trace.sets() else {
         return Ok(());
     };
-    let told = Told(&lists[place]);
-    writeln!(text, "{told}")
+    let sets = SetsText(&lists[place]);
+    writeln!(text, "{sets}")
 }
 
 // Adds a line and its end.

@@ -7,7 +7,7 @@ ghost use Rattle.job_board.specs.Ends.{lead_view};
 ghost use Rattle.job_board.specs.Views.{having_read, after_collect, HasPosted, Uncollected};
 ghost use Rattle.worker_pool.specs.AreOut.{AreOut};
 
-use crate::mode::Joins;
+use crate::mode::JoinThreads;
 use job_board::{JobNumber, Lead, Ring, Task};
 use std::snapshot::Snapshot;
 
@@ -31,7 +31,10 @@ fn place_of<J>(tickets: &[Ticket<J>], number: JobNumber) -> Option<usize>
 }
 
 // Waits for an outcome, where that can be waited for.
-fn collect_one<J: Joins, T: Task>(lead: &mut Lead<T>, mode: &J) -> Option<(JobNumber, T::Outcome)>
+fn collect_one<J: JoinThreads, T: Task>(
+    lead: &mut Lead<T>,
+    mode: &J,
+) -> Option<(JobNumber, T::Outcome)>
     ensures collected { MatchOption result
         ((gained : List (ℕ × ℕ)) × (lead_view lead.new ≡ having_read (lead_view lead.old) gained))
         (λ t. (gained : List (ℕ × ℕ)) × (slot : ℕ) × (lead_view lead.new ≡ after_collect (having_read (lead_view lead.old) gained) t.0 t.1 slot) × Uncollected (lead_view lead.old) t.0 × ((j : T.Job) × HasPosted (lead_view lead.old) t.0 j × T.answers j t.1)) }
@@ -51,7 +54,7 @@ fn collect_one<J: Joins, T: Task>(lead: &mut Lead<T>, mode: &J) -> Option<(JobNu
 }
 
 // Waits for the outcome of a job that has a ticket, and gives the place of the ticket. What has none is dropped: its job was given up.
-fn collect_one_of<J: Joins, T: Task>(
+fn collect_one_of<J: JoinThreads, T: Task>(
     lead: &mut Lead<T>,
     tickets: &[Ticket<T::Job>],
     mode: &J,
@@ -104,7 +107,7 @@ pub(crate) fn post<T: Task>(
 }
 
 // Waits for the outcome of a job that has a ticket, of whichever is done. None only where that can't be waited for: the first job is given up.
-pub(crate) fn collect<J: Joins, T: Task>(
+pub(crate) fn collect<J: JoinThreads, T: Task>(
     lead: &mut Lead<T>,
     tickets: &mut Vec<Ticket<T::Job>>,
     mode: &J,

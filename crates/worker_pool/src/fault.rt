@@ -5,7 +5,7 @@ use body::Body;
 
 /// Why a job isn't handed out, with the job where it isn't lost.
 #[derive(Drop)]
-pub enum HandFault<B: Body> {
+pub enum HandOutFault<B: Body> {
     /// An allocation failed, or no worker has room for it: the job comes back.
     Memory(Start<B>),
     /// No thread can be started in which a worker would stand: the job comes back.

@@ -12,9 +12,9 @@ mod task;
 mod threaded;
 pub mod workers;
 
-pub use fault::HandFault;
-pub use mode::{Gate, Hosts, Joins, Line, Mode};
+pub use fault::HandOutFault;
+pub use mode::{Gate, JoinThreads, Mode, Signals, SpawnThreads};
 pub use pool::Pool;
-pub use single::{NoGate, NoLine, Single};
+pub use single::{NoGate, NoSignals, Single};
 pub use start::{JobResult, Start};
-pub use workers::{Wire, Workers};
+pub use workers::{ChannelSignals, Workers};

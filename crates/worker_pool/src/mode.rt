@@ -16,7 +16,7 @@ pub trait Gate: Send + Sync + Drop {
 }
 
 /// Where the threads of a run are started: in a scope, or nowhere.
-pub trait Hosts<'s> {
+pub trait SpawnThreads<'s> {
     /// What the scope's threads may borrow.
     type Environment: 's;
 
@@ -28,7 +28,7 @@ pub trait Hosts<'s> {
 }
 
 /// How a thread's result is waited for, and how what workers do.
-pub trait Joins {
+pub trait JoinThreads {
     ghost joins: { Self → Bool };
 
     /// The result of a thread, none where it can't be had.
@@ -49,7 +49,7 @@ pub trait Joins {
 }
 
 /// How a worker signals that it is done, and how that is received.
-pub trait Line: Copy + Send {
+pub trait Signals: Copy + Send {
     /// Signals that the start of this number is done.
     fn ring(&self, to: &Sender<u64>, number: u64);
 
@@ -61,9 +61,9 @@ pub trait Line: Copy + Send {
 }
 
 /// How the systems of a run are executed.
-pub trait Mode<'s>: Hosts<'s> + Joins + Drop {
+pub trait Mode<'s>: SpawnThreads<'s> + JoinThreads + Drop {
     /// How its workers signal that they are done.
-    type Line: Line + 's;
+    type Signals: Signals + 's;
     /// What its workers pass.
     type Gate: Gate + 's;
 
@@ -80,8 +80,8 @@ pub trait Mode<'s>: Hosts<'s> + Joins + Drop {
     fn standing(&self) -> usize
         ensures { MatchBool (stands self.now) (0 < result) (result ≡ 0) };
 
-    /// The line of its workers.
-    fn line(&self) -> Self::Line;
+    /// How its workers signal that they are done.
+    fn signals(&self) -> Self::Signals;
 
     /// The gate of its workers.
     fn gate(&self) -> &'s Self::Gate;

@@ -3,7 +3,7 @@
 ghost use Rattle.std.specs.Prelude.{◌≡◌, ℕ, ◌+◌, ◌<◌, true, false, Err, [], ◌∷◌, ◌++◌, ◌⊎◌, length, slice_get, remove, IfOk, IfSome, IfNone, IsSome, IsTrue, IsSomeAnd, OnOk, OnErr};
 ghost use Rattle.worker_pool.specs.Ran.{Ran};
 
-use crate::fault::HandFault;
+use crate::fault::HandOutFault;
 use crate::mode::Mode;
 use crate::standing::Standing;
 use crate::start::{JobResult, Start};
@@ -79,24 +79,24 @@ impl<B: Body> Pool<B> {
         &mut self,
         mode: &M,
         start: Start<B>,
-    ) -> Result<(), HandFault<B>>
+    ) -> Result<(), HandOutFault<B>>
     where
         B: 's,
         ensures ok { OnOk result (self.new ≡ self.old ++ record { number = start.number; system = start.system; body = start.body; view = start.view.value; there = M.has_scope mode.now } ∷ []) }
         ensures err { OnErr result (self.new ≡ self.old) }
-        ensures only { OnErr result ((result ≡ Err (HandFault.Memory start)) ⊎ (((result ≡ Err (HandFault.NoWorker start)) × (M.has_scope mode.now ≡ true)) ⊎ ((result ≡ Err HandFault.Lost) × (M.has_scope mode.now ≡ true) × (M.stands mode.now ≡ false)))) }
+        ensures only { OnErr result ((result ≡ Err (HandOutFault.Memory start)) ⊎ (((result ≡ Err (HandOutFault.NoWorker start)) × (M.has_scope mode.now ≡ true)) ⊎ ((result ≡ Err HandOutFault.Lost) × (M.has_scope mode.now ≡ true) × (M.stands mode.now ≡ false)))) }
     {
         match &mut self.form {
             Form::Threads(jobs) => {
                 let scope = mode.scope();
                 if scope.is_some() && mode.standing() > 0 {
-                    return Err(HandFault::NoWorker(start));
+                    return Err(HandOutFault::NoWorker(start));
                 }
-                jobs.give(scope, mode.line(), mode.gate(), start)
+                jobs.give(scope, mode.signals(), mode.gate(), start)
             }
             Form::Stands(jobs) => match mode.scope() {
-                Some(scope) => jobs.give(scope, mode.line(), mode.gate(), start),
-                None => Err(HandFault::Memory(start)),
+                Some(scope) => jobs.give(scope, mode.signals(), mode.gate(), start),
+                None => Err(HandOutFault::Memory(start)),
             },
         }
     }
@@ -113,7 +113,7 @@ impl<B: Body> Pool<B> {
         ensures shorter { length self.new + 1 ≡ length self.old }
     {
         match &mut self.form {
-            Form::Threads(jobs) => jobs.bring_back(mode.line(), mode),
+            Form::Threads(jobs) => jobs.bring_back(mode.signals(), mode),
             Form::Stands(jobs) => jobs.bring_back(mode),
         }
     }

@@ -2,7 +2,7 @@
 
 ghost use Rattle.std.specs.Prelude.{false};
 
-use crate::mode::{Gate, Hosts, Joins, Line, Mode};
+use crate::mode::{Gate, JoinThreads, Mode, Signals, SpawnThreads};
 use crossbeam_channel::{Receiver, Sender};
 use job_board::Bell;
 use std::thread::{JoinHandle, Promise, PromisedHandle, Scope};
@@ -15,9 +15,9 @@ pub struct Single;
 #[derive(Clone, Copy, PartialEq, Eq, Debug, Default)]
 pub struct NoGate;
 
-/// A line on which nothing is heard.
+/// Signals of which none is heard.
 #[derive(Clone, Copy, PartialEq, Eq, Debug, Default)]
-pub struct NoLine;
+pub struct NoSignals;
 
 // The gate of a run on one thread.
 const NO_GATE: NoGate = NoGate;
@@ -28,7 +28,7 @@ impl Gate for NoGate {
     fn leave(&self, _number: u64) {}
 }
 
-impl Line for NoLine {
+impl Signals for NoSignals {
     fn ring(&self, _to: &Sender<u64>, _number: u64) {}
 
     fn hear(&self, _from: &Receiver<u64>) -> Option<u64> {
@@ -38,7 +38,7 @@ impl Line for NoLine {
     fn listen(&self, _bell: &Bell, _heard: u64) {}
 }
 
-impl<'s> Hosts<'s> for Single {
+impl<'s> SpawnThreads<'s> for Single {
     type Environment = ();
 
     ghost has_scope = { λ _. false };
@@ -48,7 +48,7 @@ impl<'s> Hosts<'s> for Single {
     }
 }
 
-impl Joins for Single {
+impl JoinThreads for Single {
     ghost joins = { λ _. false };
 
     fn join<T: Drop, P: Promise<T>>(&self, _child: PromisedHandle<T, P>) -> Option<T> {
@@ -65,7 +65,7 @@ impl Joins for Single {
 }
 
 impl<'s> Mode<'s> for Single {
-    type Line = NoLine;
+    type Signals = NoSignals;
 
     type Gate = NoGate;
 
@@ -81,8 +81,8 @@ impl<'s> Mode<'s> for Single {
         0
     }
 
-    fn line(&self) -> NoLine {
-        NoLine
+    fn signals(&self) -> NoSignals {
+        NoSignals
     }
 
     fn gate(&self) -> &'s NoGate {

@@ -6,8 +6,8 @@ ghost use Rattle.job_board.specs.Views.{HasJob};
 ghost use Rattle.worker_pool.specs.Ran.{Ran};
 
 use crate::desk::{Ticket, collect, post};
-use crate::fault::HandFault;
-use crate::mode::{Gate, Joins, Line};
+use crate::fault::HandOutFault;
+use crate::mode::{Gate, JoinThreads, Signals};
 use crate::start::{JobResult, Start};
 use crate::task::{Runs, StartTask};
 use body::Body;
@@ -17,7 +17,7 @@ use std::marker::Model;
 use std::thread::{JoinHandle, Scope};
 
 // Waits for a job. None once the board is closed.
-fn take<N: Line, T: Runs>(line: N, hand: &mut Hand<T>) -> Option<(JobNumber, T::Job)>
+fn take<N: Signals, T: Runs>(signals: N, hand: &mut Hand<T>) -> Option<(JobNumber, T::Job)>
     ensures { IfSome result (λ t. (slot : ℕ) × HasJob (hand_view hand.new) t.0 slot t.1) }
 {
     for _ in 0..u64::MAX {
@@ -28,15 +28,15 @@ fn take<N: Line, T: Runs>(line: N, hand: &mut Hand<T>) -> Option<(JobNumber, T::
         if hand.look_closed() {
             return None;
         }
-        line.listen(hand.bell(), heard);
+        signals.listen(hand.bell(), heard);
     }
     None
 }
 
 // Runs each job that it takes, through a gate.
-fn work<N: Line, G: Gate, T: Runs>(line: N, gate: &G, mut hand: Hand<T>) {
+fn work<N: Signals, G: Gate, T: Runs>(signals: N, gate: &G, mut hand: Hand<T>) {
     for _ in 0..u64::MAX {
-        let Some((number, job)) = take(line, &mut hand) else {
+        let Some((number, job)) = take(signals, &mut hand) else {
             break;
         };
         let start = T::number(&job);
@@ -48,13 +48,13 @@ fn work<N: Line, G: Gate, T: Runs>(line: N, gate: &G, mut hand: Hand<T>) {
 }
 
 // Starts a worker in a thread of a scope. None where no thread can be started.
-fn start_worker<'s, E: 's, N: Line + 's, G: Gate, T: Runs + Send + 's>(
+fn start_worker<'s, E: 's, N: Signals + 's, G: Gate, T: Runs + Send + 's>(
     scope: &Scope<'s, E>,
-    line: N,
+    signals: N,
     gate: &'s G,
     hand: Hand<T>,
 ) -> Option<JoinHandle<()>> {
-    scope.spawn(move || work(line, gate, hand)).ok()
+    scope.spawn(move || work(signals, gate, hand)).ok()
 }
 
 /// Workers that stand, and the jobs that are out with them. Contracts see these as a list, in the order in which they were handed out.
@@ -102,30 +102,30 @@ impl<B: Body> Standing<B> {
     }
 
     // Sees that a worker has room for a job: one more stands in the scope, where each that stands has a job. The job comes back, whatever the answer.
-    fn find_room<'s, E: 's, N: Line + 's, G: Gate>(
+    fn find_room<'s, E: 's, N: Signals + 's, G: Gate>(
         &mut self,
         scope: &Scope<'s, E>,
-        line: N,
+        signals: N,
         gate: &'s G,
         start: Start<B>,
-    ) -> Result<Start<B>, HandFault<B>>
+    ) -> Result<Start<B>, HandOutFault<B>>
     where
         B: 's,
         ensures ok { IfOk result (λ kept. kept ≡ start) }
         ensures same { self.new ≡ self.old }
-        ensures only { OnErr result ((result ≡ Err (HandFault.Memory start)) ⊎ (result ≡ Err (HandFault.NoWorker start))) }
+        ensures only { OnErr result ((result ≡ Err (HandOutFault.Memory start)) ⊎ (result ≡ Err (HandOutFault.NoWorker start))) }
     {
         if self.tickets.len() < self.workers.len() {
             return Ok(start);
         }
         let Ok(()) = self.workers.reserve(1) else {
-            return Err(HandFault::Memory(start));
+            return Err(HandOutFault::Memory(start));
         };
         let Some(hand) = self.hands.pop() else {
-            return Err(HandFault::Memory(start));
+            return Err(HandOutFault::Memory(start));
         };
-        let Some(worker) = start_worker(scope, line, gate, hand) else {
-            return Err(HandFault::NoWorker(start));
+        let Some(worker) = start_worker(scope, signals, gate, hand) else {
+            return Err(HandOutFault::NoWorker(start));
         };
         self.workers.push_reserved(worker);
         Ok(start)
@@ -141,28 +141,28 @@ impl<B: Body> Standing<B> {
 
     // Hands a job out to a worker: to one more, where each that stands has a job. It comes back where an allocation fails, no worker has room for it,
     // or no thread can be started.
-    pub(crate) fn give<'s, E: 's, N: Line + 's, G: Gate>(
+    pub(crate) fn give<'s, E: 's, N: Signals + 's, G: Gate>(
         &mut self,
         scope: &Scope<'s, E>,
-        line: N,
+        signals: N,
         gate: &'s G,
         start: Start<B>,
-    ) -> Result<(), HandFault<B>>
+    ) -> Result<(), HandOutFault<B>>
     where
         B: 's,
         ensures ok { OnOk result (self.new ≡ self.old ++ record { number = start.number; system = start.system; body = start.body; view = start.view.value; there = true } ∷ []) }
         ensures err { OnErr result (self.new ≡ self.old) }
-        ensures only { OnErr result ((result ≡ Err (HandFault.Memory start)) ⊎ (result ≡ Err (HandFault.NoWorker start))) }
+        ensures only { OnErr result ((result ≡ Err (HandOutFault.Memory start)) ⊎ (result ≡ Err (HandOutFault.NoWorker start))) }
     {
-        let start = self.find_room(scope, line, gate, start)?;
+        let start = self.find_room(scope, signals, gate, start)?;
         match self.hand_over(start) {
             Ok(()) => Ok(()),
-            Err(start) => Err(HandFault::Memory(start)),
+            Err(start) => Err(HandOutFault::Memory(start)),
         }
     }
 
     // Brings one job back, that of whichever worker is done with one, once it is. None only where the mode can't wait for one; that job is lost.
-    pub(crate) fn bring_back<J: Joins>(&mut self, mode: &J) -> Option<JobResult<B>>
+    pub(crate) fn bring_back<J: JoinThreads>(&mut self, mode: &J) -> Option<JobResult<B>>
         requires { 0 < length self.old }
         ensures ran { IfSome result (λ done. (i : ℕ) × IsSomeAnd (slice_get self.old i) (λ job. Ran B.meaning B.fits job.number job.system job.body job.view done.number done.system done.body done.view.value done.answer) × (self.new ≡ remove self.old i)) }
         ensures none { IfNone result ((i : ℕ) × IsSomeAnd (slice_get self.old i) (λ job. job.there ≡ true)) }
@@ -173,7 +173,7 @@ impl<B: Body> Standing<B> {
     }
 
     // Sends the workers away, and waits until each has left. Tells how many jobs are still out: they are lost.
-    pub(crate) fn end<J: Joins>(self, mode: &J) -> usize
+    pub(crate) fn end<J: JoinThreads>(self, mode: &J) -> usize
         ensures { result ≡ length self }
     {
         let lost = self.count();

@@ -3,8 +3,8 @@
 ghost use Rattle.std.specs.Prelude.{◌≡◌, ℕ, ◌+◌, ◌<◌, true, Err, [], ◌∷◌, ◌++◌, ◌⊎◌, length, is_some, slice_get, slice_index_or, remove, IfOk, IfSome, IfNone, IsSome, IsTrue, IsSomeAnd, OnOk, OnErr};
 ghost use Rattle.worker_pool.specs.Ran.{Ran};
 
-use crate::fault::HandFault;
-use crate::mode::{Gate, Joins, Line};
+use crate::fault::HandOutFault;
+use crate::mode::{Gate, JoinThreads, Signals};
 use crate::start::{JobResult, JobResultOf, Start};
 use crate::task::{Runs, StartTask};
 use body::Body;
@@ -44,13 +44,13 @@ impl<B: Body> Model for PendingJob<B> {
 }
 
 impl<B: Body> PendingJob<B> {
-    // Whether a notice tells of this job.
+    // Whether a notice is of this job.
     fn is_told(&self, number: u64) -> bool {
         self.number == number
     }
 
     // What comes of the job.
-    fn finish<J: Joins>(self, mode: &J) -> Option<JobResult<B>>
+    fn finish<J: JoinThreads>(self, mode: &J) -> Option<JobResult<B>>
         ensures ran { IfSome result (λ done. Ran B.meaning B.fits self.number self.system self.body self.view done.number done.system done.body done.view.value done.answer) }
         ensures none { IfNone result (self.there ≡ true) }
         ensures joins { IsTrue (J.joins mode.now) → IsSome result }
@@ -129,15 +129,15 @@ impl<B: Body> Threaded<B> {
         self.out.len()
     }
 
-    // The place of a job that is done, the first where none is told of.
-    fn place_of_done<N: Line>(&self, line: N) -> usize
+    // The place of a job that is done, the first where no notice has come.
+    fn place_of_done<N: Signals>(&self, signals: N) -> usize
         requires { 0 < length self.now }
         ensures { result < length self.now }
     {
         let Some(notices) = &self.notices else {
             return 0;
         };
-        let number = line.hear(&notices.heard).unwrap_or(0);
+        let number = signals.hear(&notices.heard).unwrap_or(0);
         for place in 0..self.out.len() {
             if self.out[place].is_told(number) {
                 return place;
@@ -148,40 +148,40 @@ impl<B: Body> Threaded<B> {
 
     // Hands a job out to a thread of the scope, or keeps it where there is none. After an error nothing is handed out: where an allocation fails the
     // job comes back, and it is lost where no thread can be started.
-    pub(crate) fn give<'s, E: 's, N: Line + 's, G: Gate>(
+    pub(crate) fn give<'s, E: 's, N: Signals + 's, G: Gate>(
         &mut self,
         scope: Option<&Scope<'s, E>>,
-        line: N,
+        signals: N,
         gate: &'s G,
         start: Start<B>,
-    ) -> Result<(), HandFault<B>>
+    ) -> Result<(), HandOutFault<B>>
     where
         B: 's,
         ensures ok { OnOk result (self.new ≡ self.old ++ record { number = start.number; system = start.system; body = start.body; view = start.view.value; there = is_some scope.entry } ∷ []) }
         ensures err { OnErr result (self.new ≡ self.old) }
-        ensures only { OnErr result ((result ≡ Err (HandFault.Memory start)) ⊎ ((result ≡ Err HandFault.Lost) × (is_some scope.entry ≡ true))) }
+        ensures only { OnErr result ((result ≡ Err (HandOutFault.Memory start)) ⊎ ((result ≡ Err HandOutFault.Lost) × (is_some scope.entry ≡ true))) }
     {
         let Ok(()) = self.out.reserve(1) else {
-            return Err(HandFault::Memory(start));
+            return Err(HandOutFault::Memory(start));
         };
         let number = start.number;
         let work = match scope {
             None => Work::Here(start),
             Some(scope) => {
                 let Ok(bell) = bell_of(self.alloc, &mut self.notices) else {
-                    return Err(HandFault::Memory(start));
+                    return Err(HandOutFault::Memory(start));
                 };
                 let promise = JobResultOf::of(&start);
                 let job = move || {
                     gate.enter(number);
                     let done = StartTask::<B>::run(start);
                     gate.leave(number);
-                    line.ring(&bell, number);
+                    signals.ring(&bell, number);
                     done
                 };
                 match scope.spawn_with(promise, job) {
                     Ok(child) => Work::There(child),
-                    Err(_refused) => return Err(HandFault::Lost),
+                    Err(_refused) => return Err(HandOutFault::Lost),
                 }
             }
         };
@@ -192,9 +192,9 @@ impl<B: Body> Threaded<B> {
     }
 
     // Brings one job back, that of whichever thread is done, once it is. None only where the mode can't wait for a thread; that job is lost.
-    pub(crate) fn bring_back<N: Line, J: Joins>(
+    pub(crate) fn bring_back<N: Signals, J: JoinThreads>(
         &mut self,
-        line: N,
+        signals: N,
         mode: &J,
     ) -> Option<JobResult<B>>
         requires { 0 < length self.old }
@@ -203,7 +203,7 @@ impl<B: Body> Threaded<B> {
         ensures joins { IsTrue (J.joins mode.now) → IsSome result }
         ensures shorter { length self.new + 1 ≡ length self.old }
     {
-        let at = self.place_of_done(line);
+        let at = self.place_of_done(signals);
         take_out(&mut self.out, at).finish(mode)
     }
 }

@@ -2,7 +2,7 @@
 
 ghost use Rattle.std.specs.Prelude.{◌≡◌, ◌<◌, ◌≤◌, true};
 
-use crate::mode::{Gate, Hosts, Joins, Line, Mode};
+use crate::mode::{Gate, JoinThreads, Mode, Signals, SpawnThreads};
 use crossbeam_channel::{Receiver, Sender};
 use job_board::{Bell, Ring};
 use std::sync::Wait;
@@ -47,11 +47,11 @@ impl<'a, 's, E: 's, R, G> Workers<'a, 's, E, R, G> {
 
 /// A channel on which numbers of starts are sent.
 #[derive(Clone, Copy)]
-pub struct Wire<R> {
+pub struct ChannelSignals<R> {
     runtime: R,
 }
 
-impl<R: Wait + Copy + Send> Line for Wire<R> {
+impl<R: Wait + Copy + Send> Signals for ChannelSignals<R> {
     fn ring(&self, to: &Sender<u64>, number: u64) {
         let _ = to.send(&self.runtime, number);
     }
@@ -65,7 +65,7 @@ impl<R: Wait + Copy + Send> Line for Wire<R> {
     }
 }
 
-impl<'a, 's, E: 's, R: Threads, G> Hosts<'s> for Workers<'a, 's, E, R, G> {
+impl<'a, 's, E: 's, R: Threads, G> SpawnThreads<'s> for Workers<'a, 's, E, R, G> {
     type Environment = E;
 
     ghost has_scope = { λ _. true };
@@ -75,7 +75,7 @@ impl<'a, 's, E: 's, R: Threads, G> Hosts<'s> for Workers<'a, 's, E, R, G> {
     }
 }
 
-impl<'a, 's, E: 's, R: Threads + Wait, G> Joins for Workers<'a, 's, E, R, G> {
+impl<'a, 's, E: 's, R: Threads + Wait, G> JoinThreads for Workers<'a, 's, E, R, G> {
     ghost joins = { λ _. true };
 
     fn join<T: Drop, P: Promise<T>>(&self, child: PromisedHandle<T, P>) -> Option<T> {
@@ -99,7 +99,7 @@ impl<'a, 's, E: 's, R: Threads + Wait, G> Joins for Workers<'a, 's, E, R, G> {
 
 impl<'a, 's, E: 's, R: Threads + Wait + Copy + Send + 's, G: Gate + 's> Mode<'s>
     for Workers<'a, 's, E, R, G> {
-    type Line = Wire<R>;
+    type Signals = ChannelSignals<R>;
 
     type Gate = G;
 
@@ -115,8 +115,8 @@ impl<'a, 's, E: 's, R: Threads + Wait + Copy + Send + 's, G: Gate + 's> Mode<'s>
         if self.stand { self.count } else { 0 }
     }
 
-    fn line(&self) -> Wire<R> {
-        Wire {
+    fn signals(&self) -> ChannelSignals<R> {
+        ChannelSignals {
             runtime: self.runtime,
         }
     }

@@ -94,7 +94,7 @@ fn is_spoiled(alloc: Global, clock: Clock) -> Option<bool> {
     Some(Way::Plain.runs_are(&mut engine, alloc, &calls))
 }
 
-/// At a spent clock a run that is kept tells so as often as it is asked: the engine isn't spoiled.
+/// At a spent clock a run that is kept says so as often as it is asked: the engine isn't spoiled.
 pub(crate) fn kept_at_the_last_tick(alloc: Global) -> Option<bool> {
     let mut engine = moving(alloc, Clock::at(LAST_TICK))?;
     let calls = [

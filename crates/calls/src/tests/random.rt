@@ -51,7 +51,7 @@ fn change(world: &mut World, number: u64) -> Option<()>
     }
 }
 
-// Changes a world at random, and tells the number after those that were taken.
+// Changes a world at random, and returns the number after those that were taken.
 fn shuffle(world: &mut World, first: u64) -> Option<u64>
     requires clock { 1 ≤ world.old.state.clock }
     requires home { AreAllHome world.old.layout }

@@ -82,6 +82,6 @@ abbrev pub HasNoCycle : Hierarchy → List (ℕ × ℕ) → Type 0
 HasNoCycle h orders = (items : List ℕ) → IsCycle h orders items → ⊥
 
 -- a cycle from its earliest declared item
-pub record IsToldCycle (h : Hierarchy) (orders : List (ℕ × ℕ)) (items : List ℕ) : Type 0 where
+pub record IsReportedCycle (h : Hierarchy) (orders : List (ℕ × ℕ)) (items : List ℕ) : Type 0 where
   pub cycle : IsCycle h orders items
   pub earliest : (n : ℕ) → has n items ≡ true → head_or 0 items ≤ n

@@ -57,7 +57,7 @@ abbrev pub HasNoSetCycle : Hierarchy → Type 0
 HasNoSetCycle h = (items : List ℕ) → IsSetCycle h items → ⊥
 
 -- a cycle from its earliest declared set
-pub record IsToldSetCycle (h : Hierarchy) (items : List ℕ) : Type 0 where
+pub record IsReportedSetCycle (h : Hierarchy) (items : List ℕ) : Type 0 where
   pub cycle : IsSetCycle h items
   pub earliest : (n : ℕ) → has n items ≡ true → head_or 0 items ≤ n
 

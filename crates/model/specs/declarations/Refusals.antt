@@ -5,8 +5,8 @@ use Rattle.model.specs.access.Condition.{queries_of}
 use Rattle.model.specs.access.SelfConflict.{ConflictWithin}
 pub use Rattle.model.specs.access.QueryFaults.{query_fault}
 use Rattle.model.specs.declarations.Walks.{EachIs, IsFirstBad}
-use Rattle.model.specs.declarations.Hierarchy.{HasNoSelf, IsFirstSelf, HasNoSetCycle, IsToldSetCycle}
-use Rattle.model.specs.declarations.Edges.{HasNoLoop, IsLoop, HasNoCrossing, IsCrossing, AreApart, IsSharing, HasNoCycle, IsToldCycle}
+use Rattle.model.specs.declarations.Hierarchy.{HasNoSelf, IsFirstSelf, HasNoSetCycle, IsReportedSetCycle}
+use Rattle.model.specs.declarations.Edges.{HasNoLoop, IsLoop, HasNoCrossing, IsCrossing, AreApart, IsSharing, HasNoCycle, IsReportedCycle}
 use Rattle.model.specs.declarations.Declarations.{Declared, items_of, name_of, declared_at, system_name, IsNamedBelow, looked_up, hierarchy_of, declared_orders, declared_conditions, condition_numbered}
 
 -- a refusal, with what it tells
@@ -60,7 +60,7 @@ IsHierarchyLoop d name = (n : ℕ) × IsFirstSelf (hierarchy_of d) n × (name �
 
 -- a cycle of sets
 abbrev pub IsHierarchyCycle : Declared → List (List ℕ) → Type 0
-IsHierarchyCycle d told = (items : List ℕ) × IsToldSetCycle (hierarchy_of d) items × (told ≡ names_of d items)
+IsHierarchyCycle d told = (items : List ℕ) × IsReportedSetCycle (hierarchy_of d) items × (told ≡ names_of d items)
 
 -- the first declared order of an item with itself
 abbrev pub IsDependencyLoop : Declared → List ℕ → Type 0
@@ -77,7 +77,7 @@ IsSetsIntersect d first second system = (m : ℕ) × (n : ℕ) × (k : ℕ) × I
 
 -- a cycle of items, each followed by the next by a declared order or by an edge of systems
 abbrev pub IsDependencyCycle : Declared → List (List ℕ) → Type 0
-IsDependencyCycle d told = (items : List ℕ) × IsToldCycle (hierarchy_of d) (declared_orders d) items × (told ≡ names_of d items)
+IsDependencyCycle d told = (items : List ℕ) × IsReportedCycle (hierarchy_of d) (declared_orders d) items × (told ≡ names_of d items)
 
 -- ---- parameters
 

@@ -1,5 +1,5 @@
 use Rattle.std.proofs.Common.{◌≡◌, ◌≤◌, length, ◌-◌, ℕ, suc, vec_len}
-use Rattle.archetype_store.specs.Archetypes.{place_of}
+use Rattle.archetype_store.specs.Storage.{place_of}
 use Rattle.archetype_store.specs.RowNumbers.{number_of_row}
 use Rattle.archetype_store.proofs.locations.reach.Given as goal
 

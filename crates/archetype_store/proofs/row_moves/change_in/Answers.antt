@@ -2,7 +2,7 @@ use Rattle.std.proofs.Common.{List, map, sym, subst, ◌∙◌, ap}
 use Rattle.std.specs.List.{AllByRecursion}
 use Rattle.archetype_store.specs.declared.change.EntityChange.{EntityChange}
 use Rattle.archetype_store.specs.Changes.{AreOfOtherIndices}
-use Rattle.archetype_store.specs.Archetypes.{archetypes_of, HaveRows}
+use Rattle.archetype_store.specs.Storage.{archetypes_of, HaveRows}
 use Rattle.archetype_store.specs.RowMoves.{change_of, HaveRoom, IsPlanned, AreAlikeBefore}
 use Rattle.archetype_store.proofs.Changed.{planned_alike, rows_from_alike}
 use Rattle.archetype_store.proofs.Changing.{planned_shapes, ready_whole, ready_known, ready_owned, ready_rows}

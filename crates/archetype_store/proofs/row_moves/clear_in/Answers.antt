@@ -3,7 +3,7 @@ use Rattle.std.proofs.lemmas.Bool.{cases_eq}
 use Rattle.std.proofs.lemmas.List.{get_or_read, length-set}
 use Rattle.model.proofs.serial.Conflicts.{none_from_no as none_of}
 use Rattle.column_store.specs.Swapped.{swap_removed}
-use Rattle.archetype_store.specs.Archetypes.{archetypes_of, place_of, row_in, holder_in, IsHolder, HasRow}
+use Rattle.archetype_store.specs.Storage.{archetypes_of, place_of, row_in, holder_in, IsHolder, HasRow}
 use Rattle.archetype_store.specs.RowNumbers.{number_of_row, AreRowsKnown}
 use Rattle.archetype_store.specs.Tables.{entity_in_row, entities_at, room_at, IsOneTable}
 use Rattle.archetype_store.proofs.Known.{placed_within, row_there, number_within, place_in_row, known_cleared}

@@ -1,5 +1,5 @@
 use Rattle.std.proofs.Common.{◌≡◌, ◌<◌, ◌-◌, length, get_or, map, refl, sym, ap, ◌∙◌, arith}
-use Rattle.archetype_store.specs.Archetypes.{archetypes_of}
+use Rattle.archetype_store.specs.Storage.{archetypes_of}
 use Rattle.archetype_store.specs.RowMoves.{change_of, other_table, arrives_in, IsPlanned}
 use Rattle.archetype_store.proofs.Departures.{all_stepped, room_after, arrives_first, alike_first, alike_next}
 use Rattle.archetype_store.proofs.MovedRows.{change_is, within}

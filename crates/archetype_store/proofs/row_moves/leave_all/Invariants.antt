@@ -1,6 +1,6 @@
 use Rattle.std.proofs.Common.{◌≡◌, ◌≤◌, ℕ, length, map}
 use Rattle.std.specs.List.{AllByRecursion}
-use Rattle.archetype_store.specs.Archetypes.{archetypes_of, AreArchetypes}
+use Rattle.archetype_store.specs.Storage.{archetypes_of, AreArchetypes}
 use Rattle.archetype_store.specs.RowMoves.{change_of, arrives_in, IsPlanned, AreAlikeBefore}
 use Rattle.archetype_store.specs.RowNumbers.{AreRowsKnown}
 use Rattle.archetype_store.specs.Tables.{shape_of, room_at, AreOwned}

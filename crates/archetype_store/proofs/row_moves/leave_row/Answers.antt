@@ -1,5 +1,5 @@
 use Rattle.std.proofs.Common.{None, sym, ◌∙◌}
-use Rattle.archetype_store.specs.Archetypes.{archetypes_of, place_of}
+use Rattle.archetype_store.specs.Storage.{archetypes_of, place_of}
 use Rattle.archetype_store.proofs.Departures.{arrives_cleared, planned_cleared, cleared_but}
 use Rattle.archetype_store.proofs.Laid.{with_at_same}
 use Rattle.archetype_store.proofs.Moving.{others_kept}

@@ -1,5 +1,5 @@
 use Rattle.std.proofs.Common.{◌+◌, map, take, drop, refl, arith, sym, subst, ◌∙◌}
-use Rattle.archetype_store.specs.Archetypes.{archetypes_of, HaveRows}
+use Rattle.archetype_store.specs.Storage.{archetypes_of, HaveRows}
 use Rattle.archetype_store.specs.RowMoves.{change_of}
 use Rattle.archetype_store.proofs.MovedRows.{later_apart, earlier_apart, planned_here, room_here, taken_next}
 use Rattle.archetype_store.proofs.RowMoves.{planned_all_rest, room_rest, room_first, rows_next}

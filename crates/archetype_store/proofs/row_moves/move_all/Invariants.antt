@@ -1,6 +1,6 @@
 use Rattle.std.proofs.Common.{◌≡◌, map, take, drop}
 use Rattle.std.specs.List.{AllByRecursion}
-use Rattle.archetype_store.specs.Archetypes.{archetypes_of, AreArchetypes, HaveRows}
+use Rattle.archetype_store.specs.Storage.{archetypes_of, AreArchetypes, HaveRows}
 use Rattle.archetype_store.specs.RowMoves.{change_of, HaveRoom, IsPlanned}
 use Rattle.archetype_store.specs.RowNumbers.{AreRowsKnown}
 use Rattle.archetype_store.specs.Tables.{shape_of, AreOwned}

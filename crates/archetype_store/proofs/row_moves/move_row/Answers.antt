@@ -6,7 +6,7 @@ use Rattle.archetype_store.specs.Row.{component_of}
 use Rattle.archetype_store.specs.RowMoves.{arrives_in, is_table}
 use Rattle.archetype_store.specs.RowNumbers.{number_of_row}
 use Rattle.archetype_store.specs.Tables.{entity_in_row, kinds_at, IsHeldNow}
-use Rattle.archetype_store.specs.Archetypes.{archetypes_of, place_of, holder_in, IsHolder, HasRow}
+use Rattle.archetype_store.specs.Storage.{archetypes_of, place_of, holder_in, IsHolder, HasRow}
 use Rattle.archetype_store.proofs.Known.{row_there, number_within, known_kept, one_kept}
 use Rattle.archetype_store.proofs.Laid.{kinds_kept, with_at_same}
 use Rattle.archetype_store.proofs.Moves.{has_row_twice}

@@ -1,5 +1,5 @@
 use Rattle.std.proofs.Common.{sym, subst}
-use Rattle.archetype_store.specs.Archetypes.{holder_in, IsHolder}
+use Rattle.archetype_store.specs.Storage.{holder_in, IsHolder}
 use Rattle.archetype_store.proofs.Known.{known_reached}
 use Rattle.archetype_store.proofs.Laying.{grown_known}
 use Rattle.std.proofs.lemmas.Result.{IfOk-from_err}

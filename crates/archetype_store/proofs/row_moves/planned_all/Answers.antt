@@ -9,7 +9,7 @@ use Rattle.column_store.specs.Cells.{stamped_number}
 use Rattle.column_store.specs.Kinds.{AreBelow}
 use Rattle.archetype_store.specs.declared.change.EntityChange.{EntityChange}
 use Rattle.archetype_store.specs.Changes.{row_left}
-use Rattle.archetype_store.specs.Archetypes.{place_of, holder_in, IsHolder}
+use Rattle.archetype_store.specs.Storage.{place_of, holder_in, IsHolder}
 use Rattle.archetype_store.proofs.row_moves.planned_all.Goals as goal
 
 pub loop-change-preserved : goal.loop-change-preserved

@@ -6,7 +6,7 @@ use Rattle.model.specs.state.Loaded.{loaded}
 use Rattle.model.specs.steps.Schedule.{Recorded}
 use Rattle.program.specs.Load.{entity_given}
 use Rattle.program.proofs.Replays.{fitting-count}
-use Rattle.ecsview.proofs.Told.{steps_of}
+use Rattle.ecsview.proofs.PairTexts.{steps_of}
 use Rattle.ecsview.proofs.found.steps_text.Goals as goal
 
 -- a trace that is read has runs with numbers of 32 bits

@@ -1,7 +1,7 @@
 use Rattle.std.proofs.Common.{◌≡◌, ◌++◌, ℕ, List, length, map, refl, ap, subst, ◌∙◌, string_bytes}
 use Rattle.program.specs.Setup.{meanings_of_scripts}
 use Rattle.ecsview.specs.Found.{AreRaces, races_line}
-use Rattle.ecsview.proofs.Told.{races_next}
+use Rattle.ecsview.proofs.PairTexts.{races_next}
 use Rattle.ecsview.proofs.found.witnesses_of.Goals as goal
 
 pub loop-pair-init : goal.loop-pair-init

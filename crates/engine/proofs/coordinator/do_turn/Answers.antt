@@ -30,7 +30,7 @@ pub start-requires : goal.start-requires
 start-requires g c = λ lifetimes.
     let meaning = g.B.Body.meaning in
     let fits = g.B.Body.fits in
-    let there = g.M.Hosts.has_scope c.args.mode.now in
+    let there = g.M.SpawnThreads.has_scope c.args.mode.now in
     let width = g.M.Mode.width c.args.mode.now in
     let s = c.args.built.now in
     let slots = c.args.jobs.now.bodies in
@@ -44,7 +44,7 @@ start-requires g c = λ lifetimes.
     let known = c.requires.next.4 in
     let next = subst (λ (r : Ready). IsTake (recording s sets) h (length out) width r) c.in-Start.is (subst (λ (t : Turn). IsTurn (recording s sets) h (length out) width (Some t)) c.in-Take.is known.following) in
     let allowed = start_allowed meaning fits there s bodies slots out w known.between.placed sets width start h deferred c.in-Start.system c.prove_law.ensures known.between.stage (next.allowed false) in
-    (c.type_bounds.send-B, (c.type_bounds.send-M-Line, (c.type_bounds.send-M-Gate, (c.type_bounds.sync-M-Gate, ((refl, tt), (allowed, ((bodies, known.between.placed), known.between.hand)))))))
+    (c.type_bounds.send-B, (c.type_bounds.send-M-Signals, (c.type_bounds.send-M-Gate, (c.type_bounds.sync-M-Gate, ((refl, tt), (allowed, ((bodies, known.between.placed), known.between.hand)))))))
 
 pub finish-requires : goal.finish-requires
 finish-requires g c = λ lifetimes.
@@ -56,7 +56,7 @@ finish-requires g c = λ lifetimes.
     let h = c.requires.next.3 in
     let known = c.requires.next.4 in
     let next = subst (λ (t : Turn). IsTurn (recording s sets) h (length out) width (Some t)) c.in-Collect.is known.following in
-    (c.type_bounds.send-B, (c.type_bounds.send-M-Line, (c.type_bounds.send-M-Gate, (c.type_bounds.sync-M-Gate, ((refl, tt), (next.0, ((bodies, known.between.placed), known.between.hand.suits)))))))
+    (c.type_bounds.send-B, (c.type_bounds.send-M-Signals, (c.type_bounds.send-M-Gate, (c.type_bounds.sync-M-Gate, ((refl, tt), (next.0, ((bodies, known.between.placed), known.between.hand.suits)))))))
 
 pub ask-requires-clause-known : goal.ask-requires-clause-known
 ask-requires-clause-known g c =
@@ -78,7 +78,7 @@ pub ask-requires-clause-home : goal.ask-requires-clause-home
 ask-requires-clause-home g c =
     let meaning = g.B.Body.meaning in
     let fits = g.B.Body.fits in
-    let there = g.M.Hosts.has_scope c.args.mode.now in
+    let there = g.M.SpawnThreads.has_scope c.args.mode.now in
     let width = g.M.Mode.width c.args.mode.now in
     let s = c.args.built.now in
     let slots = c.args.jobs.now.bodies in
@@ -108,7 +108,7 @@ pub sync-requires-clause-fresh : goal.sync-requires-clause-fresh
 sync-requires-clause-fresh g c =
     let meaning = g.B.Body.meaning in
     let fits = g.B.Body.fits in
-    let there = g.M.Hosts.has_scope c.args.mode.now in
+    let there = g.M.SpawnThreads.has_scope c.args.mode.now in
     let width = g.M.Mode.width c.args.mode.now in
     let s = c.args.built.now in
     let slots = c.args.jobs.now.bodies in
@@ -127,7 +127,7 @@ pub sync-requires-clause-home : goal.sync-requires-clause-home
 sync-requires-clause-home g c =
     let meaning = g.B.Body.meaning in
     let fits = g.B.Body.fits in
-    let there = g.M.Hosts.has_scope c.args.mode.now in
+    let there = g.M.SpawnThreads.has_scope c.args.mode.now in
     let width = g.M.Mode.width c.args.mode.now in
     let s = c.args.built.now in
     let slots = c.args.jobs.now.bodies in
@@ -151,7 +151,7 @@ pub returns-in_err-start-in-Start-clause-stopped : goal.returns-in_err-start-in-
 returns-in_err-start-in-Start-clause-stopped g c =
     let meaning = g.B.Body.meaning in
     let fits = g.B.Body.fits in
-    let there = g.M.Hosts.has_scope c.args.mode.now in
+    let there = g.M.SpawnThreads.has_scope c.args.mode.now in
     let width = g.M.Mode.width c.args.mode.now in
     let s = c.args.built.now in
     let slots = c.args.jobs.now.bodies in
@@ -168,7 +168,7 @@ pub returns-in_err-answer-in-Ask-clause-stopped : goal.returns-in_err-answer-in-
 returns-in_err-answer-in-Ask-clause-stopped g c =
     let meaning = g.B.Body.meaning in
     let fits = g.B.Body.fits in
-    let there = g.M.Hosts.has_scope c.args.mode.now in
+    let there = g.M.SpawnThreads.has_scope c.args.mode.now in
     let width = g.M.Mode.width c.args.mode.now in
     let s = c.args.built.now in
     let slots = c.args.jobs.now.bodies in
@@ -185,7 +185,7 @@ pub returns-in_err-commanded-in-Sync-clause-stopped : goal.returns-in_err-comman
 returns-in_err-commanded-in-Sync-clause-stopped g c =
     let meaning = g.B.Body.meaning in
     let fits = g.B.Body.fits in
-    let there = g.M.Hosts.has_scope c.args.mode.now in
+    let there = g.M.SpawnThreads.has_scope c.args.mode.now in
     let width = g.M.Mode.width c.args.mode.now in
     let s = c.args.built.now in
     let slots = c.args.jobs.now.bodies in
@@ -203,7 +203,7 @@ pub returns-in_err-system-in-Collect-clause-stopped : goal.returns-in_err-system
 returns-in_err-system-in-Collect-clause-stopped g c =
     let meaning = g.B.Body.meaning in
     let fits = g.B.Body.fits in
-    let there = g.M.Hosts.has_scope c.args.mode.now in
+    let there = g.M.SpawnThreads.has_scope c.args.mode.now in
     let width = g.M.Mode.width c.args.mode.now in
     let s = c.args.built.now in
     let slots = c.args.jobs.now.bodies in
@@ -222,7 +222,7 @@ pub returns-in_err-start-in-Start-clause-kept : goal.returns-in_err-start-in-Sta
 returns-in_err-start-in-Start-clause-kept g c =
     let meaning = g.B.Body.meaning in
     let fits = g.B.Body.fits in
-    let there = g.M.Hosts.has_scope c.args.mode.now in
+    let there = g.M.SpawnThreads.has_scope c.args.mode.now in
     let width = g.M.Mode.width c.args.mode.now in
     let s = c.args.built.now in
     let slots = c.args.jobs.now.bodies in
@@ -239,7 +239,7 @@ pub returns-in_err-answer-in-Ask-clause-kept : goal.returns-in_err-answer-in-Ask
 returns-in_err-answer-in-Ask-clause-kept g c =
     let meaning = g.B.Body.meaning in
     let fits = g.B.Body.fits in
-    let there = g.M.Hosts.has_scope c.args.mode.now in
+    let there = g.M.SpawnThreads.has_scope c.args.mode.now in
     let width = g.M.Mode.width c.args.mode.now in
     let s = c.args.built.now in
     let slots = c.args.jobs.now.bodies in
@@ -254,7 +254,7 @@ pub returns-in_err-commanded-in-Sync-clause-kept : goal.returns-in_err-commanded
 returns-in_err-commanded-in-Sync-clause-kept g c =
     let meaning = g.B.Body.meaning in
     let fits = g.B.Body.fits in
-    let there = g.M.Hosts.has_scope c.args.mode.now in
+    let there = g.M.SpawnThreads.has_scope c.args.mode.now in
     let width = g.M.Mode.width c.args.mode.now in
     let s = c.args.built.now in
     let slots = c.args.jobs.now.bodies in
@@ -269,7 +269,7 @@ pub returns-in_err-system-in-Collect-clause-kept : goal.returns-in_err-system-in
 returns-in_err-system-in-Collect-clause-kept g c =
     let meaning = g.B.Body.meaning in
     let fits = g.B.Body.fits in
-    let there = g.M.Hosts.has_scope c.args.mode.now in
+    let there = g.M.SpawnThreads.has_scope c.args.mode.now in
     let width = g.M.Mode.width c.args.mode.now in
     let s = c.args.built.now in
     let slots = c.args.jobs.now.bodies in
@@ -304,7 +304,7 @@ pub returns-in_ok-answer-in-Ask-clause-taken : goal.returns-in_ok-answer-in-Ask-
 returns-in_ok-answer-in-Ask-clause-taken g c = rw c.plain-in-Ask.ensures (λ sets bodies start h known.
     let meaning = g.B.Body.meaning in
     let fits = g.B.Body.fits in
-    let there = g.M.Hosts.has_scope c.args.mode.now in
+    let there = g.M.SpawnThreads.has_scope c.args.mode.now in
     let width = g.M.Mode.width c.args.mode.now in
     let s = c.args.built.now in
     let slots = c.args.jobs.now.bodies in
@@ -350,7 +350,7 @@ pub returns-in_ok-commanded-in-Sync-clause-taken : goal.returns-in_ok-commanded-
 returns-in_ok-commanded-in-Sync-clause-taken g c = λ sets bodies start h known.
     let meaning = g.B.Body.meaning in
     let fits = g.B.Body.fits in
-    let there = g.M.Hosts.has_scope c.args.mode.now in
+    let there = g.M.SpawnThreads.has_scope c.args.mode.now in
     let width = g.M.Mode.width c.args.mode.now in
     let s = c.args.built.now in
     let slots = c.args.jobs.now.bodies in

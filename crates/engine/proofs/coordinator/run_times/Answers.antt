@@ -16,13 +16,13 @@ use Rattle.engine.proofs.coordinator.run_times.Goals as goal
 pub run_turns-requires : goal.run_turns-requires
 run_turns-requires g c = λ lifetimes.
     let inv = c.loop-run.invariant in
-    (c.type_bounds.send-B, (c.type_bounds.send-M-Line, (c.type_bounds.send-M-Gate, (c.type_bounds.sync-M-Gate, ((refl, tt), (inv.rest, (inv.empty, inv.following)))))))
+    (c.type_bounds.send-B, (c.type_bounds.send-M-Signals, (c.type_bounds.send-M-Gate, (c.type_bounds.sync-M-Gate, ((refl, tt), (inv.rest, (inv.empty, inv.following)))))))
 
 pub loop-run-preserved : goal.loop-run-preserved
 loop-run-preserved g c =
     let meaning = g.B.Body.meaning in
     let fits = g.B.Body.fits in
-    let there = g.M.Hosts.has_scope c.args.mode.now in
+    let there = g.M.SpawnThreads.has_scope c.args.mode.now in
     let width = g.M.Mode.width c.args.mode.now in
     let s = c.args.built.now in
     let bodies = meanings meaning s c.args.jobs.now.bodies in
@@ -51,13 +51,13 @@ loop-run-preserved g c =
 
 -- the mode may send what it sends
 pub bring_home-requires : goal.bring_home-requires
-bring_home-requires g c = λ lifetimes. (c.type_bounds.send-B, (c.type_bounds.send-M-Line, (c.type_bounds.send-M-Gate, (c.type_bounds.sync-M-Gate, (refl, tt)))))
+bring_home-requires g c = λ lifetimes. (c.type_bounds.send-B, (c.type_bounds.send-M-Signals, (c.type_bounds.send-M-Gate, (c.type_bounds.sync-M-Gate, (refl, tt)))))
 
 pub returns-in_err-bring_home-in-Err-clause-stopped : goal.returns-in_err-bring_home-in-Err-clause-stopped
 returns-in_err-bring_home-in-Err-clause-stopped g c =
     let meaning = g.B.Body.meaning in
     let fits = g.B.Body.fits in
-    let there = g.M.Hosts.has_scope c.args.mode.now in
+    let there = g.M.SpawnThreads.has_scope c.args.mode.now in
     let width = g.M.Mode.width c.args.mode.now in
     let s = c.args.built.now in
     let bodies = meanings meaning s c.args.jobs.now.bodies in
@@ -84,7 +84,7 @@ pub returns-in-Err-clause-stopped : goal.returns-in-Err-clause-stopped
 returns-in-Err-clause-stopped g c =
     let meaning = g.B.Body.meaning in
     let fits = g.B.Body.fits in
-    let there = g.M.Hosts.has_scope c.args.mode.now in
+    let there = g.M.SpawnThreads.has_scope c.args.mode.now in
     let width = g.M.Mode.width c.args.mode.now in
     let s = c.args.built.now in
     let bodies = meanings meaning s c.args.jobs.now.bodies in
@@ -101,7 +101,7 @@ pub returns-in-Err-clause-meanings : goal.returns-in-Err-clause-meanings
 returns-in-Err-clause-meanings g c = λ lost.
     let meaning = g.B.Body.meaning in
     let fits = g.B.Body.fits in
-    let there = g.M.Hosts.has_scope c.args.mode.now in
+    let there = g.M.SpawnThreads.has_scope c.args.mode.now in
     let s = c.args.built.now in
     let inv = c.loop-run.invariant in
     let now = meanings meaning s c.loop-run.jobs.bodies in
@@ -120,7 +120,7 @@ pub returns-in-Err-clause-fit : goal.returns-in-Err-clause-fit
 returns-in-Err-clause-fit g c = λ lost.
     let meaning = g.B.Body.meaning in
     let fits = g.B.Body.fits in
-    let there = g.M.Hosts.has_scope c.args.mode.now in
+    let there = g.M.SpawnThreads.has_scope c.args.mode.now in
     let s = c.args.built.now in
     let now = meanings meaning s c.loop-run.jobs.bodies in
     let kept = c.in-Err.ensures.kept (λ e. lost (ap (λ x. Err x) (one_stop e))) in

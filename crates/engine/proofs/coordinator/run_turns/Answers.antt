@@ -28,7 +28,7 @@ pub returns-in_err-open-clause-kept : goal.returns-in_err-open-clause-kept
 returns-in_err-open-clause-kept g c = λ lost.
     let meaning = g.B.Body.meaning in
     let fits = g.B.Body.fits in
-    let there = g.M.Hosts.has_scope c.args.mode.now in
+    let there = g.M.SpawnThreads.has_scope c.args.mode.now in
     let s = c.args.built.now in
     let bodies = meanings meaning s c.args.jobs.now.bodies in
     let first = placed_kept meaning fits there s bodies c.args.jobs.now.bodies [] c.args.run.now.state (placed_first meaning fits there s c.args.jobs.now.bodies c.args.run.now.state c.requires.rest.suits c.requires.rest.home) in
@@ -38,7 +38,7 @@ pub returns-in_err-trace-clause-kept : goal.returns-in_err-trace-clause-kept
 returns-in_err-trace-clause-kept g c = λ lost.
     let meaning = g.B.Body.meaning in
     let fits = g.B.Body.fits in
-    let there = g.M.Hosts.has_scope c.args.mode.now in
+    let there = g.M.SpawnThreads.has_scope c.args.mode.now in
     let s = c.args.built.now in
     let bodies = meanings meaning s c.args.jobs.now.bodies in
     let first = placed_kept meaning fits there s bodies c.args.jobs.now.bodies [] c.args.run.now.state (placed_first meaning fits there s c.args.jobs.now.bodies c.args.run.now.state c.requires.rest.suits c.requires.rest.home) in
@@ -47,7 +47,7 @@ returns-in_err-trace-clause-kept g c = λ lost.
 pub returns-in_err-open-clause-stopped : goal.returns-in_err-open-clause-stopped
 returns-in_err-open-clause-stopped g c =
     let meaning = g.B.Body.meaning in
-    let there = g.M.Hosts.has_scope c.args.mode.now in
+    let there = g.M.SpawnThreads.has_scope c.args.mode.now in
     let width = g.M.Mode.width c.args.mode.now in
     let s = c.args.built.now in
     let bodies = meanings meaning s c.args.jobs.now.bodies in
@@ -60,7 +60,7 @@ pub loop-turn-init : goal.loop-turn-init
 loop-turn-init g c =
     let meaning = g.B.Body.meaning in
     let fits = g.B.Body.fits in
-    let there = g.M.Hosts.has_scope c.args.mode.now in
+    let there = g.M.SpawnThreads.has_scope c.args.mode.now in
     let width = g.M.Mode.width c.args.mode.now in
     let s = c.args.built.now in
     let bodies = meanings meaning s c.args.jobs.now.bodies in
@@ -91,7 +91,7 @@ pub do_turn-requires : goal.do_turn-requires
 do_turn-requires g c = λ lifetimes.
     let meaning = g.B.Body.meaning in
     let fits = g.B.Body.fits in
-    let there = g.M.Hosts.has_scope c.args.mode.now in
+    let there = g.M.SpawnThreads.has_scope c.args.mode.now in
     let width = g.M.Mode.width c.args.mode.now in
     let s = c.args.built.now in
     let bodies = meanings meaning s c.args.jobs.now.bodies in
@@ -111,13 +111,13 @@ do_turn-requires g c = λ lifetimes.
       keeps = c.requires.rest.keeps;
       following = next;
     } in
-    (c.type_bounds.send-B, (c.type_bounds.send-M-Line, (c.type_bounds.send-M-Gate, (c.type_bounds.sync-M-Gate, ((refl, tt), (sets, bodies, start, h, known))))))
+    (c.type_bounds.send-B, (c.type_bounds.send-M-Signals, (c.type_bounds.send-M-Gate, (c.type_bounds.sync-M-Gate, ((refl, tt), (sets, bodies, start, h, known))))))
 
 pub returns-in_err-done-clause-stopped : goal.returns-in_err-done-clause-stopped
 returns-in_err-done-clause-stopped g c =
     let meaning = g.B.Body.meaning in
     let fits = g.B.Body.fits in
-    let there = g.M.Hosts.has_scope c.args.mode.now in
+    let there = g.M.SpawnThreads.has_scope c.args.mode.now in
     let width = g.M.Mode.width c.args.mode.now in
     let s = c.args.built.now in
     let bodies = meanings meaning s c.args.jobs.now.bodies in
@@ -144,7 +144,7 @@ pub returns-in_err-done-clause-kept : goal.returns-in_err-done-clause-kept
 returns-in_err-done-clause-kept g c =
     let meaning = g.B.Body.meaning in
     let fits = g.B.Body.fits in
-    let there = g.M.Hosts.has_scope c.args.mode.now in
+    let there = g.M.SpawnThreads.has_scope c.args.mode.now in
     let width = g.M.Mode.width c.args.mode.now in
     let s = c.args.built.now in
     let bodies = meanings meaning s c.args.jobs.now.bodies in
@@ -171,7 +171,7 @@ pub take-requires-clause-may : goal.take-requires-clause-may
 take-requires-clause-may g c =
     let meaning = g.B.Body.meaning in
     let fits = g.B.Body.fits in
-    let there = g.M.Hosts.has_scope c.args.mode.now in
+    let there = g.M.SpawnThreads.has_scope c.args.mode.now in
     let width = g.M.Mode.width c.args.mode.now in
     let s = c.args.built.now in
     let bodies = meanings meaning s c.args.jobs.now.bodies in
@@ -197,7 +197,7 @@ pub returns-in_err-take-clause-kept : goal.returns-in_err-take-clause-kept
 returns-in_err-take-clause-kept g c = λ lost.
     let meaning = g.B.Body.meaning in
     let fits = g.B.Body.fits in
-    let there = g.M.Hosts.has_scope c.args.mode.now in
+    let there = g.M.SpawnThreads.has_scope c.args.mode.now in
     let width = g.M.Mode.width c.args.mode.now in
     let s = c.args.built.now in
     let bodies = meanings meaning s c.args.jobs.now.bodies in
@@ -229,7 +229,7 @@ pub loop-turn-preserved : goal.loop-turn-preserved
 loop-turn-preserved g c =
     let meaning = g.B.Body.meaning in
     let fits = g.B.Body.fits in
-    let there = g.M.Hosts.has_scope c.args.mode.now in
+    let there = g.M.SpawnThreads.has_scope c.args.mode.now in
     let width = g.M.Mode.width c.args.mode.now in
     let s = c.args.built.now in
     let bodies = meanings meaning s c.args.jobs.now.bodies in
@@ -263,7 +263,7 @@ pub returns-clause-ran : goal.returns-clause-ran
 returns-clause-ran g c =
     let meaning = g.B.Body.meaning in
     let fits = g.B.Body.fits in
-    let there = g.M.Hosts.has_scope c.args.mode.now in
+    let there = g.M.SpawnThreads.has_scope c.args.mode.now in
     let width = g.M.Mode.width c.args.mode.now in
     let s = c.args.built.now in
     let bodies = meanings meaning s c.args.jobs.now.bodies in
@@ -291,7 +291,7 @@ pub returns-clause-rest : goal.returns-clause-rest
 returns-clause-rest g c =
     let meaning = g.B.Body.meaning in
     let fits = g.B.Body.fits in
-    let there = g.M.Hosts.has_scope c.args.mode.now in
+    let there = g.M.SpawnThreads.has_scope c.args.mode.now in
     let width = g.M.Mode.width c.args.mode.now in
     let s = c.args.built.now in
     let bodies = meanings meaning s c.args.jobs.now.bodies in
@@ -313,7 +313,7 @@ pub returns-clause-empty : goal.returns-clause-empty
 returns-clause-empty g c =
     let meaning = g.B.Body.meaning in
     let fits = g.B.Body.fits in
-    let there = g.M.Hosts.has_scope c.args.mode.now in
+    let there = g.M.SpawnThreads.has_scope c.args.mode.now in
     let width = g.M.Mode.width c.args.mode.now in
     let s = c.args.built.now in
     let bodies = meanings meaning s c.args.jobs.now.bodies in
@@ -335,7 +335,7 @@ pub returns-clause-kept : goal.returns-clause-kept
 returns-clause-kept g c = λ lost.
     let meaning = g.B.Body.meaning in
     let fits = g.B.Body.fits in
-    let there = g.M.Hosts.has_scope c.args.mode.now in
+    let there = g.M.SpawnThreads.has_scope c.args.mode.now in
     let s = c.args.built.now in
     let bodies = meanings meaning s c.args.jobs.now.bodies in
     let inv = c.loop-turn.invariant in
@@ -348,7 +348,7 @@ pub returns-in_err-push-clause-kept : goal.returns-in_err-push-clause-kept
 returns-in_err-push-clause-kept g c = λ lost.
     let meaning = g.B.Body.meaning in
     let fits = g.B.Body.fits in
-    let there = g.M.Hosts.has_scope c.args.mode.now in
+    let there = g.M.SpawnThreads.has_scope c.args.mode.now in
     let s = c.args.built.now in
     let bodies = meanings meaning s c.args.jobs.now.bodies in
     let inv = c.loop-turn.invariant in

@@ -11,7 +11,7 @@ invariant-loop-turn g l = record {
   schedule : l.core.schedule ≡ l.built;
   records : is_some l.trace.sets ≡ true;
   stands : Stands l.core l.trace.sets l.trace.steps;
-  between : IsBetween g.B.Body.meaning g.B.Body.fits (g.M.Hosts.has_scope l.mode) (g.M.Mode.width l.mode) l.built l.trace.sets (meanings g.B.Body.meaning l.built l.fn.jobs.bodies) l.fn.run.state.state l.trace.steps l.jobs.bodies l.run.deferred l.jobs.pool l.run.state;
+  between : IsBetween g.B.Body.meaning g.B.Body.fits (g.M.SpawnThreads.has_scope l.mode) (g.M.Mode.width l.mode) l.built l.trace.sets (meanings g.B.Body.meaning l.built l.fn.jobs.bodies) l.fn.run.state.state l.trace.steps l.jobs.bodies l.run.deferred l.jobs.pool l.run.state;
 }
 
 abbrev pub decreases-loop-turn : goal.decreases-loop-turn

@@ -31,7 +31,7 @@ run_times-traces-requires g c = λ lifetimes.
       home = c.into_open-state.ensures.home;
       deferred_for = subst (IsDeferredFor inside.built) (sym c.replace-deferred.ensures.value) held.2;
     } in
-    (c.type_bounds.send-B, (c.type_bounds.send-M-Line, (c.type_bounds.send-M-Gate, (c.type_bounds.sync-M-Gate, ((refl, tt), (rest, c.in-Ok.ensures))))))
+    (c.type_bounds.send-B, (c.type_bounds.send-M-Signals, (c.type_bounds.send-M-Gate, (c.type_bounds.sync-M-Gate, ((refl, tt), (rest, c.in-Ok.ensures))))))
 
 -- the mode may send what it sends
 pub end-requires : goal.end-requires
@@ -40,7 +40,7 @@ end-requires g c = λ lifetimes. (search sendable depth 40, (search sendable dep
 pub returns-in_err-traces-clause-stopped : goal.returns-in_err-traces-clause-stopped
 returns-in_err-traces-clause-stopped g c =
     let meaning = g.B.Body.meaning in
-    let there = g.M.Hosts.has_scope c.args.mode.now in
+    let there = g.M.SpawnThreads.has_scope c.args.mode.now in
     let width = g.M.Mode.width c.args.mode.now in
     let inside = c.engine.inside in
     let value = c.args.engine.now in

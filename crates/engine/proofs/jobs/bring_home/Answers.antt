@@ -11,7 +11,7 @@ pub loop-jobs-preserved : goal.loop-jobs-preserved
 loop-jobs-preserved g c = λ s bodies kept.
     let meaning = g.B.Body.meaning in
     let fits = g.B.Body.fits in
-    let there = g.M.Hosts.has_scope c.args.mode.now in
+    let there = g.M.SpawnThreads.has_scope c.args.mode.now in
     let done = c.in-Some.done in
     let slots = c.loop-jobs.jobs.bodies in
     let out = c.loop-jobs.jobs.pool in
@@ -22,7 +22,7 @@ loop-jobs-preserved g c = λ s bodies kept.
 
 pub returns-in_default-clause-lost : goal.returns-in_default-clause-lost
 returns-in_default-clause-lost g c =
-    let there = g.M.Hosts.has_scope c.args.mode.now in
+    let there = g.M.SpawnThreads.has_scope c.args.mode.now in
     let none = c.in_default.ensures.none in
     (refl, λ s bodies kept. false≢true (c.in_default.ensures.joins (c.prove_waits.ensures (job_there g.B.Body.meaning g.B.Body.fits there s bodies c.loop-jobs.jobs.bodies c.loop-jobs.jobs.pool (c.loop-jobs.invariant s bodies kept) none.0 none.1))))
 
@@ -30,7 +30,7 @@ pub returns-clause-kept : goal.returns-clause-kept
 returns-clause-kept g c = λ s bodies kept.
     let out = c.loop-jobs.jobs.pool in
     let none : out ≡ [] = no_elements out (let a = c.count.ensures in let b = c.loop-jobs-test.false in omega arith) in
-    subst (λ (xs : List (JobOut g.row.B.Denot)). AreKept g.B.Body.meaning g.B.Body.fits (g.M.Hosts.has_scope c.args.mode.now) s bodies c.loop-jobs.jobs.bodies xs) none (c.loop-jobs.invariant s bodies kept)
+    subst (λ (xs : List (JobOut g.row.B.Denot)). AreKept g.B.Body.meaning g.B.Body.fits (g.M.SpawnThreads.has_scope c.args.mode.now) s bodies c.loop-jobs.jobs.bodies xs) none (c.loop-jobs.invariant s bodies kept)
 
 pub bring_back-requires : goal.bring_back-requires
 bring_back-requires g c = λ lifetimes.

@@ -12,7 +12,7 @@ use Rattle.worker_pool.specs.JobOut.{JobOut}
 use Rattle.engine.specs.Jobs.{held_by, woven, InHand, Placed}
 use Rattle.engine.specs.Deferred.{DeferredValue, grants_at}
 use Rattle.engine.specs.Stops.{LacksTick, StopsBy}
-use Rattle.worker_pool.specs.declared.fault.HandFault.TheVariants as hand
+use Rattle.worker_pool.specs.declared.fault.HandOutFault.TheVariants as hand
 use Rattle.engine.proofs.Placing.{IsHanded, body-there, put_again, start_there, placed_start}
 use Rattle.engine.proofs.Starting.{in_hand_start}
 use Rattle.engine.proofs.Stops.{stops_among}
@@ -45,7 +45,7 @@ take-body-requires g c =
     let n = c.args.system in
     let meaning = g.B.Body.meaning in
     let fits = g.B.Body.fits in
-    let there = g.M.Hosts.has_scope c.args.mode.now in
+    let there = g.M.SpawnThreads.has_scope c.args.mode.now in
     let w = c.args.run.now.state in
     let out = c.args.jobs.now.pool in
     let slots = c.args.jobs.now.bodies in
@@ -59,7 +59,7 @@ pub returns-in_err-view-clause-stopped : goal.returns-in_err-view-clause-stopped
 returns-in_err-view-clause-stopped g c =
     let s = c.args.built.now in
     let n = c.args.system in
-    let there = g.M.Hosts.has_scope c.args.mode.now in
+    let there = g.M.SpawnThreads.has_scope c.args.mode.now in
     let w = c.args.run.now.state in
     let deferred = c.args.run.now.deferred in
     let out = c.args.jobs.now.pool in
@@ -113,7 +113,7 @@ returns-in-Err-NoWorker-clause-kept g c = λ lost.
 
 pub returns-in-Err-NoWorker-clause-stopped : goal.returns-in-Err-NoWorker-clause-stopped
 returns-in-Err-NoWorker-clause-stopped g c =
-    let there = g.M.Hosts.has_scope c.args.mode.now in
+    let there = g.M.SpawnThreads.has_scope c.args.mode.now in
     let is = c.in-Err-NoWorker.field-0-is in
     elim c.in-Err-NoWorker.ensures.only as (λ x. there ≡ true) [
       | inl e ↦ absurd (other _ _ _ is e (λ f. elim f as (λ x. Bool) [ hand.Memory job ↦ false | hand.NoWorker job ↦ true | hand.Lost ↦ false ]) refl refl)
@@ -134,7 +134,7 @@ returns-in-Err-Lost-clause-kept g c = λ lost.
 
 pub returns-in-Err-Lost-clause-stopped : goal.returns-in-Err-Lost-clause-stopped
 returns-in-Err-Lost-clause-stopped g c =
-    let there = g.M.Hosts.has_scope c.args.mode.now in
+    let there = g.M.SpawnThreads.has_scope c.args.mode.now in
     let is = c.in-Err-Lost.field-0-is in
     elim c.in-Err-Lost.ensures.only as (λ x. there ≡ true) [
       | inl e ↦ absurd (other _ _ _ is e (λ f. elim f as (λ x. Bool) [ hand.Memory job ↦ false | hand.NoWorker job ↦ false | hand.Lost ↦ true ]) refl refl)
@@ -147,7 +147,7 @@ returns-in-Ok-clause-started g c = λ bodies.
     let n = c.args.system in
     let meaning = g.B.Body.meaning in
     let fits = g.B.Body.fits in
-    let there = g.M.Hosts.has_scope c.args.mode.now in
+    let there = g.M.SpawnThreads.has_scope c.args.mode.now in
     let w = c.args.run.now.state in
     let deferred = c.args.run.now.deferred in
     let out = c.args.jobs.now.pool in
@@ -166,7 +166,7 @@ returns-in-Ok-clause-placed g c = λ bodies placed.
     let n = c.args.system in
     let meaning = g.B.Body.meaning in
     let fits = g.B.Body.fits in
-    let there = g.M.Hosts.has_scope c.args.mode.now in
+    let there = g.M.SpawnThreads.has_scope c.args.mode.now in
     let w = c.args.run.now.state in
     let deferred = c.args.run.now.deferred in
     let out = c.args.jobs.now.pool in
@@ -184,7 +184,7 @@ pub returns-in-Ok-clause-hand : goal.returns-in-Ok-clause-hand
 returns-in-Ok-clause-hand g c =
     let s = c.args.built.now in
     let n = c.args.system in
-    let there = g.M.Hosts.has_scope c.args.mode.now in
+    let there = g.M.SpawnThreads.has_scope c.args.mode.now in
     let w = c.args.run.now.state in
     let deferred = c.args.run.now.deferred in
     let out = c.args.jobs.now.pool in

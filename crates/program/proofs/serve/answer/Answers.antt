@@ -107,7 +107,7 @@ returns-clause-done g c =
 
 pub returns-in_err-document-clause-refused : goal.returns-in_err-document-clause-refused
 returns-in_err-document-clause-refused g c =
-    let there = g.M.Hosts.has_scope c.args.mode.now in
+    let there = g.M.SpawnThreads.has_scope c.args.mode.now in
     let width = g.M.Mode.width c.args.mode.now in
     let file = g.F.Read.remaining c.args.file.now in
     let trace = g.T.Read.remaining c.args.trace.now in
@@ -116,7 +116,7 @@ returns-in_err-document-clause-refused g c =
 
 pub returns-in_err-tables-clause-refused : goal.returns-in_err-tables-clause-refused
 returns-in_err-tables-clause-refused g c =
-    let there = g.M.Hosts.has_scope c.args.mode.now in
+    let there = g.M.SpawnThreads.has_scope c.args.mode.now in
     let width = g.M.Mode.width c.args.mode.now in
     let file = g.F.Read.remaining c.args.file.now in
     let trace = g.T.Read.remaining c.args.trace.now in
@@ -126,7 +126,7 @@ returns-in_err-tables-clause-refused g c =
 
 pub returns-in_err-built-clause-refused : goal.returns-in_err-built-clause-refused
 returns-in_err-built-clause-refused g c =
-    let there = g.M.Hosts.has_scope c.args.mode.now in
+    let there = g.M.SpawnThreads.has_scope c.args.mode.now in
     let width = g.M.Mode.width c.args.mode.now in
     let file = g.F.Read.remaining c.args.file.now in
     let trace = g.T.Read.remaining c.args.trace.now in
@@ -138,7 +138,7 @@ returns-in_err-built-clause-refused g c =
 
 pub returns-in-Ambiguities-clause-refused : goal.returns-in-Ambiguities-clause-refused
 returns-in-Ambiguities-clause-refused g c =
-    let there = g.M.Hosts.has_scope c.args.mode.now in
+    let there = g.M.SpawnThreads.has_scope c.args.mode.now in
     let width = g.M.Mode.width c.args.mode.now in
     let file = g.F.Read.remaining c.args.file.now in
     let trace = g.T.Read.remaining c.args.trace.now in
@@ -146,7 +146,7 @@ returns-in-Ambiguities-clause-refused g c =
 
 pub returns-in-Check-clause-refused : goal.returns-in-Check-clause-refused
 returns-in-Check-clause-refused g c =
-    let there = g.M.Hosts.has_scope c.args.mode.now in
+    let there = g.M.SpawnThreads.has_scope c.args.mode.now in
     let width = g.M.Mode.width c.args.mode.now in
     let file = g.F.Read.remaining c.args.file.now in
     let trace = g.T.Read.remaining c.args.trace.now in
@@ -158,7 +158,7 @@ returns-in-Check-clause-refused g c =
 
 pub returns-in-Replay-clause-refused : goal.returns-in-Replay-clause-refused
 returns-in-Replay-clause-refused g c =
-    let there = g.M.Hosts.has_scope c.args.mode.now in
+    let there = g.M.SpawnThreads.has_scope c.args.mode.now in
     let width = g.M.Mode.width c.args.mode.now in
     let file = g.F.Read.remaining c.args.file.now in
     let trace = g.T.Read.remaining c.args.trace.now in
@@ -174,7 +174,7 @@ returns-in-Replay-clause-refused g c =
 
 pub returns-in_err-world-clause-refused : goal.returns-in_err-world-clause-refused
 returns-in_err-world-clause-refused g c =
-    let there = g.M.Hosts.has_scope c.args.mode.now in
+    let there = g.M.SpawnThreads.has_scope c.args.mode.now in
     let width = g.M.Mode.width c.args.mode.now in
     let file = g.F.Read.remaining c.args.file.now in
     let trace = g.T.Read.remaining c.args.trace.now in
@@ -192,7 +192,7 @@ returns-in_err-world-clause-refused g c =
 
 pub returns-clause-refused : goal.returns-clause-refused
 returns-clause-refused g c =
-    let there = g.M.Hosts.has_scope c.args.mode.now in
+    let there = g.M.SpawnThreads.has_scope c.args.mode.now in
     let width = g.M.Mode.width c.args.mode.now in
     let file = g.F.Read.remaining c.args.file.now in
     let trace = g.T.Read.remaining c.args.trace.now in

@@ -53,7 +53,7 @@ returns-clause-runs g c =
 -- what stops the runs
 pub returns-in_err-traces-clause-stopped : goal.returns-in_err-traces-clause-stopped
 returns-in_err-traces-clause-stopped g c =
-    let there = g.M.Hosts.has_scope c.args.mode.now in
+    let there = g.M.SpawnThreads.has_scope c.args.mode.now in
     let width = g.M.Mode.width c.args.mode.now in
     let s = c.args.built in
     let told = c.in_err-traces.field-0.0 in
@@ -65,7 +65,7 @@ returns-in_err-traces-clause-stopped g c =
 -- a failed allocation for the text
 pub returns-in_err-text_of_world-clause-stopped : goal.returns-in_err-text_of_world-clause-stopped
 returns-in_err-text_of_world-clause-stopped g c =
-    let there = g.M.Hosts.has_scope c.args.mode.now in
+    let there = g.M.SpawnThreads.has_scope c.args.mode.now in
     let width = g.M.Mode.width c.args.mode.now in
     let s = c.args.built in
     let P = IsUnrun there width s (meanings_of_scripts s c.args.bodies.items) c.args.times (first_state s c.args.world.state) c.args.recorded in

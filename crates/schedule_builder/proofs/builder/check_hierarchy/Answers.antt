@@ -1,5 +1,5 @@
 use Rattle.std.proofs.Common.{ℕ, List, subst, ap, ◌∙◌}
-use Rattle.model.specs.declarations.Hierarchy.{Hierarchy, HasNoSelf, IsFirstSelf, HasNoSetCycle, IsToldSetCycle}
+use Rattle.model.specs.declarations.Hierarchy.{Hierarchy, HasNoSelf, IsFirstSelf, HasNoSetCycle, IsReportedSetCycle}
 use Rattle.model.specs.declarations.Refusals.{names_of}
 use Rattle.system_set.specs.declared.fault.HierarchyFault.{HierarchyFault}
 use Rattle.system_set.specs.Pairs.{IsHierarchyFault}
@@ -13,7 +13,7 @@ name_at-requires c = self_known c.args.desc.now c.in-Err-Loop.set c.requires.who
 
 pub names_at-requires : goal.names_at-requires
 names_at-requires c =
-    let told = subst (λ (h : Hierarchy). HasNoSelf h × IsToldSetCycle h c.in-Err-Cycle.sets.items) c.requires.declared
+    let told = subst (λ (h : Hierarchy). HasNoSelf h × IsReportedSetCycle h c.in-Err-Cycle.sets.items) c.requires.declared
     (subst (λ (f : HierarchyFault). IsHierarchyFault c.args.hierarchy.now f) c.in-Err-Cycle.field-0-is c.in-Err-Cycle.ensures.fault) in
     rw c.as_slice.ensures.value (sets_known c.args.desc.now c.in-Err-Cycle.sets.items c.requires.whole told.1.cycle)
 
@@ -28,7 +28,7 @@ pub returns-in_ok-names_at-in-Err-Cycle-clause-refused : goal.returns-in_ok-name
 returns-in_ok-names_at-in-Err-Cycle-clause-refused c =
     let d = c.args.desc.now in
     let items : List ℕ = c.in-Err-Cycle.sets.items in
-    let told = subst (λ (h : Hierarchy). HasNoSelf h × IsToldSetCycle h items) c.requires.declared
+    let told = subst (λ (h : Hierarchy). HasNoSelf h × IsReportedSetCycle h items) c.requires.declared
     (subst (λ (f : HierarchyFault). IsHierarchyFault c.args.hierarchy.now f) c.in-Err-Cycle.field-0-is c.in-Err-Cycle.ensures.fault) in
     (c.requires.named, told.0, (items, told.1, c.in_ok-names_at-in-Err-Cycle.ensures ∙ ap (names_of d) c.as_slice.ensures.value))
 

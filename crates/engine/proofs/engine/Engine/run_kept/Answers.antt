@@ -13,7 +13,7 @@ put_back-requires-clause-suits g c κs lives =
     let bodies = meanings g.B.Body.meaning value.schedule value.bodies in
     let unspoiled = sym c.is_spoiled.ensures.value ∙ c.if-is_spoiled.false in
     suits_again value.schedule later.schedule later.bodies value.bodies c.in-Err.ensures.schedule g.B.Body.fits value.state c.in_ok-spare.spare.state c.in_ok-spare.ensures.state
-    (c.in-Err.ensures.fit (λ e. c.keeping-keeping.ensures.stands ∙ worker_there (g.M.Hosts.has_scope mode) (g.M.Mode.width mode) value.schedule bodies c.args.times value.state c.in-Err.fault c.in-Err.ensures.stopped e) unspoiled) (c.is_spoiled.ensures.suits unspoiled)
+    (c.in-Err.ensures.fit (λ e. c.keeping-keeping.ensures.stands ∙ worker_there (g.M.SpawnThreads.has_scope mode) (g.M.Mode.width mode) value.schedule bodies c.args.times value.state c.in-Err.fault c.in-Err.ensures.stopped e) unspoiled) (c.is_spoiled.ensures.suits unspoiled)
 
 pub put_back-requires-clause-keep : goal.put_back-requires-clause-keep
 put_back-requires-clause-keep g c κs lives =
@@ -23,7 +23,7 @@ put_back-requires-clause-keep g c κs lives =
     let bodies = meanings g.B.Body.meaning value.schedule value.bodies in
     let unspoiled = sym c.is_spoiled.ensures.value ∙ c.if-is_spoiled.false in
     keep_again value.schedule later.schedule later.bodies value.bodies c.in-Err.ensures.schedule g.B.Body.meaning
-    (c.in-Err.ensures.meanings (λ e. c.keeping-keeping.ensures.stands ∙ worker_there (g.M.Hosts.has_scope mode) (g.M.Mode.width mode) value.schedule bodies c.args.times value.state c.in-Err.fault c.in-Err.ensures.stopped e)) (c.is_spoiled.ensures.keep unspoiled)
+    (c.in-Err.ensures.meanings (λ e. c.keeping-keeping.ensures.stands ∙ worker_there (g.M.SpawnThreads.has_scope mode) (g.M.Mode.width mode) value.schedule bodies c.args.times value.state c.in-Err.fault c.in-Err.ensures.stopped e)) (c.is_spoiled.ensures.keep unspoiled)
 
 pub put_back-requires-clause-deferred : goal.put_back-requires-clause-deferred
 put_back-requires-clause-deferred g c κs lives =

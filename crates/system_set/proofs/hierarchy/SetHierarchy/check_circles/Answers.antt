@@ -1,6 +1,6 @@
 use Rattle.std.proofs.Common.{ℕ, List, Option, Vec, Some, None, sym, subst}
 use Rattle.std.specs.declared.alloc.Global.{Global}
-use Rattle.model.specs.declarations.Hierarchy.{Hierarchy, IsHeld, HasNoSelf, HasNoSetCycle, IsToldSetCycle}
+use Rattle.model.specs.declarations.Hierarchy.{Hierarchy, IsHeld, HasNoSelf, HasNoSetCycle, IsReportedSetCycle}
 use Rattle.cycle_search.specs.declared.order.Order.{Order}
 use Rattle.cycle_search.specs.Cycles.{TellsRound, IsRankable}
 use Rattle.system_set.proofs.Circles.{no_set_cycle, told_set_cycle, held_rankable}
@@ -27,4 +27,4 @@ returns-in-Some-clause-fault c =
     let told = subst (λ (o : Option (Vec ℕ Global)). TellsRound c.as_slice.result.now o) c.in-Some.is c.in_ok-find_cycle.ensures in
     let here = subst (λ (xs : List Order). TellsRound xs (Some items)) c.as_slice.ensures.value told in
     let none = subst (λ (h : Hierarchy). HasNoSelf h) (sym c.self.view_is) c.requires in
-    (c.requires, subst (λ (h : Hierarchy). IsToldSetCycle h items.items) c.self.view_is (told_set_cycle c.self.inside.sets c.self.inside.items orders none items.items here.0 here.1))
+    (c.requires, subst (λ (h : Hierarchy). IsReportedSetCycle h items.items) c.self.view_is (told_set_cycle c.self.inside.sets c.self.inside.items orders none items.items here.0 here.1))

@@ -1,0 +1,13 @@
+use Rattle.std.proofs.Common.{◌≡◌, true, cond, None, is_some, sym, ap, ◌∙◌, rules}
+use Rattle.model.specs.state.Rows.{row_at, cell_at}
+use Rattle.model.specs.state.Commands.{is_alive}
+use Rattle.archetype_store.specs.Entities.{EntitiesValue}
+use Rattle.archetype_store.proofs.SlotRows.{row_at_slots}
+use Rattle.archetype_store.proofs.entities.Entities.has.Goals as goal
+
+pub returns : goal.returns
+returns c =
+    let slots = c.args.self.now.slots in
+    let alive : is_alive slots c.args.e ≡ true = search rules in
+    let row = sym (row_at_slots c.self.inside.book c.self.inside.archetypes c.self.invariant c.args.e.index) ∙ ap (λ s. row_at s c.args.e.index) (ap (λ (v : EntitiesValue). v.slots) c.self.view_is) in
+    c.has.ensures ∙ ap (λ r. is_some (cell_at r c.args.number)) row ∙ sym (ap (λ b. is_some (cond b (cell_at (row_at slots c.args.e.index) c.args.number) None)) alive)

@@ -1,7 +1,0 @@
-use Rattle.run_condition.specs.Tree.{condition_of}
-use Rattle.body.proofs.Readers.{parts}
-use Rattle.body.proofs.condition_answer.+tell.Given as goal
-
--- what is within has fewer parts than the whole
-abbrev pub decreases-tell : goal.decreases-tell
-decreases-tell l = parts (condition_of l.tree.now)

@@ -1,6 +1,0 @@
-use Rattle.std.proofs.Common.{◌≡◌}
-use Rattle.findings.proofs.telling.lines_of.Given as goal
-
--- the lines so far are kept
-abbrev pub invariant-loop-line : goal.invariant-loop-line
-invariant-loop-line l = l.found.items ≡ l.yielded
