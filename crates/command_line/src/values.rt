@@ -17,8 +17,8 @@ pub fn value_of<'a>(found: &ArgMatches<'a>, name: &str) -> &'a str
     }
 }
 
-/// Whether an argument has a value.
-pub fn is_given(found: &ArgMatches<'_>, name: &str) -> bool
+// Whether an argument has a value.
+pub(crate) fn is_given(found: &ArgMatches<'_>, name: &str) -> bool
     ensures { result ≡ is_some (first_of name.now (rows_of (found_of found.now))) }
 {
     match found.get_str(name) {
@@ -27,9 +27,9 @@ pub fn is_given(found: &ArgMatches<'_>, name: &str) -> bool
     }
 }
 
-/// The number that the value of an option spells in decimal digits alone, if it is at most `most`; `other`, which is, where the option is left
-/// out.
-pub fn number_or(found: &ArgMatches<'_>, name: &str, most: u32, other: u32) -> Option<u32>
+// The number that the value of an option spells in decimal digits alone, if it is at most `most`; `other`, which is, where the option is left
+// out.
+pub(crate) fn number_or(found: &ArgMatches<'_>, name: &str, most: u32, other: u32) -> Option<u32>
     requires { other ≤ most }
     ensures within { IfSome result (λ number. number ≤ most) }
     ensures number { result ≡ number_or other most (first_of name.now (rows_of (found_of found.now))) }
