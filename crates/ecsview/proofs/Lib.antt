@@ -1,2 +1,3 @@
+pub mod Divergences
 pub mod PairTexts
 pub mod Lines

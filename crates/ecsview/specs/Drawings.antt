@@ -1,5 +1,6 @@
 -- The texts of drawings: of a schedule, and of the runs of a trace.
 use Rattle.std.specs.Prelude.{ℕ, ◌≡◌, ◌+◌, ◌*◌, min, max, List, [], ◌∷◌, ◌++◌, length, map, reverse, Option, IfSome}
+use Rattle.std.specs.List.{AllByRecursion}
 use Rattle.ambiguity_report.specs.declared.report.Pair.{Pair}
 use Rattle.ambiguity_report.specs.Report.{IsReport}
 use Rattle.drawing.specs.Lanes.{bottom_of, run_shapes}
@@ -7,7 +8,8 @@ use Rattle.drawing.specs.ShapeText.{capped, drawing_text}
 use Rattle.drawing.specs.declared.shape.Shape.{Shape}
 use Rattle.findings.specs.declared.loading.Loaded.{Loaded}
 use Rattle.model.specs.declared.steps.Step.{Step}
-use Rattle.model.specs.steps.Schedule.{Recorded}
+use Rattle.model.specs.steps.Lawful.{IsLawful}
+use Rattle.model.specs.steps.Schedule.{Schedule, Recorded, recording}
 use Rattle.schedule_drawing.specs.Drawn.{drawn_height, drawn_width, schedule_shapes}
 use Rattle.trace_checker.specs.Grammar.{trace_text}
 
@@ -53,8 +55,13 @@ longest_from longest (r ∷ runs) = longest_from (max longest (length r.steps)) 
 abbrev pub lanes_width : ℕ → ℕ
 lanes_width longest = max (capped (capped (56 * longest) + 100)) 360
 
--- the text is that of the shapes of the runs that the trace has, each run once and in order, by the names of the systems
+-- a run is lawful, by the kind sets that it records
+abbrev pub IsLawfulRun : Schedule → Recorded → Type 0
+IsLawfulRun s r = IsLawful (recording s r.sets) r.steps
+
+-- the text is that of the shapes of the runs that the trace has, each of which is lawful, once and in order, by the names of the systems
 pub record IsLanesText (opener rules : List ℕ) (l : Loaded) (trace : Option (List ℕ)) (text : List ℕ) : Type 0 where
   pub runs : List Recorded
   pub read : IfSome trace (λ bytes. bytes ≡ trace_text runs)
+  pub lawful : AllByRecursion (IsLawfulRun l.file.built) runs
   pub same : text ≡ drawing_text opener rules (map (λ name. name.now) l.file.names.items) [] (lanes_width (longest_from 0 runs)) (height_from 10 runs) (lanes_from 0 10 runs)

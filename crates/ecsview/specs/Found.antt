@@ -1,10 +1,14 @@
--- The texts of what is found on a file: witnesses of its races, and the worlds of recorded runs.
+-- The texts of what is found on a file: witnesses of its races, where two records part, and the worlds of recorded runs.
 use Rattle.std.specs.Prelude.{ℕ, ◌≡◌, List, [], ◌∷◌, ◌++◌, codes, decimal, length, map, Option, Some, None, IfSome}
 use Rattle.ambiguity_report.specs.Report.{IsReport}
 use Rattle.ambiguity_report.specs.declared.report.Pair.{Pair}
+use Rattle.findings.specs.Parting.{IsDifferenceOf, IsParting}
 use Rattle.findings.specs.Stories.{IsStory, count_text}
-use Rattle.findings.specs.Texts.{IsWitnessText, pair_text}
+use Rattle.findings.specs.Texts.{IsPartingText, IsWitnessText, pair_text}
 use Rattle.findings.specs.Witness.{IsWitness}
+use Rattle.findings.specs.declared.diverging.Parting.{Parting}
+use Rattle.findings.specs.declared.diverging.Parting.TheVariants as parting
+use Rattle.findings.specs.declared.diverging.Place.{Place}
 use Rattle.findings.specs.declared.witness.Witness.{Witness}
 use Rattle.model.specs.shown.Outcome.{BodyMeaning}
 use Rattle.model.specs.state.Loaded.{loaded}
@@ -48,6 +52,28 @@ pub record IsRacesText (l : Loaded) (text : List ℕ) : Type 0 where
   pub pairs : List Pair
   pub report : IsReport l.built pairs
   pub told : AreRaces l.built (meanings_of l) (first_of l) (map (λ name. name.now) l.names.items) pairs (races_line (length pairs)) text
+
+-- ---- two records
+
+-- the status: 0 where the worlds agree after each run, and both records have as many
+abbrev pub parting_status : Parting → ℕ
+parting_status (parting.None count) = 0
+parting_status (parting.Longer count) = 1
+parting_status (parting.After run world beside) = 1
+
+-- the text tells of the runs that two traces have after which of them the worlds differ first, where the runs of both begin with the state with which the
+-- first run of the file begins, and the first step in which their lists differ; and the status is that of it
+pub record IsDivergeText (l : Loaded) (trace other : Option (List ℕ)) (status : ℕ) (text : List ℕ) : Type 0 where
+  pub runs : List Recorded
+  pub others : List Recorded
+  pub read : IfSome trace (λ bytes. bytes ≡ trace_text runs)
+  pub read_other : IfSome other (λ bytes. bytes ≡ trace_text others)
+  pub parting : Parting
+  pub parts : IsParting l.built (meanings_of l) 0 (first_of l) (first_of l) runs others parting
+  pub place : Option Place
+  pub differs : IsDifferenceOf runs others place
+  pub counted : status ≡ parting_status parting
+  pub told : IsPartingText parting place (length runs) (length others) text
 
 -- ---- recorded runs
 

@@ -1,21 +1,36 @@
 -- What a command leaves with the output and the standard error, each by what it held before and what it holds then.
-use Rattle.std.specs.Prelude.{ℕ, ◌≤◌, ◌⊎◌, List, Option}
+use Rattle.std.specs.Prelude.{ℕ, ◌≡◌, ◌⊎◌, List, Option, string_bytes}
 use Rattle.program.specs.declared.fault.Fault.{Fault}
 use Rattle.program.specs.declared.fault.Fault.TheVariants.{Write}
 use Rattle.program.specs.Served.{HasGained, HasGainedFront, IsKept, Tells}
+use Rattle.ecsview.specs.Answer.{IsAnswerOn}
+use Rattle.ecsview.specs.Refusals.{IsRefusalOn}
+use Rattle.ecsview.specs.declared.args.Work.{Work}
+use Rattle.ecsview.specs.declared.viewing.Shown.{Shown}
 
--- a text was printed whole, and nothing is told
-abbrev pub IsPrinted : ℕ → (Option (List ℕ) × Option (List ℕ)) → (Option (List ℕ) × Option (List ℕ)) → Type 0
-IsPrinted status out faults = (status ≤ 1) × ((text : List ℕ) × HasGained out text) × IsKept faults
+-- the text that the work answers was printed whole, the status is its status, and nothing is told
+pub record IsPrinted (opener rules : List ℕ) (work : Work) (file trace other : Option (List ℕ)) (status : ℕ) (out faults : Option (List ℕ) × Option (List ℕ)) : Type 0 where
+  pub shown : Shown
+  pub is : IsAnswerOn opener rules work file trace other shown
+  pub ends : status ≡ shown.status
+  pub written : HasGained out (string_bytes shown.text)
+  pub untold : IsKept faults
 
--- the output failed, which is told, and gained a beginning of a text
-abbrev pub IsCutOff : ℕ → (Option (List ℕ) × Option (List ℕ)) → (Option (List ℕ) × Option (List ℕ)) → Type 0
-IsCutOff status out faults = ((text : List ℕ) × HasGainedFront out text) × Tells Write status faults
+-- the output failed, which is told, and gained a beginning of the text
+pub record IsCutOff (opener rules : List ℕ) (work : Work) (file trace other : Option (List ℕ)) (status : ℕ) (out faults : Option (List ℕ) × Option (List ℕ)) : Type 0 where
+  pub shown : Shown
+  pub is : IsAnswerOn opener rules work file trace other shown
+  pub written : HasGainedFront out (string_bytes shown.text)
+  pub told : Tells Write status faults
 
--- a fault is told, and nothing is printed
-abbrev pub IsRefused : ℕ → (Option (List ℕ) × Option (List ℕ)) → (Option (List ℕ) × Option (List ℕ)) → Type 0
-IsRefused status out faults = IsKept out × ((fault : Fault) × Tells fault status faults)
+-- the work is refused with a fault, for its reason, which is told, and nothing is printed
+pub record IsRefused (work : Work) (file trace other : Option (List ℕ)) (status : ℕ) (out faults : Option (List ℕ) × Option (List ℕ)) : Type 0 where
+  pub fault : Fault
+  pub reason : IsRefusalOn work file trace other fault
+  pub told : Tells fault status faults
+  pub kept : IsKept out
 
 -- one of these
-abbrev pub IsViewed : ℕ → (Option (List ℕ) × Option (List ℕ)) → (Option (List ℕ) × Option (List ℕ)) → Type 0
-IsViewed status out faults = IsPrinted status out faults ⊎ IsCutOff status out faults ⊎ IsRefused status out faults
+abbrev pub IsViewed : List ℕ → List ℕ → Work → Option (List ℕ) → Option (List ℕ) → Option (List ℕ) → ℕ → (Option (List ℕ) × Option (List ℕ)) → (Option (List ℕ) × Option (List ℕ)) → Type 0
+IsViewed opener rules work file trace other status out faults =
+    IsPrinted opener rules work file trace other status out faults ⊎ IsCutOff opener rules work file trace other status out faults ⊎ IsRefused work file trace other status out faults

@@ -1,7 +1,10 @@
 // The drawings of a schedule, and of the runs of a trace.
 
-ghost use Rattle.std.specs.Prelude.{◌≡◌, ◌++◌, IfOk, OnOk, string_bytes};
-ghost use Rattle.ecsview.specs.Drawings.{IsLanesText, IsScheduleText, height_from, lanes_from, lanes_width, longest_from};
+ghost use Rattle.std.specs.Prelude.{◌≡◌, ◌++◌, ◌⊎◌, IfErr, IfOk, OnOk, string_bytes};
+ghost use Rattle.std.specs.List.{AllByRecursion};
+ghost use Rattle.ecsview.specs.Drawings.{IsLanesText, IsLawfulRun, IsScheduleText, height_from, lanes_from, lanes_width, longest_from};
+ghost use Rattle.ecsview.specs.Refusals.{IsBadAmong, IsBadRun, IsUndrawn};
+ghost use Rattle.program.specs.Refused.{IsTraceUnread};
 
 use ambiguity_report::report::report;
 use drawing::Shape;
@@ -20,7 +23,8 @@ use trace_checker::check::check;
 
 /// The drawing of a schedule, as SVG.
 pub fn schedule_text(alloc: Global, loaded: &Loaded<'_>) -> Result<String, Fault>
-    ensures { IfOk result (λ text. IsScheduleText OPENER.now RULES.now loaded.now (string_bytes text)) }
+    ensures text { IfOk result (λ text. IsScheduleText OPENER.now RULES.now loaded.now (string_bytes text)) }
+    ensures memory { IfErr result (λ fault. fault ≡ Fault.Memory) }
 {
     let pairs = report(alloc, &loaded.file.built)?;
     let members = loaded.sets.members.as_slice();
@@ -41,7 +45,8 @@ pub fn lanes_text<T: Read>(
     loaded: &Loaded<'_>,
     trace: &mut T,
 ) -> Result<String, Fault>
-    ensures { IfOk result (λ text. IsLanesText OPENER.now RULES.now loaded.now (T.remaining trace.old) (string_bytes text)) }
+    ensures text { IfOk result (λ text. IsLanesText OPENER.now RULES.now loaded.now (T.remaining trace.old) (string_bytes text)) }
+    ensures refused { IfErr result (λ fault. IsTraceUnread (T.remaining trace.old) fault ⊎ IsUndrawn loaded.now.file.built (T.remaining trace.old) fault) }
 {
     let traces = traces_of(alloc, trace)?;
     check_steps(alloc, &loaded.file.built, traces.as_slice())?;
@@ -53,15 +58,28 @@ pub fn lanes_text<T: Read>(
 }
 
 // Refuses the first run of which a step may not come.
-fn check_steps(alloc: Global, built: &Built, traces: &[Trace]) -> Result<(), Fault> {
+fn check_steps(alloc: Global, built: &Built, traces: &[Trace]) -> Result<(), Fault>
+    ensures lawful { OnOk result (AllByRecursion (IsLawfulRun built.now) traces.now) }
+    ensures refused { IfErr result (IsBadAmong built.now traces.now) }
+{
     let mut run = 0usize;
     for trace in traces {
-        run = run.saturating_add(1);
-        if let Verdict::Bad(step, fault) = check(alloc, built, trace)? {
-            return Err(Fault::BadStep { run, step, fault });
-        }
+        run += 1;
+        check_run(alloc, built, trace, run)?;
     }
     Ok(())
+}
+
+// Refuses the run of this number where a step of it may not come.
+fn check_run(alloc: Global, built: &Built, trace: &Trace, run: usize) -> Result<(), Fault>
+    ensures lawful { OnOk result (IsLawfulRun built.now trace.now) }
+    ensures refused { IfErr result (IsBadRun built.now trace.now run) }
+{
+    match check(alloc, built, trace)? {
+        Verdict::Bad(step, fault) => Err(Fault::BadStep { run, step, fault }),
+        Verdict::Complete => Ok(()),
+        Verdict::Unfinished => Ok(()),
+    }
 }
 
 // How wide the drawing of runs is.

@@ -1,10 +1,14 @@
 // What is found, as text: witnesses of races, where two traces part, and the worlds of a run.
 
-ghost use Rattle.std.specs.Prelude.{◌≡◌, ◌<◌, ◌≤◌, ◌^◌, ◌++◌, ℕ, List, length, map, IfOk, OnOk, string_bytes};
-ghost use Rattle.ecsview.specs.Found.{AreRaces, IsFindingText, IsRacesText, IsStepsText, races_line};
+ghost use Rattle.std.specs.Prelude.{◌≡◌, ◌<◌, ◌^◌, ◌++◌, ◌⊎◌, ℕ, List, length, map, IfErr, IfOk, OnOk, string_bytes};
+ghost use Rattle.ecsview.specs.Found.{AreRaces, IsDivergeText, IsFindingText, IsRacesText, IsStepsText, first_of, meanings_of, parting_status, races_line};
+ghost use Rattle.ecsview.specs.Refusals.{IsUncompared, IsUnshown};
 ghost use Rattle.engine.specs.Meanings.{HasMemories};
+ghost use Rattle.findings.specs.Parting.{IsParting};
+ghost use Rattle.findings.specs.Refusals.{IsUnparted, IsUnwitnessed};
 ghost use Rattle.model.specs.state.Loaded.{loaded as loaded_state};
 ghost use Rattle.program.specs.Load.{entity_given};
+ghost use Rattle.program.specs.Refused.{IsTraceUnread, IsUngiven};
 ghost use Rattle.program.specs.Setup.{AreScriptsOf, meanings_of_scripts};
 
 use ambiguity_report::Pair;
@@ -26,7 +30,8 @@ use std::io::Read;
 
 /// A witness for each pair that races.
 pub fn races_text(alloc: Global, loaded: Loaded<'_>) -> Result<String, Fault>
-    ensures { IfOk result (λ text. IsRacesText loaded.entry (string_bytes text)) }
+    ensures text { IfOk result (λ text. IsRacesText loaded.entry (string_bytes text)) }
+    ensures refused { IfErr result (λ fault. IsUngiven (length loaded.entry.entities.items) fault ⊎ IsUnwitnessed loaded.entry.built (meanings_of loaded.entry) (first_of loaded.entry) fault) }
 {
     let Loaded {
         built,
@@ -53,7 +58,8 @@ fn witnesses_of(
     pairs: &[Pair],
 ) -> Result<String, Fault>
     requires { HasMemories built.now first.now }
-    ensures { IfOk result (λ text. AreRaces built.now (meanings_of_scripts built.now bodies.old) first.now (map (λ name. name.now) names.now) pairs.now (races_line (length pairs.now)) (string_bytes text)) }
+    ensures refused { IfErr result (IsUnwitnessed built.now (meanings_of_scripts built.now bodies.old) first.now) }
+    ensures races { IfOk result (λ text. AreRaces built.now (meanings_of_scripts built.now bodies.old) first.now (map (λ name. name.now) names.now) pairs.now (races_line (length pairs.now)) (string_bytes text)) }
 {
     let mut text = String::new(alloc);
     let count = pairs.len();
@@ -93,16 +99,25 @@ pub fn diverge_text<F: Read>(
     other: &mut F,
 ) -> Result<(String, u8), Fault>
     requires { AreScriptsOf loaded.built loaded.bodies.items }
-    ensures { IfOk result (λ shown. shown.1 ≤ 1) }
+    ensures text { IfOk result (λ shown. IsDivergeText loaded.entry (F.remaining trace.old) (F.remaining other.old) shown.1 (string_bytes shown.0)) }
+    ensures refused { IfErr result (λ fault. IsTraceUnread (F.remaining trace.old) fault ⊎ (IsTraceUnread (F.remaining other.old) fault ⊎ (IsUngiven (length loaded.entry.entities.items) fault ⊎ IsUncompared loaded.entry (F.remaining trace.old) (F.remaining other.old) fault))) }
 {
     let one = traces_of(alloc, trace)?;
     let two = traces_of(alloc, other)?;
-    let parting = parting_in(alloc, loaded, one.as_slice(), two.as_slice())?;
-    let place = first_difference(one.as_slice(), two.as_slice());
-    let text = text_of_parting(alloc, &parting, place, (one.len(), two.len()))?;
+    let (runs, others) = (one.as_slice(), two.as_slice());
+    let parting = parting_in(alloc, loaded, runs, others)?;
+    let place = first_difference(runs, others);
+    let text = text_of_parting(alloc, &parting, place, (runs.len(), others.len()))?;
+    Ok((text, status_of(&parting)))
+}
+
+// The exit status: 0 where the worlds agree after each run, and both traces have as many.
+fn status_of(parting: &Parting) -> u8
+    ensures { result ≡ parting_status parting.now }
+{
     match parting {
-        Parting::None(_) => Ok((text, 0)),
-        _ => Ok((text, 1)),
+        Parting::None(_) => 0,
+        Parting::Longer(_) | Parting::After(..) => 1,
     }
 }
 
@@ -115,6 +130,8 @@ fn parting_in(
 ) -> Result<Parting, Fault>
     requires fitting { AreScriptsOf loaded.built loaded.bodies.items }
     requires few { length one.now < 2 ^ 32 }
+    ensures parting { IfOk result (IsParting loaded.entry.built (meanings_of loaded.entry) 0 (first_of loaded.entry) (first_of loaded.entry) one.now two.now) }
+    ensures refused { IfErr result (λ fault. IsUngiven (length loaded.entry.entities.items) fault ⊎ IsUnparted loaded.entry.built (meanings_of loaded.entry) (first_of loaded.entry) (first_of loaded.entry) one.now two.now fault) }
 {
     let Loaded {
         built,
@@ -125,15 +142,9 @@ fn parting_in(
     } = loaded;
     let first = begun(alloc, &built, entities.as_slice(), &resources)?;
     let second = begun(alloc, &built, entities.as_slice(), &resources)?;
-    parting_of(
-        alloc,
-        &built,
-        bodies.as_mut_slice(),
-        first,
-        second,
-        one,
-        two,
-    )
+    let bodies = bodies.as_mut_slice();
+    let parting = parting_of(alloc, &built, bodies, first, second, one, two)?;
+    Ok(parting)
 }
 
 /// The worlds after the sync points of the run of a trace that is asked for, counted from 1, or of all.
@@ -144,7 +155,8 @@ pub fn steps_text<T: Read>(
     asked: Option<u32>,
 ) -> Result<String, Fault>
     requires { AreScriptsOf loaded.built loaded.bodies.items }
-    ensures { IfOk result (λ text. IsStepsText loaded.entry (T.remaining trace.old) asked (string_bytes text)) }
+    ensures text { IfOk result (λ text. IsStepsText loaded.entry (T.remaining trace.old) asked (string_bytes text)) }
+    ensures refused { IfErr result (λ fault. IsTraceUnread (T.remaining trace.old) fault ⊎ (IsUngiven (length loaded.entry.entities.items) fault ⊎ IsUnshown loaded.entry (T.remaining trace.old) fault)) }
 {
     let traces = traces_of(alloc, trace)?;
     let Loaded {
@@ -168,6 +180,7 @@ fn begun(
     resources: &[i64; 8],
 ) -> Result<State, Fault>
     ensures memories { IfOk result (HasMemories built.now) }
+    ensures refused { IfErr result (IsUngiven (length entities.now)) }
     ensures first { IfOk result (λ state. state ≡ loaded_state built.now (map entity_given entities.now) resources.now) }
 {
     let state = opening(alloc, built, entities, resources)?;

@@ -1,12 +1,15 @@
 // The work of a command line, on readers and writers.
 
-ghost use Rattle.std.specs.Prelude.{◌≡◌, ◌≤◌, IfOk};
+ghost use Rattle.std.specs.Prelude.{IfErr, IfOk};
+ghost use Rattle.ecsview.specs.Answer.{IsAnswer, IsAnswerOn};
+ghost use Rattle.ecsview.specs.Refusals.{IsRefusal, IsRefusalOn};
 ghost use Rattle.ecsview.specs.Viewed.{IsViewed};
 ghost use Rattle.program.specs.Setup.{AreScriptsOf};
 
 use crate::args::{Args, Work};
 use crate::drawings::{lanes_text, schedule_text};
 use crate::found::{diverge_text, races_text, steps_text};
+use drawing::svg::{OPENER, RULES};
 use findings::Loaded;
 use findings::loading::load;
 use program::Fault;
@@ -24,8 +27,8 @@ pub struct Shown {
     pub status: u8,
 }
 
-/// Does the work of a command line. What it prints goes to `out`, whole; what goes wrong is reported to `faults` in one line, and nothing else is. Gives
-/// the exit status: 0 or 1 where all is printed, else that of the fault.
+/// Does the work of a command line on a program file and the traces that it names. The text of its answer goes to `out`, whole; what goes wrong is reported
+/// to `faults` in one line, and nothing else is. Gives the exit status: 0 or 1 where all is printed, else that of the fault.
 pub fn view<F: Read, O: Write, E: Write>(
     alloc: Global,
     args: &Args<'_>,
@@ -35,7 +38,7 @@ pub fn view<F: Read, O: Write, E: Write>(
     out: &mut O,
     faults: &mut E,
 ) -> u8
-    ensures { IsViewed result (O.contents out.old, O.contents out.new) (E.contents faults.old, E.contents faults.new) }
+    ensures { IsViewed OPENER.now RULES.now args.now.work (F.remaining file.old) (F.remaining trace.old) (F.remaining other.old) result (O.contents out.old, O.contents out.new) (E.contents faults.old, E.contents faults.new) }
 {
     let view = match view_of(alloc, args.work, file, trace, other) {
         Ok(view) => view,
@@ -55,11 +58,13 @@ fn view_of<F: Read>(
     trace: &mut F,
     other: &mut F,
 ) -> Result<Shown, Fault>
-    ensures { IfOk result (λ shown. shown.status ≤ 1) }
+    ensures answered { IfOk result (IsAnswerOn OPENER.now RULES.now work (F.remaining file.old) (F.remaining trace.old) (F.remaining other.old)) }
+    ensures refused { IfErr result (IsRefusalOn work (F.remaining file.old) (F.remaining trace.old) (F.remaining other.old)) }
 {
     let document = document_in(alloc, file)?;
     let loaded = load(alloc, &document)?;
-    answer(alloc, work, loaded, trace, other)
+    let shown = answer(alloc, work, loaded, trace, other)?;
+    Ok(shown)
 }
 
 // The same on what a file declares.
@@ -71,23 +76,29 @@ fn answer<F: Read>(
     other: &mut F,
 ) -> Result<Shown, Fault>
     requires { AreScriptsOf loaded.file.built loaded.file.bodies.items }
-    ensures { IfOk result (λ shown. shown.status ≤ 1) }
+    ensures answered { IfOk result (IsAnswer OPENER.now RULES.now work loaded.entry (F.remaining trace.old) (F.remaining other.old)) }
+    ensures refused { IfErr result (IsRefusal work loaded.entry (F.remaining trace.old) (F.remaining other.old)) }
 {
     match work {
-        Work::Schedule => Ok(done(schedule_text(alloc, &loaded)?)),
-        Work::Lanes => Ok(done(lanes_text(alloc, &loaded, trace)?)),
-        Work::Races => Ok(done(races_text(alloc, loaded.file)?)),
+        Work::Schedule => {
+            let text = schedule_text(alloc, &loaded)?;
+            Ok(Shown { text, status: 0 })
+        }
+        Work::Lanes => {
+            let text = lanes_text(alloc, &loaded, trace)?;
+            Ok(Shown { text, status: 0 })
+        }
+        Work::Races => {
+            let text = races_text(alloc, loaded.file)?;
+            Ok(Shown { text, status: 0 })
+        }
         Work::Diverge => {
             let (text, status) = diverge_text(alloc, loaded.file, trace, other)?;
             Ok(Shown { text, status })
         }
-        Work::Steps(run) => Ok(done(steps_text(alloc, loaded.file, trace, run)?)),
+        Work::Steps(run) => {
+            let text = steps_text(alloc, loaded.file, trace, run)?;
+            Ok(Shown { text, status: 0 })
+        }
     }
-}
-
-// A text that is printed, with status 0.
-fn done(text: String) -> Shown
-    ensures { result.status ≡ 0 }
-{
-    Shown { text, status: 0 }
 }

@@ -1,12 +1,13 @@
--- Where two lists of lines differ first.
+-- Where two lists differ first, and two texts.
 use Rattle.std.proofs.Common.{◌≡◌, ℕ, zero, suc, ◌+◌, ◌<◌, List, [], ◌∷◌, ◌++◌, length, take, refl, ap, ap₂, ◌∙◌, sym, subst, inl, inr, arith}
 use Rattle.std.specs.Prelude.{◌≢◌, ◌⊎◌}
 use Rattle.std.specs.List.{slice_get}
 use Rattle.std.specs.Str.Lines.{lines}
-use Rattle.findings.specs.Texts.{IsDifference, IsFirstApart, apart_text}
+use Rattle.findings.specs.Apart.{IsFirstApart}
+use Rattle.findings.specs.Texts.{IsDifference, apart_text}
 
--- one line more that is the same
-more_same : (xs ys : List (List ℕ)) (i : ℕ) → i < length xs → slice_get xs i ≡ slice_get ys i → take i xs ≡ take i ys → take (suc i) xs ≡ take (suc i) ys
+-- one more that is the same
+more_same : {A : Type 0} (xs ys : List A) (i : ℕ) → i < length xs → slice_get xs i ≡ slice_get ys i → take i xs ≡ take i ys → take (suc i) xs ≡ take (suc i) ys
 more_same [] ys i low same before = absurd (omega arith)
 more_same (x ∷ xs) [] zero low same before = cc
 more_same (x ∷ xs) [] (suc i) low same before = cc
@@ -16,13 +17,13 @@ more_same (x ∷ xs) (y ∷ ys) (suc i) low same before =
     let rest : take i xs ≡ take i ys = cc in
     ap₂ (λ z zs. z ∷ zs) e (more_same xs ys i (omega arith) same rest)
 
-pub same_next : (xs ys : List (List ℕ)) (i : ℕ) → i < length xs → slice_get xs i ≡ slice_get ys i → take i xs ≡ take i ys → take (i + 1) xs ≡ take (i + 1) ys
+pub same_next : {A : Type 0} (xs ys : List A) (i : ℕ) → i < length xs → slice_get xs i ≡ slice_get ys i → take i xs ≡ take i ys → take (i + 1) xs ≡ take (i + 1) ys
 same_next xs ys i low same before =
     let e : i + 1 ≡ suc i = omega arith in
     ap (λ k. take k xs) e ∙ (more_same xs ys i low same before ∙ ap (λ k. take k ys) (sym e))
 
--- all lines of the first are the same: the other has more, or both are the same
-pub same_all : (xs ys : List (List ℕ)) → take (length xs) xs ≡ take (length xs) ys → (slice_get xs (length xs) ≢ slice_get ys (length xs)) ⊎ ((length xs ≡ length xs) × (xs ≡ ys))
+-- all of the first is the same: the other has more, or both are the same
+pub same_all : {A : Type 0} (xs ys : List A) → take (length xs) xs ≡ take (length xs) ys → (slice_get xs (length xs) ≢ slice_get ys (length xs)) ⊎ ((length xs ≡ length xs) × (xs ≡ ys))
 same_all [] [] before = inr (refl, refl)
 same_all [] (y ∷ ys) before = inl (λ e. cc)
 same_all (x ∷ xs) [] before = cc

@@ -6,7 +6,7 @@ use Rattle.model.specs.state.State.{State}
 use Rattle.model.specs.steps.Schedule.{Schedule, params_of}
 use Rattle.script.specs.declared.script_body.ScriptBody.{ScriptBody}
 use Rattle.script.specs.Faults.{fits}
-use Rattle.engine.specs.Meanings.{body_at, body_fits, AreFit, HasMemories, Suits}
+use Rattle.engine.specs.Meanings.{body_at, body_fits, HasMemories, Suits}
 use Rattle.program.specs.Setup.{AreScriptsOf, script_fits, script_suits}
 
 at-place : (params : Params) (scripts : List ScriptBody) (n : ℕ) → body_fits (λ script p. fits p script) (body_at (map Some scripts) n) params ≡ script_fits (slice_get scripts n) params

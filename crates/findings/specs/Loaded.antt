@@ -1,6 +1,5 @@
 -- What a program file declares, where it is accepted.
 use Rattle.std.specs.Prelude.{ℕ, ◌≡◌, List, map, Option}
-use Rattle.model.specs.steps.Schedule.{Schedule}
 use Rattle.program.specs.Accepted.{Accepted}
 use Rattle.program.specs.Said.{declared_by, scripts_by}
 use Rattle.program.specs.Setup.{declared_names}

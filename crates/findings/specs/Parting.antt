@@ -1,5 +1,7 @@
--- Where two traces part: the first run after which the texts of their worlds differ.
-use Rattle.std.specs.Prelude.{ℕ, ◌+◌, ◌≡◌, ◌≢◌, ◌⊎◌, List, [], ◌∷◌, string_bytes}
+-- Where two traces part: the first run after which the texts of their worlds differ, and the first step in which their lists do.
+use Rattle.std.specs.Prelude.{ℕ, ◌+◌, ◌≡◌, ◌≢◌, ◌<◌, ◌⊎◌, List, [], ◌∷◌, reverse, take, Option, Some, None, string_bytes}
+use Rattle.std.specs.List.{slice_get}
+use Rattle.model.specs.declared.steps.Step.{Step}
 use Rattle.model.specs.runs.Replays.{IsReplayed}
 use Rattle.model.specs.shown.Outcome.{BodyMeaning}
 use Rattle.model.specs.state.State.{State}
@@ -7,6 +9,9 @@ use Rattle.model.specs.steps.Schedule.{Schedule, Recorded, recording}
 use Rattle.printing.specs.WorldText.{world_text}
 use Rattle.findings.specs.declared.diverging.Parting.{Parting}
 use Rattle.findings.specs.declared.diverging.Parting.TheVariants as parting
+use Rattle.findings.specs.declared.diverging.Place.{Place}
+
+-- ---- worlds
 
 -- the worlds of two states behind so many runs have texts that differ, and those are told
 abbrev pub IsPartingAt : ℕ → State → State → Parting → Type 0
@@ -26,3 +31,32 @@ IsParting s bodies count start beginning (r ∷ runs) (q ∷ others) p =
     (left : State) × (beside : State)
     × IsReplayed (recording s r.sets) bodies start r.steps left × IsReplayed (recording s q.sets) bodies beginning q.steps beside
     × (IsPartingAt (count + 1) left beside p ⊎ ((world_text (count + 1) left ≡ world_text (count + 1) beside) × IsParting s bodies (count + 1) left beside runs others p))
+
+-- ---- steps
+
+-- the steps of a run, in the order in which they came; none where there is no such run
+abbrev pub steps_in : Option Recorded → List Step
+steps_in None = []
+steps_in (Some run) = reverse run.steps
+
+-- those of the run at a place
+abbrev pub recorded_steps : List Recorded → ℕ → List Step
+recorded_steps runs n = steps_in (slice_get runs n)
+
+-- it is where the steps of two traces differ first: those of each run before its run are the same in both, and so are those before it in its run; there each
+-- has another step, or one of them has none. Runs and steps are counted from 1
+pub record IsFirstDifference (ones others : List Recorded) (place : Place) : Type 0 where
+  pub run : ℕ
+  pub step : ℕ
+  pub run_counted : place.run ≡ run + 1
+  pub step_counted : place.step ≡ step + 1
+  pub runs_before : (n : ℕ) → n < run → recorded_steps ones n ≡ recorded_steps others n
+  pub before : take step (recorded_steps ones run) ≡ take step (recorded_steps others run)
+  pub one : place.one ≡ slice_get (recorded_steps ones run) step
+  pub other : place.other ≡ slice_get (recorded_steps others run) step
+  pub apart : place.one ≢ place.other
+
+-- where the steps of two traces differ first; none where all runs have the same
+abbrev pub IsDifferenceOf : List Recorded → List Recorded → Option Place → Type 0
+IsDifferenceOf ones others None = (n : ℕ) → recorded_steps ones n ≡ recorded_steps others n
+IsDifferenceOf ones others (Some place) = IsFirstDifference ones others place

@@ -1,6 +1,6 @@
 -- The texts of what is found: pairs that race with their witnesses, and where two traces part.
-use Rattle.std.specs.Prelude.{ℕ, ◌+◌, ◌≡◌, ◌≢◌, ◌≤◌, ◌<◌, ◌^◌, ◌==◌, ◌↔◌, ◌⊎◌, Bool, false, cond, List, [], ◌∷◌, ◌++◌, codes, decimal, flat_map, get_or, length, take, Option, Some, None, string_bytes}
-use Rattle.std.specs.List.{AllByRecursion, before_first, position_or_len, slice_get}
+use Rattle.std.specs.Prelude.{ℕ, ◌+◌, ◌≡◌, ◌≢◌, ◌<◌, ◌^◌, ◌==◌, ◌↔◌, ◌⊎◌, Bool, false, cond, List, [], ◌∷◌, ◌++◌, codes, decimal, flat_map, get_or, length, Option, Some, None, string_bytes}
+use Rattle.std.specs.List.{AllByRecursion, before_first, position_or_len}
 use Rattle.std.specs.Option.{option_to_list}
 use Rattle.std.specs.Str.{bytes_eq}
 use Rattle.std.specs.Str.Lines.{lines}
@@ -9,6 +9,7 @@ use Rattle.ambiguity_report.specs.declared.report.Pair.{Pair}
 use Rattle.model.specs.declared.steps.Step.{Step}
 use Rattle.printing.specs.ReportText.{pair_line, racer_text}
 use Rattle.trace_checker.specs.Grammar.{lines_text, run_lines, step_text}
+use Rattle.findings.specs.Apart.{IsFirstApart}
 use Rattle.findings.specs.declared.diverging.Parting.{Parting}
 use Rattle.findings.specs.declared.diverging.Parting.TheVariants as parting
 use Rattle.findings.specs.declared.diverging.Place.{Place}
@@ -16,13 +17,6 @@ use Rattle.findings.specs.declared.witness.RunOutcome.{RunOutcome}
 use Rattle.findings.specs.declared.witness.Witness.{Witness}
 
 -- ---- the first line in which two texts differ
-
--- the first place at which two lists of lines differ: all lines before it are the same, and the line there is not, or stands in one of the lists only; or all
--- lines are the same, and it is behind them
-pub record IsFirstApart (ones others : List (List ℕ)) (place : ℕ) : Type 0 where
-  pub within : place ≤ length ones
-  pub before : take place ones ≡ take place others
-  pub apart : (slice_get ones place ≢ slice_get others place) ⊎ ((place ≡ length ones) × (ones ≡ others))
 
 -- the line at a place, an empty one where there is none
 abbrev pub line_at : List (List ℕ) → ℕ → List ℕ

@@ -1,11 +1,14 @@
-// Where two traces of one file part: the first run after which the worlds that they leave differ.
+// Where two traces of one file part: the first run after which the worlds that they leave differ, and the first step in which their lists do.
 
-ghost use Rattle.std.specs.Prelude.{◌≡◌, ◌≢◌, ◌<◌, ◌≤◌, ◌^◌, true, false, length, map, Some, IfOk, IfSome, string_bytes};
+ghost use Rattle.std.specs.Prelude.{◌≡◌, ◌≢◌, ◌<◌, ◌^◌, ◌⊎◌, true, false, length, map, slice_get, Some, IfErr, IfOk, string_bytes};
 ghost use Rattle.engine.specs.Meanings.{HasMemories, Suits};
-ghost use Rattle.findings.specs.Parting.{IsParting};
+ghost use Rattle.findings.specs.Apart.{IsFirstApart};
+ghost use Rattle.findings.specs.Parting.{IsDifferenceOf, IsParting, recorded_steps};
+ghost use Rattle.findings.specs.Refusals.{IsUnparted};
 ghost use Rattle.model.specs.runs.Replays.{IsReplayed};
 ghost use Rattle.model.specs.steps.Schedule.{recording};
 ghost use Rattle.printing.specs.WorldText.{world_text};
+ghost use Rattle.program.specs.Replayed.{IsRefusedRun};
 ghost use Rattle.program.specs.Setup.{AreScriptsOf, meanings_of_scripts, script_suits};
 
 use body::State;
@@ -56,7 +59,8 @@ pub fn parting_of(
     requires beside { HasMemories built.now second }
     requires fitting { AreScriptsOf built.now bodies.old }
     requires few { length one.now < 2 ^ 32 }
-    ensures { IfOk result (IsParting built.now (meanings_of_scripts built.now bodies.old) 0 first second one.now other.now) }
+    ensures parting { IfOk result (IsParting built.now (meanings_of_scripts built.now bodies.old) 0 first second one.now other.now) }
+    ensures refused { IfErr result (IsUnparted built.now (meanings_of_scripts built.now bodies.old) first second one.now other.now) }
 {
     let mut states = (first, second);
     let mut number = 0u32;
@@ -107,6 +111,7 @@ fn taken_both(
 ) -> Result<(State, State), Fault>
     requires suits { Suits script_suits built.now (map Some bodies.old) states.0 }
     requires beside { HasMemories built.now states.1 }
+    ensures refused { IfErr result (λ fault. IsRefusedRun built.now (meanings_of_scripts built.now bodies.old) states.0 trace.now number fault ⊎ IsRefusedRun built.now (meanings_of_scripts built.now bodies.old) states.1 counterpart.now number fault) }
     ensures one { IfOk result (λ left. IsReplayed (recording built.now trace.now.sets) (meanings_of_scripts built.now bodies.old) states.0 trace.now.steps left.0) }
     ensures other { IfOk result (λ left. IsReplayed (recording built.now counterpart.now.sets) (meanings_of_scripts built.now bodies.old) states.1 counterpart.now.steps left.1) }
     ensures suits { IfOk result (λ left. Suits script_suits built.now (map Some bodies.new) left.0) }
@@ -121,25 +126,28 @@ fn taken_both(
 
 // The text of a state after so many runs.
 fn text_of(alloc: Global, runs: u32, state: &State) -> Result<String, Fault>
-    ensures { IfOk result (λ text. string_bytes text ≡ world_text runs state.now) }
+    ensures text { IfOk result (λ text. string_bytes text ≡ world_text runs state.now) }
+    ensures memory { IfErr result (λ fault. fault ≡ Fault.Memory) }
 {
     Ok(text_of_world(alloc, runs, state.world(), state.passed_over())?)
 }
 
-/// The first step in which two traces differ.
+/// The first step in which two traces differ: each run before its run has the same steps in both, as those before it in its run are. None where all runs
+/// have the same steps; a run that one trace alone has then has none.
 pub fn first_difference(one: &[Trace], other: &[Trace]) -> Option<Place>
-    ensures { IfSome result (λ place. (1 ≤ place.run) × (1 ≤ place.step)) }
+    ensures { IsDifferenceOf one.now other.now result }
 {
-    let runs = one.len().max(other.len());
-    for run in 0..runs {
+    for run in 0..one.len().max(other.len()) {
         let steps = steps_at(one, run);
         let beside = steps_at(other, run);
-        if let Some(step) = first_step(steps, beside) {
+        let step = first_step(steps, beside);
+        let (first, second) = (step_at(steps, step), step_at(beside, step));
+        if !is_same_step(first, second) {
             return Some(Place {
                 run: run.saturating_add(1),
                 step: step.saturating_add(1),
-                one: steps.get(step).copied(),
-                other: beside.get(step).copied(),
+                one: first,
+                other: second,
             });
         }
     }
@@ -147,23 +155,42 @@ pub fn first_difference(one: &[Trace], other: &[Trace]) -> Option<Place>
 }
 
 // The steps of a run, none where there is no such run.
-fn steps_at(traces: &[Trace], run: usize) -> &[Step] {
+fn steps_at(traces: &[Trace], run: usize) -> &[Step]
+    ensures { result.now ≡ recorded_steps traces.now run }
+{
     match traces.get(run) {
         Some(trace) => trace.steps(),
         None => &[],
     }
 }
 
-// The first place at which two lists of steps differ.
-fn first_step(one: &[Step], other: &[Step]) -> Option<usize> {
-    for (place, step) in one.iter().enumerate() {
-        match other.get(place) {
-            Some(beside) if beside == step => {}
-            _ => return Some(place),
+// The first place at which two lists of steps differ, or where both end.
+fn first_step(one: &[Step], other: &[Step]) -> usize
+    ensures { IsFirstApart one.now other.now result }
+{
+    for place in 0..one.len() {
+        if !is_same_step(step_at(one, place), step_at(other, place)) {
+            return place;
         }
     }
-    if one.len() < other.len() {
-        return Some(one.len());
+    one.len()
+}
+
+// The step at a place, where there is one.
+fn step_at(steps: &[Step], place: usize) -> Option<Step>
+    ensures { result ≡ slice_get steps.now place }
+{
+    steps.get(place).copied()
+}
+
+// Whether two steps are the same, where there are any.
+fn is_same_step(one: Option<Step>, other: Option<Step>) -> bool
+    ensures same { result ≡ true → one ≡ other }
+    ensures apart { result ≡ false → one ≢ other }
+{
+    match (one, other) {
+        (Some(step), Some(beside)) => step == beside,
+        (None, None) => true,
+        _ => false,
     }
-    None
 }

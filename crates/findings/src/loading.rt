@@ -1,9 +1,11 @@
 // A program file that is accepted: its schedule, its scripts, and the world with which it begins.
 
-ghost use Rattle.std.specs.Prelude.{◌≡◌, ℕ, List, Option, Some, map, IfOk, IfSome};
+ghost use Rattle.std.specs.Prelude.{◌≡◌, ℕ, List, Option, Some, length, map, IfErr, IfOk, IfSome};
 ghost use Rattle.findings.specs.Loaded.{IsLoaded};
+ghost use Rattle.findings.specs.Refusals.{IsUnloaded};
 ghost use Rattle.model.specs.state.Loaded.{loaded as loaded_state};
 ghost use Rattle.program.specs.Load.{entity_given};
+ghost use Rattle.program.specs.Refused.{IsUngiven};
 ghost use Rattle.toml.specs.Parse.{parse_document};
 ghost use Rattle.toml.specs.View.{table_view};
 
@@ -29,7 +31,8 @@ pub struct Loaded<'a> {
 
 /// What a document declares.
 pub fn load<'a>(alloc: Global, document: &'a Table) -> Result<Loaded<'a>, Fault>
-    ensures { IfOk result (λ found. (bytes : Option (List ℕ)) → IfSome bytes (λ text. parse_document text ≡ Some (table_view document.now)) → IsLoaded bytes found) }
+    ensures loaded { IfOk result (λ found. (bytes : Option (List ℕ)) → IfSome bytes (λ text. parse_document text ≡ Some (table_view document.now)) → IsLoaded bytes found) }
+    ensures refused { IfErr result (λ fault. (bytes : Option (List ℕ)) → IfSome bytes (λ text. parse_document text ≡ Some (table_view document.now)) → IsUnloaded bytes fault) }
 {
     let tables = ProgramFile::read(alloc, document)?;
     let sets = sets_of(alloc, tables.sets.as_slice(), tables.systems.as_slice())?;
@@ -44,7 +47,8 @@ pub fn opening(
     entities: &[Vec<Value>],
     resources: &[i64; 8],
 ) -> Result<State, Fault>
-    ensures { IfOk result (λ state. state ≡ loaded_state built.now (map entity_given entities.now) resources.now) }
+    ensures first { IfOk result (λ state. state ≡ loaded_state built.now (map entity_given entities.now) resources.now) }
+    ensures refused { IfErr result (IsUngiven (length entities.now)) }
 {
     let world = world_of(alloc, entities, resources)?;
     Ok(first_state(alloc, built, world)?)

@@ -1,24 +1,24 @@
 // Recorded runs as a story: the world after each of their sync points.
 
-ghost use Rattle.std.specs.Prelude.{◌≡◌, ◌<◌, ◌^◌, length, map, Some, IfOk, OnOk, string_bytes};
+ghost use Rattle.std.specs.Prelude.{◌≡◌, ◌<◌, ◌^◌, ◌+◌, length, map, Some, IfErr, IfOk, OnOk, string_bytes};
 ghost use Rattle.engine.specs.Meanings.{AreFit, HasMemories, Suits};
+ghost use Rattle.findings.specs.Refusals.{IsUntold};
 ghost use Rattle.findings.specs.Stories.{IsStory, count_text, is_asked as is_asked_of, told_text};
 ghost use Rattle.model.specs.runs.Replays.{IsReplayed};
 ghost use Rattle.model.specs.steps.Lawful.{IsLawful};
 ghost use Rattle.model.specs.steps.Schedule.{recording};
+ghost use Rattle.program.specs.Replayed.{IsRefusedRun};
 ghost use Rattle.program.specs.Setup.{AreScriptsOf, meanings_of_scripts, script_suits};
 ghost use Rattle.findings.specs.Worlds.{worlds_text};
 
 use crate::worlds::worlds_of;
 use body::State;
-use engine::RunFault;
 use executor_core::Trace;
 use program::Fault;
 use program::replaying::replay_run;
 use schedule_builder::Built;
 use script::ScriptBody;
 use std::alloc::Global;
-use trace_checker::ReplayFault;
 
 /// The runs of a trace, taken again one after the other: how many there are, and the world after each sync point of the run that is asked for, counted
 /// from 1, or of all. Each world is printed as one behind the runs before it.
@@ -33,7 +33,8 @@ pub fn story_of(
     requires memories { HasMemories built.now first }
     requires fitting { AreScriptsOf built.now bodies.old }
     requires few { length traces.now < 2 ^ 32 }
-    ensures { IfOk result (λ text. IsStory built.now (meanings_of_scripts built.now bodies.old) asked 0 first traces.now (count_text (length traces.now)) (string_bytes text)) }
+    ensures story { IfOk result (λ text. IsStory built.now (meanings_of_scripts built.now bodies.old) asked 0 first traces.now (count_text (length traces.now)) (string_bytes text)) }
+    ensures refused { IfErr result (IsUntold built.now (meanings_of_scripts built.now bodies.old) first traces.now) }
 {
     let mut text = String::new(alloc);
     let count = traces.len();
@@ -81,6 +82,7 @@ fn taken(
 ) -> Result<(State, String), Fault>
     requires { Suits script_suits built.now (map Some bodies.old) state }
     ensures replayed { IfOk result (λ left. IsReplayed (recording built.now trace.now.sets) (meanings_of_scripts built.now bodies.old) state trace.now.steps left.0) }
+    ensures refused { IfErr result (IsRefusedRun built.now (meanings_of_scripts built.now bodies.old) state trace.now (part.before + 1)) }
     ensures told { IfOk result (λ left. string_bytes left.1 ≡ told_text part.is_told built.now (meanings_of_scripts built.now bodies.old) state part.before trace.now.steps) }
     ensures suits { IfOk result (λ left. Suits script_suits built.now (map Some bodies.new) left.0) }
     ensures meanings { meanings_of_scripts built.now bodies.new ≡ meanings_of_scripts built.now bodies.old }
@@ -104,6 +106,7 @@ fn told_run(
 ) -> Result<(State, String), Fault>
     requires { Suits script_suits built.now (map Some bodies.old) state }
     ensures replayed { IfOk result (λ left. IsReplayed (recording built.now trace.now.sets) (meanings_of_scripts built.now bodies.old) state trace.now.steps left.0) }
+    ensures refused { IfErr result (IsRefusedRun built.now (meanings_of_scripts built.now bodies.old) state trace.now (before + 1)) }
     ensures told { IfOk result (λ left. string_bytes left.1 ≡ worlds_text built.now (meanings_of_scripts built.now bodies.old) state before trace.now.steps) }
     ensures suits { IfOk result (λ left. Suits script_suits built.now (map Some bodies.new) left.0) }
     ensures meanings { meanings_of_scripts built.now bodies.new ≡ meanings_of_scripts built.now bodies.old }
@@ -114,7 +117,7 @@ fn told_run(
     Ok((left, told))
 }
 
-// The worlds of a run that has been taken again, found by taking its steps once more: now only memory can fail.
+// The worlds of a run that has been taken again, found by taking its steps once more from the state from which it was taken: what stops it now is memory.
 fn told_of(
     alloc: Global,
     built: &Built,
@@ -126,21 +129,12 @@ fn told_of(
     requires suits { Suits script_suits built.now (map Some bodies.old) start }
     requires lawful { IsLawful (recording built.now trace.now.sets) trace.now.steps }
     ensures told { IfOk result (λ text. string_bytes text ≡ worlds_text built.now (meanings_of_scripts built.now bodies.old) start before trace.now.steps) }
+    ensures memory { IfErr result (λ fault. fault ≡ Fault.Memory) }
     ensures fit { OnOk result (AreFit script_suits built.now (map Some bodies.new)) }
     ensures meanings { meanings_of_scripts built.now bodies.new ≡ meanings_of_scripts built.now bodies.old }
 {
     match worlds_of(alloc, built, bodies, start, trace, before) {
         Ok(text) => Ok(text),
-        Err(fault) => Err(fault_of(fault)),
-    }
-}
-
-// What is reported where a run that has been taken again once stops: memory fails.
-fn fault_of(fault: ReplayFault) -> Fault {
-    match fault {
-        ReplayFault::Run(RunFault::ClockSpent) => Fault::ClockSpent,
-        ReplayFault::Run(RunFault::IdsSpent) => Fault::IdsSpent,
-        ReplayFault::Run(RunFault::BodyFault(_)) => Fault::BodyRefused,
-        _ => Fault::Memory,
+        Err(_) => Err(Fault::Memory),
     }
 }

@@ -2,7 +2,8 @@
 
 ghost use Rattle.std.specs.Prelude.{◌≡◌, ◌≢◌, ◌≤◌, ◌<◌, ◌+◌, ◌||◌, ◌++◌, ℕ, List, true, false, length, map, slice_get, option_map, option_to_list, is_some, IfSome, IfNone, IfOk, OnOk, string_bytes};
 ghost use Rattle.std.specs.Str.Lines.{lines};
-ghost use Rattle.findings.specs.Texts.{AreRows, IsApart, IsApartBy, IsDifference, IsFirstApart, IsOfEntity, IsOfOne, IsPartingText, IsSideOf, IsWitnessText, agreement_line, apart_text, is_same, left_text, line_at, marked_line, orders_text, pair_text, place_line, row_text, step_or_none};
+ghost use Rattle.findings.specs.Apart.{IsFirstApart};
+ghost use Rattle.findings.specs.Texts.{AreRows, IsApart, IsApartBy, IsDifference, IsOfEntity, IsOfOne, IsPartingText, IsSideOf, IsWitnessText, agreement_line, apart_text, is_same, left_text, line_at, marked_line, orders_text, pair_text, place_line, row_text, step_or_none};
 
 use crate::diverging::{Parting, Place};
 use crate::witness::{RunOutcome, Witness};

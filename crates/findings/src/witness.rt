@@ -1,8 +1,10 @@
 // Witnesses: two lists of one run in which two that race come in either order, and the worlds that they leave.
 
-ghost use Rattle.std.specs.Prelude.{◌≡◌, ◌<◌, length, IfOk, IfSome, IsTrue, string_bytes, map, Some};
+ghost use Rattle.std.specs.Prelude.{◌≡◌, ◌<◌, length, IfErr, IfOk, IfSome, IsTrue, string_bytes, map, Some};
 ghost use Rattle.engine.specs.Meanings.{HasMemories, Suits};
+ghost use Rattle.findings.specs.Refusals.{IsUnwitnessed};
 ghost use Rattle.findings.specs.Witness.{IsLeftBy, IsOutcome, IsWitness};
+ghost use Rattle.program.specs.Replayed.{IsRefusedRun};
 ghost use Rattle.program.specs.Setup.{AreScriptsOf, fits_at, meanings_of_scripts, script_suits};
 
 use crate::listing::{Turn, is_in_turn, list_of};
@@ -44,6 +46,7 @@ pub fn witness_of(
     pair: Pair,
 ) -> Result<Option<Witness>, Fault>
     requires { HasMemories built.now first.now }
+    ensures refused { IfErr result (IsUnwitnessed built.now (meanings_of_scripts built.now bodies.old) first.now) }
     ensures witness { IfOk result (λ found. IfSome found (IsWitness built.now (meanings_of_scripts built.now bodies.old) first.now pair)) }
     ensures meanings { meanings_of_scripts built.now bodies.new ≡ meanings_of_scripts built.now bodies.old }
 {
@@ -80,6 +83,7 @@ fn outcome_in(
     turn: Turn,
 ) -> Result<Option<RunOutcome>, Fault>
     requires { HasMemories built.now first.now }
+    ensures refused { IfErr result (IsUnwitnessed built.now (meanings_of_scripts built.now bodies.old) first.now) }
     ensures outcome { IfOk result (λ found. IfSome found (IsOutcome built.now (meanings_of_scripts built.now bodies.old) first.now turn.racer turn.system turn.swapped)) }
     ensures meanings { meanings_of_scripts built.now bodies.new ≡ meanings_of_scripts built.now bodies.old }
 {
@@ -110,6 +114,7 @@ fn left_by(
     list: &Trace,
 ) -> Result<String, Fault>
     requires { Suits script_suits built.now (map Some bodies.old) first.now }
+    ensures refused { IfErr result (IsRefusedRun built.now (meanings_of_scripts built.now bodies.old) first.now list.now 1) }
     ensures left { IfOk result (λ text. IsLeftBy built.now (meanings_of_scripts built.now bodies.old) first.now list.now (string_bytes text)) }
     ensures meanings { meanings_of_scripts built.now bodies.new ≡ meanings_of_scripts built.now bodies.old }
 {

@@ -227,6 +227,13 @@ accepted bytes tables l read of = record {
 
 -- ---- who refuses
 
+-- what the tables of a document, and its texts, are refused for: it is not read
+pub place-unread : (bytes : Option (List ℕ)) (v : Members) (fault : FileFault) → IfSome bytes (λ text. parse_document text ≡ Some v) → IsFaultOf v fault → IsUnread bytes (fault_of_file fault)
+place-unread bytes v file.Document read h = absurd h
+place-unread bytes v (file.Value place) read h = text-refused bytes v (file.Value place) read h (no-tables bytes v read (fault-none v (file.Value place) h))
+place-unread bytes v (file.Text place) read h = text-refused bytes v (file.Text place) read h (no-tables bytes v read (fault-none v (file.Text place) h))
+place-unread bytes v file.Memory read h = tt
+
 module _ (there : Bool) (width : ℕ) (bytes trace : Option (List ℕ)) where
   -- the reader of the file
   pub unread-refused : (w : Work) (fault : Fault) → IsUnread bytes fault → IsRefusedBy there width bytes trace w fault
@@ -236,12 +243,9 @@ module _ (there : Bool) (width : ℕ) (bytes trace : Option (List ℕ)) where
   unread-refused w Memory h = tt
   unread-refused w fault h = absurd h
 
-  -- what the tables of a document, and its texts, are refused for
+  -- the tables of a document, and its texts
   pub place-refused : (w : Work) (v : Members) (fault : FileFault) → IfSome bytes (λ text. parse_document text ≡ Some v) → IsFaultOf v fault → IsRefusedBy there width bytes trace w (fault_of_file fault)
-  place-refused w v file.Document read h = absurd h
-  place-refused w v (file.Value place) read h = text-refused bytes v (file.Value place) read h (no-tables bytes v read (fault-none v (file.Value place) h))
-  place-refused w v (file.Text place) read h = text-refused bytes v (file.Text place) read h (no-tables bytes v read (fault-none v (file.Text place) h))
-  place-refused w v file.Memory read h = tt
+  place-refused w v fault read h = unread-refused w (fault_of_file fault) (place-unread bytes v fault read h)
 
   -- what the tables declare is refused
   pub load-refused : (w : Work) (tables : ProgramFile) (fault : Fault) → IfSome bytes (IsFileOf tables) → IsNotLoaded tables fault → IsRefusedBy there width bytes trace w fault

@@ -5,4 +5,4 @@ use Rattle.ecsview.proofs.found.begun.Goals as goal
 
 -- it has the memories of the schedule
 pub returns-clause-memories : goal.returns-clause-memories
-returns-clause-memories c = subst (HasMemories c.args.built.now) (sym c.in_ok-state.ensures) (has_first c.args.built.now _)
+returns-clause-memories c = subst (HasMemories c.args.built.now) (sym c.in_ok-state.ensures.first) (has_first c.args.built.now _)

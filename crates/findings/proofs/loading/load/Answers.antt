@@ -1,10 +1,16 @@
-use Rattle.std.proofs.Common.{refl}
-use Rattle.program.proofs.Serving.{accepted, is-file}
+use Rattle.std.proofs.Common.{◌≡◌, ℕ, List, Option, Some, IfSome, inl, inr, refl}
+use Rattle.model.proofs.lists.Results.{handed_on}
+use Rattle.program.specs.Fault.{fault_of_file}
+use Rattle.program.specs.declared.fault.Fault.{Fault}
+use Rattle.program.proofs.Serving.{accepted, is-file, place-unread}
+use Rattle.toml.specs.Parse.{parse_document}
+use Rattle.toml.specs.View.{table_view}
+use Rattle.findings.specs.Refusals.{IsUnloaded}
 use Rattle.findings.proofs.loading.load.Goals as goal
 
 -- it is that of an accepted file
-pub returns : goal.returns
-returns c = λ bytes parsed.
+pub returns-clause-loaded : goal.returns-clause-loaded
+returns-clause-loaded c = λ bytes parsed.
     let of = c.in_ok-tables.ensures in
     let l = c.in_ok-file.file in
     let is = c.in_ok-file.ensures.loaded in
@@ -17,3 +23,18 @@ returns c = λ bytes parsed.
       entities = is.entities;
       resources = is.resources;
     }
+
+-- the document is not read
+pub returns-in_err-tables-clause-refused : goal.returns-in_err-tables-clause-refused
+returns-in_err-tables-clause-refused c =
+    handed_on (λ (fault : Fault). (bytes : Option (List ℕ)) → IfSome bytes (λ text. parse_document text ≡ Some (table_view c.args.document.now)) → IsUnloaded bytes fault) c.from_residual.result
+    (fault_of_file c.in_err-tables.field-0.0) c.from_residual.ensures.1
+    (λ bytes parsed. inl (place-unread bytes _ c.in_err-tables.field-0.0 parsed c.in_err-tables.ensures.fault))
+
+-- what it declares is refused
+pub returns-in_err-file-clause-refused : goal.returns-in_err-file-clause-refused
+returns-in_err-file-clause-refused c =
+    let of = c.in_ok-tables.ensures in
+    handed_on (λ (fault : Fault). (bytes : Option (List ℕ)) → IfSome bytes (λ text. parse_document text ≡ Some (table_view c.args.document.now)) → IsUnloaded bytes fault) c.from_residual-in_err-file.result
+    c.in_err-file.field-0.0 c.from_residual-in_err-file.ensures.1
+    (λ bytes parsed. inr (c.in_ok-tables.tables, is-file bytes _ c.in_ok-tables.tables parsed of.keys of.resources of.entities of.sets of.systems of.chains, c.in_err-file.ensures.refused))

@@ -1,7 +1,7 @@
 use Rattle.std.proofs.Common.{◌≡◌, ◌<◌, ℕ, List, Bor, length, map, take, subst, sym, ◌∙◌, inl, arith}
 use Rattle.std.proofs.lemmas.List.{length-map}
 use Rattle.std.specs.List.{slice_get}
-use Rattle.findings.specs.Texts.{IsFirstApart}
+use Rattle.findings.specs.Apart.{IsFirstApart}
 use Rattle.findings.proofs.Apart.{same_next, same_all}
 use Rattle.findings.proofs.texts.first_apart.Goals as goal
 

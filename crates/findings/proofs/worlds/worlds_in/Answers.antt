@@ -1,4 +1,4 @@
-use Rattle.std.proofs.Common.{◌≡◌, ◌+◌, ◌≤◌, ◌∷◌, List, [], Some, false, get_or, length, map, reverse, take, refl, sym, ap, ap₂, subst, ◌∙◌, string_bytes, arith}
+use Rattle.std.proofs.Common.{◌≡◌, ◌+◌, ◌≤◌, List, Some, false, get_or, length, map, reverse, refl, sym, ap, ap₂, subst, ◌∙◌, arith}
 use Rattle.std.proofs.lemmas.List.{take_all}
 use Rattle.model.specs.declared.steps.Step.TheVariants.{Cond}
 use Rattle.model.specs.shown.Outcome.{BodyMeaning}
@@ -14,7 +14,7 @@ use Rattle.body.proofs.Outs.{all-home, none-out}
 use Rattle.engine.specs.Deferred.{AreInHand, DeferredValue, IsDeferredFor, run_with}
 use Rattle.engine.specs.Meanings.{Suits, meanings}
 use Rattle.engine.proofs.Remembering.{memories_opened}
-use Rattle.findings.specs.Worlds.{scene_text, worlds_text}
+use Rattle.findings.specs.Worlds.{worlds_text}
 use Rattle.trace_checker.proofs.StepsRecording.{known_by}
 use Rattle.trace_checker.proofs.Taking.{known_at}
 use Rattle.findings.proofs.Scenes.{fresh_by, given_by, meant_next, told_next, waits_by}

@@ -1,0 +1,23 @@
+-- What a command answers: the text that it prints, and the status.
+use Rattle.std.specs.Prelude.{ℕ, ◌≡◌, List, Option, string_bytes}
+use Rattle.findings.specs.Loaded.{IsLoaded}
+use Rattle.findings.specs.declared.loading.Loaded.{Loaded}
+use Rattle.ecsview.specs.Drawings.{IsLanesText, IsScheduleText}
+use Rattle.ecsview.specs.Found.{IsDivergeText, IsRacesText, IsStepsText}
+use Rattle.ecsview.specs.declared.args.Work.{Work}
+use Rattle.ecsview.specs.declared.args.Work.TheVariants.{Schedule, Lanes, Races, Diverge, Steps}
+use Rattle.ecsview.specs.declared.viewing.Shown.{Shown}
+
+-- what some work answers on what a file declares, and on one trace or two
+abbrev pub IsAnswer : List ℕ → List ℕ → Work → Loaded → Option (List ℕ) → Option (List ℕ) → Shown → Type 0
+IsAnswer opener rules Schedule l trace other shown = (shown.status ≡ 0) × IsScheduleText opener rules l (string_bytes shown.text)
+IsAnswer opener rules Lanes l trace other shown = (shown.status ≡ 0) × IsLanesText opener rules l trace (string_bytes shown.text)
+IsAnswer opener rules Races l trace other shown = (shown.status ≡ 0) × IsRacesText l.file (string_bytes shown.text)
+IsAnswer opener rules Diverge l trace other shown = IsDivergeText l.file trace other shown.status (string_bytes shown.text)
+IsAnswer opener rules (Steps run) l trace other shown = (shown.status ≡ 0) × IsStepsText l.file trace run (string_bytes shown.text)
+
+-- the same on the bytes of a program file, which is accepted
+pub record IsAnswerOn (opener rules : List ℕ) (work : Work) (file trace other : Option (List ℕ)) (shown : Shown) : Type 0 where
+  pub declared : Loaded
+  pub loaded : IsLoaded file declared
+  pub answer : IsAnswer opener rules work declared trace other shown

@@ -1,0 +1,28 @@
+-- Why something isn't found: the fault that ends it.
+use Rattle.std.specs.Prelude.{ℕ, ◌≡◌, ◌⊎◌, List, Option, IfSome}
+use Rattle.model.specs.shown.Outcome.{BodyMeaning}
+use Rattle.model.specs.state.State.{State}
+use Rattle.model.specs.steps.Schedule.{Schedule, Recorded}
+use Rattle.program.specs.Loaded.{IsNotLoaded}
+use Rattle.program.specs.Refused.{IsUnread}
+use Rattle.program.specs.Replayed.{IsRefusedAmong, IsRefusedRun}
+use Rattle.program.specs.Said.{IsFileOf}
+use Rattle.program.specs.declared.fault.Fault.{Fault}
+use Rattle.program.specs.declared.fault.Fault.TheVariants.{Memory}
+use Rattle.program_file.specs.declared.program_file.ProgramFile.{ProgramFile}
+
+-- a file is not accepted: it is not read, or what its tables declare is refused
+abbrev pub IsUnloaded : Option (List ℕ) → Fault → Type 0
+IsUnloaded bytes fault = IsUnread bytes fault ⊎ ((tables : ProgramFile) × IfSome bytes (IsFileOf tables) × IsNotLoaded tables fault)
+
+-- the first run of some that is not replayed, from the state that those before it leave, is refused so; or an allocation fails
+abbrev pub IsUntold : Schedule → List BodyMeaning → State → List Recorded → Fault → Type 0
+IsUntold s bodies start runs fault = (fault ≡ Memory) ⊎ IsRefusedAmong s bodies start runs fault
+
+-- so it is with the runs of one of two traces
+abbrev pub IsUnparted : Schedule → List BodyMeaning → State → State → List Recorded → List Recorded → Fault → Type 0
+IsUnparted s bodies start beginning runs others fault = (fault ≡ Memory) ⊎ (IsRefusedAmong s bodies start runs fault ⊎ IsRefusedAmong s bodies beginning others fault)
+
+-- a list of the first run is refused so, from its state; or an allocation fails
+abbrev pub IsUnwitnessed : Schedule → List BodyMeaning → State → Fault → Type 0
+IsUnwitnessed s bodies start fault = (fault ≡ Memory) ⊎ ((list : Recorded) × IsRefusedRun s bodies start list 1 fault)
