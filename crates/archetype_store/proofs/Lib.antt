@@ -36,3 +36,4 @@ pub mod ColumnOverlays
 pub mod TakenColumns
 pub mod KindsHome
 pub mod Copied
+pub mod NewEntity

@@ -5,7 +5,9 @@ use Rattle.std.specs.List.{AllByRecursion}
 use Rattle.kinds.specs.Components.{widths}
 use Rattle.model.specs.declared.entities.Entity.{Entity}
 use Rattle.model.specs.Lists.{update_at}
-use Rattle.model.specs.state.State.{Slot, World, fresh_slot, most_indices}
+use Rattle.model.specs.state.State.{Component, Slot, World, fresh_slot, most_indices}
+use Rattle.model.specs.state.State.Status.{Living}
+use Rattle.model.specs.sessions.Inputs.{next_id}
 use Rattle.model.specs.state.Rows.{IsRising}
 use Rattle.model.specs.state.Ids.{has_ids, grant, has_ids_for_each, grant_each}
 use Rattle.model.specs.state.Commands.{spawned, release}
@@ -20,7 +22,7 @@ use Rattle.entity_table.proofs.Levels.{grant_each-is, has_ids_for_each-is}
 use Rattle.archetype_store.specs.declared.change.Fate.{Fate}
 use Rattle.archetype_store.specs.declared.change.Fate.TheVariants as the
 use Rattle.archetype_store.specs.declared.change.EntityChange.{EntityChange}
-use Rattle.archetype_store.specs.Changes.{components_left, slot_left, change_at, changed, CanChange}
+use Rattle.archetype_store.specs.Changes.{components_left, slot_left, change_at, changed, with_new, CanChange}
 use Rattle.archetype_store.specs.Store.{with_slots, with_slot, with_resource}
 
 -- ---- outcomes
@@ -113,3 +115,17 @@ changed-shape w (c ∷ cs) can i s h = go (i == c.entity.index) (changed-shape w
 pub world-changed : (w : World) (cs : List EntityChange) → AllByRecursion (CanChange w) cs → IsWorld widths w → IsWorld widths (with_slots (changed cs) w)
 world-changed w cs can p = world-slots widths w (changed cs w.slots) (each-map_index (IsSlot widths w.clock) (IsSlot widths w.clock) (change_at cs) (λ i s h. changed-shape w cs can i s h) w.slots p.slots)
     (let e = length-map_index (change_at cs) w.slots in omega (arith, p.few)) p
+
+-- a new entity with a row of a world
+pub world-new : (w : World) (row : List Component) → has_ids 1 w.slots ≡ true → IsRising row → AllByRecursion (IsComponent widths w.clock) row → IsWorld widths w →
+    IsWorld widths (with_slots (with_new row) w)
+world-new w row h rising all p = world-slot widths (with_slots (grant 1) w) (next_id w.slots).index (λ slot. record { generation = slot.generation; status = Living; row = row })
+    (λ s. record {
+      least = s.least;
+      most = s.most;
+      came_back = λ is. absurd (cc);
+      retired = λ is. absurd (cc);
+      no_row = λ is. absurd (cc);
+      rising = rising;
+      components = all;
+    }) (world-grant widths w 1 h p)

@@ -6,6 +6,8 @@ use Rattle.model.specs.Lists.{map_index, update_at}
 use Rattle.model.specs.state.State.{Component, Slot, World, is_living, is_granted}
 use Rattle.model.specs.state.State.Status.{Living}
 use Rattle.model.specs.state.Rows.{IsRising}
+use Rattle.model.specs.state.Ids.{grant}
+use Rattle.model.specs.sessions.Inputs.{next_id}
 use Rattle.model.specs.state.Shape.{IsComponent}
 use Rattle.model.specs.state.Commands.{freed}
 use Rattle.column_store.specs.declared.stamped.StampedValue.{StampedValue}
@@ -27,6 +29,10 @@ components_left fate = map component_of (row_left fate)
 abbrev pub slot_left : Fate → Slot → Slot
 slot_left (the.Lives components) slot = record { generation = slot.generation; status = Living; row = map component_of components.items }
 slot_left the.Dies slot = freed slot
+
+-- the slots with a new entity, at the least vacant index, that has this row
+abbrev pub with_new : List Component → List Slot → List Slot
+with_new row slots = update_at (next_id slots).index (λ slot. record { generation = slot.generation; status = Living; row = row }) (grant 1 slots)
 
 -- what changes make of the slot of an index
 abbrev pub change_at : List EntityChange → ℕ → Slot → Slot

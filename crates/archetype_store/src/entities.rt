@@ -23,6 +23,8 @@ ghost use Rattle.column_store.specs.RowOrder.{OrdersRows};
 ghost use Rattle.archetype_store.specs.Shapes.{shape_number, fitting_from};
 ghost use Rattle.archetype_store.specs.View.{kinds_seen, entities_seen};
 
+mod spawn;
+
 use crate::change::EntityChange;
 use crate::entity_ref::EntityRef;
 use crate::locations::RowPlace;

@@ -29,6 +29,8 @@ ghost use Rattle.archetype_store.specs.Resources.{changed_of};
 ghost use Rattle.archetype_store.specs.Changes.{changed, slot_left, AreOfOtherIndices, CanChange};
 ghost use Rattle.archetype_store.specs.Store.{empty_world, with_slots, with_slot, with_resource, at_clock, stamp_of, homed_in, IsPast};
 
+mod spawn;
+
 use crate::change::{EntityChange, Fate};
 pub use crate::columns::{ColumnAt, SharedColumn, TakenColumn};
 use crate::components::{put_component, take_component};

@@ -1,6 +1,6 @@
 // The clock of a world.
 
-ghost use Rattle.std.specs.Prelude.{◌≡◌, ◌+◌, ◌≤◌, ◌↔◌, OnOk, IfOk, OnErr, IsErr};
+ghost use Rattle.std.specs.Prelude.{◌≡◌, ◌+◌, ◌-◌, ◌<◌, ◌≤◌, ◌↔◌, OnOk, IfOk, OnErr, IsErr};
 ghost use Rattle.model.specs.state.State.{last_tick};
 
 use std::marker::Model;
@@ -68,5 +68,14 @@ impl Clock {
         }
         *self = Clock { tick: now + 1 };
         Ok(now + 1)
+    }
+
+    /// Takes the last tick back: the clock stands at the one before. It is past tick 1.
+    pub fn back(&mut self)
+        requires { 1 < self.old }
+        ensures { self.new ≡ self.old - 1 }
+    {
+        let now = self.now();
+        *self = Clock { tick: now - 1 };
     }
 }

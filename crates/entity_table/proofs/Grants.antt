@@ -252,6 +252,7 @@ pub record GrantsFirst (b : ℕ) (xs : List Slot) (x : ℕ) (rest : List ℕ) : 
   pub at : ℕ
   pub is : x ≡ b + at
   pub within : at < length xs
+  pub vacant : is_vacant (get_or xs at fresh_slot).status ≡ true
   pub granted : first_granted 1 xs ≡ update_at at granted_slot xs
   pub ids : first_ids b 1 xs ≡ record { index = x; generation = (get_or xs at fresh_slot).generation } ∷ []
   pub left : vacant_from b (update_at at granted_slot xs) ≡ rest
@@ -268,6 +269,7 @@ grants_first b (s ∷ ss) x rest h = go (is_vacant s.status) refl (λ e. grants_
           at = 0;
           is = omega arith;
           within = omega arith;
+          vacant = e;
           granted = granted_here 0 s ss e ∙ ap (◌∷◌ (granted_slot s)) (first_granted-zero ss);
           ids = ids_here b 0 s ss e ∙ ap₂ (λ k ids. record { index = k; generation = s.generation } ∷ ids) first (first_ids-zero (suc b) ss);
           left = cc;
@@ -280,6 +282,7 @@ grants_first b (s ∷ ss) x rest h = go (is_vacant s.status) refl (λ e. grants_
           at = suc r.at;
           is = omega arith;
           within = omega arith;
+          vacant = r.vacant;
           granted = granted_later 1 s ss e ∙ ap (◌∷◌ s) r.granted;
           ids = ids_later b 1 s ss e ∙ r.ids;
           left = vacant_later b s (update_at r.at granted_slot ss) e ∙ r.left;
@@ -288,6 +291,7 @@ grants_first b (s ∷ ss) x rest h = go (is_vacant s.status) refl (λ e. grants_
 -- what the grant of one id is, where x is the least vacant index
 pub record GrantsLeast (xs : List Slot) (x : ℕ) (rest : List ℕ) : Type 0 where
   pub within : x < length xs
+  pub vacant : is_vacant (get_or xs x fresh_slot).status ≡ true
   pub granted : grant 1 xs ≡ update_at x granted_slot xs
   pub ids : granted_ids 1 xs ≡ record { index = x; generation = (get_or xs x fresh_slot).generation } ∷ []
   pub left : vacant_indices (grant 1 xs) ≡ rest
@@ -305,6 +309,7 @@ grants_least xs x rest h =
     let granted : grant 1 xs ≡ update_at r.at granted_slot xs = grant-is 1 xs ∙ ap (first_granted 1) room ∙ r.granted in
     record {
       within = omega arith;
+      vacant = ap (λ k. is_vacant (get_or xs k fresh_slot).status) (sym same) ∙ r.vacant;
       granted = granted ∙ ap (λ k. update_at k granted_slot xs) same;
       ids = granted_ids-is 1 xs ∙ ap (first_ids 0 1) room ∙ r.ids ∙ ap (λ k. record { index = x; generation = (get_or xs k fresh_slot).generation } ∷ []) same;
       left = ap vacant_indices granted ∙ r.left;

@@ -9,3 +9,4 @@ pub mod Counting
 pub mod Keeping
 pub mod Living
 pub mod WithRows
+pub mod TakenBack

@@ -4,7 +4,7 @@ use Rattle.std.specs.List.{AllByRecursion}
 use Rattle.model.specs.Lists.{update_at}
 use Rattle.model.specs.declared.entities.Entity.{Entity}
 use Rattle.model.specs.state.State.{Slot, fresh_slot, is_living, most_indices}
-use Rattle.model.specs.state.State.Status.{Granted}
+use Rattle.model.specs.state.State.Status.{Granted, Vacant}
 use Rattle.model.specs.state.Ids.{vacant_indices}
 use Rattle.model.specs.state.Commands.{spawned, release}
 use Rattle.model.specs.state.Shape.{IsSlot}
@@ -31,6 +31,10 @@ pub record IsGranted (slots : List Slot) (e : Entity) : Type 0 where
 -- no id is named twice
 abbrev pub AreApart : List Entity → Type 0
 AreApart ids = AllPairs (λ a b. a ≢ b) ids
+
+-- a slot whose grant was taken back
+abbrev pub vacated : Slot → Slot
+vacated slot = record { generation = slot.generation; status = Vacant; row = [] }
 
 -- the slots once these ids are spawned
 abbrev pub spawned_all : List Entity → List Slot → List Slot

@@ -5,6 +5,7 @@ ghost use Rattle.model.specs.state.State.{fresh_slot, is_living, is_vacant, is_g
 ghost use Rattle.model.specs.state.State.{Status as ModelStatus};
 ghost use Rattle.model.specs.state.Ids.{granted_slot};
 ghost use Rattle.model.specs.state.Commands.{freed};
+ghost use Rattle.entity_table.specs.Ids.{vacated};
 ghost use Rattle.entity_table.specs.Status.{status_of};
 
 use crate::status::Status;
@@ -88,6 +89,13 @@ impl EntityMeta {
         ensures { self.new ≡ granted_slot self.old }
     {
         self.status = Status::Granted;
+    }
+
+    /// Takes a grant back: the index is vacant at the generation that it has.
+    pub fn take_back(&mut self)
+        ensures { self.new ≡ vacated self.old }
+    {
+        self.status = Status::Vacant;
     }
 
     /// Makes the entity of the index live.

@@ -1,6 +1,6 @@
 // The id book.
 
-ghost use Rattle.std.specs.Prelude.{◌≡◌, ◌++◌, ◌≤◌, ◌<◌, ◌↔◌, ℕ, true, false, [], length, map, All, IsTrue, IfSome, IfNone, IfOk, OnOk, OnErr, IsErrOf};
+ghost use Rattle.std.specs.Prelude.{◌≡◌, ◌++◌, ◌∷◌, ◌≤◌, ◌<◌, ◌↔◌, ℕ, true, false, [], length, map, All, IsTrue, IfSome, IfNone, IfOk, OnOk, OnErr, IsErrOf};
 ghost use Rattle.model.specs.Lists.{update_at};
 ghost use Rattle.model.specs.state.State.{most_indices, is_vacant, is_granted};
 ghost use Rattle.model.specs.state.Ids as ids;
@@ -17,6 +17,7 @@ use crate::status::Status;
 use model::Entity;
 use std::alloc::{AllocError, Global};
 use std::marker::Model;
+use std::snapshot::Snapshot;
 
 /// How many indices there may be.
 pub const MOST_INDICES: usize = 1_048_576;
@@ -180,6 +181,23 @@ impl EntityTable {
         self.vacant.make_room(had + missing)?;
         grant_lists(&mut self.places, &mut self.vacant, granted, counts);
         Ok(())
+    }
+
+    /// Takes back the id that a grant of one gave, as if nobody had asked for it. It takes no memory.
+    pub fn take_back(&mut self, e: Entity, before: Snapshot<EntityTable>)
+        requires book { IsBook before.value }
+        requires granted { ids.grant 1 before.value ≡ self.old }
+        requires id { ids.granted_ids 1 before.value ≡ e ∷ [] }
+        ensures { self.new ≡ before.value }
+    {
+        // An index that was vacant before came back once, so only a new one has generation 1.
+        if e.generation == 1 {
+            let _ = self.places.pop();
+        } else {
+            let place = &mut self.places[e.index as usize];
+            place.take_back();
+            self.vacant.push(e.index);
+        }
     }
 
     /// Makes the entity of a granted id live.

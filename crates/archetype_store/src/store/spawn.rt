@@ -1,0 +1,45 @@
+// What a host does to a world between runs: a new entity, and a tick that is given back.
+
+ghost use Rattle.std.specs.Prelude.{◌≡◌, ◌-◌, ◌↔◌, false, map, IfOk, OnErr, OnOk, IsErrOf};
+ghost use Rattle.std.specs.List.{AllByRecursion};
+ghost use Rattle.kinds.specs.Components.{widths};
+ghost use Rattle.model.specs.state.Rows.{IsRising};
+ghost use Rattle.model.specs.state.Shape.{IsComponent, IsWorld};
+ghost use Rattle.model.specs.state.Ids as ids;
+ghost use Rattle.model.specs.sessions.Inputs.{next_id};
+ghost use Rattle.archetype_store.specs.Row.{component_of};
+ghost use Rattle.archetype_store.specs.Changes.{with_new};
+ghost use Rattle.archetype_store.specs.Layout.{AreAllHome};
+ghost use Rattle.archetype_store.specs.Store.{at_clock, with_slots};
+
+use crate::fault::GrantFault;
+use crate::store::World;
+use column_store::Components;
+use entity_table::Entity;
+use std::alloc::Global;
+
+impl World {
+    /// Makes a new entity with these components, in rising kinds, at the least vacant index. `IdsSpent` where no index is left. After an error
+    /// nothing has changed.
+    pub fn spawn(&mut self, alloc: Global, components: Components) -> Result<Entity, GrantFault>
+        requires home { AreAllHome self.old.layout }
+        requires rising { IsRising (map component_of components.items) }
+        requires components { AllByRecursion (IsComponent widths self.old.state.clock) (map component_of components.items) }
+        ensures id { IfOk result (λ e. e ≡ next_id self.old.state.slots) }
+        ensures ok { OnOk result (self.new.state ≡ with_slots (with_new (map component_of components.items)) self.old.state) }
+        ensures spent { IsErrOf result GrantFault.IdsSpent ↔ (ids.has_ids 1 self.old.state.slots ≡ false) }
+        ensures err { OnErr result (self.new ≡ self.old) }
+        ensures home { AreAllHome self.new.layout }
+    {
+        self.slots.spawn(alloc, components)
+    }
+
+    /// Takes the last tick of the clock back, which stands nowhere in the world yet.
+    pub fn give_back_tick(&mut self)
+        requires { IsWorld widths (at_clock (self.old.state.clock - 1) self.old.state) }
+        ensures state { self.new.state ≡ at_clock (self.old.state.clock - 1) self.old.state }
+        ensures layout { self.new.layout ≡ self.old.layout }
+    {
+        self.clock.back();
+    }
+}
