@@ -30,3 +30,4 @@ pub mod FieldRows
 pub mod ListedRows
 pub mod Sent
 mod Readers
+pub mod NewEntities

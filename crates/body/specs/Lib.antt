@@ -21,3 +21,4 @@ pub mod Answers
 pub mod Keeps
 pub mod Out
 pub mod Evaluated
+pub mod Inputs

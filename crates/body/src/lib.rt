@@ -5,6 +5,7 @@ mod closing;
 mod columns;
 mod condition_answer;
 pub mod field_words;
+pub mod input;
 pub mod memory;
 pub mod open_state;
 mod opening;
@@ -20,6 +21,7 @@ mod view_commands;
 pub mod view_query;
 mod view_values;
 
+pub use input::{Input, PutFault};
 pub use memory::Memory;
 pub use open_state::OpenState;
 pub use room::QueryRoom;

@@ -25,6 +25,8 @@ ghost use Rattle.body.specs.Lent.{AreLent, lent_in, with_away, with_back};
 ghost use Rattle.body.specs.Out.{IsWrittenBy, AreOut};
 ghost use Rattle.body.specs.Steps.{AreInTime, HasShape, asked_at, at_clock, counted_state, laid, noted, store_of, target_in, with_slots_in, with_target};
 
+mod input;
+
 use crate::condition_answer::ask;
 use crate::memory::Memory;
 use crate::room::Room;

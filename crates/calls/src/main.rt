@@ -10,6 +10,7 @@ mod tests;
 use crate::tests::again;
 use crate::tests::board::{one_slot, two_hands};
 use crate::tests::commands::kept_again;
+use crate::tests::inputs::{inputs, mended, moved_from_input, refused_input};
 use crate::tests::moving::{
     boxed, boxed_on_threads, kept_at_the_last_tick, kept_state, refused_engines, spent_clock,
     stamps,
@@ -103,6 +104,24 @@ fn bodies_on_threads<R: Threads + Wait + Copy + Send + Sync + 'static>(
     ]
 }
 
+// The tests of what a host does between runs.
+fn between_runs(alloc: Global) -> [Test; 3] {
+    [
+        (
+            "a run moves what an input put elsewhere",
+            moved_from_input(alloc),
+        ),
+        (
+            "an input at the last tick changes nothing",
+            refused_input(alloc),
+        ),
+        (
+            "a state that is set mends a spoiled engine",
+            mended(alloc),
+        ),
+    ]
+}
+
 // The tests of a board of jobs.
 fn boards<R: Threads>(runtime: &R, alloc: Global) -> [Test; 2] {
     [
@@ -128,7 +147,7 @@ fn tell_trials<W: Write, R: Threads + Wait + Copy + Send + Sync + 'static>(
 }
 
 // The tests of calls that are taken once more where an allocation fails. Each of their allocations is refused in turn by `.ci/allocations`.
-fn made_again(alloc: Global) -> [Test; 4] {
+fn made_again(alloc: Global) -> [Test; 5] {
     [
         (
             "an insert, once more where it is refused",
@@ -146,6 +165,10 @@ fn made_again(alloc: Global) -> [Test; 4] {
             "a run that is kept, once more where it is refused",
             kept_again(alloc),
         ),
+        (
+            "inputs between runs, once more where they are refused",
+            inputs(alloc),
+        ),
     ]
 }
 
@@ -157,6 +180,7 @@ fn main(rt: HostRuntime) -> io::Result<()> {
     tell(&mut rt.stdout(), &runs_alone(rt.alloc()))?;
     tell(&mut rt.stdout(), &parts(rt.alloc()))?;
     tell(&mut rt.stdout(), &kept(rt.alloc()))?;
+    tell(&mut rt.stdout(), &between_runs(rt.alloc()))?;
     tell(&mut rt.stdout(), &boards(&rt, rt.alloc()))?;
     tell(&mut rt.stdout(), &bodies_on_threads(rt, rt.alloc()))?;
     tell_trials(rt, rt.alloc(), &mut rt.stdout())?;

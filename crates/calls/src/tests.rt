@@ -6,6 +6,7 @@ pub mod bodies;
 pub mod commands;
 pub mod engines;
 pub mod gates;
+pub mod inputs;
 pub mod moving;
 pub mod plans;
 pub mod random;

@@ -1,5 +1,5 @@
 -- What contracts see of an engine.
-use Rattle.std.specs.Prelude.{Bool, List, Option, refl}
+use Rattle.std.specs.Prelude.{Bool, false, List, Option, refl}
 use Rattle.std.specs.Coded.{Coded, code_by, coded×, coded_list, coded_option, coded_bool}
 use Rattle.model.specs.state.State.{State}
 use Rattle.model.specs.steps.Schedule.{Schedule}
@@ -12,6 +12,14 @@ pub record EngineValue (B : Type 0) : Type 0 where
   pub bodies : List (Option B)
   pub state : State
   pub spoiled : Bool
+
+-- with another state
+abbrev pub with_state : {B : Type 0} → State → EngineValue B → EngineValue B
+with_state state e = record { schedule = e.schedule; bodies = e.bodies; state = state; spoiled = e.spoiled }
+
+-- with another state, and mended
+abbrev pub mended_with : {B : Type 0} → State → EngineValue B → EngineValue B
+mended_with state e = record { schedule = e.schedule; bodies = e.bodies; state = state; spoiled = false }
 
 -- it is stored as the tuple of its parts
 abbrev pub engine_code : {B : Type 0} → Coded B → Coded (EngineValue B)

@@ -9,3 +9,4 @@ pub mod Latest
 pub mod Stage
 pub mod Next
 pub mod FirstState
+pub mod Inputs

@@ -1,8 +1,13 @@
 // The bodies of the systems of a schedule, each in its place.
 
-ghost use Rattle.std.specs.Prelude.{◌≡◌, true, [], map, set, Some, None, is_some, IfOk};
-ghost use Rattle.engine.specs.Meanings.{body_at};
+ghost use Rattle.std.specs.Prelude.{◌≡◌, ◌<◌, true, [], length, map, set, Some, None, is_some, IfOk, IsTrue, MatchBool};
+ghost use Rattle.model.specs.runs.RunState.{body_of};
+ghost use Rattle.model.specs.steps.Schedule.{params_of};
+ghost use Rattle.body.specs.Keeps.{KeepsWithin};
+ghost use Rattle.engine.specs.Meanings.{body_at, fits_at, meanings, AllKeepWithin, AreFit};
 
+use body::Body;
+use schedule_builder::Built;
 use std::alloc::{AllocError, Global};
 use std::marker::Model;
 
@@ -57,6 +62,37 @@ impl<B: Drop> Bodies<B> {
     {
         if let Some(place) = self.places.get_mut(system) {
             *place = Some(body);
+        }
+    }
+}
+
+impl<B: Body> Bodies<B> {
+    /// Whether there is a body for each system, and each fits its parameters. If so, each keeps within them.
+    pub(crate) fn all_fit(&self, built: &Built) -> bool
+        ensures fit { MatchBool result (AreFit B.fits built.now self.now) (AreFit B.fits built.now self.now → ⊥) }
+        ensures keep { IsTrue result → AllKeepWithin built.now (meanings B.meaning built.now self.now) }
+    {
+        if self.places.len() != built.count() as usize {
+            return false;
+        }
+        for system in 0..built.count() {
+            if !self.is_fit(built, system) {
+                return false;
+            }
+        }
+        true
+    }
+
+    // Whether the body of a system is at home and fits its parameters. If so, it keeps within them.
+    fn is_fit(&self, built: &Built, system: u32) -> bool
+        requires count { length self.now ≡ length built.now.systems }
+        requires known { system < length built.now.systems }
+        ensures exact { result ≡ fits_at B.fits built.now self.now system }
+        ensures keeps { IsTrue result → KeepsWithin (params_of built.now system) (body_of (meanings B.meaning built.now self.now) system) }
+    {
+        match &self.places[system as usize] {
+            Some(body) => body.fits(built.params(system)),
+            None => false,
         }
     }
 }

@@ -6,6 +6,7 @@ ghost use Rattle.engine.specs.RunsAs.{RunsAs};
 ghost use Rattle.engine.specs.Stops.{StopsAs};
 
 mod kept;
+mod sessions;
 
 use crate::bodies::Bodies;
 use crate::coordinator::run_times;
@@ -90,7 +91,8 @@ impl<B: Body> Engine<B> {
     /// waits for one that ends else, and answers its trace once all have ended. `Memory` where an allocation fails, `ClockSpent` where a step
     /// has no next tick or an event no number, `IdsSpent` where a start lacks its ids, `BodyFault` where a body refuses, `NoWorker` where a
     /// thread couldn't be started; each spoils the engine, and from then on every run answers `Spoiled` and changes nothing. What the state is
-    /// after a fault isn't said: that of the run is gone. The bodies come home, and mean what they meant, but where a thread could not be started. Where the
+    /// after a fault isn't said: that of the run is gone. The bodies come home, mean what they meant and fit, but for `NoWorker` in a mode whose
+    /// threads don't stand. Where the
     /// schedule is settled, the state agrees with what any as many runs with true answers leave of any state that agrees with the one before.
     pub fn run<'s, M: Mode<'s>>(
         &mut self,
@@ -106,7 +108,8 @@ impl<B: Body> Engine<B> {
         ensures spoils { IsTrue self.new.spoiled ↔ IsErr result }
         ensures unchanged { result ≡ Err RunFault.Spoiled → self.new ≡ self.old }
         ensures schedule { self.new.schedule ≡ self.old.schedule }
-        ensures meanings { (result ≡ Err RunFault.NoWorker → ⊥) → meanings B.meaning self.old.schedule self.new.bodies ≡ meanings B.meaning self.old.schedule self.old.bodies }
+        ensures meanings { (result ≡ Err RunFault.NoWorker → IsTrue (M.stands mode.now)) → meanings B.meaning self.old.schedule self.new.bodies ≡ meanings B.meaning self.old.schedule self.old.bodies }
+        ensures fit { (result ≡ Err RunFault.NoWorker → IsTrue (M.stands mode.now)) → self.old.spoiled ≡ false → AreFit B.fits self.old.schedule self.new.bodies }
     {
         run_engine(self, alloc, times, mode)
     }

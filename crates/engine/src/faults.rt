@@ -3,9 +3,12 @@
 ghost use Rattle.std.specs.Prelude.{◌≡◌};
 ghost use Rattle.engine.specs.declared.faults.NewFault.TheVariants as new_fault;
 ghost use Rattle.engine.specs.declared.faults.RunFault.TheVariants as run_fault;
+ghost use Rattle.engine.specs.declared.faults.SetFault.TheVariants as set_fault;
+ghost use Rattle.engine.specs.Inputs.{fault_of_put};
 ghost use Rattle.engine.specs.Stops.{fault_of};
 
 use crate::stop::Stop;
+use body::PutFault;
 use std::alloc::AllocError;
 use thiserror::Error;
 
@@ -46,6 +49,37 @@ pub enum RunFault {
     BodyFault(u32),
 }
 
+/// Why an engine doesn't take an input. After each of these nothing has changed.
+#[derive(Clone, Copy, PartialEq, Eq, Debug, Error)]
+pub enum InputFault {
+    /// An allocation failed.
+    #[error("out of memory")]
+    Memory,
+    /// The clock gives no further tick, or the events of the kind no further number.
+    #[error("the clock is spent")]
+    ClockSpent,
+    /// No index is left for a new entity.
+    #[error("the ids are spent")]
+    IdsSpent,
+    /// A run stopped, and no state was set since.
+    #[error("the engine is spoiled")]
+    Spoiled,
+}
+
+/// Why an engine doesn't take a state. After each of these nothing has changed.
+#[derive(Clone, Copy, PartialEq, Eq, Debug, Error)]
+pub enum SetFault {
+    /// The numbers of memories, or of a memory's cursors, are not those of the schedule.
+    #[error("the numbers of memories and cursors are not those of the schedule")]
+    Count,
+    /// A body was lost with its thread, or doesn't fit its system any more.
+    #[error("a body is lost")]
+    Bodies,
+    /// An allocation failed.
+    #[error("out of memory")]
+    Memory,
+}
+
 impl From<AllocError> for NewFault {
     ghost from_gives = { λ _ fault. fault ≡ new_fault.Memory };
 
@@ -73,5 +107,25 @@ impl From<Stop> for RunFault {
             Stop::NoIds => RunFault::IdsSpent,
             Stop::Refused(number) => RunFault::BodyFault(number),
         }
+    }
+}
+
+impl From<PutFault> for InputFault {
+    ghost from_gives = { λ error told. told ≡ fault_of_put error };
+
+    fn from(error: PutFault) -> Self {
+        match error {
+            PutFault::Memory => InputFault::Memory,
+            PutFault::NoTick | PutFault::NoEventNumber => InputFault::ClockSpent,
+            PutFault::NoIds => InputFault::IdsSpent,
+        }
+    }
+}
+
+impl From<AllocError> for SetFault {
+    ghost from_gives = { λ _ fault. fault ≡ set_fault.Memory };
+
+    fn from(_error: AllocError) -> Self {
+        SetFault::Memory
     }
 }

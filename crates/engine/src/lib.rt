@@ -17,7 +17,7 @@ pub mod turn;
 
 pub use deferred::Deferred;
 pub use engine::Engine;
-pub use faults::{NewFault, RunFault};
+pub use faults::{InputFault, NewFault, RunFault, SetFault};
 pub use run_state::RunState;
 pub use stop::Stop;
 pub use turn::Turn;

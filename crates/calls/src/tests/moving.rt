@@ -39,8 +39,8 @@ fn world(alloc: Global, clock: Clock) -> Option<Box<World>>
     Some(world)
 }
 
-// The system that moves, alone, in such a world.
-fn moving(alloc: Global, clock: Clock) -> Option<TestEngine> {
+/// The system that moves, alone, in such a world.
+pub(crate) fn moving(alloc: Global, clock: Clock) -> Option<TestEngine> {
     let mut systems = Systems::new(alloc);
     systems.follow(alloc, params(alloc, MOVING)?, Rounds::EachRow(0), &MOVES)?;
     systems.engine(alloc, world(alloc, clock)?)
@@ -54,8 +54,8 @@ fn stamp_of(world: &World, kind: Kind) -> Option<(Tick, Tick)>
     Some((stamp.added, stamp.changed))
 }
 
-// The position of the first entity.
-fn position(state: &State) -> Option<Position> {
+/// The position of the first entity.
+pub(crate) fn position(state: &State) -> Option<Position> {
     state.world().get::<Position>(FIRST)
 }
 

@@ -58,8 +58,8 @@ impl<B: Body> Engine<B> {
         }
     }
 
-    // Whether a run failed. Where none did there are bodies and memories for the schedule.
-    fn is_spoiled(&self) -> bool
+    /// Whether a run failed, and no state was set since. Where none did there are bodies and memories for the schedule.
+    pub fn is_spoiled(&self) -> bool
         ensures value { result ≡ self.now.spoiled }
         ensures suits { self.now.spoiled ≡ false → Suits B.fits self.now.schedule self.now.bodies self.now.state }
         ensures keep { self.now.spoiled ≡ false → AllKeepWithin self.now.schedule (meanings B.meaning self.now.schedule self.now.bodies) }
