@@ -87,13 +87,13 @@ impl<B: Body> Engine<B> {
         })
     }
 
-    /// Runs the schedule `times` times, in the mode: each run opens, does what is ready while fewer systems run than the mode has room for,
-    /// waits for one that ends else, and answers its trace once all have ended. `Memory` where an allocation fails, `ClockSpent` where a step
-    /// has no next tick or an event no number, `IdsSpent` where a start lacks its ids, `BodyFault` where a body refuses, `NoWorker` where a
-    /// thread couldn't be started; each spoils the engine, and from then on every run answers `Spoiled` and changes nothing. What the state is
-    /// after a fault isn't said: that of the run is gone. The bodies come home, mean what they meant and fit, but for `NoWorker` in a mode whose
-    /// threads don't stand. Where the
-    /// schedule is settled, the state agrees with what any as many runs with true answers leave of any state that agrees with the one before.
+    /// Runs the schedule `times` times, in the mode. Each run opens and does what is ready while fewer systems run than the mode has room for;
+    /// when nothing may start, it waits for a system that ends. It answers one trace for each run. `Memory` where an allocation fails,
+    /// `ClockSpent` where a step has no next tick or an event no number, `IdsSpent` where the opening or a sync point lacks the ids of a level,
+    /// `BodyFault` where a body refuses, `NoWorker` where a thread couldn't be started. Each fault spoils the engine: from then on every run
+    /// answers `Spoiled` and changes nothing. After a fault the state of the run is gone, and nothing is said of the state. The bodies come home,
+    /// mean what they meant and fit, unless a thread could not be started in a mode whose workers don't stand. Where the schedule is settled,
+    /// the state agrees with what any as many runs with true answers leave of any state that agrees with the one before.
     pub fn run<'s, M: Mode<'s>>(
         &mut self,
         alloc: Global,

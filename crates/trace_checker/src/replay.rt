@@ -72,7 +72,7 @@ impl From<Stop> for ReplayFault {
 /// Takes a recorded run again, on one thread: each step in the order in which it stands, and each system whole at its start; what its body
 /// commands is done at the sync point of its level. The steps are checked first, as `check` does; a condition is asked where it was asked, and
 /// what was recorded is compared with what it answers. Where the trace records kind sets, those at the opening and after each sync point are
-/// compared with those of the living entities. The state that is deferred is that of the recorded run, stamp for stamp, however many systems
+/// compared with those of the living entities. The state that is left is that of the recorded run, stamp for stamp, however many systems
 /// ran at once; where the schedule is settled it agrees with what any one run with true answers leaves of any state that agrees with the one
 /// before. Each fault drops the state. The bodies that have run mean what they meant.
 pub fn replay<B: Body>(
