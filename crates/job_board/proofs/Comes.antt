@@ -11,7 +11,7 @@ use Rattle.job_board.specs.HandsOff.{posted_of, collected_of, free_of, taken_of,
 use Rattle.job_board.specs.Board.{Slot, number, IsKept, IsBoard}
 use Rattle.job_board.specs.Plays.{entered}
 use Rattle.job_board.proofs.Places.{Goes}
-use Rattle.job_board.proofs.Stays.{Grown, slot_stays, whole, taken_stays, read_old, free_stays, posted_stays, done_stays, collected_stays, free_once_stays}
+use Rattle.job_board.proofs.Stays.{Grown, is_closed, slot_stays, whole, taken_stays, read_old, free_stays, posted_stays, done_stays, collected_stays, free_once_stays}
 
 module _ {J O : Type 0} (views : List (View J O)) (w : View J O) where
   joined : {X : Type 0} (list : View J O → List X) → Goes list views (views ++ w ∷ [])
@@ -32,9 +32,13 @@ one_read : (i found slot word place : ℕ) → get_elem? {A = ℕ × ℕ} ((i, f
 one_read i found slot word zero e = ap (λ (z : ℕ × ℕ). z.0) (some-injective (i, found) (slot, word) e)
 one_read i found slot word (suc place) e = absurd (some-ne-none (slot, word) (sym e))
 
+one_found : (i found slot word place : ℕ) → get_elem? {A = ℕ × ℕ} ((i, found) ∷ []) place ≡ some (slot, word) → found ≡ word
+one_found i found slot word zero e = ap (λ (z : ℕ × ℕ). z.1) (some-injective (i, found) (slot, word) e)
+one_found i found slot word (suc place) e = absurd (some-ne-none (slot, word) (sym e))
+
 module _ {J O : Type 0} (answers : J → O → Type 0) where
-  comes : (s : State (Slot J O) (View J O)) (r : IsKept answers s) (i found : ℕ) → i ≡ r.slots → IsKept answers record { words = s.words; homes = s.homes; views = s.views ++ having_read newcomer ((i, found) ∷ []) ∷ [] }
-  comes s r i found last = let w : View J O = having_read newcomer ((i, found) ∷ []) in let after : List (View J O) = s.views ++ w ∷ [] in
+  comes : (s : State (Slot J O) (View J O)) (r : IsKept answers s) (i found : ℕ) → i ≡ r.slots → found ≡ get_or s.words r.slots 0 → IsKept answers record { words = s.words; homes = s.homes; views = s.views ++ having_read newcomer ((i, found) ∷ []) ∷ [] }
+  comes s r i found last seen = let w : View J O = having_read newcomer ((i, found) ∷ []) in let after : List (View J O) = s.views ++ w ∷ [] in
       let g : Grown s.views after = record { posted = joined s.views w posted_of; taken = joined s.views w taken_of; done = joined s.views w done_of; collected = joined s.views w collected_of } in record {
         slots = r.slots;
         phase = r.phase;
@@ -56,7 +60,11 @@ module _ {J O : Type 0} (answers : J → O → Type 0) where
         free = free_stays answers s r after g r.phase (without s.views w free_of refl) (λ _ e. e);
         free_once = free_once_stays answers s r after g (without s.views w free_of refl);
         leads = λ seat v e lead. ⊎_elim (λ old. r.leads seat v old lead) (λ d. absurd (no_lead (ap (λ (u : View J O). u.leads) d ∙ lead))) (at_snoc s.views w v seat e);
+        closes = λ seat v e shut. ⊎_elim (λ old. r.closes seat v old shut) (λ d. absurd (no_lead (ap (λ (u : View J O). u.closed) d ∙ shut))) (at_snoc s.views w v seat e);
+        closing = (r.closing.0, at_longer s.views (w ∷ []) 0 r.closing.0 r.closing.1, r.closing.2, r.closing.3);
+        seen = λ seat place st. let c = ⊎_elim (λ old. r.seen seat place old) (λ e. is_closed s.views s.words r.slots r.closing (sym seen ∙ one_found i found r.slots 1 place e)) (earlier s.views w read_of seat place (r.slots, 1) st) in
+            (c.0, c.1, at_longer s.views (w ∷ []) c.0 c.1 c.2, c.3);
       }
 
   pub enters : (n i : ℕ) → i ≡ n → Enters (IsBoard answers) n i (λ x w. entered (step n i 0 0 none) (opener, []) x (w, []))
-  enters n i last s h deep small = (having_read newcomer ((i, get_or s.words i 0) ∷ []), whole answers _ (comes s h.1 i (get_or s.words i 0) (last ∙ sym deep ∙ h.1.deep)), refl)
+  enters n i last s h deep small = (having_read newcomer ((i, get_or s.words i 0) ∷ []), whole answers _ (comes s h.1 i (get_or s.words i 0) (last ∙ sym deep ∙ h.1.deep) (ap (λ (z : ℕ). get_or s.words z 0) (last ∙ sym deep ∙ h.1.deep))), refl)

@@ -53,10 +53,9 @@ module _ {J O : Type 0} (me me1 me2 : Seated J O) (slot seen n : ℕ) (looked : 
       pub taken_basket : (slots : ℕ) (held : List (ℕ × ℕ)) → IsBasket slots held me.0 → slot < slots → n < 2 ^ 62 → IsBasket slots ((n, slot) ∷ held) me3.0
       taken_basket slots held b inside small = subst (λ (m : Seated J O). IsBasket slots ((n, slot) ∷ held) m.0) (sym taken_is) (basket_takes slots held me.0 n slot took.0 b inside small new_here)
 
-      pub taken_it : (job : J) → content ≡ Some (Job job) → (gained : List (ℕ × ℕ)) × (me3.0 ≡ after_take (having_read me.0 gained) n slot job) × HasJob me3.0 n slot job
-      taken_it job is = let same : took.0 ≡ job = one_job took.0 job content content_is is in let e = ap (λ (m : Seated J O). m.0) taken_is in (
-        (slot, seen) ∷ [],
-        e ∙ ap (λ (j : J). after_take (having_read me.0 ((slot, seen) ∷ [])) n slot j) same,
+      pub taken_it : (job : J) → content ≡ Some (Job job) → seen ≡ posted_word n → (me3.0 ≡ after_take (having_read me.0 ((slot, posted_word n) ∷ [])) n slot job) × HasJob me3.0 n slot job
+      taken_it job is shows = let same : took.0 ≡ job = one_job took.0 job content content_is is in let e = ap (λ (m : Seated J O). m.0) taken_is in (
+        e ∙ ap (λ (j : J). after_take (having_read me.0 ((slot, seen) ∷ [])) n slot j) same ∙ ap (λ (z : ℕ). after_take (having_read me.0 ((slot, z) ∷ [])) n slot job) shows,
         subst (λ (v : View J O). HasJob v n slot job) (sym e)
             ((length me.0.taken, at_last me.0.taken (n, (slot, took.0)) (length me.0.taken) refl ∙ ap (λ (j : J). some (n, (slot, j))) same), new_here.1),
       )
@@ -77,7 +76,5 @@ module _ {J O : Type 0} (slots : ℕ) (held less : List (ℕ × ℕ)) (x : ℕ �
     done_basket b = subst (λ (m : Seated J O). IsBasket slots less m.0) (sym done_is) (front_done slots held less x popped me.0 n k is b)
 
 -- after looks, a job was taken
-pub taken_after : {J O : Type 0} (v v' w : View J O) (a b : List (ℕ × ℕ)) (n slot : ℕ) (j : J) → v' ≡ having_read v a
-    → (w ≡ after_take (having_read v' b) n slot j) × HasJob w n slot j
-    → (gained : List (ℕ × ℕ)) × (slot : ℕ) × (w ≡ after_take (having_read v gained) n slot j) × HasJob w n slot j
-taken_after {J} {O} v v' w a b n slot j e t = (a ++ b, slot, t.0 ∙ ap {B = View J O} (λ (u : View J O). after_take u n slot j) (reads_then v v' (having_read v' b) a b e refl), t.1)
+pub taken_after : {J O : Type 0} (v v' w : View J O) (a b : List (ℕ × ℕ)) (n slot : ℕ) (j : J) → v' ≡ having_read v a → w ≡ after_take (having_read v' b) n slot j → w ≡ after_take (having_read v (a ++ b)) n slot j
+taken_after {J} {O} v v' w a b n slot j e t = t ∙ ap {B = View J O} (λ (u : View J O). after_take u n slot j) (reads_then v v' (having_read v' b) a b e refl)

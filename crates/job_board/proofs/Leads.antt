@@ -99,10 +99,8 @@ module _ {J O : Type 0} (me me1 : Seated J O) (slot seen n : ℕ) (looked : me1 
 -- after looks, an outcome was collected
 pub collected_after : {J O : Type 0} (answers : J → O → Type 0) (v v' w : View J O) (a b : List (ℕ × ℕ)) (n slot : ℕ) (o : O) → v' ≡ having_read v a
     → (w ≡ after_collect (having_read v' b) n o slot) × Uncollected v' n × ((j : J) × HasPosted v' n j × answers j o)
-    → (gained : List (ℕ × ℕ)) × (slot : ℕ) × (w ≡ after_collect (having_read v gained) n o slot) × Uncollected v n × ((j : J) × HasPosted v n j × answers j o)
+    → (w ≡ after_collect (having_read v (a ++ b)) n o slot) × Uncollected v n × ((j : J) × HasPosted v n j × answers j o)
 collected_after {J} {O} answers v v' w a b n slot o e t = (
-  a ++ b,
-  slot,
   t.0 ∙ ap {B = View J O} (λ (u : View J O). after_collect u n o slot) (reads_then v v' (having_read v' b) a b e refl),
   subst (λ (u : View J O). Uncollected u n) e t.1,
   (t.2.0, subst (λ (u : View J O). HasPosted u n t.2.0) e t.2.1, t.2.2),

@@ -1,5 +1,5 @@
 -- Looks keep the rule, also the lead's first ones, and so do closing and coming to the board.
-use Rattle.std.proofs.Common.{◌≡◌, ◌≢◌, ℕ, ◌<◌, true, List, [], ◌∷◌, ◌++◌, length, get_or, set, sym, refl, ap, ◌∙◌, subst, inl, ⊎_elim, arith, length-set, get_or-set_other, None}
+use Rattle.std.proofs.Common.{◌≡◌, ◌≢◌, ℕ, suc, ◌<◌, true, List, [], ◌∷◌, ◌++◌, length, get_or, set, sym, refl, ap, ◌∙◌, subst, inl, ⊎_elim, arith, length-set, get_or-set_same, get_or-set_other, None}
 use Rattle.std.proofs.lemmas.List.{set-get_or}
 use mathlib.Core.Option.{none, some, some-injective, some-ne-none}
 use mathlib.Core.Option as maybe
@@ -12,11 +12,11 @@ use Rattle.job_board.specs.declared.view.View.{View}
 use Rattle.job_board.specs.Words.{finished_word}
 use Rattle.job_board.specs.Views.{having_read, after_close, after_claim}
 use Rattle.job_board.specs.HandsOff.{posted_of, collected_of, free_of, taken_of, done_of, read_of}
-use Rattle.job_board.specs.Board.{Slot, idle, finished, number, Posts, IsSpare, SlotFits, FreeFits, FreeOnce, ReadFits, IsKept, IsBoard}
+use Rattle.job_board.specs.Board.{Slot, idle, finished, number, Posts, IsSpare, SlotFits, FreeFits, FreeOnce, ReadFits, ClosesFits, ClosingFits, SeenFits, IsKept, IsBoard}
 use Rattle.job_board.specs.Plays.{Seated, looked, sought, claimed, shut}
-use Rattle.job_board.proofs.Places.{mine, before, still, one_more}
+use Rattle.job_board.proofs.Places.{mine, set_there, before, still, one_more}
 use Rattle.job_board.proofs.Frees.{longer_free, longer_once, longer_spare, first_spare}
-use Rattle.job_board.proofs.Stays.{Grown, once_stays, leads_stay, slot_stays, bare, word_finished, at_phase, whole, read_old, taken_stays, read_stays, free_stays, posted_stays, done_stays, collected_stays, free_once_stays}
+use Rattle.job_board.proofs.Stays.{Grown, once_stays, leads_stay, closes_stay, closed_stays, closing_stays, is_closed, slot_stays, bare, word_finished, at_phase, whole, read_old, taken_stays, read_stays, free_stays, posted_stays, done_stays, collected_stays, free_once_stays}
 
 module _ {J O : Type 0} (answers : J → O → Type 0) (s : State (Slot J O) (View J O)) (r : IsKept answers s) where
   -- a view that says the same of jobs
@@ -50,13 +50,27 @@ module _ {J O : Type 0} (answers : J → O → Type 0) (s : State (Slot J O) (Vi
         (λ t. inl (seen_finished slot n (ap (λ (z : ℕ). get_or s.words z 0) (sym (ap (λ (z : ℕ × ℕ). z.0) t.2)) ∙ ap (λ (z : ℕ × ℕ). z.1) t.2) near))
         (one_more s.views id v w here read_of (i, get_or s.words i 0) more seat place (slot, finished_word n) st)
 
+    pub seen_more : w.closed ≡ v.closed → SeenFits (set s.views id w) r.slots
+    seen_more same seat place st = closed_stays s.views id v w here (λ e. same ∙ e) (⊎_elim (λ old. r.seen seat place old)
+        (λ t. is_closed s.views s.words r.slots r.closing (ap (λ (z : ℕ). get_or s.words z 0) (sym (ap (λ (z : ℕ × ℕ). z.0) t.2)) ∙ ap (λ (z : ℕ × ℕ). z.1) t.2))
+        (one_more s.views id v w here read_of (i, get_or s.words i 0) more seat place (r.slots, 1) st))
+
+    -- a look, which leaves the words as they are
+    closing_seen : w.leads ≡ v.leads → w.closed ≡ v.closed → ClosesFits (set s.views id w) × ClosingFits (set s.views id w) (set s.words i (get_or s.words i 0)) r.slots × SeenFits (set s.views id w) r.slots
+    closing_seen role same = (
+      closes_stay s.views id v w here (λ e. role ∙ r.closes id v here (sym same ∙ e)) r.closes,
+      closing_stays s.views id v w here s.words (set s.words i (get_or s.words i 0)) r.slots role same (ap (λ (l : List ℕ). get_or l r.slots 0) (set-get_or s.words i 0)) r.closing,
+      seen_more same,
+    )
+
   -- a step that changes no list of jobs
   module _ (id : ℕ) (v w : View J O) (here : get_elem? s.views id ≡ some v) (same_posted : w.posted ≡ v.posted) (same_collected : w.collected ≡ v.collected) (same_taken : w.taken ≡ v.taken) (same_done : w.done ≡ v.done) (same_role : w.leads ≡ v.leads) where
     view_keeps : (words : List ℕ) (homes : List (maybe.Option (Slot J O))) → length words ≡ length s.words → length homes ≡ length s.homes
         → ((i : ℕ) → i < r.slots → SlotFits (set s.views id w) answers (get_or words i 0) i (get_elem? homes i) (r.phase i))
         → ReadFits (set s.views id w) r.slots r.phase → FreeFits (set s.views id w) r.slots r.phase → FreeOnce (set s.views id w)
+        → ClosesFits (set s.views id w) × ClosingFits (set s.views id w) words r.slots × SeenFits (set s.views id w) r.slots
         → IsKept answers record { words = words; homes = homes; views = set s.views id w }
-    view_keeps words homes wide deep each read free once = let g = grown id v w here same_posted same_collected same_taken same_done in let after : List (View J O) = set s.views id w in record {
+    view_keeps words homes wide deep each read free once shut = let g = grown id v w here same_posted same_collected same_taken same_done in let after : List (View J O) = set s.views id w in record {
       slots = r.slots;
       phase = r.phase;
       wide = wide ∙ r.wide;
@@ -73,6 +87,9 @@ module _ {J O : Type 0} (answers : J → O → Type 0) (s : State (Slot J O) (Vi
       free = free;
       free_once = once;
       leads = leads_stay s.views id v w here same_role r.leads;
+      closes = shut.0;
+      closing = shut.1;
+      seen = shut.2;
     }
 
   pub look_keeps : (i id : ℕ) (v : View J O) → get_elem? s.views id ≡ some v
@@ -83,14 +100,28 @@ module _ {J O : Type 0} (answers : J → O → Type 0) (s : State (Slot J O) (Vi
       (read_more i id v w here refl g)
       (free_stays answers s r (set s.views id w) g r.phase (before s.views id v w here free_of refl) (λ _ e. e))
       (free_once_stays answers s r (set s.views id w) g (before s.views id v w here free_of refl))
+      (closing_seen i id v w here refl g refl refl)
 
-  close_keeps : (i x id : ℕ) (v : View J O) → get_elem? s.views id ≡ some v → i ≡ r.slots → IsKept answers record { words = set s.words i x; homes = s.homes; views = set s.views id (after_close v) }
-  close_keeps i x id v here last = let w : View J O = after_close v in let g = grown id v w here refl refl refl refl in
+  -- the lead closes: the closing word is 1 from now on
+  closing_now : (i x id : ℕ) (v : View J O) (here : get_elem? s.views id ≡ some v) → v.leads ≡ true → i ≡ r.slots → x ≡ 1 → ClosingFits (set s.views id (after_close v)) (set s.words i x) r.slots
+  closing_now i x id v here lead last one = let w : View J O = after_close v in let first : id ≡ 0 = r.leads id v here lead in let wide : length s.words ≡ suc r.slots = r.wide in (
+    w,
+    subst (λ (h : ℕ). get_elem? (set s.views id w) h ≡ some w) first (set_there s.views id v w here),
+    lead,
+    subst (λ (z : ℕ). get_or (set s.words z x) r.slots 0 ≡ 1) (sym last) (get_or-set_same s.words r.slots x 0 (omega arith) ∙ one),
+  )
+
+  close_keeps : (i x id : ℕ) (v : View J O) → get_elem? s.views id ≡ some v → v.leads ≡ true → i ≡ r.slots → x ≡ 1 → IsKept answers record { words = set s.words i x; homes = s.homes; views = set s.views id (after_close v) }
+  close_keeps i x id v here lead last one = let w : View J O = after_close v in let g = grown id v w here refl refl refl refl in
       view_keeps id v w here refl refl refl refl refl (set s.words i x) s.homes (length-set s.words i x) refl
       (λ k near. slot_same id v w here refl refl refl refl (set s.words i x) s.homes k near (get_or-set_other s.words i k x 0 (λ e. omega arith)) refl (λ t. (t.0, still s.views id v w here free_of refl 0 t.0 k t.1)))
       (read_stays answers s r (set s.views id w) g r.phase (before s.views id v w here read_of refl) (λ _ _ _ _ e. inl e))
       (free_stays answers s r (set s.views id w) g r.phase (before s.views id v w here free_of refl) (λ _ e. e))
-      (free_once_stays answers s r (set s.views id w) g (before s.views id v w here free_of refl))
+      (free_once_stays answers s r (set s.views id w) g (before s.views id v w here free_of refl)) (
+        closes_stay s.views id v w here (λ _. lead) r.closes,
+        closing_now i x id v here lead last one,
+        λ seat place st. closed_stays s.views id v w here (λ _. refl) (r.seen seat place (before s.views id v w here read_of refl seat place (r.slots, 1) st)),
+      )
 
   -- a slot of a board on which nothing was posted, and which the lead has not claimed yet
   module _ (k : ℕ) (v : View J O) (here : get_elem? s.views 0 ≡ some v) (none_posted : v.posted ≡ []) (inside : k < r.slots) (new : (at : ℕ) → get_elem? v.free at ≢ some k) where
@@ -111,6 +142,7 @@ module _ {J O : Type 0} (answers : J → O → Type 0) (s : State (Slot J O) (Vi
         (read_more k 0 v w here refl g)
         (longer_free s.views v w here r.slots r.phase r.phase k refl inside u.0 (λ _ e. e) r.free)
         (longer_once s.views v w here r.slots r.phase r.phase k refl new r.free_once)
+        (closing_seen k 0 v w here refl g refl refl)
 
 module _ {J O : Type 0} (answers : J → O → Type 0) where
   pub looks : (n id : ℕ) (me : Seated J O) (i : ℕ) → Allows (IsBoard answers) n id me i (λ x. x) (looked (step n i 0 0 none) me)
@@ -130,8 +162,8 @@ module _ {J O : Type 0} (answers : J → O → Type 0) where
     ),
   )
 
-  pub closes : (n id : ℕ) (me : Seated J O) (i x : ℕ) → i ≡ n → Allows (IsBoard answers) n id me i (λ _. x) (shut (step n i x 0 none) me)
-  closes n id me i x last s h deep here small = (after_close me.0, keeps, tt, whole answers _ (close_keeps answers s h.1 i x id me.0 here (last ∙ sym deep ∙ h.1.deep)), refl)
+  pub closes : (n id : ℕ) (me : Seated J O) (i x : ℕ) → me.0.leads ≡ true → i ≡ n → x ≡ 1 → Allows (IsBoard answers) n id me i (λ _. x) (shut (step n i x 0 none) me)
+  closes n id me i x lead last one s h deep here small = (after_close me.0, keeps, tt, whole answers _ (close_keeps answers s h.1 i x id me.0 here lead (last ∙ sym deep ∙ h.1.deep) one), refl)
 
   pub claims : (n id : ℕ) (me : Seated J O) (k : ℕ) → me.0.leads ≡ true → me.0.posted ≡ [] → k < n → ((at : ℕ) → get_elem? me.0.free at ≢ some k) → Allows (IsBoard answers) n id me k (λ x. x) (claimed (step n k 0 0 none) me)
   claims n id me k lead none_posted inside new s h deep here small = let r = h.1 in let first : id ≡ 0 = r.leads id me.0 here lead in let near : k < r.slots = subst (λ (z : ℕ). k < z) (sym deep ∙ r.deep) inside in

@@ -48,11 +48,18 @@ module _ {J O : Type 0} where
       free = λ a p k st. absurd (blank free_of refl a p k st);
       free_once = λ a p q k st su. absurd (blank free_of refl a p k st);
       leads = only_first;
+      closes = λ seat v e shut. absurd (open_still seat v e shut);
+      closing = (opener, refl, refl, zeros n);
+      seen = λ a p st. absurd (blank read_of refl a p (n, 1) st);
     }
       where
         only_first : (seat : ℕ) (v : View J O) → get_elem? (opener ∷ []) seat ≡ some v → v.leads ≡ true → seat ≡ 0
         only_first zero v e lead = refl
         only_first (suc seat) v e lead = absurd (some-ne-none v (sym e))
+
+        open_still : (seat : ℕ) (v : View J O) → get_elem? (opener ∷ []) seat ≡ some v → v.closed ≡ true → ⊥
+        open_still zero v e shut = let c : false ≡ true = ap (λ (u : View J O). u.closed) (some-injective opener v e) ∙ shut in (cc)
+        open_still (suc seat) v e shut = some-ne-none v (sym e)
 
 pub zeros_there : (n k : ℕ) → get_or {A = ℕ} (replicate n 0) k 0 ≡ 0
 zeros_there zero k = refl
@@ -89,9 +96,6 @@ module _ {J O : Type 0} where
     (λ at n j e. absurd (nothing_at at (n, j) (subst (λ xs. get_elem? xs at ≡ some (n, j)) none e))),
     (λ at n o e. absurd (nothing_at at (n, o) (subst (λ xs. get_elem? xs at ≡ some (n, o)) unseen e))),
   )
-
-  pub sat_down : (me : View J O × List (ℕ × Slot J O)) → me ≡ (opener, []) → (me.0.leads ≡ true) × (me.0.posted ≡ []) × (me.0.collected ≡ []) × (me.0.closed ≡ false)
-  sat_down me sat = subst (λ m. (m.0.leads ≡ true) × (m.0.posted ≡ []) × (m.0.collected ≡ []) × (m.0.closed ≡ false)) (sym sat) (refl, refl, refl, refl)
 
   -- with all slots claimed each is free
   pub all_free : (slots claimed : ℕ) (free : List ℕ) (v : View J O) → v.posted ≡ [] → v.collected ≡ [] → v.free ≡ reverse free → length free ≡ claimed → claimed ≤ slots → slots ≤ claimed →

@@ -1,17 +1,17 @@
 -- What stays of the rule while the views of seats grow and one slot goes on.
-use Rattle.std.proofs.Common.{◌≡◌, ◌≢◌, ℕ, suc, ◌<◌, ◌⊎◌, Bool, cond, List, [], ◌∷◌, ◌++◌, get_or, set, sym, refl, ap, ◌∙◌, subst, inl, inr, ⊎_elim, arith, eqb, eq-eqb, ne_eqb, get_or-set_other}
-use mathlib.Core.Option.{some}
+use Rattle.std.proofs.Common.{◌≡◌, ◌≢◌, ℕ, suc, ◌<◌, ◌⊎◌, Bool, true, false, cond, List, [], ◌∷◌, ◌++◌, get_or, set, length, sym, refl, ap, ◌∙◌, subst, inl, inr, ⊎_elim, arith, eqb, eq-eqb, ne_eqb, get_or-set_other}
+use mathlib.Core.Option.{some, some-injective}
 use mathlib.Core.Option as maybe
 use mathlib.Core.Logic.{dite}
 use native.Mathlib.Decide.{ℕ_discrete}
 use lib.ListN.{get_elem?}
 use Rattle.atomic_table.specs.Table.{State}
 use Rattle.job_board.specs.declared.view.View.{View}
-use Rattle.job_board.specs.Words.{posted_word, taken_word, finished_word}
-use Rattle.job_board.specs.HandsOff.{posted_of, collected_of, free_of, taken_of, done_of, read_of, Stands, Once, HandsOff}
-use Rattle.job_board.specs.Board.{Slot, Phase, idle, waiting, running, finished, number, Posts, IsDone, IsCollected, IsSpare, NotCollected, NotTaken, SlotFits, PostedFits, DoneFits, CollectedFits, TakenFits, ReadFits, FreeFits, FreeOnce, LeadsFits, Apart, IsKept, IsBoard}
-use Rattle.job_board.proofs.Places.{Goes, one_entry, before, one_more}
-use Rattle.atomic_table.proofs.Lists.{at_set}
+use Rattle.job_board.specs.Words.{posted_word, taken_word, finished_word, closing_word}
+use Rattle.job_board.specs.HandsOff.{posted_of, collected_of, free_of, taken_of, done_of, read_of, Stands, Once, IsClosed, HandsOff}
+use Rattle.job_board.specs.Board.{Slot, Phase, idle, waiting, running, finished, number, Posts, IsDone, IsCollected, IsSpare, NotCollected, NotTaken, SlotFits, PostedFits, DoneFits, CollectedFits, TakenFits, ReadFits, FreeFits, FreeOnce, LeadsFits, ClosesFits, ClosingFits, SeenFits, Apart, IsKept, IsBoard}
+use Rattle.job_board.proofs.Places.{Goes, one_entry, set_there, before, one_more}
+use Rattle.atomic_table.proofs.Lists.{at_set, set_else}
 
 module _ {P : Type 0} where
   -- a function with another value at one number
@@ -93,17 +93,21 @@ module _ {J O : Type 0} (answers : J → O → Type 0) (s : State (Slot J O) (Vi
   at_phase slot inside p e = subst (SlotFits s.views answers (get_or s.words slot 0) slot (get_elem? s.homes slot)) e (r.each_slot slot inside)
 
   -- what is kept tells how jobs are handed on
-  pub told : HandsOff answers s.views
+  pub told : HandsOff answers (length s.homes) s.views
   told = record {
     posted_once = λ a p b q n x y st su. let f = r.posted a p n x st in let h = r.posted b q n y su in let e : n ≡ suc p = f.1 in let d : n ≡ suc q = h.1 in (f.0 ∙ sym h.0, (let same : p ≡ q = omega arith in same));
     taken_once = r.taken_once;
     collected_once = r.collected_once;
     taken_posted = λ hand place n slot j st. let p = (r.taken hand place n slot j st).0 in (0, p.0, p.2);
+    done_taken = r.done;
     collected_done = λ lead place n o st. (r.collected lead place n o st).1;
     answered = λ lead place n o st lead' place' j su. let c = (r.collected lead place n o st).2 in let f = r.posted lead' place' n j su in let p = c.1 in
         let a : n ≡ suc p.0 = p.1 in let b : n ≡ suc place' = f.1 in let same : place' ≡ p.0 = omega arith in
         let su0 : Stands posted_of s.views 0 p.0 (n, j) = subst (λ (z : ℕ). Stands posted_of s.views 0 z (n, j)) same (subst (λ (z : ℕ). Stands posted_of s.views z place' (n, j)) f.0 su) in
         subst (λ (z : J). answers z o) (ap (λ (z : ℕ × J). z.1) (one_entry posted_of s.views 0 p.0 (n, c.0) (n, j) p.2 su0)) c.2;
+    one_lead = λ seat seat' v v' e e' lead lead'. r.leads seat v e lead ∙ sym (r.leads seat' v' e' lead');
+    lead_closes = r.closes;
+    seen_closed = subst (SeenFits s.views) (sym r.deep) r.seen;
   }
 
   pub whole : IsBoard answers s
@@ -184,9 +188,40 @@ module _ {J O : Type 0} (views : List (View J O)) (id : ℕ) (v w : View J O) (h
   pub leads_stay : w.leads ≡ v.leads → LeadsFits views → LeadsFits (set views id w)
   leads_stay same fits seat u e lead = ⊎_elim (λ t. t.0 ∙ fits id v here (sym same ∙ ap (λ (z : View J O). z.leads) t.1 ∙ lead)) (λ t. fits seat u t.1 lead) (at_set views id seat w u e)
 
+  pub closes_stay : (w.closed ≡ true → w.leads ≡ true) → ClosesFits views → ClosesFits (set views id w)
+  closes_stay new fits seat u e shut = ⊎_elim (λ t. ap (λ (z : View J O). z.leads) (sym t.1) ∙ new (ap (λ (z : View J O). z.closed) t.1 ∙ shut)) (λ t. fits seat u t.1 shut) (at_set views id seat w u e)
+
+  pub closed_stays : (v.closed ≡ true → w.closed ≡ true) → IsClosed views → IsClosed (set views id w)
+  closed_stays more c = dite (ℕ_discrete c.0 id)
+      (λ e. (id, w, set_there views id v w here, more (ap (λ (z : View J O). z.closed) (some-injective v c.1 (sym here ∙ ap (get_elem? views) (sym e) ∙ c.2)) ∙ c.3)))
+      (λ n. (c.0, c.1, set_else views id c.0 w n ∙ c.2, c.3))
+
+  -- a step that closes nothing
+  module _ (words after : List ℕ) (slots : ℕ) (role : w.leads ≡ v.leads) (same : w.closed ≡ v.closed) where
+    pub closing_stays : get_or after slots 0 ≡ get_or words slots 0 → ClosingFits views words slots → ClosingFits (set views id w) after slots
+    closing_stays word c = dite (ℕ_discrete 0 id)
+        (λ e. let is : c.0 ≡ v = some-injective c.0 v (sym c.1 ∙ ap (get_elem? views) e ∙ here) in (
+          w,
+          subst (λ (h : ℕ). get_elem? (set views id w) h ≡ some w) (sym e) (set_there views id v w here),
+          role ∙ ap (λ (z : View J O). z.leads) (sym is) ∙ c.2,
+          word ∙ c.3 ∙ ap (λ (z : View J O). closing_word z.closed) is ∙ ap closing_word (sym same),
+        ))
+        (λ n. (c.0, set_else views id 0 w n ∙ c.1, c.2, word ∙ c.3))
+
+    pub seen_stays : w.read ≡ v.read → SeenFits views slots → SeenFits (set views id w) slots
+    seen_stays reads fits seat place st = closed_stays (λ e. same ∙ e) (fits seat place (before views id v w here read_of reads seat place (slots, 1) st))
+
   -- a number stands once more, where no seat's list had it
   pub once_more : {X : Type 0} (list : View J O → List (ℕ × X)) (m : ℕ) (y : X) → list w ≡ list v ++ (m, y) ∷ [] → ((seat place : ℕ) (x : X) → Stands list views seat place (m, x) → ⊥) → Once list views → Once list (set views id w)
   once_more {X} list m y more new once a p b q n x z st su = let first : ℕ × X → ℕ = λ t. t.0 in
       ⊎_elim (λ old. ⊎_elim (λ old'. once a p b q n x z old old') (λ t. absurd (new a p x (subst (λ (k : ℕ). Stands list views a p (k, x)) (sym (ap first t.2)) old))) (one_more views id v w here list (m, y) more b q (n, z) su))
       (λ t. ⊎_elim (λ old'. absurd (new b q z (subst (λ (k : ℕ). Stands list views b q (k, z)) (sym (ap first t.2)) old'))) (λ t'. (t.0 ∙ sym t'.0, t.1 ∙ sym t'.1)) (one_more views id v w here list (m, y) more b q (n, z) su))
       (one_more views id v w here list (m, y) more a p (n, x) st)
+
+-- a closing word of 1 says that the lead has closed
+says_closed : (b : Bool) → closing_word b ≡ 1 → b ≡ true
+says_closed true e = refl
+says_closed false e = absurd (omega arith)
+
+pub is_closed : {J O : Type 0} (views : List (View J O)) (words : List ℕ) (slots : ℕ) → ClosingFits views words slots → get_or words slots 0 ≡ 1 → IsClosed views
+is_closed views words slots c one = (0, c.0, c.1, says_closed c.0.closed (sym c.3 ∙ one))

@@ -1,5 +1,5 @@
 -- The steps that hand a job on keep the rule.
-use Rattle.std.proofs.Common.{◌≡◌, ◌≢◌, ℕ, suc, ◌<◌, ◌⊎◌, List, length, get_or, set, sym, refl, ap, ◌∙◌, subst, inl, inr, ⊎_elim, arith, length-set, get_or-set_same, Some}
+use Rattle.std.proofs.Common.{◌≡◌, ◌≢◌, ℕ, suc, ◌<◌, ◌⊎◌, List, length, get_or, set, sym, refl, ap, ◌∙◌, subst, inl, inr, ⊎_elim, arith, length-set, get_or-set_same, get_or-set_other, Some}
 use mathlib.Core.Option.{none, some}
 use mathlib.Core.Option as maybe
 use mathlib.Core.Logic.{dite}
@@ -12,9 +12,9 @@ use Rattle.job_board.specs.declared.view.Content.TheVariants.{Job, Outcome}
 use Rattle.job_board.specs.Words.{posted_word, taken_word, finished_word}
 use Rattle.job_board.specs.Views.{after_post, after_take, after_done, after_collect}
 use Rattle.job_board.specs.HandsOff.{posted_of, collected_of, free_of, taken_of, done_of, read_of, Stands}
-use Rattle.job_board.specs.Board.{Slot, Phase, idle, waiting, running, finished, number, Posts, IsDone, SlotFits, IsKept}
+use Rattle.job_board.specs.Board.{Slot, Phase, idle, waiting, running, finished, number, Posts, IsDone, ClosesFits, ClosingFits, SeenFits, SlotFits, IsKept}
 use Rattle.job_board.proofs.Places.{within, mine, before, still, longer, one_more, last_there}
-use Rattle.job_board.proofs.Stays.{put, at_put, put_here, put_else, Grown, posts, dones, slot_posts, at_phase, each_put, apart_put, taken_old, taken_stays, read_stays, free_stays, posted_stays, done_old, done_stays, collected_old, collected_stays, free_once_stays, once_stays, once_more, leads_stay}
+use Rattle.job_board.proofs.Stays.{put, at_put, put_here, put_else, Grown, posts, dones, slot_posts, at_phase, each_put, apart_put, taken_old, taken_stays, read_stays, free_stays, posted_stays, done_old, done_stays, collected_old, collected_stays, free_once_stays, once_stays, once_more, leads_stay, closes_stay, closing_stays, seen_stays}
 use Rattle.job_board.proofs.Frees.{longer_free, longer_once, longer_spare, first_spare, shorter_free, shorter_once, shorter_spare}
 
 -- where a slot is at another phase than this, it is another slot
@@ -34,6 +34,15 @@ module _ {J O : Type 0} (answers : J → O → Type 0) (s : State (Slot J O) (Vi
   home_here : (y : maybe.Option (Slot J O)) → get_elem? (set s.homes k y) k ≡ some y
   home_here y = set_here s.homes k y (subst (λ (z : ℕ). k < z) (sym r.deep) inside)
 
+  -- the closing word is another, and no view says that the board is closed that did not
+  module _ (id : ℕ) (v w : View J O) (here : get_elem? s.views id ≡ some v) (role : w.leads ≡ v.leads) (same : w.closed ≡ v.closed) (reads : w.read ≡ v.read) where
+    closing_too : ClosesFits (set s.views id w) × ClosingFits (set s.views id w) (set s.words k x) r.slots × SeenFits (set s.views id w) r.slots
+    closing_too = let near : k < r.slots = inside in (
+      closes_stay s.views id v w here (λ e. role ∙ r.closes id v here (sym same ∙ e)) r.closes,
+      closing_stays s.views id v w here s.words (set s.words k x) r.slots role same (get_or-set_other s.words k r.slots x 0 (λ e. omega arith)) r.closing,
+      seen_stays s.views id v w here s.words (set s.words k x) r.slots role same reads r.seen,
+    )
+
   -- the lead posts a job in its first free slot
   module _ (v : View J O) (here : get_elem? s.views 0 ≡ some v) (n : ℕ) (j : J) (next : n ≡ suc (length v.posted)) (top : get_elem? v.free 0 ≡ some k) (shows : x ≡ posted_word n) where
     abbrev P : View J O
@@ -49,7 +58,7 @@ module _ {J O : Type 0} (answers : J → O → Type 0) (s : State (Slot J O) (Vi
     other_kind c apart i e = put_else r.phase k (waiting n j) i (elsewhere r.phase k idle c was_idle apart i e) ∙ e
 
     pub post_keeps : IsKept answers record { words = set s.words k x; homes = set s.homes k (some (Some (Job j))); views = set s.views 0 (after_post v n j) }
-    post_keeps = let after : List (View J O) = set s.views 0 P in
+    post_keeps = let after : List (View J O) = set s.views 0 P in let shut = closing_too 0 v P here refl refl refl in
         let g : Grown s.views after = record { posted = longer s.views 0 v P here posted_of (n, j) refl; taken = still s.views 0 v P here taken_of refl; done = still s.views 0 v P here done_of refl; collected = still s.views 0 v P here collected_of refl } in
         let now : Posts after n j = (length v.posted, next, last_there s.views 0 v P here posted_of (n, j) refl) in record {
           slots = r.slots;
@@ -77,6 +86,9 @@ module _ {J O : Type 0} (answers : J → O → Type 0) (s : State (Slot J O) (Vi
           free = shorter_free s.views v P here r.slots r.phase (put r.phase k (waiting n j)) k refl top (λ i other e. put_else r.phase k (waiting n j) i other ∙ e) r.free r.free_once;
           free_once = shorter_once s.views v P here r.slots r.phase r.phase k refl top r.free_once;
           leads = leads_stay s.views 0 v P here refl r.leads;
+          closes = shut.0;
+          closing = shut.1;
+          seen = shut.2;
         }
 
   -- a hand takes the job that waits in the slot
@@ -91,7 +103,7 @@ module _ {J O : Type 0} (answers : J → O → Type 0) (s : State (Slot J O) (Vi
     taken_kind c apart i e = put_else r.phase k (running n j id) i (elsewhere r.phase k (waiting n j) c was apart i e) ∙ e
 
     pub take_keeps : IsKept answers record { words = set s.words k x; homes = set s.homes k none; views = set s.views id (after_take v n k j) }
-    take_keeps = let after : List (View J O) = set s.views id T in let f = fits_waiting in
+    take_keeps = let after : List (View J O) = set s.views id T in let shut = closing_too id v T here refl refl refl in let f = fits_waiting in
         let g : Grown s.views after = record { posted = still s.views id v T here posted_of refl; taken = longer s.views id v T here taken_of (n, (k, j)) refl; done = still s.views id v T here done_of refl; collected = still s.views id v T here collected_of refl } in
         let runs = λ (i m : ℕ) (y : J) (h : ℕ) (e : r.phase i ≡ running m y h). inl (taken_kind (running m y h) (λ c. (cc)) i e) in record {
           slots = r.slots;
@@ -116,6 +128,9 @@ module _ {J O : Type 0} (answers : J → O → Type 0) (s : State (Slot J O) (Vi
           free = free_stays answers s r after g (put r.phase k (running n j id)) (before s.views id v T here free_of refl) (taken_kind idle (λ c. (cc)));
           free_once = free_once_stays answers s r after g (before s.views id v T here free_of refl);
           leads = leads_stay s.views id v T here refl r.leads;
+          closes = shut.0;
+          closing = shut.1;
+          seen = shut.2;
         }
 
   -- the hand gives the outcome of the job that it runs there
@@ -130,7 +145,7 @@ module _ {J O : Type 0} (answers : J → O → Type 0) (s : State (Slot J O) (Vi
     done_kind c apart i e = put_else r.phase k (finished n j o) i (elsewhere r.phase k (running n j id) c was apart i e) ∙ e
 
     pub done_keeps : IsKept answers record { words = set s.words k x; homes = set s.homes k (some (Some (Outcome o))); views = set s.views id (after_done v n) }
-    done_keeps = let after : List (View J O) = set s.views id D in let f = fits_running in
+    done_keeps = let after : List (View J O) = set s.views id D in let shut = closing_too id v D here refl refl refl in let f = fits_running in
         let g : Grown s.views after = record { posted = still s.views id v D here posted_of refl; taken = still s.views id v D here taken_of refl; done = longer s.views id v D here done_of n refl; collected = still s.views id v D here collected_of refl } in
         let now : Stands done_of after id (length v.done) n = last_there s.views id v D here done_of n refl in record {
           slots = r.slots;
@@ -158,6 +173,9 @@ module _ {J O : Type 0} (answers : J → O → Type 0) (s : State (Slot J O) (Vi
           free = free_stays answers s r after g (put r.phase k (finished n j o)) (before s.views id v D here free_of refl) (done_kind idle (λ c. (cc)));
           free_once = free_once_stays answers s r after g (before s.views id v D here free_of refl);
           leads = leads_stay s.views id v D here refl r.leads;
+          closes = shut.0;
+          closing = shut.1;
+          seen = shut.2;
         }
 
   -- the lead collects the outcome that lies in the slot
@@ -176,7 +194,7 @@ module _ {J O : Type 0} (answers : J → O → Type 0) (s : State (Slot J O) (Vi
     was_busy at e = let is : finished n j o ≡ idle = sym was ∙ (r.free 0 at k (v, here, e)).2 in (cc)
 
     pub collect_keeps : IsKept answers record { words = set s.words k x; homes = set s.homes k none; views = set s.views 0 (after_collect v n o k) }
-    collect_keeps = let after : List (View J O) = set s.views 0 C in let f = fits_finished in
+    collect_keeps = let after : List (View J O) = set s.views 0 C in let shut = closing_too 0 v C here refl refl refl in let f = fits_finished in
         let g : Grown s.views after = record { posted = still s.views 0 v C here posted_of refl; taken = still s.views 0 v C here taken_of refl; done = still s.views 0 v C here done_of refl; collected = longer s.views 0 v C here collected_of (n, o) refl } in
         let now : Stands collected_of after 0 (length v.collected) (n, o) = last_there s.views 0 v C here collected_of (n, o) refl in record {
           slots = r.slots;
@@ -204,4 +222,7 @@ module _ {J O : Type 0} (answers : J → O → Type 0) (s : State (Slot J O) (Vi
           free = longer_free s.views v C here r.slots r.phase (put r.phase k idle) k refl inside (put_here r.phase k idle) (λ i e. at_put r.phase k idle (λ h p. r.phase h ≡ idle → p ≡ idle) i (λ _. refl) (λ _ d. d) e) r.free;
           free_once = longer_once s.views v C here r.slots r.phase r.phase k refl was_busy r.free_once;
           leads = leads_stay s.views 0 v C here refl r.leads;
+          closes = shut.0;
+          closing = shut.1;
+          seen = shut.2;
         }

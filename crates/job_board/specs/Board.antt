@@ -7,8 +7,8 @@ use Rattle.atomic_table.specs.Table.{State}
 use Rattle.job_board.specs.declared.view.View.{View}
 use Rattle.job_board.specs.declared.view.Content.{Content}
 use Rattle.job_board.specs.declared.view.Content.TheVariants.{Job, Outcome}
-use Rattle.job_board.specs.Words.{posted_word, taken_word, finished_word}
-use Rattle.job_board.specs.HandsOff.{posted_of, collected_of, free_of, taken_of, done_of, read_of, Stands, Once, HandsOff}
+use Rattle.job_board.specs.Words.{posted_word, taken_word, finished_word, closing_word}
+use Rattle.job_board.specs.HandsOff.{posted_of, collected_of, free_of, taken_of, done_of, read_of, Stands, Once, IsClosed, HandsOff}
 
 abbrev pub Slot : Type 0 → Type 0 → Type 0
 Slot J O = Option (Content J O)
@@ -70,6 +70,18 @@ module _ {J O : Type 0} where
     abbrev pub LeadsFits : Type 0
     LeadsFits = (seat : ℕ) (v : View J O) → get_elem? views seat ≡ some v → v.leads ≡ true → seat ≡ 0
 
+    -- only the lead closes
+    abbrev pub ClosesFits : Type 0
+    ClosesFits = (seat : ℕ) (v : View J O) → get_elem? views seat ≡ some v → v.closed ≡ true → v.leads ≡ true
+
+    -- the first seat is the lead's, and the closing word is 1 exactly where the lead has closed
+    abbrev pub ClosingFits : List ℕ → ℕ → Type 0
+    ClosingFits words slots = (v : View J O) × (get_elem? views 0 ≡ some v) × (v.leads ≡ true) × (slice_index words slots ≡ closing_word v.closed)
+
+    -- where the closing word was seen as 1, the board is closed
+    abbrev pub SeenFits : ℕ → Type 0
+    SeenFits slots = (seat place : ℕ) → Stands read_of views seat place (slots, 1) → IsClosed views
+
     module _ (slots : ℕ) (phase : ℕ → Phase J O) where
       -- what was taken was posted, and runs in its slot until it is done
       abbrev pub TakenFits : Type 0
@@ -103,6 +115,9 @@ pub record IsKept {J O : Type 0} (answers : J → O → Type 0) (s : State (Slot
   pub free : FreeFits s.views slots phase
   pub free_once : FreeOnce s.views
   pub leads : LeadsFits s.views
+  pub closes : ClosesFits s.views
+  pub closing : ClosingFits s.views s.words slots
+  pub seen : SeenFits s.views slots
 
 abbrev pub IsBoard : {J O : Type 0} → (J → O → Type 0) → State (Slot J O) (View J O) → Type 0
-IsBoard answers s = HandsOff answers s.views × IsKept answers s
+IsBoard answers s = HandsOff answers (length s.homes) s.views × IsKept answers s

@@ -12,6 +12,10 @@ module _ {J O : Type 0} where
   abbrev pub newcomer : View J O
   newcomer = record { leads = false; posted = []; collected = []; free = []; closed = false; taken = []; done = []; read = [] }
 
+  -- the lead of a new board: these slots are its own, and it has read this
+  abbrev pub opened : List ℕ → List (ℕ × ℕ) → View J O
+  opened free read = record opener { free = free; read = read }
+
   -- a look: which words were read, and what was found there
   abbrev pub having_read : View J O → List (ℕ × ℕ) → View J O
   having_read v gained = record v { read = v.read ++ gained }
@@ -64,7 +68,15 @@ abbrev pub MissedAll : ℕ → List (ℕ × ℕ) → Type 0
 MissedAll zero gained = gained ≡ []
 MissedAll (suc slot) gained = (before : List (ℕ × ℕ)) × (last : List (ℕ × ℕ)) × MissedAll slot before × Missed slot last × (gained ≡ before ++ last)
 
+-- no job waited in the slots below this one, and in this one waited that of the number
+abbrev pub FoundJob : ℕ → ℕ → List (ℕ × ℕ) → Type 0
+FoundJob slot n gained = (before : List (ℕ × ℕ)) × MissedAll slot before × (gained ≡ before ++ (slot, posted_word n) ∷ [])
+
 -- each slot below a count was read, in order, and none showed an outcome
 abbrev pub NoneFinished : ℕ → List (ℕ × ℕ) → Type 0
 NoneFinished zero gained = gained ≡ []
 NoneFinished (suc slot) gained = (before : List (ℕ × ℕ)) × (found : ℕ) × NoneFinished slot before × ((n : ℕ) → found ≢ finished_word n) × (gained ≡ before ++ (slot, found) ∷ [])
+
+-- no slot below this one showed an outcome, and this one showed that of the number
+abbrev pub FoundOutcome : ℕ → ℕ → List (ℕ × ℕ) → Type 0
+FoundOutcome slot n gained = (before : List (ℕ × ℕ)) × NoneFinished slot before × (gained ≡ before ++ (slot, finished_word n) ∷ [])

@@ -1,5 +1,5 @@
 -- What the word of a slot says: 0 where it is free, and else which job is in it, and how far that is.
-use Rattle.std.specs.Prelude.{ℕ, ◌≡◌, ◌+◌, ◌*◌, ◌%◌, ◌<◌, ◌^◌}
+use Rattle.std.specs.Prelude.{ℕ, ◌≡◌, ◌+◌, ◌*◌, ◌%◌, ◌<◌, ◌^◌, Bool, cond}
 use Rattle.job_board.specs.declared.slot_state.SlotState.{SlotState}
 use Rattle.job_board.specs.declared.slot_state.SlotState.TheVariants.{Free, Posted, Taken, Finished}
 
@@ -35,3 +35,7 @@ IsSmall Free = Unit {0}
 IsSmall (Posted n) = n < 2 ^ 62
 IsSmall (Taken n) = n < 2 ^ 62
 IsSmall (Finished n) = n < 2 ^ 62
+
+-- the closing word, which stands behind those of the slots: 1 once the board is closed
+abbrev pub closing_word : Bool → ℕ
+closing_word closed = cond closed 1 0

@@ -1,7 +1,8 @@
 // A new board.
-ghost use Rattle.std.specs.Prelude.{◌≡◌, ℕ, [], false, length, IfOk};
+ghost use Rattle.std.specs.Prelude.{◌≡◌, ℕ, List, [], ◌∷◌, length, IfOk};
 ghost use mathlib.Core.Option.{some};
 ghost use lib.ListN.{get_elem?};
+ghost use Rattle.job_board.specs.Views.{opened, newcomer, having_read};
 ghost use Rattle.job_board.specs.Ends.{lead_view, lead_slots, lead_table, hand_view, hand_slots, hand_table};
 
 use crate::bells::Bells;
@@ -17,15 +18,16 @@ use std::sync::Arc;
 pub struct Board;
 
 impl Board {
-    /// The lead and the hands of a new board, on which nothing is posted.
+    /// The lead and the hands of a new board, on which nothing is posted. Each slot is the lead's. A hand has looked once whether the board is closed, and
+    /// has done nothing else.
     pub fn new<T: Task>(
         alloc: Global,
         slots: usize,
         hands: usize,
     ) -> Result<(Lead<T>, Vec<Hand<T>>), AllocError>
-        ensures lead { IfOk result (λ b. (lead_slots b.0 ≡ slots) × ((lead_view b.0).posted ≡ []) × ((lead_view b.0).collected ≡ []) × ((lead_view b.0).closed ≡ false)) }
+        ensures lead { IfOk result (λ b. (lead_slots b.0 ≡ slots) × ((free : List ℕ) × (read : List (ℕ × ℕ)) × (lead_view b.0 ≡ opened free read))) }
         ensures count { IfOk result (λ b. length b.1.items ≡ hands) }
-        ensures hands { IfOk result (λ b. (at : ℕ) (h : _) → get_elem? b.1.items at ≡ some h → (hand_table h ≡ lead_table b.0) × (hand_slots h ≡ slots) × ((hand_view h).taken ≡ []) × ((hand_view h).done ≡ [])) }
+        ensures hands { IfOk result (λ b. (at : ℕ) (h : _) → get_elem? b.1.items at ≡ some h → (hand_table h ≡ lead_table b.0) × (hand_slots h ≡ slots) × ((found : ℕ) × (hand_view h ≡ having_read newcomer ((slots, found) ∷ [])))) }
     {
         let Some(count) = slots.checked_add(1) else {
             return Err(AllocError);

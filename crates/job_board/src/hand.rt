@@ -45,8 +45,9 @@ fn place_of(held: &VecDeque<(JobNumber, usize)>, number: JobNumber) -> Option<us
 }
 
 impl<T: Task> Hand<T> {
-    ghost use Rattle.std.specs.Prelude.{◌-◌, List, [], ◌∷◌, IfNone, IfOk, true, false};
-    ghost use Rattle.job_board.specs.Views.{having_read, after_take, after_done, HasJob, Missed, MissedAll};
+    ghost use Rattle.std.specs.Prelude.{◌-◌, List, [], ◌∷◌, IfNone, IfOk, true, false, MatchBool};
+    ghost use Rattle.job_board.specs.Views.{newcomer, having_read, after_take, after_done, HasJob, Missed, MissedAll, FoundJob};
+    ghost use Rattle.job_board.specs.Words.{posted_word};
     ghost use Rattle.job_board.specs.Ends.{hand_view, hand_slots, hand_table, hand_bell};
 
     // A hand that comes to a board.
@@ -58,7 +59,7 @@ impl<T: Task> Hand<T> {
     ) -> Result<Hand<T>, AllocError>
         requires { ((arc_value board).shared.table_id.slots ≡ slots) × ((arc_value board).shared.table_id.words ≡ slots + 1) }
         ensures slots { IfOk result (λ h. (hand_slots h ≡ slots) × (hand_table h ≡ (arc_value board).shared.table_id)) }
-        ensures view { IfOk result (λ h. ((hand_view h).taken ≡ []) × ((hand_view h).done ≡ [])) }
+        ensures view { IfOk result (λ h. (found : ℕ) × (hand_view h ≡ having_read newcomer ((slots, found) ∷ []))) }
     {
         let held = VecDeque::with_capacity(alloc, slots)?;
         let (_, seat) = board.shared.load_new_seat::<Enter>(slots);
@@ -76,7 +77,7 @@ impl<T: Task> Hand<T> {
         requires { slot < hand_slots self.old }
         ensures taken { MatchOption result
             ((gained : List (ℕ × ℕ)) × (hand_view self.new ≡ having_read (hand_view self.old) gained) × Missed slot gained)
-            (λ t. (gained : List (ℕ × ℕ)) × (hand_view self.new ≡ after_take (having_read (hand_view self.old) gained) t.0 slot t.1) × HasJob (hand_view self.new) t.0 slot t.1) }
+            (λ t. (hand_view self.new ≡ after_take (having_read (hand_view self.old) ((slot, posted_word t.0) ∷ [])) t.0 slot t.1) × HasJob (hand_view self.new) t.0 slot t.1) }
         ensures slots { hand_slots self.new ≡ hand_slots self.old }
     {
         let words = &self.board.shared;
@@ -94,11 +95,11 @@ impl<T: Task> Hand<T> {
         Some((number, Content::into_job(content)))
     }
 
-    /// Takes a job that waits, with its number. It tries each slot once at most, and waits for nobody.
+    /// Takes a job that waits, with its number: that of the first slot in which it gets one. It tries each slot once at most, and waits for nobody.
     pub fn try_take(&mut self) -> Option<(JobNumber, T::Job)>
         ensures taken { MatchOption result
             ((gained : List (ℕ × ℕ)) × (hand_view self.new ≡ having_read (hand_view self.old) gained) × MissedAll (hand_slots self.old) gained)
-            (λ t. (gained : List (ℕ × ℕ)) × (slot : ℕ) × (hand_view self.new ≡ after_take (having_read (hand_view self.old) gained) t.0 slot t.1) × HasJob (hand_view self.new) t.0 slot t.1) }
+            (λ t. (gained : List (ℕ × ℕ)) × (slot : ℕ) × (hand_view self.new ≡ after_take (having_read (hand_view self.old) gained) t.0 slot t.1) × HasJob (hand_view self.new) t.0 slot t.1 × FoundJob slot t.0 gained) }
         ensures slots { hand_slots self.new ≡ hand_slots self.old }
     {
         for slot in 0..self.slots {
@@ -111,7 +112,7 @@ impl<T: Task> Hand<T> {
 
     /// Whether the board is closed.
     pub fn look_closed(&mut self) -> bool
-        ensures seen { (found : ℕ) × (hand_view self.new ≡ having_read (hand_view self.old) ((hand_slots self.old, found) ∷ [])) × (result ≡ true → found ≡ 1) }
+        ensures seen { (found : ℕ) × (hand_view self.new ≡ having_read (hand_view self.old) ((hand_slots self.old, found) ∷ [])) × MatchBool result (found ≡ 1) (found ≢ 1) }
         ensures slots { hand_slots self.new ≡ hand_slots self.old }
     {
         let words = &self.board.shared;

@@ -37,7 +37,7 @@ pub struct Lead<T: Task> {
 impl<T: Task> Lead<T> {
     ghost use Rattle.std.specs.Prelude.{ℕ, ◌≢◌, ◌⊎◌, ◌-◌, List, [], ◌∷◌, MatchOption, MatchResult, IfOk};
     ghost use Rattle.job_board.specs.Words.{finished_word};
-    ghost use Rattle.job_board.specs.Views.{opener, having_read, after_post, after_collect, after_close, HasPosted, Uncollected, NoneFinished};
+    ghost use Rattle.job_board.specs.Views.{opener, opened, having_read, after_post, after_collect, after_close, HasPosted, Uncollected, NoneFinished, FoundOutcome};
     ghost use Rattle.job_board.specs.Ends.{lead_view, lead_slots, lead_table, lead_bell};
 
     // A lead that takes its seat at a new board, and makes each slot its own.
@@ -51,7 +51,7 @@ impl<T: Task> Lead<T> {
         requires table { (seat.table_id ≡ (arc_value board).shared.table_id) × ((arc_value board).shared.table_id.slots ≡ slots) × ((arc_value board).shared.table_id.words ≡ slots + 1) }
         requires first { seat.me ≡ (opener, []) }
         ensures slots { IfOk result (λ l. (lead_slots l ≡ slots) × (lead_table l ≡ (arc_value board).shared.table_id)) }
-        ensures view { IfOk result (λ l. ((lead_view l).posted ≡ []) × ((lead_view l).collected ≡ []) × ((lead_view l).closed ≡ false)) }
+        ensures view { IfOk result (λ l. (free : List ℕ) × (read : List (ℕ × ℕ)) × (lead_view l ≡ opened free read)) }
     {
         let mut free = Vec::with_capacity(alloc, slots)?;
         for claimed in 0..slots {
@@ -112,11 +112,11 @@ impl<T: Task> Lead<T> {
         Some((number, Content::into_outcome(content)))
     }
 
-    /// Collects the outcome of a job, with its number, where one is finished. Else it looks at each slot once.
+    /// Collects the outcome of a job, with its number: that of the first slot that shows one. It looks at each slot once at most, and waits for nobody.
     pub fn try_collect(&mut self) -> Option<(JobNumber, T::Outcome)>
         ensures collected { MatchOption result
             ((gained : List (ℕ × ℕ)) × (lead_view self.new ≡ having_read (lead_view self.old) gained) × NoneFinished (lead_slots self.old) gained)
-            (λ t. (gained : List (ℕ × ℕ)) × (slot : ℕ) × (lead_view self.new ≡ after_collect (having_read (lead_view self.old) gained) t.0 t.1 slot) × Uncollected (lead_view self.old) t.0 × ((j : T.Job) × HasPosted (lead_view self.old) t.0 j × T.answers j t.1)) }
+            (λ t. (gained : List (ℕ × ℕ)) × (slot : ℕ) × (lead_view self.new ≡ after_collect (having_read (lead_view self.old) gained) t.0 t.1 slot) × Uncollected (lead_view self.old) t.0 × ((j : T.Job) × HasPosted (lead_view self.old) t.0 j × T.answers j t.1) × FoundOutcome slot t.0 gained) }
         ensures slots { lead_slots self.new ≡ lead_slots self.old }
     {
         for slot in 0..self.slots {

@@ -1,5 +1,7 @@
 // What holds of a board between any two steps.
+ghost use Rattle.std.specs.Prelude.{length};
 ghost use Rattle.job_board.specs.HandsOff.{HandsOff};
+ghost use Rattle.job_board.specs.Board.{ClosingFits};
 
 use crate::task::Task;
 use crate::view::{Content, View};
@@ -22,7 +24,9 @@ impl<T: Task> TableRule<Option<Content<T::Job, T::Outcome>>, View<T::Job, T::Out
 }
 
 /// Between any two steps of its seats a board hands jobs on so: no number is posted twice, what is taken was posted under its number and is taken once, what is
-/// collected was done, is collected once, and answers the job that was posted under its number.
+/// done was taken by the hand that did it, what is collected was done, is collected once, and answers the job that was posted under its number. Only the lead
+/// closes the board, and the word behind those of the slots is 1 exactly where it has: so a seat that has read 1 there has read that the board is closed.
 pub fn hand_off_holds<T: Task>()
-    ensures { (s : _) → ⟦<HandOff<T> as TableRule<Option<Content<T::Job, T::Outcome>>, View<T::Job, T::Outcome>, ()>>⟧.holds tt s → HandsOff T.answers s.views }
+    ensures jobs { (s : _) → ⟦<HandOff<T> as TableRule<Option<Content<T::Job, T::Outcome>>, View<T::Job, T::Outcome>, ()>>⟧.holds tt s → HandsOff T.answers (length s.homes) s.views }
+    ensures closing { (s : _) → ⟦<HandOff<T> as TableRule<Option<Content<T::Job, T::Outcome>>, View<T::Job, T::Outcome>, ()>>⟧.holds tt s → ClosingFits s.views s.words (length s.homes) }
 {}

@@ -4,6 +4,7 @@ use Rattle.std.proofs.lemmas.Result.{IfOk-from_err}
 use Rattle.std.specs.Arc.{arc_value}
 use mathlib.Core.Option.{some}
 use lib.ListN.{get_elem?}
+use Rattle.job_board.specs.Views.{newcomer, having_read}
 use Rattle.job_board.specs.Ends.{hand_view, hand_slots, hand_table}
 use Rattle.job_board.proofs.Places.{at_end}
 use Rattle.job_board.proofs.Opens.{starts, zeros_there}
@@ -18,15 +19,15 @@ pub loop-made-preserved : goal.loop-made-preserved
 loop-made-preserved g c = let inv = c.loop-made.invariant in let items = c.push_reserved.ensures.items in let hand = c.in_ok-hand.hand in let of = c.in_ok-hand.ensures in (
   ap length items ∙ length-append c.loop-made.all.items (hand ∷ []) ∙ ap (λ (z : ℕ). z + 1) inv.0,
   c.push_reserved.ensures.capacity ∙ inv.1,
-  λ at h e. ⊎_elim (λ old. inv.2 at h old) (λ t. subst (λ z. (hand_table z ≡ (arc_value c.in_ok-board.board).shared.table_id) × (hand_slots z ≡ c.args.slots) × ((hand_view z).taken ≡ []) × ((hand_view z).done ≡ [])) t.1
-      (of.slots.1 ∙ ap (λ z. z.shared.table_id) c.in_ok-words-2.ensures, of.slots.0, of.view.0, of.view.1)) (at_end c.loop-made.all.items hand h at (subst (λ l. get_elem? l at ≡ some h) items e)),
+  λ at h e. ⊎_elim (λ old. inv.2 at h old) (λ t. subst (λ z. (hand_table z ≡ (arc_value c.in_ok-board.board).shared.table_id) × (hand_slots z ≡ c.args.slots) × ((found : ℕ) × (hand_view z ≡ having_read newcomer ((c.args.slots, found) ∷ [])))) t.1
+      (of.slots.1 ∙ ap (λ z. z.shared.table_id) c.in_ok-words-2.ensures, of.slots.0, of.view)) (at_end c.loop-made.all.items hand h at (subst (λ l. get_elem? l at ≡ some h) items e)),
 )
 
 pub returns-clause-lead : goal.returns-clause-lead
-returns-clause-lead g c = let lead = c.in_ok-lead.ensures in (lead.slots.0, lead.view.0, lead.view.1, lead.view.2)
+returns-clause-lead g c = let lead = c.in_ok-lead.ensures in (lead.slots.0, lead.view)
 
 pub returns-clause-hands : goal.returns-clause-hands
-returns-clause-hands g c = λ at h e. let old = c.loop-made.invariant.2 at h e in (old.0 ∙ sym c.in_ok-lead.ensures.slots.1, old.1, old.2, old.3)
+returns-clause-hands g c = λ at h e. let old = c.loop-made.invariant.2 at h e in (old.0 ∙ sym c.in_ok-lead.ensures.slots.1, old.1, old.2)
 
 pub returns-in_err-words : goal.returns-in_err-words
 returns-in_err-words g c =

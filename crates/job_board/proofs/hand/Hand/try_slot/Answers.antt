@@ -64,4 +64,4 @@ into_job-requires g c = let it = c.args.self.now in let n : ℕ = c.in-Posted.nu
 
 pub returns-clause-taken : goal.returns-clause-taken
 returns-clause-taken g c = let it = c.args.self.now in let n : ℕ = c.in-Posted.number in let took = (c.compare_exchange-was.ensures.2 n c.in-Posted.ensures.0).0 c.if-was-seen.false in let out = c.exchange-content.ensures in
-    taken_it it.seat.me c.load-seen.new.seat.me c.compare_exchange-was.new.seat.me c.args.slot c.load-seen.result n c.load-seen.ensures.2 took c.exchange-content.new.seat.me c.exchange-content.result out.2 out.3 c.into_job.result c.into_job.ensures
+    taken_it it.seat.me c.load-seen.new.seat.me c.compare_exchange-was.new.seat.me c.args.slot c.load-seen.result n c.load-seen.ensures.2 took c.exchange-content.new.seat.me c.exchange-content.result out.2 out.3 c.into_job.result c.into_job.ensures c.in-Posted.ensures.0

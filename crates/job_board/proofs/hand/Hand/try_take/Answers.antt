@@ -1,4 +1,4 @@
-use Rattle.std.proofs.Common.{◌∙◌, ◌++◌}
+use Rattle.std.proofs.Common.{◌∙◌, ◌++◌, refl}
 use Rattle.job_board.specs.Ends.{hand_view}
 use Rattle.job_board.proofs.Contents.{missed_next, reads_then}
 use Rattle.job_board.proofs.Hands.{taken_after}
@@ -11,5 +11,10 @@ loop-slot-preserved g c = let old = c.loop-slot.invariant in let new = c.in_defa
 )
 
 pub returns-in-Some-clause-taken : goal.returns-in-Some-clause-taken
-returns-in-Some-clause-taken g c = let old = c.loop-slot.invariant in let t = c.in-Some.ensures.taken in
-    taken_after (hand_view c.args.self.now) (hand_view c.loop-slot.self) (hand_view c.try_slot.new.self) old.0.0 t.0 c.in-Some.taken.0 c.loop-slot.slot c.in-Some.taken.1 old.0.1 (t.1, t.2)
+returns-in-Some-clause-taken g c = let old = c.loop-slot.invariant in let t = c.in-Some.ensures.taken in (
+  _,
+  c.loop-slot.slot,
+  taken_after (hand_view c.args.self.now) (hand_view c.loop-slot.self) (hand_view c.try_slot.new.self) old.0.0 _ c.in-Some.taken.0 c.loop-slot.slot c.in-Some.taken.1 old.0.1 t.0,
+  t.1,
+  (old.0.0, old.0.2, refl),
+)

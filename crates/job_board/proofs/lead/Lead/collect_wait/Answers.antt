@@ -12,4 +12,5 @@ loop-preserved g c = let old = c.loop.invariant in let new = c.in_default.ensure
 
 pub returns-in-Some-try_collect-clause-collected : goal.returns-in-Some-try_collect-clause-collected
 returns-in-Some-try_collect-clause-collected g c = let old = c.loop.invariant in let t = c.in-Some-try_collect.ensures.collected in
-    collected_after g.T.Task.answers (lead_view c.args.self.now) (lead_view c.loop.self) (lead_view c.try_collect.new.self) old.0.0 t.0 c.in-Some-try_collect.collected.0 t.1 c.in-Some-try_collect.collected.1 old.0.1 (t.2, t.3, t.4)
+    let it = collected_after g.T.Task.answers (lead_view c.args.self.now) (lead_view c.loop.self) (lead_view c.try_collect.new.self) old.0.0 t.0 c.in-Some-try_collect.collected.0 t.1 c.in-Some-try_collect.collected.1 old.0.1 (t.2, t.3, t.4) in
+    (old.0.0 ++ t.0, t.1, it.0, it.1, it.2)

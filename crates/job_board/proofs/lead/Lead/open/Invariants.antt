@@ -1,6 +1,7 @@
-use Rattle.std.proofs.Common.{◌≡◌, ◌+◌, ◌≤◌, true, false, length, vec_capacity, ℕ, []}
+use Rattle.std.proofs.Common.{◌≡◌, ◌+◌, ◌≤◌, true, length, vec_capacity, ℕ, List}
 use mathlib.Core.Option.{some}
 use lib.ListN.{get_elem?}
+use Rattle.job_board.specs.Views.{opened}
 use Rattle.job_board.specs.Held.{IsStack}
 use Rattle.job_board.proofs.lead.Lead.open.Given as goal
 
@@ -8,7 +9,7 @@ abbrev pub invariant-loop-claimed : goal.invariant-loop-claimed
 invariant-loop-claimed g l = record {
   same_table : l.seat.table_id ≡ l.initial.seat.table_id;
   leads : l.seat.me.0.leads ≡ true;
-  blank : (l.seat.me.0.posted ≡ []) × (l.seat.me.0.collected ≡ []) × (l.seat.me.0.closed ≡ false);
+  blank : (free : List ℕ) × (read : List (ℕ × ℕ)) × (l.seat.me.0 ≡ opened free read);
   stack : IsStack l.slots l.free.items l.seat.me.0 l.seat.me.1;
   roomy : vec_capacity l.free ≡ l.slots;
   count : length l.free.items ≡ l.claimed;

@@ -1,4 +1,4 @@
-use Rattle.std.proofs.Common.{◌∙◌, ◌++◌, ◌∷◌, []}
+use Rattle.std.proofs.Common.{◌∙◌, ◌++◌, ◌∷◌, [], refl}
 use Rattle.job_board.specs.Ends.{lead_view}
 use Rattle.job_board.proofs.Contents.{none_next, reads_then}
 use Rattle.job_board.proofs.Leads.{collected_after}
@@ -16,4 +16,5 @@ loop-slot-preserved g c = let old = c.loop-slot.invariant in let new = c.in_defa
 
 pub returns-in-Some-clause-collected : goal.returns-in-Some-clause-collected
 returns-in-Some-clause-collected g c = let old = c.loop-slot.invariant in let t = c.in-Some.ensures.collected in
-    collected_after g.T.Task.answers (lead_view c.args.self.now) (lead_view c.loop-slot.self) (lead_view c.collect_slot.new.self) old.0.0 _ c.in-Some.collected.0 c.loop-slot.slot c.in-Some.collected.1 old.0.1 t
+    let it = collected_after g.T.Task.answers (lead_view c.args.self.now) (lead_view c.loop-slot.self) (lead_view c.collect_slot.new.self) old.0.0 _ c.in-Some.collected.0 c.loop-slot.slot c.in-Some.collected.1 old.0.1 t in
+    (_, c.loop-slot.slot, it.0, it.1, it.2, (old.0.0, old.0.2, refl))
