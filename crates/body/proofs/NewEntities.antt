@@ -1,5 +1,5 @@
 -- A new entity that a host spawns: its row, and what the commands of it leave.
-use Rattle.std.proofs.Common.{◌≡◌, ℕ, zero, suc, ◌+◌, ◌<◌, ◌≤◌, true, cond, ◌==◌, ◌&&◌, List, [], ◌∷◌, ◌++◌, length, get_or, map, fold, min, take, refl, sym, ap, ◌∙◌, arith}
+use Rattle.std.proofs.Common.{◌≡◌, ℕ, zero, suc, ◌+◌, ◌-◌, ◌<◌, ◌≤◌, true, cond, ◌==◌, ◌&&◌, List, [], ◌∷◌, ◌++◌, length, get_or, map, fold, min, take, refl, sym, ap, ◌∙◌, arith}
 use Rattle.std.specs.List.{AllByRecursion}
 use Rattle.std.proofs.lemmas.List.{take_more, map-append}
 use Rattle.std.proofs.lemmas.List.Sums.{fold-append}
@@ -9,7 +9,7 @@ use Rattle.kinds.specs.Components.{widths}
 use Rattle.kinds.proofs.Wide.{value_width}
 use Rattle.model.specs.Lists.{update_at}
 use Rattle.model.specs.declared.entities.Entity.{Entity}
-use Rattle.model.specs.state.State.{Component, Slot, fresh_slot, is_living, most_passed_over}
+use Rattle.model.specs.state.State.{Component, Slot, State, World, fresh_slot, is_living, most_passed_over}
 use Rattle.model.specs.state.State.Status.{Living}
 use Rattle.model.specs.state.Ids.{grant}
 use Rattle.model.specs.state.Rows.{IsRising, insert_component}
@@ -17,14 +17,18 @@ use Rattle.model.specs.state.Shape.{IsComponent}
 use Rattle.model.specs.state.Loaded.{Given}
 use Rattle.model.specs.state.Commands.{CommandTarget, is_alive, spawned, with_row, apply_command, apply_buffer}
 use Rattle.model.specs.shown.Outcome.{Command}
-use Rattle.model.specs.sessions.Inputs.{commands_for, next_id, row_at_tick}
+use Rattle.model.specs.runs.RunState.{next_tick}
+use Rattle.model.specs.sessions.Inputs.{after_input, commands_for, next_id, row_at_tick}
+use Rattle.model.specs.sessions.Inputs.Input.{Spawn}
 use Rattle.model.proofs.lists.Lists.{==-same}
 use Rattle.model.proofs.shape.Rows.{each-insert, rising-insert, component-new, component-changed}
 use Rattle.model.proofs.sessions.Spawns.{grant-here, next-generation}
 use Rattle.entity_table.proofs.Edits.{get_or-update_at, update_at-same}
 use Rattle.entity_table.proofs.Keeping.{granted-within, spawned-granted}
 use Rattle.archetype_store.specs.Changes.{with_new}
+use Rattle.archetype_store.specs.Store.{at_clock, with_slots}
 use Rattle.body.specs.Inputs.{given_by}
+use Rattle.body.specs.Steps.{counted_state, ticked}
 
 -- ---- its row
 
@@ -115,3 +119,18 @@ module _ (slots : List Slot) where
   commands_done t passed given =
       ap (λ xs. apply_buffer t (record { slots = xs; passed_over = passed }) (map (λ g. Command.Insert (next_id slots) g.kind g.words) given)) spawned_new
       ∙ all_inserted t passed given []
+
+-- ---- the state
+
+-- a world whose last tick is given back
+pub gave_back : (w x : World) → x ≡ at_clock (suc w.clock) w → at_clock (x.clock - 1) x ≡ w
+gave_back w x e = ap (λ (y : World). at_clock (y.clock - 1) y) e ∙ ap (λ n. at_clock n w) (let same : suc w.clock - 1 ≡ w.clock = omega arith in same)
+
+-- the state with a new entity is the one after the input
+pub state_spawned : (given : List Given) (w middle : State) (world : World) → middle ≡ ticked w → world ≡ with_slots (with_new (row_at_tick (next_tick w) given)) middle.world →
+    counted_state world middle.events middle.systems middle.conditions middle.passed_over ≡ after_input (Spawn given) w
+state_spawned given w middle world e f =
+    ap (λ x. counted_state x middle.events middle.systems middle.conditions middle.passed_over) f
+    ∙ ap (λ (m : State). counted_state (with_slots (with_new (row_at_tick (next_tick w) given)) m.world) m.events m.systems m.conditions m.passed_over) e
+    ∙ ap (λ (t : CommandTarget). counted_state (record { slots = t.slots; resources = w.world.resources; clock = next_tick w }) w.events w.systems w.conditions t.passed_over)
+    (sym (commands_done w.world.slots (next_tick w) w.passed_over given))

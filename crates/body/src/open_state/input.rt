@@ -1,9 +1,9 @@
 // A state takes what a host puts in between runs.
 
-ghost use Rattle.std.specs.Prelude.{◌≡◌, ◌↔◌, [], true, false, map, Err, IfOk, IfErr, IsErrOf, OnOk, OnErr};
+ghost use Rattle.std.specs.Prelude.{◌≡◌, [], true, false, map, Err, IfOk, IfErr, OnOk, OnErr};
 ghost use Rattle.kinds.specs.Res.{res_number, event_number};
 ghost use Rattle.model.specs.sessions.Inputs.{after_input, can_input, has_room, input_id, next_id, row_at_tick};
-ghost use Rattle.model.specs.sessions.Inputs.Input as the_input;
+ghost use Rattle.model.specs.sessions.Inputs.Input.{Emit, SetResource, Spawn};
 ghost use Rattle.model.specs.state.Ids.{has_ids};
 ghost use Rattle.model.specs.state.Commands.{apply_buffer};
 ghost use Rattle.model.specs.shown.Outcome.{spawned_by};
@@ -64,7 +64,7 @@ impl OpenState {
     // A resource gets a value at the next tick.
     fn set_resource(&mut self, res: Res, value: i64)
         requires { has_tick self.old.state ≡ true }
-        ensures state { self.new.state ≡ after_input (the_input.SetResource (res_number res) value) self.old.state }
+        ensures state { self.new.state ≡ after_input (SetResource (res_number res) value) self.old.state }
         ensures layout { self.new.layout ≡ self.old.layout }
     {
         let Ok(tick) = self.next() else {
@@ -76,17 +76,16 @@ impl OpenState {
     // An event is sent, and the next tick becomes the clock.
     fn emit(&mut self, event: Event, value: i64) -> Result<(), SendFault>
         requires { has_tick self.old.state ≡ true }
-        ensures state { OnOk result (self.new.state ≡ after_input (the_input.Emit (event_number event) value) self.old.state) }
-        ensures room { OnOk result (has_room (the_input.Emit (event_number event) value) self.old.state ≡ true) }
-        ensures spent { result ≡ Err SendFault.NumbersSpent → has_room (the_input.Emit (event_number event) value) self.old.state ≡ false }
+        ensures state { OnOk result (self.new.state ≡ after_input (Emit (event_number event) value) self.old.state) }
+        ensures room { OnOk result (has_room (Emit (event_number event) value) self.old.state ≡ true) }
+        ensures spent { result ≡ Err SendFault.NumbersSpent → has_room (Emit (event_number event) value) self.old.state ≡ false }
         ensures layout { self.new.layout ≡ self.old.layout }
         ensures err { OnErr result (self.new ≡ self.old) }
     {
-        self.events.prove_shape();
+        // Tells that no number is above the last one.
+        let _next = self.events.next(event);
         self.events.send(event, value)?;
-        let Ok(_) = self.next() else {
-            unreachable!()
-        };
+        let Ok(_) = self.next() else { unreachable!() };
         Ok(())
     }
 
@@ -96,17 +95,16 @@ impl OpenState {
         requires tick { tick ≡ next_tick self.old.state }
         requires home { AreAllHome self.old.layout }
         ensures id { IfOk result (λ e. e ≡ next_id self.old.state.world.slots) }
-        ensures state { OnOk result (self.new.state ≡ after_input (the_input.Spawn (map given_by values.now)) self.old.state) }
-        ensures spent { IsErrOf result GrantFault.IdsSpent ↔ (has_ids 1 self.old.state.world.slots ≡ false) }
+        ensures state { OnOk result (self.new.state ≡ after_input (Spawn (map given_by values.now)) self.old.state) }
+        ensures room { OnOk result (has_ids 1 self.old.state.world.slots ≡ true) }
+        ensures spent { result ≡ Err GrantFault.IdsSpent → has_ids 1 self.old.state.world.slots ≡ false }
         ensures home { AreAllHome self.new.layout }
         ensures err { OnErr result (self.new ≡ self.old) }
     {
         // Tells that the world is one.
         let _now = self.world.now();
         let row = row_at(alloc, values, tick)?;
-        let Ok(_) = self.next() else {
-            unreachable!()
-        };
+        let Ok(_) = self.next() else { unreachable!() };
         match self.world.spawn(alloc, row) {
             Ok(entity) => Ok(entity),
             Err(fault) => {
