@@ -23,3 +23,4 @@ pub mod Beginning
 pub mod Keeping
 pub mod Agreeing
 pub mod Kept
+mod Alone

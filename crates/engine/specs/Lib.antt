@@ -10,3 +10,4 @@ pub mod Stage
 pub mod Next
 pub mod FirstState
 pub mod Inputs
+pub mod Alone

@@ -1,6 +1,7 @@
 -- A run between two turns, and before and after it: what is known there.
 use Rattle.std.specs.Prelude.{ℕ, ◌≡◌, Bool, IsTrue, List, ◌∷◌, length, Option, Some}
 use Rattle.model.specs.declared.steps.Step.{Step}
+use Rattle.model.specs.declared.steps.Ready.{Ready}
 use Rattle.model.specs.access.Access.{Params}
 use Rattle.model.specs.state.State.{State}
 use Rattle.model.specs.shown.Outcome.{BodyMeaning}
@@ -14,7 +15,7 @@ use Rattle.worker_pool.specs.JobOut.{JobOut}
 use Rattle.engine.specs.Jobs.{AreKept, InHand, Placed}
 use Rattle.engine.specs.Deferred.{DeferredValue, IsDeferredFor}
 use Rattle.engine.specs.Meanings.{meanings, AllKeepWithin, Suits}
-use Rattle.engine.specs.Stage.{Stage, IsTurn, sets_after}
+use Rattle.engine.specs.Stage.{Stage, IsTake, IsTurn, sets_after}
 use Rattle.engine.specs.Stops.{StopsBy}
 use Rattle.engine.specs.declared.stop.Stop.{Stop}
 use Rattle.engine.specs.declared.stop.Stop.TheVariants as stop
@@ -42,6 +43,11 @@ pub record IsNext {B : Type 0} (meaning : B → Params → BodyMeaning) (fits : 
   pub keeps : AllKeepWithin s bodies
   pub following : IsTurn (recording s sets) h (length out) width (Some turn)
 
+-- a run stands so, and this is ready
+pub record IsOffered {B : Type 0} (meaning : B → Params → BodyMeaning) (fits : B → Params → Bool) (there : Bool) (width : ℕ) (s : Schedule) (sets : Option (List (List ℕ))) (bodies : List BodyMeaning) (start : State) (h : List Step) (slots : List (Option B)) (deferred : DeferredValue) (out : List (JobOut B)) (w : StateValue) (offer : Ready) : Type 0 where
+  pub between : IsBetween meaning fits there width s sets bodies start h slots deferred out w
+  pub take : IsTake (recording s sets) h (length out) width offer
+
 -- the step of a turn might come, and the run stands so after it
 pub record IsTaken {B : Type 0} (meaning : B → Params → BodyMeaning) (fits : B → Params → Bool) (there : Bool) (width : ℕ) (s : Schedule) (sets : Option (List (List ℕ))) (bodies : List BodyMeaning) (start : State) (h : List Step) (slots : List (Option B)) (deferred : DeferredValue) (out : List (JobOut B)) (w : StateValue) (step : Step) : Type 0 where
   pub may : May (recording s sets) h step
@@ -56,3 +62,18 @@ StopsNext meaning fits there width s slots deferred out w turn told =
 abbrev pub KeepsNext : {B : Type 0} → (B → Params → BodyMeaning) → (B → Params → Bool) → Bool → Bool → ℕ → Schedule → List (Option B) → DeferredValue → List (JobOut B) → StateValue → Turn → List (Option B) → List (JobOut B) → Stop → Type 0
 KeepsNext meaning fits there stands width s slots deferred out w turn slots_later out_later told = (told ≡ stop.NoWorker → IsTrue stands) →
     (sets : Option (List (List ℕ))) (bodies : List BodyMeaning) (start : State) (h : List Step) → IsNext meaning fits there width s sets bodies start h slots deferred out w turn → AreKept meaning fits there s bodies slots_later out_later
+
+-- some run stands so that this is ready
+abbrev pub IsOfferedIn : {B : Type 0} → (B → Params → BodyMeaning) → (B → Params → Bool) → Schedule → DeferredValue → StateValue → Ready → Type 0
+IsOfferedIn {B} meaning fits s deferred w offer = (there : Bool) × (width : ℕ) × (sets : Option (List (List ℕ))) × (bodies : List BodyMeaning) × (start : State) × (h : List Step) × (slots : List (Option B)) × (out : List (JobOut B)) ×
+    IsOffered meaning fits there width s sets bodies start h slots deferred out w offer
+
+-- wherever this is ready, the step of it might come, and the run stands so after it
+abbrev pub TakesOffered : {B : Type 0} → (B → Params → BodyMeaning) → (B → Params → Bool) → Schedule → DeferredValue → StateValue → Ready → DeferredValue → StateValue → Step → Type 0
+TakesOffered {B} meaning fits s deferred w offer deferred_later later step = (there : Bool) (width : ℕ) (sets : Option (List (List ℕ))) (bodies : List BodyMeaning) (start : State) (h : List Step) (slots : List (Option B)) (out : List (JobOut B)) →
+    IsOffered meaning fits there width s sets bodies start h slots deferred out w offer → IsTaken meaning fits there width s sets bodies start h slots deferred_later out later step
+
+-- what a stop means, wherever this is ready
+abbrev pub StopsOffered : {B : Type 0} → (B → Params → BodyMeaning) → (B → Params → Bool) → Schedule → DeferredValue → StateValue → Ready → Stop → Type 0
+StopsOffered {B} meaning fits s deferred w offer told = (there : Bool) (width : ℕ) (sets : Option (List (List ℕ))) (bodies : List BodyMeaning) (start : State) (h : List Step) (slots : List (Option B)) (out : List (JobOut B)) →
+    IsOffered meaning fits there width s sets bodies start h slots deferred out w offer → StopsBy there (WideStops width s bodies start) told

@@ -1,12 +1,14 @@
 // The bodies of the systems of a schedule, each in its place.
 
-ghost use Rattle.std.specs.Prelude.{◌≡◌, ◌<◌, true, [], length, map, set, Some, None, is_some, IfOk, IsTrue, MatchBool};
+ghost use Rattle.std.specs.Prelude.{◌≡◌, ◌<◌, true, [], length, map, set, Some, None, is_some, IfOk, IsSomeAnd, IsTrue, MatchBool};
+ghost use Rattle.model.specs.shown.Outcome.{untouched};
 ghost use Rattle.model.specs.runs.RunState.{body_of};
 ghost use Rattle.model.specs.steps.Schedule.{params_of};
-ghost use Rattle.body.specs.Keeps.{KeepsWithin};
+ghost use Rattle.body.specs.Keeps.{CanBeShown, KeepsWithin};
+ghost use Rattle.worker_pool.specs.Ran.{Ran};
 ghost use Rattle.engine.specs.Meanings.{body_at, fits_at, meanings, AllKeepWithin, AreFit};
 
-use body::Body;
+use body::{Body, BodyFault, View};
 use schedule_builder::Built;
 use std::alloc::{AllocError, Global};
 use std::marker::Model;
@@ -67,6 +69,19 @@ impl<B: Drop> Bodies<B> {
 }
 
 impl<B: Body> Bodies<B> {
+    /// Runs the body of a system in its place.
+    pub(crate) fn run(&mut self, system: usize, view: &mut View) -> Result<(), BodyFault>
+        requires fits { IsSomeAnd (body_at self.old system) (λ body. IsTrue (B.fits body view.old.params)) }
+        requires showing { CanBeShown view.old.params view.old.shown }
+        requires untouched { view.old.outcome ≡ untouched view.old.params view.old.shown }
+        ensures { IsSomeAnd (body_at self.old system) (λ body. (later : B) × (self.new ≡ set self.old system (Some later)) × Ran B.meaning B.fits 0 system body view.old 0 system later view.new result) }
+    {
+        let Some(body) = &mut self.places[system] else {
+            unreachable!()
+        };
+        body.run(view)
+    }
+
     /// Whether there is a body for each system, and each fits its parameters. If so, each keeps within them.
     pub(crate) fn all_fit(&self, built: &Built) -> bool
         ensures fit { MatchBool result (AreFit B.fits built.now self.now) (AreFit B.fits built.now self.now → ⊥) }

@@ -1,13 +1,14 @@
 // The turns of a run: what is ready is done while there is room for one more running system, else a job is waited for.
 
-ghost use Rattle.std.specs.Prelude.{◌≡◌, ◌∷◌, ◌++◌, [], ℕ, List, length, is_some, option_map, true, false, Err, OnOk, IfErr, IfOk, IfSome, IsTrue, Option, Some};
+ghost use Rattle.std.specs.Prelude.{◌≡◌, ◌<◌, ◌∷◌, ◌++◌, [], ℕ, List, length, is_some, option_map, true, false, Err, OnOk, IfErr, IfOk, IfSome, IsTrue, Option, Some};
 ghost use Rattle.std.specs.List.{AllByRecursion};
 ghost use Rattle.model.specs.declared.steps.Step.{Step as Action};
 ghost use Rattle.model.specs.state.State.{State};
 ghost use Rattle.model.specs.state.KindSets.{kind_sets_of};
 ghost use Rattle.model.specs.shown.Outcome.{BodyMeaning};
 ghost use Rattle.model.specs.steps.Schedule.{recording};
-ghost use Rattle.model.specs.declared.steps.Step.TheVariants.{Sync as Pass};
+ghost use Rattle.model.specs.declared.steps.Step.TheVariants.{Finish, Start as Begin, Sync as Pass};
+ghost use Rattle.model.specs.declared.steps.Ready.TheVariants as ready;
 ghost use Rattle.model.specs.steps.Lawful.{May};
 ghost use Rattle.model.specs.runs.WideRuns.{AreWideRuns, WideStops, IsWideStopped};
 ghost use Rattle.executor_core.specs.Stands.{AreMeetings, Stands};
@@ -15,12 +16,14 @@ ghost use Rattle.executor_core.specs.Traces.{latest_list, with_list};
 ghost use Rattle.engine.specs.Latest.{IsFollowing, IsOneMoreRun, latest_in};
 ghost use Rattle.engine.specs.Jobs.{AreKept};
 ghost use Rattle.engine.specs.Meanings.{meanings, AreFit};
-ghost use Rattle.engine.specs.Next.{IsAtRest, IsNext, IsTaken, KeepsNext, StopsNext};
-ghost use Rattle.engine.specs.Stage.{sets_after};
+ghost use Rattle.engine.specs.Next.{IsAtRest, IsNext, IsOfferedIn, IsTaken, KeepsNext, StopsNext, StopsOffered, TakesOffered};
+ghost use Rattle.engine.specs.Alone.{IsBetweenAlone};
+ghost use Rattle.engine.specs.Stage.{sets_after, IsTake};
 ghost use Rattle.engine.specs.Stops.{StopsBy};
 ghost use Rattle.engine.specs.declared.stop.Stop.TheVariants as stop;
 
-use crate::jobs::{Jobs, bring_home, finish, start};
+use crate::bodies::Bodies;
+use crate::jobs::{Jobs, bring_home, finish, run_here, start};
 use crate::run_state::RunState;
 use crate::stop::Stop;
 use crate::turn::{Done, Turn, next_turn};
@@ -61,7 +64,7 @@ pub(crate) fn run_times<'s, M: Mode<'s>, B: Body + 's>(
         traces: Vec::new(run.alloc),
     };
     for _run in 0..times {
-        match run_turns(built, run, jobs, &mut recording, mode) {
+        match one_run(built, run, jobs, &mut recording, mode) {
             Ok(()) => {}
             Err(stop) => {
                 bring_home(jobs, mode)?;
@@ -88,6 +91,30 @@ fn latest_of(traces: &[Trace]) -> Option<&KindSets>
         Some(trace) => trace.latest(),
         None => None,
     }
+}
+
+// One run more: in a loop of its own where there is one thread and nobody else has a hand in it.
+fn one_run<'s, M: Mode<'s>, B: Body + 's>(
+    built: &Built,
+    run: &mut RunState,
+    jobs: &mut Jobs<B>,
+    recording: &mut Recording<'_>,
+    mode: &M,
+) -> Result<(), Stop>
+    requires rest { IsAtRest B.meaning B.fits built.now jobs.old.bodies run.old.deferred run.old.state }
+    requires empty { jobs.old.pool ≡ [] }
+    requires following { IsFollowing recording.old.core.value built.now recording.old.traces.items run.old.state.state.world.slots }
+    ensures ran { OnOk result (IsOneMoreRun (M.width mode.now) built.now (meanings B.meaning built.now jobs.old.bodies) run.old.state.state recording.old.traces.items run.new.state.state recording.new.traces.items) }
+    ensures following { OnOk result (IsFollowing recording.new.core.value built.now recording.new.traces.items run.new.state.state.world.slots) }
+    ensures rest { OnOk result (IsAtRest B.meaning B.fits built.now jobs.new.bodies run.new.deferred run.new.state) }
+    ensures empty { OnOk result (jobs.new.pool ≡ []) }
+    ensures stopped { IfErr result (StopsBy (M.has_scope mode.now) (WideStops (M.width mode.now) built.now (meanings B.meaning built.now jobs.old.bodies) run.old.state.state)) }
+    ensures kept { (result ≡ Err stop.NoWorker → IsTrue (M.stands mode.now)) → AreKept B.meaning B.fits (M.has_scope mode.now) built.now (meanings B.meaning built.now jobs.old.bodies) jobs.new.bodies jobs.new.pool }
+{
+    if mode.width() == 1 && mode.scope().is_none() {
+        return run_alone(built, run, &mut jobs.bodies, recording);
+    }
+    run_turns(built, run, jobs, recording, mode)
 }
 
 // One run more, by its turns. After a stop jobs may still be out.
@@ -170,26 +197,39 @@ fn do_turn<'s, M: Mode<'s>, B: Body + 's>(
             Ok(Done::plain(Step::Finish(system)))
         }
         Turn::Take(ready) => {
-            built.prove_law();
-            run.state.prove_law();
-            match ready {
-                Ready::Start(system) => {
-                    start(built, run, jobs, mode, system)?;
-                    Ok(Done::plain(Step::Start(system)))
-                }
-                Ready::Ask(condition) => {
-                    let answer = run.ask(built, condition)?;
-                    Ok(Done::plain(Step::Cond(condition, answer)))
-                }
-                Ready::Skip(system) => Ok(Done::plain(Step::Skip(system))),
-                Ready::Sync(point) => {
-                    let commanded = run.sync(built, point)?;
-                    Ok(Done {
-                        step: Step::Sync(point),
-                        commanded,
-                    })
-                }
+            if let Ready::Start(system) = ready {
+                built.prove_law();
+                start(built, run, jobs, mode, system)?;
+                return Ok(Done::plain(Step::Start(system)));
             }
+            let done = do_plain::<B>(built, run, ready)?;
+            Ok(done)
+        }
+    }
+}
+
+// Does what is ready, where that starts no system, and gives the step that it is. Which bodies are out makes no difference.
+fn do_plain<B: Body>(built: &Built, run: &mut RunState, offer: Ready) -> Result<Done, Stop>
+    requires other { (n : ℕ) → offer ≡ ready.Start n → ⊥ }
+    requires next { IsOfferedIn B.meaning B.fits built.now run.old.deferred run.old.state offer }
+    ensures taken { IfOk result (λ done. TakesOffered B.meaning B.fits built.now run.old.deferred run.old.state offer run.new.deferred run.new.state done.step) }
+    ensures quiet { IfOk result (λ done. (k : ℕ) → done.step ≡ Pass k → done.commanded ≡ false → kind_sets_of run.new.state.state.world.slots ≡ kind_sets_of run.old.state.state.world.slots) }
+    ensures stopped { IfErr result (StopsOffered B.meaning B.fits built.now run.old.deferred run.old.state offer) }
+{
+    run.state.prove_law();
+    match offer {
+        Ready::Start(_) => unreachable!(),
+        Ready::Ask(condition) => {
+            let answer = run.ask(built, condition)?;
+            Ok(Done::plain(Step::Cond(condition, answer)))
+        }
+        Ready::Skip(system) => Ok(Done::plain(Step::Skip(system))),
+        Ready::Sync(point) => {
+            let commanded = run.sync(built, point)?;
+            Ok(Done {
+                step: Step::Sync(point),
+                commanded,
+            })
         }
     }
 }
@@ -269,4 +309,79 @@ fn is_latest(trace: &Trace, sets: &KindSets) -> bool
         Some(latest) => latest.is_same(sets),
         None => false,
     }
+}
+
+// A system starts and ends with nothing else running, and both steps are recorded.
+fn start_alone<B: Body>(
+    built: &Built,
+    run: &mut RunState,
+    bodies: &mut Bodies<B>,
+    core: &mut Core<'_>,
+    trace: &mut Trace,
+    system: u32,
+) -> Result<(), Stop>
+    requires between { (means : List BodyMeaning) × (start : State) × IsBetweenAlone B.meaning B.fits built.now means start core.old trace.old bodies.old run.old.deferred run.old.state }
+    requires next { IsTake (recording built.now trace.old.sets) trace.old.steps 0 1 (ready.Start system) }
+    ensures between { OnOk result ((means : List BodyMeaning) → (start : State) → IsBetweenAlone B.meaning B.fits built.now means start core.old trace.old bodies.old run.old.deferred run.old.state → IsBetweenAlone B.meaning B.fits built.now means start core.new trace.new bodies.new run.new.deferred run.new.state) }
+    ensures steps { OnOk result (trace.new.steps ≡ Finish system ∷ Begin system ∷ trace.old.steps) }
+    ensures stopped { IfErr result (λ told. (means : List BodyMeaning) → (start : State) → IsBetweenAlone B.meaning B.fits built.now means start core.old trace.old bodies.old run.old.deferred run.old.state → StopsBy false (WideStops 1 built.now means start) told) }
+    ensures kept { (means : List BodyMeaning) → (start : State) → IsBetweenAlone B.meaning B.fits built.now means start core.old trace.old bodies.old run.old.deferred run.old.state → AreKept B.meaning B.fits false built.now means bodies.new [] }
+{
+    built.prove_law();
+    run_here(built, run, bodies, system)?;
+    take(run.alloc, core, trace, &run.state, Done::plain(Step::Start(system)))?;
+    take(run.alloc, core, trace, &run.state, Done::plain(Step::Finish(system)))?;
+    Ok(())
+}
+
+// What is ready is done and recorded, with nothing else running: of a system that starts its finish too.
+fn turn_alone<B: Body>(
+    built: &Built,
+    run: &mut RunState,
+    bodies: &mut Bodies<B>,
+    core: &mut Core<'_>,
+    trace: &mut Trace,
+    offer: Ready,
+) -> Result<(), Stop>
+    requires between { (means : List BodyMeaning) × (start : State) × IsBetweenAlone B.meaning B.fits built.now means start core.old trace.old bodies.old run.old.deferred run.old.state }
+    requires next { IsTake (recording built.now trace.old.sets) trace.old.steps 0 1 offer }
+    ensures between { OnOk result ((means : List BodyMeaning) → (start : State) → IsBetweenAlone B.meaning B.fits built.now means start core.old trace.old bodies.old run.old.deferred run.old.state → IsBetweenAlone B.meaning B.fits built.now means start core.new trace.new bodies.new run.new.deferred run.new.state) }
+    ensures longer { OnOk result (length trace.old.steps < length trace.new.steps) }
+    ensures stopped { IfErr result (λ told. (means : List BodyMeaning) → (start : State) → IsBetweenAlone B.meaning B.fits built.now means start core.old trace.old bodies.old run.old.deferred run.old.state → StopsBy false (WideStops 1 built.now means start) told) }
+    ensures kept { (means : List BodyMeaning) → (start : State) → IsBetweenAlone B.meaning B.fits built.now means start core.old trace.old bodies.old run.old.deferred run.old.state → AreKept B.meaning B.fits false built.now means bodies.new [] }
+{
+    if let Ready::Start(system) = offer {
+        return start_alone(built, run, bodies, core, trace, system);
+    }
+    let done = do_plain::<B>(built, run, offer)?;
+    take(run.alloc, core, trace, &run.state, done)?;
+    Ok(())
+}
+
+// One run more on one thread, by its turns.
+fn run_alone<B: Body>(
+    built: &Built,
+    run: &mut RunState,
+    bodies: &mut Bodies<B>,
+    recording: &mut Recording<'_>,
+) -> Result<(), Stop>
+    requires rest { IsAtRest B.meaning B.fits built.now bodies.old run.old.deferred run.old.state }
+    requires following { IsFollowing recording.old.core.value built.now recording.old.traces.items run.old.state.state.world.slots }
+    ensures ran { OnOk result (IsOneMoreRun 1 built.now (meanings B.meaning built.now bodies.old) run.old.state.state recording.old.traces.items run.new.state.state recording.new.traces.items) }
+    ensures following { OnOk result (IsFollowing recording.new.core.value built.now recording.new.traces.items run.new.state.state.world.slots) }
+    ensures rest { OnOk result (IsAtRest B.meaning B.fits built.now bodies.new run.new.deferred run.new.state) }
+    ensures stopped { IfErr result (StopsBy false (WideStops 1 built.now (meanings B.meaning built.now bodies.old) run.old.state.state)) }
+    ensures kept { AreKept B.meaning B.fits false built.now (meanings B.meaning built.now bodies.old) bodies.new [] }
+{
+    run.deferred.clear();
+    run.open(built)?;
+    let core = &mut *recording.core;
+    let latest = latest_of(&recording.traces);
+    let mut trace = begin(built, run.alloc, core, latest, &run.state)?;
+    while let Some(offer) = core.ready() {
+        turn_alone(built, run, bodies, core, &mut trace, offer)?;
+    }
+    run.state.prove_law();
+    recording.traces.push(trace)?;
+    Ok(())
 }

@@ -1,6 +1,6 @@
 // The bodies of a run, at home and out, and the jobs with which they are out: how a system starts, and how one ends.
 
-ghost use Rattle.std.specs.Prelude.{◌≡◌, ◌<◌, ◌+◌, [], ℕ, List, true, length, Some, Err, IfErr, IfOk, IsTrue, OnOk};
+ghost use Rattle.std.specs.Prelude.{◌≡◌, ◌<◌, ◌+◌, [], ℕ, List, true, false, length, Some, Err, IfErr, IfOk, IsTrue, OnOk};
 ghost use Rattle.model.specs.declared.steps.Step.TheVariants.{Start as Begin, Finish};
 ghost use Rattle.model.specs.Lists.{IsIn};
 ghost use Rattle.model.specs.shown.Outcome.{BodyMeaning};
@@ -8,6 +8,7 @@ ghost use Rattle.model.specs.steps.Schedule.{Schedule};
 ghost use Rattle.model.specs.runs.Meaning.{interleaved_step};
 ghost use Rattle.model.specs.runs.Causes.{interleaved_cause_of};
 ghost use Rattle.worker_pool.specs.JobOut.{JobOut};
+ghost use Rattle.engine.specs.Alone.{IsRunAlone, StopsAlone};
 ghost use Rattle.engine.specs.Deferred.{IsDeferredFor};
 ghost use Rattle.engine.specs.Jobs.{woven, AreKept, CanBegin, InHand, Placed};
 ghost use Rattle.engine.specs.Meanings.{AllKeepWithin};
@@ -130,4 +131,26 @@ pub(crate) fn bring_home<'s, M: Mode<'s>, B: Body + 's>(
         jobs.bodies.put(system as usize, body);
     }
     Ok(())
+}
+
+/// A system starts and ends with nothing else running: it is shown the state, its body runs in its place, and what comes of it is laid over the state.
+pub(crate) fn run_here<B: Body>(
+    built: &Built,
+    run: &mut RunState,
+    bodies: &mut Bodies<B>,
+    system: u32,
+) -> Result<(), Stop>
+    requires allowed { CanBegin {B = B} built.now system run.old.deferred [] run.old.state }
+    requires placed { (means : List BodyMeaning) × Placed B.meaning B.fits false built.now means bodies.old [] run.old.state }
+    requires hand { InHand {B = B} built.now run.old.deferred [] run.old.state }
+    ensures ran { OnOk result ((means : List BodyMeaning) → Placed B.meaning B.fits false built.now means bodies.old [] run.old.state → IsRunAlone B built.now means system run.old.state.state run.old.deferred run.new.state.state run.new.deferred) }
+    ensures placed { OnOk result ((means : List BodyMeaning) → Placed B.meaning B.fits false built.now means bodies.old [] run.old.state → Placed B.meaning B.fits false built.now means bodies.new [] run.new.state) }
+    ensures hand { OnOk result ((means : List BodyMeaning) → Placed B.meaning B.fits false built.now means bodies.old [] run.old.state → AllKeepWithin built.now means → InHand {B = B} built.now run.new.deferred [] run.new.state) }
+    ensures stopped { IfErr result (λ told. (means : List BodyMeaning) → Placed B.meaning B.fits false built.now means bodies.old [] run.old.state → StopsBy false (StopsAlone B built.now means system run.old.state.state run.old.deferred) told) }
+    ensures kept { (means : List BodyMeaning) → Placed B.meaning B.fits false built.now means bodies.old [] run.old.state → AreKept B.meaning B.fits false built.now means bodies.new [] }
+{
+    run.state.prove_law();
+    let mut view = run.show(built, system)?;
+    let answer = bodies.run(system as usize, &mut view);
+    run.close(system, answer, view)
 }

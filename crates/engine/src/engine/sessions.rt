@@ -67,7 +67,13 @@ impl<B: Body> Engine<B> {
         requires { self.spoiled ≡ false }
         ensures { result ≡ self.state }
     {
-        let Engine { state, .. } = self;
+        let Engine {
+            built: _built,
+            bodies: _bodies,
+            state,
+            deferred: _deferred,
+            spoiled: _,
+        } = self;
         state
     }
 

@@ -58,95 +58,6 @@ finish-requires g c = λ lifetimes.
     let next = subst (λ (t : Turn). IsTurn (recording s sets) h (length out) width (Some t)) c.in-Collect.is known.following in
     (c.type_bounds.send-B, (c.type_bounds.send-M-Signals, (c.type_bounds.send-M-Gate, (c.type_bounds.sync-M-Gate, ((refl, tt), (next.0, ((bodies, known.between.placed), known.between.hand.suits)))))))
 
-pub ask-requires-clause-known : goal.ask-requires-clause-known
-ask-requires-clause-known g c =
-    let width = g.M.Mode.width c.args.mode.now in
-    let s = c.args.built.now in
-    let out = c.args.jobs.now.pool in
-    let sets = c.requires.next.0 in
-    let h = c.requires.next.3 in
-    let known = c.requires.next.4 in
-    let next = subst (λ (r : Ready). IsTake (recording s sets) h (length out) width r) c.in-Ask.is (subst (λ (t : Turn). IsTurn (recording s sets) h (length out) width (Some t)) c.in-Take.is known.following) in
-    (next.allowed false).known
-
-pub ask-requires-clause-memories : goal.ask-requires-clause-memories
-ask-requires-clause-memories g c =
-    let known = c.requires.next.4 in
-    known.between.placed.memories
-
-pub ask-requires-clause-home : goal.ask-requires-clause-home
-ask-requires-clause-home g c =
-    let meaning = g.B.Body.meaning in
-    let fits = g.B.Body.fits in
-    let there = g.M.SpawnThreads.has_scope c.args.mode.now in
-    let width = g.M.Mode.width c.args.mode.now in
-    let s = c.args.built.now in
-    let slots = c.args.jobs.now.bodies in
-    let deferred = c.args.run.now.deferred in
-    let out = c.args.jobs.now.pool in
-    let w = c.args.run.now.state in
-    let sets = c.requires.next.0 in
-    let bodies = c.requires.next.1 in
-    let start = c.requires.next.2 in
-    let h = c.requires.next.3 in
-    let known = c.requires.next.4 in
-    let next = subst (λ (r : Ready). IsTake (recording s sets) h (length out) width r) c.in-Ask.is (subst (λ (t : Turn). IsTurn (recording s sets) h (length out) width (Some t)) c.in-Take.is known.following) in
-    ask_allowed meaning fits there s bodies slots out w known.between.placed sets c.in-Ask.condition width start h deferred known.between.stage c.prove_law-in-Take.ensures.laid (next.allowed false)
-
-pub sync-requires-clause-known : goal.sync-requires-clause-known
-sync-requires-clause-known g c =
-    let width = g.M.Mode.width c.args.mode.now in
-    let s = c.args.built.now in
-    let out = c.args.jobs.now.pool in
-    let sets = c.requires.next.0 in
-    let h = c.requires.next.3 in
-    let known = c.requires.next.4 in
-    let next = subst (λ (r : Ready). IsTake (recording s sets) h (length out) width r) c.in-Sync.is (subst (λ (t : Turn). IsTurn (recording s sets) h (length out) width (Some t)) c.in-Take.is known.following) in
-    (next.allowed false).known
-
-pub sync-requires-clause-fresh : goal.sync-requires-clause-fresh
-sync-requires-clause-fresh g c =
-    let meaning = g.B.Body.meaning in
-    let fits = g.B.Body.fits in
-    let there = g.M.SpawnThreads.has_scope c.args.mode.now in
-    let width = g.M.Mode.width c.args.mode.now in
-    let s = c.args.built.now in
-    let slots = c.args.jobs.now.bodies in
-    let deferred = c.args.run.now.deferred in
-    let out = c.args.jobs.now.pool in
-    let w = c.args.run.now.state in
-    let sets = c.requires.next.0 in
-    let bodies = c.requires.next.1 in
-    let start = c.requires.next.2 in
-    let h = c.requires.next.3 in
-    let known = c.requires.next.4 in
-    let next = subst (λ (r : Ready). IsTake (recording s sets) h (length out) width r) c.in-Sync.is (subst (λ (t : Turn). IsTurn (recording s sets) h (length out) width (Some t)) c.in-Take.is known.following) in
-    sync_fresh meaning fits there s bodies slots out w known.between.placed sets width start h deferred c.in-Sync.point known.between.stage (next.allowed false)
-
-pub sync-requires-clause-home : goal.sync-requires-clause-home
-sync-requires-clause-home g c =
-    let meaning = g.B.Body.meaning in
-    let fits = g.B.Body.fits in
-    let there = g.M.SpawnThreads.has_scope c.args.mode.now in
-    let width = g.M.Mode.width c.args.mode.now in
-    let s = c.args.built.now in
-    let slots = c.args.jobs.now.bodies in
-    let deferred = c.args.run.now.deferred in
-    let out = c.args.jobs.now.pool in
-    let w = c.args.run.now.state in
-    let sets = c.requires.next.0 in
-    let bodies = c.requires.next.1 in
-    let start = c.requires.next.2 in
-    let h = c.requires.next.3 in
-    let known = c.requires.next.4 in
-    let next = subst (λ (r : Ready). IsTake (recording s sets) h (length out) width r) c.in-Sync.is (subst (λ (t : Turn). IsTurn (recording s sets) h (length out) width (Some t)) c.in-Take.is known.following) in
-    let none = none_out width (recording s sets) bodies start h w.state deferred out known.between.stage c.in-Sync.point (next.allowed false) in
-    record {
-      home = home_end meaning fits there s bodies slots out w known.between.placed none c.prove_law-in-Take.ensures.laid;
-      suits = known.between.hand.suits;
-      ids = known.between.hand.ids;
-    }
-
 pub returns-in_err-start-in-Start-clause-stopped : goal.returns-in_err-start-in-Start-clause-stopped
 returns-in_err-start-in-Start-clause-stopped g c =
     let meaning = g.B.Body.meaning in
@@ -163,41 +74,6 @@ returns-in_err-start-in-Start-clause-stopped g c =
     (λ sets bodies start h known.
     let next = subst (λ (r : Ready). IsTake (recording s sets) h (length out) width r) c.in-Start.is (subst (λ (t : Turn). IsTurn (recording s sets) h (length out) width (Some t)) c.in-Take.is known.following) in
     stops_up there (λ met. (bodies : List BodyMeaning) → interleaved_cause_of s bodies (Begin c.in-Start.system) (woven w.state deferred out) ≡ Some met) (WideStops width s bodies start) told (λ met e. stops_plain width s sets bodies start met (stops_start width (recording s sets) bodies start h w.state deferred out known.between.stage c.in-Start.system met next (e bodies))) c.in_err-start-in-Start.ensures.stopped)
-
-pub returns-in_err-answer-in-Ask-clause-stopped : goal.returns-in_err-answer-in-Ask-clause-stopped
-returns-in_err-answer-in-Ask-clause-stopped g c =
-    let meaning = g.B.Body.meaning in
-    let fits = g.B.Body.fits in
-    let there = g.M.SpawnThreads.has_scope c.args.mode.now in
-    let width = g.M.Mode.width c.args.mode.now in
-    let s = c.args.built.now in
-    let slots = c.args.jobs.now.bodies in
-    let deferred = c.args.run.now.deferred in
-    let out = c.args.jobs.now.pool in
-    let w = c.args.run.now.state in
-    let told = c.in_err-answer-in-Ask.field-0.0 in
-    handed_on (StopsNext meaning fits there width s slots deferred out w c.args.turn) c.from_residual-in_err-answer-in-Ask.result told c.from_residual-in_err-answer-in-Ask.ensures.1
-    (λ sets bodies start h known.
-    let next = subst (λ (r : Ready). IsTake (recording s sets) h (length out) width r) c.in-Ask.is (subst (λ (t : Turn). IsTurn (recording s sets) h (length out) width (Some t)) c.in-Take.is known.following) in
-    stops_among there (LacksTick w.state) (WideStops width s bodies start) told (λ met e. stops_plain width s sets bodies start met (stops_ask width (recording s sets) bodies start h w.state deferred out known.between.stage c.in-Ask.condition met next e)) c.in_err-answer-in-Ask.ensures.stopped)
-
-pub returns-in_err-commanded-in-Sync-clause-stopped : goal.returns-in_err-commanded-in-Sync-clause-stopped
-returns-in_err-commanded-in-Sync-clause-stopped g c =
-    let meaning = g.B.Body.meaning in
-    let fits = g.B.Body.fits in
-    let there = g.M.SpawnThreads.has_scope c.args.mode.now in
-    let width = g.M.Mode.width c.args.mode.now in
-    let s = c.args.built.now in
-    let slots = c.args.jobs.now.bodies in
-    let deferred = c.args.run.now.deferred in
-    let out = c.args.jobs.now.pool in
-    let w = c.args.run.now.state in
-    let told = c.in_err-commanded-in-Sync.field-0.0 in
-    handed_on (StopsNext meaning fits there width s slots deferred out w c.args.turn) c.from_residual-in_err-commanded-in-Sync.result told c.from_residual-in_err-commanded-in-Sync.ensures.1
-    (λ sets bodies start h known.
-    let next = subst (λ (r : Ready). IsTake (recording s sets) h (length out) width r) c.in-Sync.is (subst (λ (t : Turn). IsTurn (recording s sets) h (length out) width (Some t)) c.in-Take.is known.following) in
-    stops_among there (CannotSync s c.in-Sync.point (run_with w.state deferred)) (WideStops width s bodies start) told (λ met e. stops_plain width s sets bodies start met (stops_sync width (recording s sets) bodies start h w.state deferred out known.between.stage c.in-Sync.point met next
-    (interleaved_cause-recording s sets bodies (Sync c.in-Sync.point) (woven w.state deferred out) ∙ e))) c.in_err-commanded-in-Sync.ensures.stopped)
 
 pub returns-in_err-system-in-Collect-clause-stopped : goal.returns-in_err-system-in-Collect-clause-stopped
 returns-in_err-system-in-Collect-clause-stopped g c =
@@ -235,36 +111,6 @@ returns-in_err-start-in-Start-clause-kept g c =
     (let same = c.in_err-start-in-Start.ensures.kept lost in
     subst (λ xs. AreKept meaning fits there s bodies xs c.start.new.jobs.pool) (sym same.0) (subst (λ xs. AreKept meaning fits there s bodies slots xs) (sym same.1) (placed_kept meaning fits there s bodies slots out w known.between.placed))))
 
-pub returns-in_err-answer-in-Ask-clause-kept : goal.returns-in_err-answer-in-Ask-clause-kept
-returns-in_err-answer-in-Ask-clause-kept g c =
-    let meaning = g.B.Body.meaning in
-    let fits = g.B.Body.fits in
-    let there = g.M.SpawnThreads.has_scope c.args.mode.now in
-    let width = g.M.Mode.width c.args.mode.now in
-    let s = c.args.built.now in
-    let slots = c.args.jobs.now.bodies in
-    let deferred = c.args.run.now.deferred in
-    let out = c.args.jobs.now.pool in
-    let w = c.args.run.now.state in
-    let told = c.in_err-answer-in-Ask.field-0.0 in
-    handed_on (KeepsNext meaning fits there (g.M.Mode.stands c.args.mode.now) width s slots deferred out w c.args.turn slots out) c.from_residual-in_err-answer-in-Ask.result told c.from_residual-in_err-answer-in-Ask.ensures.1
-    (λ lost sets bodies start h known. placed_kept meaning fits there s bodies slots out w known.between.placed)
-
-pub returns-in_err-commanded-in-Sync-clause-kept : goal.returns-in_err-commanded-in-Sync-clause-kept
-returns-in_err-commanded-in-Sync-clause-kept g c =
-    let meaning = g.B.Body.meaning in
-    let fits = g.B.Body.fits in
-    let there = g.M.SpawnThreads.has_scope c.args.mode.now in
-    let width = g.M.Mode.width c.args.mode.now in
-    let s = c.args.built.now in
-    let slots = c.args.jobs.now.bodies in
-    let deferred = c.args.run.now.deferred in
-    let out = c.args.jobs.now.pool in
-    let w = c.args.run.now.state in
-    let told = c.in_err-commanded-in-Sync.field-0.0 in
-    handed_on (KeepsNext meaning fits there (g.M.Mode.stands c.args.mode.now) width s slots deferred out w c.args.turn slots out) c.from_residual-in_err-commanded-in-Sync.result told c.from_residual-in_err-commanded-in-Sync.ensures.1
-    (λ lost sets bodies start h known. placed_kept meaning fits there s bodies slots out w known.between.placed)
-
 pub returns-in_err-system-in-Collect-clause-kept : goal.returns-in_err-system-in-Collect-clause-kept
 returns-in_err-system-in-Collect-clause-kept g c =
     let meaning = g.B.Body.meaning in
@@ -300,79 +146,6 @@ returns-in_ok-start-in-Start-clause-taken g c = rw c.plain-in-Start.ensures (λ 
       };
     })
 
-pub returns-in_ok-answer-in-Ask-clause-taken : goal.returns-in_ok-answer-in-Ask-clause-taken
-returns-in_ok-answer-in-Ask-clause-taken g c = rw c.plain-in-Ask.ensures (λ sets bodies start h known.
-    let meaning = g.B.Body.meaning in
-    let fits = g.B.Body.fits in
-    let there = g.M.SpawnThreads.has_scope c.args.mode.now in
-    let width = g.M.Mode.width c.args.mode.now in
-    let s = c.args.built.now in
-    let slots = c.args.jobs.now.bodies in
-    let deferred = c.args.run.now.deferred in
-    let out = c.args.jobs.now.pool in
-    let w = c.args.run.now.state in
-    let next = subst (λ (r : Ready). IsTake (recording s sets) h (length out) width r) c.in-Ask.is (subst (λ (t : Turn). IsTurn (recording s sets) h (length out) width (Some t)) c.in-Take.is known.following) in
-    let answer = c.in_ok-answer-in-Ask.answer in
-    let told = c.in_ok-answer-in-Ask.ensures in
-    let later = c.ask.new.self.state in
-    record {
-      may = next.allowed answer;
-      between = record {
-        listed = known.between.listed;
-        stage = subst (λ (x : DeferredValue). Stage width (recording s sets) bodies start (Cond c.in-Ask.condition answer ∷ h) later.state x out) (sym c.ask.ensures.deferred)
-            (stage_ask width (recording s sets) bodies start h w.state deferred out known.between.stage c.in-Ask.condition answer later.state next
-            (told.answer ∙ sym (answer-recording s sets c.in-Ask.condition (run_with w.state deferred))) told.ticked (ap (λ (x : StateValue). x.state) told.asked));
-        placed = placed_asked meaning fits there s bodies slots out w known.between.placed c.in-Ask.condition later told.asked;
-        hand = subst (λ (x : DeferredValue). InHand s x out later) (sym c.ask.ensures.deferred)
-            (in_hand_asked meaning fits there s bodies slots out w known.between.placed deferred c.in-Ask.condition later told.asked known.between.hand);
-      };
-    })
-
-pub returns-in-Skip-clause-taken : goal.returns-in-Skip-clause-taken
-returns-in-Skip-clause-taken g c = rw c.plain-in-Skip.ensures (λ sets bodies start h known.
-    let width = g.M.Mode.width c.args.mode.now in
-    let s = c.args.built.now in
-    let deferred = c.args.run.now.deferred in
-    let out = c.args.jobs.now.pool in
-    let w = c.args.run.now.state in
-    let next = subst (λ (r : Ready). IsTake (recording s sets) h (length out) width r) c.in-Skip.is (subst (λ (t : Turn). IsTurn (recording s sets) h (length out) width (Some t)) c.in-Take.is known.following) in
-    record {
-      may = next.allowed false;
-      between = record {
-        listed = known.between.listed;
-        stage = stage_skip width (recording s sets) bodies start h w.state deferred out known.between.stage c.in-Skip.system next;
-        placed = known.between.placed;
-        hand = known.between.hand;
-      };
-    })
-
-pub returns-in_ok-commanded-in-Sync-clause-taken : goal.returns-in_ok-commanded-in-Sync-clause-taken
-returns-in_ok-commanded-in-Sync-clause-taken g c = λ sets bodies start h known.
-    let meaning = g.B.Body.meaning in
-    let fits = g.B.Body.fits in
-    let there = g.M.SpawnThreads.has_scope c.args.mode.now in
-    let width = g.M.Mode.width c.args.mode.now in
-    let s = c.args.built.now in
-    let slots = c.args.jobs.now.bodies in
-    let deferred = c.args.run.now.deferred in
-    let out = c.args.jobs.now.pool in
-    let w = c.args.run.now.state in
-    let next = subst (λ (r : Ready). IsTake (recording s sets) h (length out) width r) c.in-Sync.is (subst (λ (t : Turn). IsTurn (recording s sets) h (length out) width (Some t)) c.in-Take.is known.following) in
-    let none = none_out width (recording s sets) bodies start h w.state deferred out known.between.stage c.in-Sync.point (next.allowed false) in
-    let done = c.in_ok-commanded-in-Sync.ensures in
-    let later = c.sync.new.self.state in
-    let left = c.sync.new.self.deferred in
-    record {
-      may = next.allowed false;
-      between = record {
-        listed = listed_synced sets (kind_sets_of later.state.world.slots) h c.in-Sync.point known.between.listed;
-        stage = stage_synced width s sets bodies start h w.state deferred out known.between.listed known.between.stage c.in-Sync.point later.state left next done.can done.synced;
-        placed = placed_synced meaning fits there s bodies slots out w known.between.placed later none
-            (memories_synced s w.state known.between.placed.memories c.in-Sync.point deferred left later.state done.synced) done.home.home;
-        hand = in_hand_none s left out later none done.home.suits done.home.ids;
-      };
-    }
-
 pub returns-in_ok-system-in-Collect-clause-taken : goal.returns-in_ok-system-in-Collect-clause-taken
 returns-in_ok-system-in-Collect-clause-taken g c = rw c.plain.ensures (λ sets bodies start h known.
     let width = g.M.Mode.width c.args.mode.now in
@@ -396,17 +169,69 @@ returns-in_ok-system-in-Collect-clause-taken g c = rw c.plain.ensures (λ sets b
 
 -- ---- only a sync point may leave other kind sets
 
+-- ---- what starts no system
+
+pub do_plain-requires-clause-next : goal.do_plain-requires-clause-next
+do_plain-requires-clause-next g c =
+    let meaning = g.B.Body.meaning in
+    let fits = g.B.Body.fits in
+    let there = g.M.SpawnThreads.has_scope c.args.mode.now in
+    let width = g.M.Mode.width c.args.mode.now in
+    let s = c.args.built.now in
+    let slots = c.args.jobs.now.bodies in
+    let deferred = c.args.run.now.deferred in
+    let out = c.args.jobs.now.pool in
+    let w = c.args.run.now.state in
+    let sets = c.requires.next.0 in
+    let bodies = c.requires.next.1 in
+    let start = c.requires.next.2 in
+    let h = c.requires.next.3 in
+    let known = c.requires.next.4 in
+    (there, width, sets, bodies, start, h, slots, out, record { between = known.between; take = subst (λ (t : Turn). IsTurn (recording s sets) h (length out) width (Some t)) c.in-Take.is known.following })
+
+pub returns-in_err-done-clause-stopped : goal.returns-in_err-done-clause-stopped
+returns-in_err-done-clause-stopped g c =
+    let meaning = g.B.Body.meaning in
+    let fits = g.B.Body.fits in
+    let there = g.M.SpawnThreads.has_scope c.args.mode.now in
+    let width = g.M.Mode.width c.args.mode.now in
+    let s = c.args.built.now in
+    let slots = c.args.jobs.now.bodies in
+    let deferred = c.args.run.now.deferred in
+    let out = c.args.jobs.now.pool in
+    let w = c.args.run.now.state in
+    handed_on (StopsNext meaning fits there width s slots deferred out w c.args.turn) c.from_residual-in_err-done.result c.in_err-done.field-0.0 c.from_residual-in_err-done.ensures.1
+    (λ sets bodies start h known. c.in_err-done.ensures.stopped there width sets bodies start h slots out (record { between = known.between; take = subst (λ (t : Turn). IsTurn (recording s sets) h (length out) width (Some t)) c.in-Take.is known.following }))
+
+pub returns-in_err-done-clause-kept : goal.returns-in_err-done-clause-kept
+returns-in_err-done-clause-kept g c =
+    let meaning = g.B.Body.meaning in
+    let fits = g.B.Body.fits in
+    let there = g.M.SpawnThreads.has_scope c.args.mode.now in
+    let width = g.M.Mode.width c.args.mode.now in
+    let s = c.args.built.now in
+    let slots = c.args.jobs.now.bodies in
+    let deferred = c.args.run.now.deferred in
+    let out = c.args.jobs.now.pool in
+    let w = c.args.run.now.state in
+    handed_on (KeepsNext meaning fits there (g.M.Mode.stands c.args.mode.now) width s slots deferred out w c.args.turn slots out) c.from_residual-in_err-done.result c.in_err-done.field-0.0 c.from_residual-in_err-done.ensures.1
+    (λ lost sets bodies start h known. placed_kept meaning fits there s bodies slots out w known.between.placed)
+
+pub returns-in_ok-done-clause-taken : goal.returns-in_ok-done-clause-taken
+returns-in_ok-done-clause-taken g c = λ sets bodies start h known.
+    let meaning = g.B.Body.meaning in
+    let fits = g.B.Body.fits in
+    let there = g.M.SpawnThreads.has_scope c.args.mode.now in
+    let width = g.M.Mode.width c.args.mode.now in
+    let s = c.args.built.now in
+    let slots = c.args.jobs.now.bodies in
+    let deferred = c.args.run.now.deferred in
+    let out = c.args.jobs.now.pool in
+    let w = c.args.run.now.state in
+    c.in_ok-done.ensures.taken there width sets bodies start h slots out (record { between = known.between; take = subst (λ (t : Turn). IsTurn (recording s sets) h (length out) width (Some t)) c.in-Take.is known.following })
+
 pub returns-in_ok-start-in-Start-clause-quiet : goal.returns-in_ok-start-in-Start-clause-quiet
 returns-in_ok-start-in-Start-clause-quiet g c = rw c.plain-in-Start.ensures (λ k is none. absurd (let clash = is in cc))
-
-pub returns-in_ok-answer-in-Ask-clause-quiet : goal.returns-in_ok-answer-in-Ask-clause-quiet
-returns-in_ok-answer-in-Ask-clause-quiet g c = rw c.plain-in-Ask.ensures (λ k is none. absurd (let clash = is in cc))
-
-pub returns-in-Skip-clause-quiet : goal.returns-in-Skip-clause-quiet
-returns-in-Skip-clause-quiet g c = rw c.plain-in-Skip.ensures (λ k is none. absurd (let clash = is in cc))
-
-pub returns-in_ok-commanded-in-Sync-clause-quiet : goal.returns-in_ok-commanded-in-Sync-clause-quiet
-returns-in_ok-commanded-in-Sync-clause-quiet g c = λ k is none. c.in_ok-commanded-in-Sync.ensures.quiet none
 
 pub returns-in_ok-system-in-Collect-clause-quiet : goal.returns-in_ok-system-in-Collect-clause-quiet
 returns-in_ok-system-in-Collect-clause-quiet g c = rw c.plain.ensures (λ k is none. absurd (let clash = is in cc))
