@@ -13,5 +13,6 @@ mod rounds;
 
 pub use document::document_of;
 pub use fault::FileFault;
+pub use name::is_name;
 pub use place::Place;
 pub use program_file::{ChainTable, ItemTable, ProgramFile, SystemTable};

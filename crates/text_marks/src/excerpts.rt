@@ -1,0 +1,240 @@
+// Excerpts of a text: the lines with marks, and below each what is marked.
+
+use crate::lines::Line;
+use crate::marks::Mark;
+use crate::shown::{char_count, shown};
+use std::alloc::{AllocError, Global};
+use unicode_width::UnicodeWidthStr;
+
+// How many characters of a line are shown at most, and how many of these before its first mark.
+const MOST_SHOWN: usize = 100;
+
+const SHOWN_BEFORE: usize = 40;
+
+/// A mark, with what is said of it.
+#[derive(Debug, Drop)]
+pub struct Labelled<'a> {
+    /// What is marked.
+    pub mark: Mark<'a>,
+    /// Whether the excerpt is of this mark: it has `^` below it, and others have `-`.
+    pub is_first: bool,
+    /// What stands behind it, empty for nothing.
+    pub label: String,
+}
+
+/// An excerpt of a text: some marks, of which one is the first.
+#[derive(Debug, Drop)]
+pub struct Excerpt<'a> {
+    marks: Vec<Labelled<'a>>,
+}
+
+impl<'a> Excerpt<'a> {
+    /// An excerpt without marks.
+    pub fn new(alloc: Global) -> Excerpt<'a> {
+        Excerpt {
+            marks: Vec::new(alloc),
+        }
+    }
+
+    /// Whether nothing is marked.
+    pub fn is_empty(&self) -> bool {
+        self.marks.is_empty()
+    }
+
+    /// Adds a mark, with what is said of it. The first that is added is the one that the excerpt is of.
+    pub fn add(&mut self, mark: Mark<'a>, label: String) -> Result<(), AllocError> {
+        let is_first = self.marks.is_empty();
+        self.marks.push(Labelled {
+            mark,
+            is_first,
+            label,
+        })?;
+        Ok(())
+    }
+
+    /// How many digits the greatest number of a line has, at least one.
+    pub fn gutter(&self) -> usize {
+        let mut most = 0;
+        for labelled in &self.marks {
+            most = labelled.mark.line.number.max(most);
+        }
+        digits(most)
+    }
+
+    /// Adds the place of the first mark, as `PATH:LINE:COLUMN`, and below it each line with marks, once and in order, and what is marked of it.
+    pub fn push(&mut self, alloc: Global, text: &mut String, path: &str) -> Result<(), AllocError> {
+        let gutter = self.gutter();
+        push_place(alloc, text, path, gutter, self.marks.as_slice())?;
+        if self.marks.is_empty() {
+            return Ok(());
+        }
+        push_times(text, ' ', gutter.saturating_add(1))?;
+        text.push_str("|\n")?;
+        self.marks
+            .sort_by_key(|labelled| (labelled.mark.line.number, labelled.mark.from))?;
+        let mut number = 0;
+        let mut window = Window {
+            skipped: 0,
+            is_cut: false,
+        };
+        for labelled in &self.marks {
+            if labelled.mark.line.number != number {
+                number = labelled.mark.line.number;
+                window = push_line(alloc, text, gutter, labelled.mark)?;
+            }
+            push_below(alloc, text, gutter, window, labelled)?;
+        }
+        Ok(())
+    }
+}
+
+// Which characters of a line are shown: those behind so many, and whether all of them are.
+#[derive(Clone, Copy)]
+struct Window {
+    skipped: usize,
+    is_cut: bool,
+}
+
+// Adds where the first of some marks is.
+fn push_place(
+    alloc: Global,
+    text: &mut String,
+    path: &str,
+    gutter: usize,
+    marks: &[Labelled<'_>],
+) -> Result<(), AllocError> {
+    push_times(text, ' ', gutter)?;
+    let path = shown(alloc, path.as_bytes())?;
+    write!(text, "--> {path}")?;
+    match marks.iter().find(|labelled| labelled.is_first) {
+        Some(labelled) => {
+            let number = labelled.mark.line.number;
+            let column = column_of(labelled.mark);
+            writeln!(text, ":{number}:{column}")
+        }
+        None => text.push_str("\n"),
+    }
+}
+
+// The column of a mark, from 1, in characters.
+fn column_of(mark: Mark<'_>) -> usize {
+    char_count(before(mark)).saturating_add(1)
+}
+
+// The bytes of a line before a mark.
+fn before(mark: Mark<'_>) -> &[u8] {
+    mark.line.bytes.get(..mark.from).unwrap_or(&[])
+}
+
+// The bytes of a line that are marked.
+fn marked(mark: Mark<'_>) -> &[u8] {
+    mark.line.bytes.get(mark.from..mark.to).unwrap_or(&[])
+}
+
+// Adds a line, with its number, as much as is shown around a mark.
+fn push_line(
+    alloc: Global,
+    text: &mut String,
+    gutter: usize,
+    mark: Mark<'_>,
+) -> Result<Window, AllocError> {
+    let Line { number, bytes, .. } = mark.line;
+    let line = shown(alloc, bytes)?;
+    let lead = shown(alloc, before(mark))?.as_str().chars().count();
+    let count = line.as_str().chars().count();
+    let window = Window {
+        skipped: if count > MOST_SHOWN {
+            lead.saturating_sub(SHOWN_BEFORE)
+        } else {
+            0
+        },
+        is_cut: count > MOST_SHOWN,
+    };
+    push_times(text, ' ', gutter.saturating_sub(digits(number)))?;
+    write!(text, "{number} | ")?;
+    push_window(text, line.as_str(), window)?;
+    text.push_str("\n")?;
+    Ok(window)
+}
+
+// Adds what is shown of a line.
+fn push_window(text: &mut String, line: &str, window: Window) -> Result<(), AllocError> {
+    if !window.is_cut {
+        return text.push_str(line);
+    }
+    if window.skipped > 0 {
+        text.push_str("...")?;
+    }
+    let mut rest = line.chars();
+    for _ in 0..window.skipped {
+        let _skipped = rest.next();
+    }
+    for _ in 0..MOST_SHOWN {
+        match rest.next() {
+            Some(char) => text.push(char)?,
+            None => return Ok(()),
+        }
+    }
+    match rest.next() {
+        Some(_) => text.push_str("..."),
+        None => Ok(()),
+    }
+}
+
+// Adds what is below a line of a mark of it.
+fn push_below(
+    alloc: Global,
+    text: &mut String,
+    gutter: usize,
+    window: Window,
+    labelled: &Labelled<'_>,
+) -> Result<(), AllocError> {
+    let lead = shown(alloc, before(labelled.mark))?;
+    let word = shown(alloc, marked(labelled.mark))?;
+    let dots = if window.skipped > 0 { 3 } else { 0 };
+    push_times(text, ' ', gutter.saturating_add(1))?;
+    text.push_str("| ")?;
+    push_times(
+        text,
+        ' ',
+        width_behind(lead.as_str(), window.skipped).saturating_add(dots),
+    )?;
+    let sign = if labelled.is_first { '^' } else { '-' };
+    push_times(text, sign, word.as_str().width().clamp(1, MOST_SHOWN))?;
+    let label = labelled.label.as_str();
+    if !label.is_empty() {
+        write!(text, " {label}")?;
+    }
+    text.push_str("\n")
+}
+
+// How many columns a text takes behind so many of its characters.
+fn width_behind(text: &str, skipped: usize) -> usize {
+    let mut rest = text.chars();
+    for _ in 0..skipped {
+        let _skipped = rest.next();
+    }
+    rest.as_str().width()
+}
+
+// Adds a character so many times.
+fn push_times(text: &mut String, char: char, times: usize) -> Result<(), AllocError> {
+    for _ in 0..times {
+        text.push(char)?;
+    }
+    Ok(())
+}
+
+// How many digits a number has.
+fn digits(number: usize) -> usize {
+    let mut rest = number / 10;
+    let mut count = 1usize;
+    for _ in 0..20 {
+        if rest == 0 {
+            return count;
+        }
+        rest /= 10;
+        count = count.saturating_add(1);
+    }
+    count
+}
