@@ -1,6 +1,6 @@
 // Tables.
 
-ghost use Rattle.std.specs.Prelude.{◌≡◌, ◌+◌, ◌-◌, ◌<◌, ◌≤◌, ◌++◌, ◌∷◌, [], length, map, option_map, Some, IsSome, IsNone, IfSome, IfOk, OnOk, OnErr, IsTrue, slice_get};
+ghost use Rattle.std.specs.Prelude.{◌≡◌, ◌⊎◌, ◌+◌, ◌-◌, ◌<◌, ◌≤◌, ◌++◌, ◌∷◌, [], length, map, option_map, Some, IsSome, IsNone, IfSome, IfOk, OnOk, OnErr, IsTrue, slice_get};
 ghost use Rattle.std.specs.List.{list_all};
 ghost use Rattle.kinds.specs.Kind.{kind_number};
 ghost use Rattle.kinds.specs.Value.{value_number, value_words};
@@ -11,7 +11,7 @@ ghost use Rattle.column_store.specs.Order.{AreApart};
 ghost use Rattle.column_store.specs.RowOrder.{OrdersRows};
 ghost use Rattle.column_store.specs.Swapped.{swap_removed};
 ghost use Rattle.std.specs.Arc.{arc_value};
-ghost use Rattle.column_store.specs.Table.{Standing, empty_table, is_home, is_owned, is_not_away, is_own_if, row_of, row_number, new_row, renewed_row, cell_in_row, cell_of_entity, standing_of, kind_cells, write_cell, lent, owned, homed, IsHome, IsAlike};
+ghost use Rattle.column_store.specs.Table.{Standing, empty_table, is_home, is_owned, is_not_away, is_own_if, row_of, row_number, new_row, renewed_row, cell_in_row, cell_of_entity, standing_of, kind_cells, write_cell, lent, shared, owned, homed, IsHome, IsAlike};
 
 use crate::column_slot::{
     ColumnSlot, copied_slots, empty_columns, own_each, push_row, read_row, replace_row,
@@ -363,7 +363,8 @@ impl Table {
         Ok(column)
     }
 
-    /// A column that is at home, to be read elsewhere too. No row is copied.
+    /// A column that is at home, to be read elsewhere too. No row is copied. After an error the table is as it was, without the room that was made,
+    /// or it stands as if the column were read elsewhere.
     pub fn share(
         &mut self,
         alloc: Global,
@@ -372,6 +373,8 @@ impl Table {
         requires { IsHome (standing_of self.old (kind_number kind)) }
         ensures kind { IfOk result (λ column. (arc_value column).kind ≡ kind_number kind) }
         ensures cells { IfOk result (λ column. map (λ cell. Some cell) (arc_value column).cells ≡ kind_cells self.old (kind_number kind)) }
+        ensures ok { OnOk result (self.new ≡ shared self.old (kind_number kind)) }
+        ensures err { OnErr result ((self.new ≡ record self.old { room = 0 }) ⊎ (self.new ≡ shared self.old (kind_number kind))) }
         ensures alike { IsAlike self.old self.new }
     {
         self.spare = 0;
