@@ -8,7 +8,7 @@ use Rattle.archetype_store.specs.declared.change.EntityChange.{EntityChange}
 use Rattle.archetype_store.specs.declared.locations.EntityLocation.{EntityLocation}
 use Rattle.archetype_store.specs.declared.row_moves.RowMove.{RowMove}
 use Rattle.archetype_store.specs.Changes.{AreOfOtherIndices}
-use Rattle.archetype_store.specs.RowMoves.{change_of, HaveRoom, IsPlanned}
+use Rattle.archetype_store.specs.RowMoves.{change_of, HaveRoom, HasLeft, IsPlanned}
 use Rattle.archetype_store.proofs.RowMoves.{index_flipped, map_drop}
 
 others_later : (cs : List EntityChange) (n : ℕ) (d : EntityChange) → n < length cs → AreOfOtherIndices cs →
@@ -49,6 +49,13 @@ module _ (rows : List RowMove) (n : ℕ) (m : RowMove) (l : n < length rows) (is
   pub planned_here : (T : List TableValue) (P : List (Option EntityLocation)) → AllByRecursion (IsPlanned T P) (drop n rows) → AllByRecursion (IsPlanned T P) (m ∷ drop (n + 1) rows)
   planned_here T P h = subst (AllByRecursion (IsPlanned T P)) rest_is h
 
+  pub gone_here : (P : List (Option EntityLocation)) → AllByRecursion (HasLeft P) (drop n rows) → AllByRecursion (HasLeft P) (m ∷ drop (n + 1) rows)
+  gone_here P h = subst (AllByRecursion (HasLeft P)) rest_is h
+
+  -- one more has left, before those that have
+  pub gone_more : (P : List (Option EntityLocation)) → HasLeft P m → AllByRecursion (HasLeft P) (drop (n + 1) rows) → AllByRecursion (HasLeft P) (drop n rows)
+  gone_more P h all = subst (AllByRecursion (HasLeft P)) (sym rest_is) (h, all)
+
   pub room_here : (T : List TableValue) (P : List (Option EntityLocation)) → HaveRoom T P (drop n rows) → HaveRoom T P (m ∷ drop (n + 1) rows)
   room_here T P h = subst (HaveRoom T P) rest_is h
 
@@ -57,3 +64,8 @@ module _ (rows : List RowMove) (n : ℕ) (m : RowMove) (l : n < length rows) (is
 
   pub rows_taken : take (n + 1) rows ≡ take n rows ++ m ∷ []
   rows_taken = take_more rows n m l ∙ ap (λ x. take n rows ++ x ∷ []) is
+
+-- none is behind the last
+pub none_behind : (P : List (Option EntityLocation)) (rows : List RowMove) → AllByRecursion (HasLeft P) (drop (length rows) rows)
+none_behind P [] = tt
+none_behind P (m ∷ rows) = none_behind P rows

@@ -7,7 +7,7 @@ use Rattle.column_store.specs.Table.{TableValue}
 use Rattle.archetype_store.specs.declared.locations.EntityLocation.{EntityLocation}
 use Rattle.archetype_store.specs.declared.row_moves.RowMove.{RowMove}
 use Rattle.archetype_store.specs.Storage.{place_of}
-use Rattle.archetype_store.specs.RowMoves.{other_table, arrives_in, is_table, one_if}
+use Rattle.archetype_store.specs.RowMoves.{other_table, arrives_in, stays_there, stays_in, is_table, one_if}
 use Rattle.archetype_store.specs.Tables.{room_at, is_in}
 use Rattle.archetype_store.proofs.Laid.{with_at_apart}
 
@@ -34,6 +34,14 @@ arrives_there P m to x is at =
     let from = place_of P m.change.now.entity.index in
     let step : arrives_in P m ≡ cond (is_in from to) None (Some to) = ap (other_table from) is in
     step ∙ arrives_from (is_in from to) to x (sym step ∙ at)
+
+-- a row that comes into some table doesn't stay
+leaves_from : (b : Bool) (to x : ℕ) → cond b None (Some to) ≡ Some x → b ≡ false
+leaves_from true to x e = absurd (cc)
+leaves_from false to x e = refl
+
+pub arrives_moves : (P : List (Option EntityLocation)) (m : RowMove) (to x : ℕ) → m.to ≡ Some to → arrives_in P m ≡ Some x → stays_in P m ≡ false
+arrives_moves P m to x is at = let from = place_of P m.change.now.entity.index in ap (stays_there from) is ∙ leaves_from (is_in from to) to x (sym (ap (other_table from) is) ∙ at)
 
 pub some_there : (ss : List StampedValue) → is_there ss ≡ true → ss ≢ []
 some_there [] h = absurd (cc)

@@ -12,7 +12,7 @@ use Rattle.archetype_store.specs.declared.locations.EntityLocation.{EntityLocati
 use Rattle.archetype_store.specs.declared.row_moves.RowMove.{RowMove}
 use Rattle.archetype_store.specs.Storage.{StorageValue, row_of, holder_of, holder_if, place_of, holder_in, IsHolder, HasRow, HaveRows, row_changed, holder_changed}
 use Rattle.archetype_store.specs.Changes.{components_left}
-use Rattle.archetype_store.specs.RowMoves.{change_of, other_table, arrives_in, is_table, one_if, coming_count, HaveRoom, IsPlanned}
+use Rattle.archetype_store.specs.RowMoves.{change_of, other_table, arrives_in, stays_there, is_table, one_if, coming_count, HaveRoom, HasLeft, IsPlanned}
 use Rattle.archetype_store.specs.Tables.{table_at, room_at, with_room, shape_of, is_in}
 use Rattle.archetype_store.proofs.Laid.{kinds_kept}
 use Rattle.model.proofs.lists.Bools.{apart_number}
@@ -93,6 +93,13 @@ module _ (T T' : List TableValue) (P P' : List (Option EntityLocation)) (m : Row
   planned_all_rest (x ∷ ms) h plans = (
     planned_rest T T' P P' x shapes many plans.0 (others x.change.now.entity.index (apart_number x.change.now.entity.index m.change.now.entity.index h.0)),
     planned_all_rest ms h.1 plans.1,
+  )
+
+  pub gone_rest : (ms : List RowMove) → AllByRecursion (λ (d : EntityChange). (d.entity.index == m.change.now.entity.index) ≡ false) (map change_of ms) → AllByRecursion (HasLeft P) ms → AllByRecursion (HasLeft P') ms
+  gone_rest [] h all = tt
+  gone_rest (x ∷ ms) h all = (
+    (λ moves. let same = others x.change.now.entity.index (apart_number x.change.now.entity.index m.change.now.entity.index h.0) in same ∙ all.0 (ap (λ o. stays_there o x.to) (sym same) ∙ moves)),
+    gone_rest ms h.1 all.1,
   )
 
   counts_rest : (ms : List RowMove) (t : ℕ) → AllByRecursion (λ (d : EntityChange). (d.entity.index == m.change.now.entity.index) ≡ false) (map change_of ms) → coming_count P' ms t ≡ coming_count P ms t

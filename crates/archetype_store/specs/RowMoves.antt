@@ -36,6 +36,10 @@ stays_there from (Some to) = is_in from to
 abbrev pub stays_in : List (Option EntityLocation) → RowMove → Bool
 stays_in places m = stays_there (place_of places m.change.now.entity.index) m.to
 
+-- a row that goes elsewhere has left its table
+abbrev pub HasLeft : List (Option EntityLocation) → RowMove → Type 0
+HasLeft places m = stays_in places m ≡ false → place_of places m.change.now.entity.index ≡ None
+
 -- whether this is the table
 abbrev pub is_table : Option ℕ → ℕ → Bool
 is_table None t = false

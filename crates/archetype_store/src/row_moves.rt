@@ -12,7 +12,7 @@ ghost use Rattle.archetype_store.specs.TableIndex.{IsFound};
 ghost use Rattle.archetype_store.specs.Tables.{kinds_at, room_at, shape_of, AreShaped, AreUnlike, AreOwned, AreAllAlike, IsGrown};
 ghost use Rattle.archetype_store.specs.Storage.{archetypes_of, holder_in, place_of, AreAlike, AreArchetypes, HasRow, HaveRows, IsHolder};
 ghost use Rattle.archetype_store.specs.RowNumbers.{AreRowsKnown};
-ghost use Rattle.archetype_store.specs.RowMoves.{change_of, arrives_in, stays_in, one_if, is_table, HaveRoom, IsPlanned, IsTarget, AreAlikeBut, AreAlikeBefore};
+ghost use Rattle.archetype_store.specs.RowMoves.{change_of, arrives_in, stays_in, one_if, is_table, HaveRoom, HasLeft, IsPlanned, IsTarget, AreAlikeBut, AreAlikeBefore};
 
 use crate::change::EntityChange;
 use crate::locations::{EntityLocation, place_at, reach};
@@ -248,6 +248,7 @@ fn leave_row(
     ensures alike { AreAlikeBut (archetypes_of tables.old.items places.old.items) row.now.change.now.entity.index (archetypes_of tables.new.items places.new.items) }
     ensures others { (i : ℕ) → (i ≡ row.now.change.now.entity.index → ⊥) → place_of places.new.items i ≡ place_of places.old.items i }
     ensures planned { IsPlanned tables.new.items places.new.items row.now }
+    ensures gone { HasLeft places.new.items row.now }
     ensures arrives { arrives_in places.new.items row.now ≡ arrives_in places.old.items row.now }
     ensures as_many { length places.new.items ≡ length places.old.items }
     ensures rooms { (t : ℕ) → room_at tables.new.items t ≡ room_at tables.old.items t }
@@ -277,6 +278,7 @@ fn leave_all(
     ensures owned { AreOwned tables.new.items }
     ensures shapes { map shape_of tables.new.items ≡ map shape_of tables.old.items }
     ensures planned { AllByRecursion (IsPlanned tables.new.items places.new.items) rows.now }
+    ensures gone { AllByRecursion (HasLeft places.new.items) rows.now }
     ensures room { HaveRoom tables.new.items places.new.items rows.now }
     ensures alike { AreAlikeBefore (archetypes_of tables.old.items places.old.items) (map change_of rows.now) (archetypes_of tables.new.items places.new.items) }
 {
@@ -287,7 +289,7 @@ fn leave_all(
     }
 }
 
-// Takes a row where it goes: away, or into another table, or its components are replaced where it stays. It allocates nothing.
+// Takes a row that has left where it goes: nowhere, or into another table, or its components are replaced where it stays. It allocates nothing.
 fn move_row(
     tables: &mut Vec<Table>,
     places: &mut Vec<Option<EntityLocation>>,
@@ -298,6 +300,7 @@ fn move_row(
     requires known { AreRowsKnown tables.old.items places.old.items numbers.old.items }
     requires owned { AreOwned tables.old.items }
     requires planned { IsPlanned tables.old.items places.old.items row.now }
+    requires gone { HasLeft places.old.items row.now }
     requires room { (t : ℕ) → arrives_in places.old.items row.now ≡ Some t → 0 < room_at tables.old.items t }
     ensures whole { AreArchetypes tables.new.items places.new.items }
     ensures known { AreRowsKnown tables.new.items places.new.items numbers.new.items }
@@ -310,7 +313,6 @@ fn move_row(
 {
     let e = row.change.entity;
     let Some(to) = row.to else {
-        clear_in(tables, places, numbers, e);
         return;
     };
     if let None = arrives_in(places, row) {
@@ -322,11 +324,10 @@ fn move_row(
         );
         return;
     }
-    clear_in(tables, places, numbers, e);
     join_in(tables, places, numbers, e, to, row.change.components());
 }
 
-// Takes rows where they go, one after the other. It allocates nothing.
+// Takes rows that have left where they go, one after the other. It allocates nothing.
 fn move_all(
     tables: &mut Vec<Table>,
     places: &mut Vec<Option<EntityLocation>>,
@@ -338,6 +339,7 @@ fn move_all(
     requires owned { AreOwned tables.old.items }
     requires apart { AreOfOtherIndices (map change_of rows.now) }
     requires planned { AllByRecursion (IsPlanned tables.old.items places.old.items) rows.now }
+    requires gone { AllByRecursion (HasLeft places.old.items) rows.now }
     requires room { HaveRoom tables.old.items places.old.items rows.now }
     ensures whole { AreArchetypes tables.new.items places.new.items }
     ensures known { AreRowsKnown tables.new.items places.new.items numbers.new.items }

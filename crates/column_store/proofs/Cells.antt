@@ -1,5 +1,5 @@
 -- Cells of words and stamps, and edits of them.
-use Rattle.std.proofs.Common.{◌≡◌, ℕ, zero, suc, ◌-◌, ◌<◌, min, ℤ, List, [], ◌∷◌, ◌++◌, length, get_or, set, take, option_map, refl, sym, ap, ◌∙◌, arith}
+use Rattle.std.proofs.Common.{◌≡◌, ℕ, zero, suc, ◌-◌, ◌<◌, ℤ, List, [], ◌∷◌, ◌++◌, length, get_or, set, take, option_map, refl, sym, ap, ◌∙◌, arith}
 use Rattle.std.specs.List.{swap_remove}
 use Rattle.kinds.specs.Components.{word_at}
 use Rattle.std.specs.Prelude.{slice_get, Some}

@@ -1,5 +1,5 @@
 -- Where a column is in the inside of a table.
-use Rattle.std.proofs.Common.{◌≡◌, ℕ, ◌<◌, ◌==◌, true, List, length, get_or, set, Result, Ok, Err, OnOk, OnErr, Option, Some, option_map, refl, sym, ap, subst, ◌∙◌, arith, map, MatchOption, None}
+use Rattle.std.proofs.Common.{◌≡◌, ◌⊎◌, inl, inr, ⊎_elim, ℕ, ◌<◌, ◌==◌, true, List, length, get_or, set, Result, Ok, Err, OnOk, OnErr, Option, Some, option_map, refl, sym, ap, subst, ◌∙◌, arith, map, MatchOption, None}
 use Rattle.std.specs.List.{position}
 use Rattle.std.proofs.Math.Seq.{map-set_same}
 use Rattle.std.proofs.lemmas.List.{map-set}
@@ -10,8 +10,8 @@ use Rattle.model.specs.declared.entities.Entity.{Entity}
 use Rattle.column_store.specs.Column.{ColumnCells}
 use Rattle.column_store.specs.Places.{IsPlace}
 use Rattle.column_store.specs.Inside.{standing_at, seen_column, seen_slot, room_of, write_in, table_of, IsOfLength, IsTable, IsKindPlace, IsKindPlaced, IsNoKind}
-use Rattle.column_store.specs.Table.{Standing, ColumnSlotValue, is_home, is_owned, is_not_away, is_own_if, lent, IsHome, IsAlike}
-use Rattle.column_store.specs.Table.Standing.{Away}
+use Rattle.column_store.specs.Table.{Standing, ColumnSlotValue, is_home, is_owned, is_not_away, is_own_if, lent, shared, IsHome, IsAlike}
+use Rattle.column_store.specs.Table.Standing.{Shared, Away}
 use Rattle.column_store.proofs.Lists.{map-update_at_same, set-changed, set-same}
 use Rattle.column_store.proofs.Rows.{place_from_position, nowhere_from_position}
 use Rattle.column_store.proofs.Tables.{place-within, length-of_kinds, cell_in-place, cell_in-no_kind, table-write, table-seen, standing-place, standing-nowhere, kind_cells-place, table-move, table-home, table-alike}
@@ -94,6 +94,26 @@ module _ (ns : List ℕ) (es : List Entity) (ps : List ColumnSlotValue) (k j : �
         column_kept (Err e) h k = ap seen_column k
 
   -- one that is read elsewhere too
+  pub shared_table : q ≡ standing_at Shared (get_or ps j d) → table_of ns es (set ps j q) ≡ shared (table_of ns es ps) k
+  shared_table h = ap (λ (z : ColumnSlotValue). table_of ns es (set ps j z)) h
+      ∙ ap (table_of ns es) (set-changed (standing_at Shared) ps j d (standing_at Shared (get_or ps j d)) at.within refl) ∙ at.moves Shared
+
+  module _ {A E : Type 0} where
+    pub shared_there : (r : Result A E) → OnOk r (q ≡ standing_at Shared (get_or ps j d)) → OnOk r (table_of ns es (set ps j q) ≡ shared (table_of ns es ps) k)
+    shared_there (Ok a) h = shared_table h
+    shared_there (Err e) h = tt
+
+    pub shared_err : (r : Result A E) → OnErr r ((q ≡ get_or ps j d) ⊎ (q ≡ standing_at Shared (get_or ps j d))) → OnErr r ((set ps j q ≡ ps) ⊎ (table_of ns es (set ps j q) ≡ shared (table_of ns es ps) k))
+    shared_err (Ok a) h = tt
+    shared_err (Err e) h = ⊎_elim (λ same. inl (ap (set ps j) same ∙ set-same ps j d at.within)) (λ other. inr (shared_table other)) h
+
+    -- the column stays, and stays at home
+    pub shared_column : (r : Result A E) → OnOk r (q ≡ standing_at Shared (get_or ps j d)) → OnErr r ((q ≡ get_or ps j d) ⊎ (q ≡ standing_at Shared (get_or ps j d))) → is_home (get_or ps j d).standing ≡ true
+        → (q.column ≡ (get_or ps j d).column) × (is_home q.standing ≡ true)
+    shared_column (Ok a) h e home = (ap (λ (x : ColumnSlotValue). x.column) h, ap (λ (x : ColumnSlotValue). is_home x.standing) h)
+    shared_column (Err e) h k home = ⊎_elim (λ same. (ap (λ (x : ColumnSlotValue). x.column) same, ap (λ (x : ColumnSlotValue). is_home x.standing) same ∙ home))
+        (λ other. (ap (λ (x : ColumnSlotValue). x.column) other, ap (λ (x : ColumnSlotValue). is_home x.standing) other)) k
+
   pub shared_alike : q.column ≡ (get_or ps j d).column → is_home q.standing ≡ true → is_home (get_or ps j d).standing ≡ true → IsAlike (table_of ns es ps) (table_of ns es (set ps j q))
   shared_alike column home old = table-alike ns es ps (set ps j q) (record {
     columns = map-set_same seen_column ps j q d (ap (λ (c : ColumnCells). let v : ColumnCells = record { kind = c.kind; cells = c.cells; room = 0 } in v) column);

@@ -130,6 +130,10 @@ moved_to standing t kind = record {
 abbrev pub lent : TableValue → ℕ → TableValue
 lent t kind = moved_to Away t kind
 
+-- the table whose column of a kind is read elsewhere too
+abbrev pub shared : TableValue → ℕ → TableValue
+shared t kind = moved_to Shared t kind
+
 -- the table whose columns are its alone
 abbrev pub owned : TableValue → TableValue
 owned t = record { kinds = t.kinds; standings = map (λ _. Owned) t.standings; rows = t.rows; room = 0 }

@@ -10,7 +10,7 @@ ghost use Rattle.column_store.specs.Swapped.{swap_removed};
 
 use crate::packed::{Amount, Mark, Packed, Pair};
 use crate::packs::{copied, push_in, read_in, reserve_in, set_in, swap_remove_in, write_in};
-use kinds::{Component, Fields, Kind, Shape, Value};
+use kinds::{Fields, Kind, Shape, Value};
 use std::alloc::{AllocError, Global};
 use std::marker::Model;
 
@@ -115,15 +115,6 @@ impl Column {
             Packs::Amounts(items) => items[place].word(field),
             Packs::Pairs(items) => items[place].word(field),
         }
-    }
-
-    // The component at a place, of the column's type.
-    pub(crate) fn get<C: Component>(&self, place: usize) -> C
-        requires kind { self.now.kind ≡ C.NUMBER }
-        requires within { place < length self.now.words }
-        ensures { slice_get self.now.words place ≡ Some (C.words result) }
-    {
-        C::from_words(self.fields(place).as_slice())
     }
 
     // The component at a place.

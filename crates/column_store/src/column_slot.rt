@@ -1,12 +1,12 @@
 // The slots of columns in a table, and what is done to all columns at a row.
 
-ghost use Rattle.std.specs.Prelude.{◌≡◌, ◌+◌, true, length, map, Some, IfOk, IfErr, OnOk, OnErr};
+ghost use Rattle.std.specs.Prelude.{◌≡◌, ◌⊎◌, ◌+◌, true, length, map, Some, IfOk, IfErr, OnOk, OnErr};
 ghost use Rattle.std.specs.List.{AllByRecursion};
 ghost use Rattle.std.specs.Arc.{arc_value};
 ghost use Rattle.kinds.specs.Value.{value_number, value_words};
 ghost use Rattle.column_store.specs.Cells.{stamped_number, stamped_cell};
 ghost use Rattle.column_store.specs.Table.{is_home};
-ghost use Rattle.column_store.specs.Table.Standing.{Owned, Away};
+ghost use Rattle.column_store.specs.Table.Standing.{Owned, Shared, Away};
 ghost use Rattle.column_store.specs.Inside.{cell_at, kind_in, standing_at, seen_slot, owned_slot, empty_column, write_in, push_in, swap_out_in, replace_in, push_all, replace_all, HasRoom, HoldsRow, OwnsRow, IsOfLength, Takes, AllTake, Renews, AllRenew, IsAtHome, IsOwned, IsRoomier, AreRoomier, AreAlike};
 
 use crate::stamped::{Components, StampedColumn, StampedValue};
@@ -113,12 +113,13 @@ impl ColumnSlot {
         }
     }
 
-    // The column, which is at home, to be read elsewhere too. It stays at home.
+    // The column, which is at home, to be read elsewhere too. It stays at home. After an error the slot is as it was, or its column is ready to be
+    // read elsewhere, though nobody does.
     pub(crate) fn share(&mut self, alloc: Global) -> Result<Arc<StampedColumn, Global>, AllocError>
         requires { is_home self.old.standing ≡ true }
         ensures shared { IfOk result (λ column. arc_value column ≡ self.old.column) }
-        ensures column { self.new.column ≡ self.old.column }
-        ensures home { is_home self.new.standing ≡ true }
+        ensures ok { OnOk result (self.new ≡ standing_at Shared self.old) }
+        ensures err { OnErr result ((self.new ≡ self.old) ⊎ (self.new ≡ standing_at Shared self.old)) }
     {
         if let Spot::Shared(shared) = &self.spot {
             return Arc::try_clone(shared);

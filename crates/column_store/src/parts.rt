@@ -1,11 +1,11 @@
 // What a table's calls do to its parts: its kinds, its entities and its columns.
 
-ghost use Rattle.std.specs.Prelude.{◌≡◌, ◌==◌, ◌<◌, length, map, MatchOption, option_map, Some, IsSome, IsTrue, IfSome, IfOk, OnOk, OnErr};
+ghost use Rattle.std.specs.Prelude.{◌≡◌, ◌⊎◌, ◌==◌, ◌<◌, length, map, MatchOption, option_map, Some, IsSome, IsTrue, IfSome, IfOk, OnOk, OnErr};
 ghost use Rattle.std.specs.List.{list_any, filter};
 ghost use Rattle.kinds.specs.Kind.{kind_number};
 ghost use Rattle.kinds.specs.Value.{value_number, value_words};
 ghost use Rattle.column_store.specs.Cells.{stamped_number, stamped_cell};
-ghost use Rattle.column_store.specs.Table.{Standing, is_not_away, is_own_if, cell_in_row, standing_of, kind_cells, write_cell, lent, homed, IsHome, IsAlike};
+ghost use Rattle.column_store.specs.Table.{Standing, is_not_away, is_own_if, cell_in_row, standing_of, kind_cells, write_cell, lent, shared, homed, IsHome, IsAlike};
 ghost use Rattle.std.specs.Arc.{arc_value};
 ghost use Rattle.column_store.specs.Inside.{room_of, table_of, IsTable, IsKindPlaced, IsNoKind};
 
@@ -114,6 +114,10 @@ pub(crate) fn share_in(
     ensures kind { IfOk result (λ column. (arc_value column).kind ≡ kind_number kind) }
     ensures cells { IfOk result (λ column. map (λ cell. Some cell) (arc_value column).cells
         ≡ kind_cells (table_of (map kind_number kinds.now) entities.now columns.old) (kind_number kind)) }
+    ensures ok { OnOk result (table_of (map kind_number kinds.now) entities.now columns.new
+        ≡ shared (table_of (map kind_number kinds.now) entities.now columns.old) (kind_number kind)) }
+    ensures err { OnErr result ((columns.new ≡ columns.old)
+        ⊎ (table_of (map kind_number kinds.now) entities.now columns.new ≡ shared (table_of (map kind_number kinds.now) entities.now columns.old) (kind_number kind))) }
     ensures alike { IsAlike (table_of (map kind_number kinds.now) entities.now columns.old) (table_of (map kind_number kinds.now) entities.now columns.new) }
     ensures table { IsTable (map kind_number kinds.now) entities.now columns.new }
 {

@@ -12,7 +12,7 @@ ghost use Rattle.column_store.specs.Swapped.{swap_removed};
 
 use crate::column::Column;
 use change_ticks::{Stamp, Tick};
-use kinds::{Component, Fields, Kind, Value};
+use kinds::{Fields, Kind, Value};
 use smallvec::SmallVec;
 use std::alloc::{AllocError, Global};
 use std::default::MadeWith;
@@ -147,25 +147,6 @@ impl StampedColumn {
         ensures { option_map (λ c. word_at c.words field) (slice_get self.now.cells place) ≡ Some result }
     {
         self.column.word(place, field)
-    }
-
-    /// The component at a place, of the column's type.
-    pub fn get<C: Component>(&self, place: usize) -> C
-        requires kind { self.now.kind ≡ C.NUMBER }
-        requires within { place < length self.now.cells }
-        ensures { option_map (λ c. c.words) (slice_get self.now.cells place) ≡ Some (C.words result) }
-    {
-        self.column.get(place)
-    }
-
-    /// Replaces the component at a place, which counts as changed at this tick, also where the value stays.
-    pub fn set<C: Component>(&mut self, place: usize, component: C, tick: Tick)
-        requires kind { self.old.kind ≡ C.NUMBER }
-        requires within { place < length self.old.cells }
-        ensures { self.new ≡ record self.old { cells = update_at place (changed_cell (C.words component) tick) self.old.cells } }
-    {
-        self.column.set(place, component.into_value());
-        self.stamps[place].changed = tick;
     }
 
     /// Replaces the component at a place by one of the column's kind, which counts as changed at this tick.

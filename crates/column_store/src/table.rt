@@ -1,17 +1,17 @@
 // Tables.
 
-ghost use Rattle.std.specs.Prelude.{◌≡◌, ◌+◌, ◌-◌, ◌<◌, ◌≤◌, ◌++◌, ◌∷◌, [], length, map, option_map, Some, IsSome, IsNone, is_some, IfSome, IfOk, OnOk, OnErr, IsTrue, slice_get};
+ghost use Rattle.std.specs.Prelude.{◌≡◌, ◌⊎◌, ◌+◌, ◌-◌, ◌<◌, ◌≤◌, ◌++◌, ◌∷◌, [], length, map, option_map, Some, IsSome, IsNone, IfSome, IfOk, OnOk, OnErr, IsTrue, slice_get};
 ghost use Rattle.std.specs.List.{list_all};
 ghost use Rattle.kinds.specs.Kind.{kind_number};
 ghost use Rattle.kinds.specs.Value.{value_number, value_words};
 ghost use Rattle.model.specs.Lists.{update_at};
-ghost use Rattle.column_store.specs.Cells.{stamped_number, stamped_cell, stamp_of};
+ghost use Rattle.column_store.specs.Cells.{stamped_number, stamped_cell};
 ghost use Rattle.column_store.specs.Kinds.{in_order, AreBelow};
 ghost use Rattle.column_store.specs.Order.{AreApart};
 ghost use Rattle.column_store.specs.RowOrder.{OrdersRows};
 ghost use Rattle.column_store.specs.Swapped.{swap_removed};
 ghost use Rattle.std.specs.Arc.{arc_value};
-ghost use Rattle.column_store.specs.Table.{Standing, empty_table, is_home, is_owned, is_not_away, is_own_if, row_of, row_number, new_row, renewed_row, cell_in_row, cell_of_entity, standing_of, kind_cells, write_cell, lent, owned, homed, IsHome, IsAlike};
+ghost use Rattle.column_store.specs.Table.{Standing, empty_table, is_home, is_owned, is_not_away, is_own_if, row_of, row_number, new_row, renewed_row, cell_in_row, cell_of_entity, standing_of, kind_cells, write_cell, lent, shared, owned, homed, IsHome, IsAlike};
 
 use crate::column_slot::{
     ColumnSlot, copied_slots, empty_columns, own_each, push_row, read_row, replace_row,
@@ -21,7 +21,7 @@ use crate::entity_list::EntityList;
 use crate::parts::{among, copied_kinds, find_in, home_in, lend_in, seen_in, share_in, write_in};
 use crate::row_order::RowOrder;
 use crate::stamped::{Components, StampedColumn, StampedValue};
-use change_ticks::{Stamp, Tick};
+use change_ticks::Tick;
 use entity_table::Entity;
 use kinds::{Component, Kind, Value};
 use std::alloc::{AllocError, Global};
@@ -149,14 +149,6 @@ impl Table {
         self.entities().len()
     }
 
-    /// The entity of a row.
-    pub fn entity_at(&self, row: usize) -> Entity
-        requires { row < length self.now.rows }
-        ensures { option_map (λ r. r.entity) (slice_get self.now.rows row) ≡ Some result }
-    {
-        self.entities()[row]
-    }
-
     /// The component of the kind with this number at a row, where the kind is the table's.
     pub fn find(&self, row: usize, number: u32) -> Option<StampedValue>
         requires within { row < length self.now.rows }
@@ -173,43 +165,11 @@ impl Table {
         )
     }
 
-    /// The component of a kind at a row.
-    pub fn value(&self, row: usize, kind: Kind) -> Option<Value>
-        requires within { row < length self.now.rows }
-        requires home { IsTrue (is_not_away (standing_of self.now (kind_number kind))) }
-        ensures words { option_map value_words result ≡ option_map (λ c. c.words) (cell_in_row self.now row (kind_number kind)) }
-        ensures number { IfSome result (λ value. value_number value ≡ kind_number kind) }
-    {
-        match self.find(row, kind.number()) {
-            None => None,
-            Some(component) => Some(component.value),
-        }
-    }
-
-    /// When the component of a kind at a row was added and last changed.
-    pub fn stamp(&self, row: usize, kind: Kind) -> Option<Stamp>
-        requires within { row < length self.now.rows }
-        requires home { IsTrue (is_not_away (standing_of self.now (kind_number kind))) }
-        ensures { result ≡ option_map stamp_of (cell_in_row self.now row (kind_number kind)) }
-    {
-        match self.find(row, kind.number()) {
-            None => None,
-            Some(component) => Some(component.stamp),
-        }
-    }
-
-    /// The row of an entity, found by halving in the order of ids.
-    pub fn row(&self, e: Entity) -> Option<usize>
+    // The row of an entity, found by halving in the order of ids.
+    fn row(&self, e: Entity) -> Option<usize>
         ensures { result ≡ option_map (λ _. row_number e self.now.rows) (row_of e self.now.rows) }
     {
         self.entities.row(e)
-    }
-
-    /// Whether an entity is there.
-    pub fn has(&self, e: Entity) -> bool
-        ensures { result ≡ is_some (row_of e self.now.rows) }
-    {
-        self.row(e).is_some()
     }
 
     // The row of an entity that is there.
@@ -231,17 +191,7 @@ impl Table {
         requires home { IsTrue (is_not_away (standing_of self.now C.NUMBER)) }
         ensures { option_map (λ c. c.words) (cell_of_entity self.now e C.NUMBER) ≡ Some (C.words result) }
     {
-        self.get_at(self.known_row(e))
-    }
-
-    /// The component at a row.
-    pub fn get_at<C: Component>(&self, row: usize) -> C
-        requires within { row < length self.now.rows }
-        requires there { IsSome (cell_in_row self.now row C.NUMBER) }
-        requires home { IsTrue (is_not_away (standing_of self.now C.NUMBER)) }
-        ensures { option_map (λ c. c.words) (cell_in_row self.now row C.NUMBER) ≡ Some (C.words result) }
-    {
-        match self.find(row, C::NUMBER) {
+        match self.find(self.known_row(e), C::NUMBER) {
             None => unreachable!(),
             Some(component) => match C::from_value(component.value) {
                 None => unreachable!(),
@@ -250,8 +200,8 @@ impl Table {
         }
     }
 
-    /// Replaces a component at a row, which counts as changed at this tick, also where the value stays.
-    pub fn write(&mut self, row: usize, value: Value, tick: Tick)
+    // Replaces a component at a row, which counts as changed at this tick, also where the value stays.
+    fn write(&mut self, row: usize, value: Value, tick: Tick)
         requires within { row < length self.old.rows }
         requires there { IsSome (cell_in_row self.old row (value_number value)) }
         requires owned { IsTrue (is_own_if (standing_of self.old (value_number value))) }
@@ -345,8 +295,8 @@ impl Table {
         swap_remove_row(&mut self.columns, row);
     }
 
-    /// The components at a row, in the order of the kinds.
-    pub fn components(&self, alloc: Global, row: usize) -> Result<Vec<StampedValue>, AllocError>
+    // The components at a row, in the order of the kinds.
+    fn components(&self, alloc: Global, row: usize) -> Result<Vec<StampedValue>, AllocError>
         requires within { row < length self.now.rows }
         requires home { IsTrue (list_all is_home self.now.standings) }
         ensures cells { IfOk result (λ components. option_map (λ r. r.cells) (slice_get self.now.rows row) ≡ Some (map (λ s. Some (stamped_cell s)) components.items)) }
@@ -413,7 +363,8 @@ impl Table {
         Ok(column)
     }
 
-    /// A column that is at home, to be read elsewhere too. No row is copied.
+    /// A column that is at home, to be read elsewhere too. No row is copied. After an error the table is as it was, without the room that was made,
+    /// or it stands as if the column were read elsewhere.
     pub fn share(
         &mut self,
         alloc: Global,
@@ -422,6 +373,8 @@ impl Table {
         requires { IsHome (standing_of self.old (kind_number kind)) }
         ensures kind { IfOk result (λ column. (arc_value column).kind ≡ kind_number kind) }
         ensures cells { IfOk result (λ column. map (λ cell. Some cell) (arc_value column).cells ≡ kind_cells self.old (kind_number kind)) }
+        ensures ok { OnOk result (self.new ≡ shared self.old (kind_number kind)) }
+        ensures err { OnErr result ((self.new ≡ record self.old { room = 0 }) ⊎ (self.new ≡ shared self.old (kind_number kind))) }
         ensures alike { IsAlike self.old self.new }
     {
         self.spare = 0;
@@ -470,16 +423,6 @@ impl Table {
         ensures { self.new ≡ write_cell self.old (row_number e self.old.rows) C.NUMBER (C.words component) tick }
     {
         let row = self.known_row(e);
-        self.set_at(row, component, tick);
-    }
-
-    /// Replaces the component at a row, which counts as changed at this tick, also where the value stays.
-    pub fn set_at<C: Component>(&mut self, row: usize, component: C, tick: Tick)
-        requires within { row < length self.old.rows }
-        requires there { IsSome (cell_in_row self.old row C.NUMBER) }
-        requires owned { IsTrue (is_own_if (standing_of self.old C.NUMBER)) }
-        ensures { self.new ≡ write_cell self.old row C.NUMBER (C.words component) tick }
-    {
         self.write(row, component.into_value(), tick);
     }
 }

@@ -9,7 +9,7 @@ use Rattle.std.proofs.lemmas.Nat.Bits.{bit_at_and, bit_at_set_same, bit_at_set_o
 use Rattle.number_set.specs.Members.{contains}
 
 -- where a bit is set, a word within another has it
-pub bit_within : (x y i : ℕ) → bit_and x y ≡ x → bit_at x i ≡ 1 → bit_at y i ≡ 1
+bit_within : (x y i : ℕ) → bit_and x y ≡ x → bit_at x i ≡ 1 → bit_at y i ≡ 1
 bit_within x y i e set =
     let both : min (bit_at x i) (bit_at y i) ≡ 1 = sym (bit_at_and x y i) ∙ (ap (λ (z : ℕ). bit_at z i) e ∙ set) in
     let low : bit_at y i < 2 = bit_at-lt y i in
@@ -112,19 +112,7 @@ bit_at_member : (words : List ℕ) (index i : ℕ) → i < 64 → contains words
 bit_at_member words index i low member =
     subst (λ (r : ℕ). bit_at (get_or words index 0) r ≡ 1) (place_of index i low) (bit_of words (number_of index i) index (word_of index i low) member)
 
--- a word within another takes its members along
-pub word_within : (first second : List ℕ) (index n : ℕ) → n / 64 ≡ index → bit_and (get_or first index 0) (get_or second index 0) ≡ get_or first index 0 →
-    contains first n ≡ true → contains second n ≡ true
-word_within first second index n here same member =
-    member_of second n index here (bit_within (get_or first index 0) (get_or second index 0) (n % 64) same (bit_of first n index here member))
-
--- and the other way round
-pub within_word : (first second : List ℕ) (index : ℕ) → get_or first index 0 < 2 ^ 64 → ((n : ℕ) → contains first n ≡ true → contains second n ≡ true) →
-    bit_and (get_or first index 0) (get_or second index 0) ≡ get_or first index 0
-within_word first second index few within = within_bits (get_or first index 0) (get_or second index 0) (λ i high. bit_at_above (get_or first index 0) 64 i few high)
-    (λ i low set_here. bit_at_member second index i low (within (number_of index i) (member_at first index i low set_here)))
-
--- the same of what two words share
+-- a word that has what two words share takes along the members of both
 pub share_within : (first second third : List ℕ) (index n : ℕ) → n / 64 ≡ index →
     bit_and (bit_and (get_or first index 0) (get_or second index 0)) (get_or third index 0) ≡ bit_and (get_or first index 0) (get_or second index 0) →
     contains first n ≡ true → contains second n ≡ true → contains third n ≡ true
@@ -132,6 +120,7 @@ share_within first second third index n here same member other =
     member_of third n index here (bit_within (bit_and (get_or first index 0) (get_or second index 0)) (get_or third index 0) (n % 64) same
     (shared_bit (get_or first index 0) (get_or second index 0) (n % 64) (bit_of first n index here member) (bit_of second n index here other)))
 
+-- and the other way round
 pub within_share : (first second third : List ℕ) (index : ℕ) → get_or first index 0 < 2 ^ 64 →
     ((n : ℕ) → contains first n ≡ true → contains second n ≡ true → contains third n ≡ true) →
     bit_and (bit_and (get_or first index 0) (get_or second index 0)) (get_or third index 0) ≡ bit_and (get_or first index 0) (get_or second index 0)

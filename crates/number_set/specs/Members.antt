@@ -10,10 +10,6 @@ contains words n = bit_at (get_or words (n / 64) 0) (n % 64) == 1
 abbrev pub HasNone : List ℕ → Type 0
 HasNone words = (n : ℕ) → contains words n ≡ false
 
--- each member of one set is one of the other
-abbrev pub AreWithin : List ℕ → List ℕ → Type 0
-AreWithin first second = (n : ℕ) → contains first n ≡ true → contains second n ≡ true
-
 -- each number that two sets share is one of a third
 abbrev pub SharesOnly : List ℕ → List ℕ → List ℕ → Type 0
 SharesOnly first second third = (n : ℕ) → contains first n ≡ true → contains second n ≡ true → contains third n ≡ true

@@ -1,7 +1,7 @@
 // Sets of numbers below a bound: one bit for each number, 64 to a word, so that two sets are compared a word at a time.
 
 ghost use Rattle.std.specs.Prelude.{◌≡◌, ◌<◌, ◌+◌, ◌/◌, ◌↔◌, ◌||◌, ◌==◌, ℕ, true, false, length, IsTrue, IfOk};
-ghost use Rattle.number_set.specs.Members.{contains, HasNone, AreWithin, SharesOnly};
+ghost use Rattle.number_set.specs.Members.{contains, HasNone, SharesOnly};
 
 use std::alloc::{AllocError, Global};
 use std::marker::Model;
@@ -78,14 +78,6 @@ impl NumberSet {
         self.words.fill(0);
     }
 
-    /// Whether each member is one of the other set, which has the same room.
-    pub fn is_within(&self, other: &NumberSet) -> bool
-        requires { length self.now ≡ length other.now }
-        ensures { IsTrue result ↔ AreWithin self.now other.now }
-    {
-        are_within(self.words.as_slice(), other.words.as_slice())
-    }
-
     /// Whether each number that is a member of both this set and the other is one of the allowed. All have the same room.
     pub fn shares_only(&self, other: &NumberSet, allowed: &NumberSet) -> bool
         requires other { length self.now ≡ length other.now }
@@ -125,19 +117,6 @@ fn are_empty(words: &[u64]) -> bool
 {
     for index in 0..words.len() {
         if words[index] != 0 {
-            return false;
-        }
-    }
-    true
-}
-
-// Whether each bit of the first words is one of the second.
-fn are_within(first: &[u64], second: &[u64]) -> bool
-    requires { length first.now ≡ length second.now }
-    ensures { IsTrue result ↔ AreWithin first.now second.now }
-{
-    for index in 0..first.len() {
-        if first[index] & second[index] != first[index] {
             return false;
         }
     }

@@ -1,8 +1,8 @@
 -- Tickets of jobs that are out, as jobs are posted and outcomes collected.
-use Rattle.std.proofs.Common.{◌≡◌, ◌≢◌, ℕ, zero, suc, ◌+◌, ◌<◌, ◌≤◌, List, [], ◌∷◌, ◌++◌, length, remove, slice_get, slice_index_or, IsSomeAnd, IfSome, IfNone, Option, Some, None, map, sym, refl, ap, ◌∙◌, subst, ⊎_elim, arith}
+use Rattle.std.proofs.Common.{◌≡◌, ◌≢◌, ℕ, zero, suc, ◌+◌, ◌<◌, ◌≤◌, List, [], ◌∷◌, ◌++◌, length, remove, slice_get, slice_index_or, IsSomeAnd, IfSome, IfNone, IfErr, OnOk, Result, Ok, Err, Option, Some, None, map, length-append, sym, refl, ap, ◌∙◌, subst, ⊎_elim, arith}
 use mathlib.Core.Option.{some, some-injective, some-ne-none}
 use lib.ListN.{get_elem?}
-use Rattle.std.proofs.lemmas.List.{length-map}
+use Rattle.std.proofs.lemmas.List.{length-map, map-append}
 use Rattle.std.proofs.lemmas.List.Edits.{length-remove}
 use Rattle.atomic_table.proofs.Lists.{at_longer, at_last, at_map}
 use Rattle.job_board.specs.declared.view.View.{View}
@@ -10,7 +10,7 @@ use Rattle.job_board.specs.Views.{having_read, after_post, after_collect, HasPos
 use Rattle.job_board.proofs.Places.{within, at_end}
 use Rattle.column_store.proofs.Lists.{map-remove as map_remove}
 use Rattle.worker_pool.specs.declared.desk.Ticket.{Ticket}
-use Rattle.worker_pool.specs.AreOut.{AreOut}
+use Rattle.worker_pool.specs.AreOut.{AreOut, HasAllOut}
 
 -- where an entry of a list without its p-th stands in the whole
 abbrev skip : ℕ → ℕ → ℕ
@@ -36,6 +36,14 @@ module _ {A : Type 0} where
   was_at (x ∷ xs) zero at a inside e = e
   was_at (x ∷ xs) (suc p) zero a inside e = e
   was_at (x ∷ xs) (suc p) (suc at) a inside e = was_at xs p at a (omega arith) e
+
+  -- what stands elsewhere stays
+  kept_at : (l : List A) (p q : ℕ) (a : A) → q ≢ p → get_elem? l q ≡ some a → (at : ℕ) × (get_elem? (remove l p) at ≡ some a)
+  kept_at [] p q a other e = absurd (some-ne-none a (sym e))
+  kept_at (x ∷ xs) zero zero a other e = absurd (other refl)
+  kept_at (x ∷ xs) zero (suc q) a other e = (q, e)
+  kept_at (x ∷ xs) (suc p) zero a other e = (0, e)
+  kept_at (x ∷ xs) (suc p) (suc q) a other e = let r = kept_at xs p q a (λ same. other (ap suc same)) e in (suc r.0, r.1)
 
   pub of_index : (l : List A) (i : ℕ) (a : A) (P : A → Type 0) → get_elem? l i ≡ some a → P a → IsSomeAnd (slice_get l i) P
   of_index [] i a P e p = absurd (some-ne-none a (sym e))
@@ -99,6 +107,28 @@ module _ {J O : Type 0} (tickets : List (Ticket J)) (v : View J O) (out : AreOut
       let both : some (n, has.0) ≡ some (t.number, t.job.value) = sym has.1.1 ∙ ap (λ (z : ℕ). get_elem? v.posted z) same ∙ w.0.2 in
       subst (λ (j : J). answers j o) (ap (λ (z : ℕ × J). z.1) (some-injective (n, has.0) (t.number, t.job.value) both)) has.2
 
+module _ {J O : Type 0} (tickets : List (Ticket J)) (v : View J O) (all : HasAllOut tickets v) where
+  abbrev Ticketed : List (Ticket J) → ℕ → Type 0
+  Ticketed l n = (place : ℕ) × (t : Ticket J) × (get_elem? l place ≡ some t) × (t.number ≡ n)
+
+  pub all_more : (n : ℕ) (j : J) (t : Ticket J) → t.number ≡ n → HasAllOut (tickets ++ t ∷ []) (after_post v n j)
+  all_more n j t is at m i e new = ⊎_elim
+      (λ old. let w = all at m i old new in (w.0, w.1, at_longer tickets (t ∷ []) w.0 w.1 w.2, w.3))
+      (λ p. (length tickets, t, at_last tickets t (length tickets) refl, is ∙ ap (λ (z : ℕ × J). z.0) p.1)) (at_end v.posted (n, j) (m, i) at e)
+
+  module _ (gained : List (ℕ × ℕ)) (n slot : ℕ) (o : O) where
+    was_new : (m : ℕ) → Uncollected (after_collect (having_read v gained) n o slot) m → Uncollected v m
+    was_new m new at y e = new at y (at_longer v.collected ((n, o) ∷ []) at (m, y) e)
+
+    pub all_other : HasAllOut tickets (after_collect (having_read v gained) n o slot)
+    all_other at m i e new = all at m i e (was_new m new)
+
+    pub all_less : (p : ℕ) (t : Ticket J) → get_elem? tickets p ≡ some t → t.number ≡ n → HasAllOut (remove tickets p) (after_collect (having_read v gained) n o slot)
+    all_less p t here is at m i e new = let w = all at m i e (was_new m new) in
+        let other : n ≢ m = λ same. new (length v.collected) o (at_last v.collected (n, o) (length v.collected) refl ∙ ap (λ (z : ℕ). some (z, o)) same) in
+        let apart : w.0 ≢ p = λ same. other (sym is ∙ ap (λ (u : Ticket J). u.number) (some-injective t w.1 (sym here ∙ ap (get_elem? tickets) (sym same) ∙ w.2)) ∙ w.3) in
+        let k = kept_at tickets p w.0 w.1 apart w.2 in (k.0, w.1, k.1, w.3)
+
 pub if_none : {A : Type 0} (o : Option A) (P : Type 0) → P → IfNone o P
 if_none None P p = p
 if_none (Some a) P p = tt
@@ -132,6 +162,20 @@ module _ {J X D : Type 0} (f : J → X) (tickets after : List (Ticket J)) (v : L
         (first_of_map (λ (t : Ticket J). f t.job.value) P (λ t. told t.job.value) tickets (subst (λ (l : List X). 0 < length l) (sym is) there)),
   )
 
+-- a job more is out
+pub handed_on : {J X A E : Type 0} (f : J → X) (tickets after : List (Ticket J)) (v : List X) (job : J) (r : Result A E) → map (λ (t : Ticket J). f t.job.value) tickets ≡ v
+    → OnOk r ((t : Ticket J) × (t.job.value ≡ job) × (after ≡ tickets ++ t ∷ [])) → OnOk r (map (λ (t : Ticket J). f t.job.value) after ≡ v ++ f job ∷ [])
+handed_on f tickets after v job (Err e) is h = tt
+handed_on {J} {X} f tickets after v job (Ok a) is h =
+    ap (map (λ (t : Ticket J). f t.job.value)) h.2 ∙ map-append (λ (t : Ticket J). f t.job.value) tickets (h.0 ∷ []) ∙ ap (λ (l : List X). l ++ f h.0.job.value ∷ []) is ∙ ap (λ (j : J). v ++ f j ∷ []) h.1
+
+-- there is a worker for it
+pub served_more : {J A : Type 0} (tickets after : List (Ticket J)) (job : J) (workers : ℕ) (r : Result A J) → length tickets < workers
+    → OnOk r ((t : Ticket J) × (t.job.value ≡ job) × (after ≡ tickets ++ t ∷ [])) → IfErr r (λ back. (back ≡ job) × (after ≡ tickets)) → length after ≤ workers
+served_more {J} tickets after job workers (Ok a) free h k =
+    let n : length after ≡ length (tickets ++ h.0 ∷ []) = ap (length {A = Ticket J}) h.2 in let m : length (tickets ++ h.0 ∷ []) ≡ length tickets + 1 = length-append tickets (h.0 ∷ []) in omega arith
+served_more {J} tickets after job workers (Err e) free h k = let n : length after ≡ length tickets = ap (length {A = Ticket J}) k.1 in omega arith
+
 less_by : {J X : Type 0} (f : J → X) (tickets after : List (Ticket J)) (v : List X) (i : ℕ) → map (λ (t : Ticket J). f t.job.value) tickets ≡ v → i < length tickets → after ≡ remove tickets i → length (map (λ (t : Ticket J). f t.job.value) after) + 1 ≡ length v
 less_by {J} {X} f tickets after v i is inside gone =
     let a : length (map (λ (t : Ticket J). f t.job.value) after) ≡ length after = length-map after (λ (t : Ticket J). f t.job.value) in
@@ -148,6 +192,26 @@ one_less {J} {X} f tickets after v is None answers there came lost =
     let e : length (map (λ (t : Ticket J). f t.job.value) tickets) ≡ length v = ap (λ (l : List X). length l) is in
     less_by f tickets after v 0 is (omega arith) lost
 one_less f tickets after v is (Some d) answers there came lost = less_by f tickets after v came.0 is (within tickets came.0 came.1 came.2) came.4
+
+-- and there is a worker for each that is left
+pub still_served : {J D : Type 0} (tickets after : List (Ticket J)) (workers : ℕ) (o : Option D) (answers : J → D → Type 0) → length tickets ≤ workers → 0 < length tickets
+    → Came (λ (j : J). j) tickets after (map (λ (t : Ticket J). t.job.value) tickets) refl o answers → IfNone o (after ≡ remove tickets 0) → length after ≤ workers
+still_served {J} tickets after workers o answers few one_is came lost =
+    let d : length (map (λ (t : Ticket J). t.job.value) tickets) ≡ length tickets = length-map tickets (λ (t : Ticket J). t.job.value) in
+    let e : length (map (λ (t : Ticket J). t.job.value) after) ≡ length after = length-map after (λ (t : Ticket J). t.job.value) in
+    let one : length (map (λ (t : Ticket J). t.job.value) after) + 1 ≡ length (map (λ (t : Ticket J). t.job.value) tickets) =
+    one_less (λ (j : J). j) tickets after (map (λ (t : Ticket J). t.job.value) tickets) refl o answers (omega arith) came lost in omega arith
+
+-- how many tickets there are
+pub as_many : {J X : Type 0} (f : J → X) (tickets : List (Ticket J)) (v : List X) → map (λ (t : Ticket J). f t.job.value) tickets ≡ v → length tickets ≡ length v
+as_many {J} {X} f tickets v is = sym (length-map tickets (λ (t : Ticket J). f t.job.value)) ∙ ap (length {A = X}) is
+
+-- it was read that the board is closed
+pub saw_closed : {J O : Type 0} (v w : View J O) (last slots found : ℕ) → w ≡ having_read v ((last, found) ∷ []) → last ≡ slots → found ≡ 1 → (at : ℕ) × (get_elem? w.read at ≡ some (slots, 1))
+saw_closed {J} {O} v w last slots found e is one = (
+  length v.read,
+  ap (λ (u : View J O). get_elem? u.read (length v.read)) e ∙ at_last v.read (last, found) (length v.read) refl ∙ ap (λ (z : ℕ). some (z, found)) is ∙ ap (λ (z : ℕ). some (slots, z)) one,
+)
 
 -- what was taken out of a list stood there
 module _ {A : Type 0} (after : List A) where

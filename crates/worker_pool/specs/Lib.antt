@@ -1,3 +1,4 @@
 pub mod Ran
 pub mod JobOut
 pub mod AreOut
+pub mod Stand

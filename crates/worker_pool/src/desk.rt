@@ -3,9 +3,9 @@
 ghost use Rattle.std.specs.Prelude.{◌≡◌, ◌≢◌, ◌<◌, ◌++◌, ◌∷◌, ℕ, List, [], false, length, remove, slice_get, IfSome, IfNone, IfErr, OnOk, IsSome, IsSomeAnd, IsTrue, MatchOption};
 ghost use mathlib.Core.Option.{some};
 ghost use lib.ListN.{get_elem?};
-ghost use Rattle.job_board.specs.Ends.{lead_view};
+ghost use Rattle.job_board.specs.Ends.{lead_view, lead_slots};
 ghost use Rattle.job_board.specs.Views.{having_read, after_collect, HasPosted, Uncollected};
-ghost use Rattle.worker_pool.specs.AreOut.{AreOut};
+ghost use Rattle.worker_pool.specs.AreOut.{AreOut, HasAllOut};
 
 use crate::mode::JoinThreads;
 use job_board::{JobNumber, Lead, Ring, Task};
@@ -38,6 +38,7 @@ fn collect_one<J: JoinThreads, T: Task>(
     ensures collected { MatchOption result
         ((gained : List (ℕ × ℕ)) × (lead_view lead.new ≡ having_read (lead_view lead.old) gained))
         (λ t. (gained : List (ℕ × ℕ)) × (slot : ℕ) × (lead_view lead.new ≡ after_collect (having_read (lead_view lead.old) gained) t.0 t.1 slot) × Uncollected (lead_view lead.old) t.0 × ((j : T.Job) × HasPosted (lead_view lead.old) t.0 j × T.answers j t.1)) }
+    ensures slots { lead_slots lead.new ≡ lead_slots lead.old }
     ensures joins { IsTrue (J.joins mode.now) → IsSome result }
 {
     for _ in 0..u64::MAX {
@@ -62,7 +63,9 @@ fn collect_one_of<J: JoinThreads, T: Task>(
     requires { AreOut tickets.now (lead_view lead.old) }
     ensures some { IfSome result (λ r. (t : _) × (get_elem? tickets.now r.0 ≡ some t) × T.answers t.job.value r.1 × AreOut (remove tickets.now r.0) (lead_view lead.new)) }
     ensures none { IfNone result (AreOut tickets.now (lead_view lead.new)) }
+    ensures all { IfSome result (λ r. HasAllOut tickets.now (lead_view lead.old) → HasAllOut (remove tickets.now r.0) (lead_view lead.new)) }
     ensures open { (lead_view lead.new).closed ≡ (lead_view lead.old).closed }
+    ensures slots { lead_slots lead.new ≡ lead_slots lead.old }
     ensures joins { IsTrue (J.joins mode.now) → IsSome result }
 {
     for round in 0..u64::MAX {
@@ -88,6 +91,8 @@ pub(crate) fn post<T: Task>(
     ensures err { IfErr result (λ back. (back ≡ job) × (tickets.new.items ≡ tickets.old.items)) }
     ensures open { (lead_view lead.new).closed ≡ false }
     ensures out { AreOut tickets.new.items (lead_view lead.new) }
+    ensures all { HasAllOut tickets.old.items (lead_view lead.old) → HasAllOut tickets.new.items (lead_view lead.new) }
+    ensures slots { lead_slots lead.new ≡ lead_slots lead.old }
 {
     let Ok(()) = tickets.reserve(1) else {
         return Err(job);
@@ -106,18 +111,23 @@ pub(crate) fn post<T: Task>(
     }
 }
 
-// Waits for the outcome of a job that has a ticket, of whichever is done. None only where that can't be waited for: the first job is given up.
+// Waits for the outcome of a job that has a ticket, of whichever is done. None only where that can't be waited for: the first job is given up, which
+// is noted.
 pub(crate) fn collect<J: JoinThreads, T: Task>(
     lead: &mut Lead<T>,
     tickets: &mut Vec<Ticket<T::Job>>,
+    gave_up: &mut bool,
     mode: &J,
 ) -> Option<T::Outcome>
     requires some { 0 < length tickets.old.items }
     requires out { AreOut tickets.old.items (lead_view lead.old) }
+    requires all { gave_up.old ≡ false → HasAllOut tickets.old.items (lead_view lead.old) }
     ensures some { IfSome result (λ outcome. (i : ℕ) × (t : _) × (get_elem? tickets.old.items i ≡ some t) × T.answers t.job.value outcome × (tickets.new.items ≡ remove tickets.old.items i)) }
     ensures none { IfNone result (tickets.new.items ≡ remove tickets.old.items 0) }
     ensures open { (lead_view lead.new).closed ≡ (lead_view lead.old).closed }
     ensures out { AreOut tickets.new.items (lead_view lead.new) }
+    ensures all { gave_up.new ≡ false → HasAllOut tickets.new.items (lead_view lead.new) }
+    ensures slots { lead_slots lead.new ≡ lead_slots lead.old }
     ensures joins { IsTrue (J.joins mode.now) → IsSome result }
 {
     match collect_one_of(lead, tickets.as_slice(), mode) {
@@ -127,6 +137,7 @@ pub(crate) fn collect<J: JoinThreads, T: Task>(
         }
         None => {
             tickets.remove(0);
+            *gave_up = true;
             None
         }
     }

@@ -50,6 +50,8 @@ pub trait JoinThreads {
 
 /// How a worker signals that it is done, and how that is received.
 pub trait Signals: Copy + Send {
+    ghost waits: { Self → Bool };
+
     /// Signals that the start of this number is done.
     fn ring(&self, to: &Sender<u64>, number: u64);
 
@@ -58,6 +60,10 @@ pub trait Signals: Copy + Send {
 
     /// Waits until a bell has rung after `heard`, or less.
     fn listen(&self, bell: &Bell, heard: u64);
+
+    /// Does not come back where it can wait.
+    fn stand_still(&self)
+        ensures { IsTrue (waits self.now) → ⊥ };
 }
 
 /// How the systems of a run are executed.

@@ -36,7 +36,7 @@ impl<B: Body> Model for Pool<B> {
 
     ghost view = { λ p. elim p.form [
       | Threads jobs ↦ jobs
-      | Stands jobs ↦ jobs
+      | Stands stand ↦ stand.jobs
     ] };
 }
 

@@ -29,6 +29,8 @@ impl Gate for NoGate {
 }
 
 impl Signals for NoSignals {
+    ghost waits = { λ _. false };
+
     fn ring(&self, _to: &Sender<u64>, _number: u64) {}
 
     fn hear(&self, _from: &Receiver<u64>) -> Option<u64> {
@@ -36,6 +38,8 @@ impl Signals for NoSignals {
     }
 
     fn listen(&self, _bell: &Bell, _heard: u64) {}
+
+    fn stand_still(&self) {}
 }
 
 impl<'s> SpawnThreads<'s> for Single {

@@ -1,7 +1,9 @@
 // Workers that stand, what each does, and the jobs that are posted for them.
 
-ghost use Rattle.std.specs.Prelude.{◌≡◌, ℕ, ◌+◌, ◌<◌, ◌⊎◌, true, Err, [], ◌∷◌, ◌++◌, length, slice_get, remove, IfOk, IfErr, IfSome, IfNone, IsSome, IsTrue, IsSomeAnd, OnOk, OnErr};
-ghost use Rattle.job_board.specs.Ends.{hand_view};
+ghost use Rattle.std.specs.Prelude.{◌≡◌, ℕ, ◌+◌, ◌<◌, ◌≤◌, ◌⊎◌, true, Err, [], ◌∷◌, ◌++◌, length, slice_get, remove, IfOk, IfErr, IfSome, IfNone, IsSome, IsTrue, IsSomeAnd, OnOk, OnErr};
+ghost use mathlib.Core.Option.{some};
+ghost use lib.ListN.{get_elem?};
+ghost use Rattle.job_board.specs.Ends.{hand_view, hand_slots};
 ghost use Rattle.job_board.specs.Views.{HasJob};
 ghost use Rattle.worker_pool.specs.Ran.{Ran};
 
@@ -16,9 +18,10 @@ use std::alloc::{AllocError, Global};
 use std::marker::Model;
 use std::thread::{JoinHandle, Scope};
 
-// Waits for a job. None once the board is closed.
+// Waits for a job. None once it has read that the board is closed, where it can wait.
 fn take<N: Signals, T: Runs>(signals: N, hand: &mut Hand<T>) -> Option<(JobNumber, T::Job)>
-    ensures { IfSome result (λ t. (slot : ℕ) × HasJob (hand_view hand.new) t.0 slot t.1) }
+    ensures some { IfSome result (λ t. (slot : ℕ) × HasJob (hand_view hand.new) t.0 slot t.1) }
+    ensures none { IsTrue (N.waits signals) → IfNone result ((at : ℕ) × (get_elem? (hand_view hand.new).read at ≡ some (hand_slots hand.old, 1))) }
 {
     for _ in 0..u64::MAX {
         let heard = hand.bell().heard();
@@ -30,6 +33,7 @@ fn take<N: Signals, T: Runs>(signals: N, hand: &mut Hand<T>) -> Option<(JobNumbe
         }
         signals.listen(hand.bell(), heard);
     }
+    signals.stand_still();
     None
 }
 
@@ -57,7 +61,7 @@ fn start_worker<'s, E: 's, N: Signals + 's, G: Gate, T: Runs + Send + 's>(
     scope.spawn(move || work(signals, gate, hand)).ok()
 }
 
-/// Workers that stand, and the jobs that are out with them. Contracts see these as a list, in the order in which they were handed out.
+/// Workers that stand, and the jobs that are out with them.
 #[derive(Drop)]
 pub struct Standing<B: Body> {
     lead: Lead<StartTask<B>>,
@@ -65,25 +69,27 @@ pub struct Standing<B: Body> {
     // The hands of workers that don't stand yet.
     hands: Vec<Hand<StartTask<B>>>,
     workers: Vec<JoinHandle<()>>,
+    // Whether a job was given up: it may still be on the board.
+    gave_up: bool,
 }
 
 impl<B: Body> Model for Standing<B> {
-    ghost use Rattle.std.specs.Prelude.{◌≡◌, List, map, true, false};
-    ghost use Rattle.job_board.specs.Ends.{lead_view};
-    ghost use Rattle.worker_pool.specs.JobOut.{JobOut};
-    ghost use Rattle.worker_pool.specs.AreOut.{AreOut};
+    ghost use Rattle.std.specs.Prelude.{map, length, true};
+    ghost use Rattle.job_board.specs.Ends.{lead_view, lead_slots};
+    ghost use Rattle.worker_pool.specs.Stand.{Stand};
+    ghost use Rattle.worker_pool.specs.AreOut.{IsTied};
 
-    ghost Value = { List (JobOut B) };
+    ghost Value = { Stand B };
 
-    ghost view = { λ s. map (λ t. record { number = t.job.value.number; system = t.job.value.system; body = t.job.value.body; view = t.job.value.view.value; there = true }) s.tickets.items };
+    ghost view = { λ s. record { jobs = map (λ t. record { number = t.job.value.number; system = t.job.value.system; body = t.job.value.body; view = t.job.value.view.value; there = true }) s.tickets.items; workers = length s.workers.items; hands = length s.hands.items; slots = lead_slots s.lead } };
 
-    ghost invariant = { λ s. ((lead_view s.lead).closed ≡ false) × AreOut s.tickets.items (lead_view s.lead) };
+    ghost invariant = { λ s. IsTied s.tickets.items (lead_view s.lead) s.gave_up (lead_slots s.lead) (length s.hands.items) (length s.workers.items) };
 }
 
 impl<B: Body> Standing<B> {
-    // A board for so many workers, of which none stands yet.
+    // A board for so many workers, of which none stands yet, and for as many jobs.
     pub(crate) fn open(alloc: Global, count: usize) -> Result<Self, AllocError>
-        ensures { IfOk result (λ s. s ≡ []) }
+        ensures { IfOk result (λ s. s ≡ record { jobs = []; workers = 0; hands = count; slots = count }) }
     {
         let (lead, hands) = Board::new(alloc, count, count)?;
         Ok(Standing {
@@ -91,17 +97,19 @@ impl<B: Body> Standing<B> {
             tickets: Vec::new(alloc),
             hands,
             workers: Vec::new(alloc),
+            gave_up: false,
         })
     }
 
     // How many jobs are out.
     pub(crate) fn count(&self) -> usize
-        ensures { result ≡ length self.now }
+        ensures { result ≡ length self.now.jobs }
     {
         self.tickets.len()
     }
 
-    // Sees that a worker has room for a job: one more stands in the scope, where each that stands has a job. The job comes back, whatever the answer.
+    // Sees that a worker has room for a job: one more stands in the scope, where each that stands has a job. The job comes back, whatever the answer. A
+    // worker that can't be started takes its hand along.
     fn find_room<'s, E: 's, N: Signals + 's, G: Gate>(
         &mut self,
         scope: &Scope<'s, E>,
@@ -111,8 +119,9 @@ impl<B: Body> Standing<B> {
     ) -> Result<Start<B>, HandOutFault<B>>
     where
         B: 's,
-        ensures ok { IfOk result (λ kept. kept ≡ start) }
-        ensures same { self.new ≡ self.old }
+        ensures ok { IfOk result (λ kept. (kept ≡ start) × (length self.new.jobs < self.new.workers) × (self.new.workers + self.new.hands ≡ self.old.workers + self.old.hands)) }
+        ensures same { (self.new.jobs ≡ self.old.jobs) × (self.new.slots ≡ self.old.slots) }
+        ensures stand { self.old.workers ≤ self.new.workers }
         ensures only { OnErr result ((result ≡ Err (HandOutFault.Memory start)) ⊎ (result ≡ Err (HandOutFault.NoWorker start))) }
     {
         if self.tickets.len() < self.workers.len() {
@@ -133,8 +142,10 @@ impl<B: Body> Standing<B> {
 
     // Hands a job to the workers that stand. It comes back where an allocation fails, or the board has no room.
     fn hand_over(&mut self, start: Start<B>) -> Result<(), Start<B>>
-        ensures ok { OnOk result (self.new ≡ self.old ++ record { number = start.number; system = start.system; body = start.body; view = start.view.value; there = true } ∷ []) }
-        ensures err { IfErr result (λ back. (back ≡ start) × (self.new ≡ self.old)) }
+        requires { length self.old.jobs < self.old.workers }
+        ensures ok { OnOk result (self.new.jobs ≡ self.old.jobs ++ record { number = start.number; system = start.system; body = start.body; view = start.view.value; there = true } ∷ []) }
+        ensures err { IfErr result (λ back. (back ≡ start) × (self.new.jobs ≡ self.old.jobs)) }
+        ensures same { (self.new.workers ≡ self.old.workers) × (self.new.hands ≡ self.old.hands) × (self.new.slots ≡ self.old.slots) }
     {
         post(&mut self.lead, &mut self.tickets, start)
     }
@@ -150,8 +161,10 @@ impl<B: Body> Standing<B> {
     ) -> Result<(), HandOutFault<B>>
     where
         B: 's,
-        ensures ok { OnOk result (self.new ≡ self.old ++ record { number = start.number; system = start.system; body = start.body; view = start.view.value; there = true } ∷ []) }
-        ensures err { OnErr result (self.new ≡ self.old) }
+        ensures ok { OnOk result (self.new.jobs ≡ self.old.jobs ++ record { number = start.number; system = start.system; body = start.body; view = start.view.value; there = true } ∷ []) }
+        ensures err { OnErr result (self.new.jobs ≡ self.old.jobs) }
+        ensures workers { OnOk result (self.new.workers + self.new.hands ≡ self.old.workers + self.old.hands) }
+        ensures slots { self.new.slots ≡ self.old.slots }
         ensures only { OnErr result ((result ≡ Err (HandOutFault.Memory start)) ⊎ (result ≡ Err (HandOutFault.NoWorker start))) }
     {
         let start = self.find_room(scope, signals, gate, start)?;
@@ -163,18 +176,19 @@ impl<B: Body> Standing<B> {
 
     // Brings one job back, that of whichever worker is done with one, once it is. None only where the mode can't wait for one; that job is lost.
     pub(crate) fn bring_back<J: JoinThreads>(&mut self, mode: &J) -> Option<JobResult<B>>
-        requires { 0 < length self.old }
-        ensures ran { IfSome result (λ done. (i : ℕ) × IsSomeAnd (slice_get self.old i) (λ job. Ran B.meaning B.fits job.number job.system job.body job.view done.number done.system done.body done.view.value done.answer) × (self.new ≡ remove self.old i)) }
-        ensures none { IfNone result ((i : ℕ) × IsSomeAnd (slice_get self.old i) (λ job. job.there ≡ true)) }
+        requires { 0 < length self.old.jobs }
+        ensures ran { IfSome result (λ done. (i : ℕ) × IsSomeAnd (slice_get self.old.jobs i) (λ job. Ran B.meaning B.fits job.number job.system job.body job.view done.number done.system done.body done.view.value done.answer) × (self.new.jobs ≡ remove self.old.jobs i)) }
+        ensures none { IfNone result ((i : ℕ) × IsSomeAnd (slice_get self.old.jobs i) (λ job. job.there ≡ true)) }
         ensures joins { IsTrue (J.joins mode.now) → IsSome result }
-        ensures shorter { length self.new + 1 ≡ length self.old }
+        ensures shorter { length self.new.jobs + 1 ≡ length self.old.jobs }
+        ensures same { (self.new.workers ≡ self.old.workers) × (self.new.hands ≡ self.old.hands) × (self.new.slots ≡ self.old.slots) }
     {
-        collect(&mut self.lead, &mut self.tickets, mode)
+        collect(&mut self.lead, &mut self.tickets, &mut self.gave_up, mode)
     }
 
     // Sends the workers away, and waits until each has left. Tells how many jobs are still out: they are lost.
     pub(crate) fn end<J: JoinThreads>(self, mode: &J) -> usize
-        ensures { result ≡ length self }
+        ensures { result ≡ length self.jobs }
     {
         let lost = self.count();
         let Standing {

@@ -1,6 +1,6 @@
 // Threads of a scope: workers that stand and take one job after the other, or a thread for each job.
 
-ghost use Rattle.std.specs.Prelude.{◌≡◌, ◌<◌, ◌≤◌, true};
+ghost use Rattle.std.specs.Prelude.{◌≡◌, ◌<◌, ◌≤◌, true, false};
 
 use crate::mode::{Gate, JoinThreads, Mode, Signals, SpawnThreads};
 use crossbeam_channel::{Receiver, Sender};
@@ -25,7 +25,8 @@ impl<'a, 's, E: 's, R, G> Workers<'a, 's, E, R, G> {
     pub fn new(count: usize, scope: &'a Scope<'s, E>, runtime: R, gate: &'s G) -> Self
         requires some { 1 ≤ count }
         requires few { count ≤ 64 }
-        ensures { result.count ≡ count }
+        ensures count { result.count ≡ count }
+        ensures stands { result.stand ≡ true }
     {
         Workers {
             count,
@@ -38,7 +39,8 @@ impl<'a, 's, E: 's, R, G> Workers<'a, 's, E, R, G> {
 
     /// As many systems at once, each in a thread of the scope that begins with it and ends with it.
     pub fn each_in_a_thread(mut self) -> Self
-        ensures { result.count ≡ self.entry.count }
+        ensures count { result.count ≡ self.entry.count }
+        ensures stands { result.stand ≡ false }
     {
         self.stand = false;
         self
@@ -52,6 +54,8 @@ pub struct ChannelSignals<R> {
 }
 
 impl<R: Wait + Copy + Send> Signals for ChannelSignals<R> {
+    ghost waits = { λ _. true };
+
     fn ring(&self, to: &Sender<u64>, number: u64) {
         let _ = to.send(&self.runtime, number);
     }
@@ -62,6 +66,11 @@ impl<R: Wait + Copy + Send> Signals for ChannelSignals<R> {
 
     fn listen(&self, bell: &Bell, heard: u64) {
         bell.sleep(&self.runtime, heard);
+    }
+
+    fn stand_still(&self) {
+        for _ in self.runtime.forever() {}
+        unreachable!()
     }
 }
 

@@ -3,7 +3,7 @@ use Rattle.std.specs.List.{AllByRecursion}
 use Rattle.archetype_store.specs.declared.change.EntityChange.{EntityChange}
 use Rattle.archetype_store.specs.Changes.{AreOfOtherIndices}
 use Rattle.archetype_store.specs.Storage.{archetypes_of, HaveRows}
-use Rattle.archetype_store.specs.RowMoves.{change_of, HaveRoom, IsPlanned, AreAlikeBefore}
+use Rattle.archetype_store.specs.RowMoves.{change_of, HaveRoom, HasLeft, IsPlanned, AreAlikeBefore}
 use Rattle.archetype_store.proofs.Changed.{planned_alike, rows_from_alike}
 use Rattle.archetype_store.proofs.Changing.{planned_shapes, ready_whole, ready_known, ready_owned, ready_rows}
 use Rattle.archetype_store.proofs.Departures.{rows_from_before}
@@ -216,6 +216,9 @@ move_all-requires-clause-apart c = subst AreOfOtherIndices (sym (ap (map change_
 
 pub move_all-requires-clause-planned : goal.move_all-requires-clause-planned
 move_all-requires-clause-planned c = subst (AllByRecursion (IsPlanned c.leave_all.new.tables.items c.leave_all.new.places.items)) (c.deref-3.ensures.value ∙ sym c.deref-4.ensures.value) c.leave_all.ensures.planned
+
+pub move_all-requires-clause-gone : goal.move_all-requires-clause-gone
+move_all-requires-clause-gone c = subst (AllByRecursion (HasLeft c.leave_all.new.places.items)) (c.deref-3.ensures.value ∙ sym c.deref-4.ensures.value) c.leave_all.ensures.gone
 
 pub move_all-requires-clause-room : goal.move_all-requires-clause-room
 move_all-requires-clause-room c = subst (λ rows. HaveRoom c.leave_all.new.tables.items c.leave_all.new.places.items rows) (c.deref-3.ensures.value ∙ sym c.deref-4.ensures.value) c.leave_all.ensures.room

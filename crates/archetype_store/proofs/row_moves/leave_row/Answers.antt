@@ -27,3 +27,8 @@ returns-clause-arrives c =
     let index = c.args.row.now.change.now.entity.index in
     arrives_cleared P c.clear_in.new.places.items c.args.row.now (c.clear_in.ensures.places index ∙ with_at_same index None (place_of P))
     (rw c.deref.ensures.value at (sym c.stays_in.ensures ∙ c.if-stays_in.false))
+
+pub returns-clause-gone : goal.returns-clause-gone
+returns-clause-gone c = λ moves.
+    let index = c.args.row.now.change.now.entity.index in
+    c.clear_in.ensures.places index ∙ with_at_same index None (place_of c.args.places.now.items)

@@ -1,14 +1,17 @@
 use Rattle.std.proofs.Common.{◌+◌, map, take, drop, refl, arith, sym, subst, ◌∙◌}
 use Rattle.archetype_store.specs.Storage.{archetypes_of, HaveRows}
 use Rattle.archetype_store.specs.RowMoves.{change_of}
-use Rattle.archetype_store.proofs.MovedRows.{later_apart, earlier_apart, planned_here, room_here, taken_next}
-use Rattle.archetype_store.proofs.RowMoves.{planned_all_rest, room_rest, room_first, rows_next}
+use Rattle.archetype_store.proofs.MovedRows.{later_apart, earlier_apart, planned_here, gone_here, room_here, taken_next}
+use Rattle.archetype_store.proofs.RowMoves.{planned_all_rest, gone_rest, room_rest, room_first, rows_next}
 use Rattle.std.proofs.lemmas.List.{length-map, take_all}
 use Rattle.archetype_store.proofs.row_moves.move_all.Goals as goal
 
 pub move_row-requires-clause-planned : goal.move_row-requires-clause-planned
 move_row-requires-clause-planned c =
     (planned_here c.args.rows.now c.loop-row.row-index c.row-item.result c.loop-row-test.true (sym c.row-item.is) c.loop-row.tables.items c.loop-row.places.items c.loop-row.invariant.planned).0
+
+pub move_row-requires-clause-gone : goal.move_row-requires-clause-gone
+move_row-requires-clause-gone c = (gone_here c.args.rows.now c.loop-row.row-index c.row-item.result c.loop-row-test.true (sym c.row-item.is) c.loop-row.places.items c.loop-row.invariant.gone).0
 
 pub move_row-requires-clause-room : goal.move_row-requires-clause-room
 move_row-requires-clause-room c =
@@ -36,6 +39,7 @@ loop-row-preserved c =
       left = subst (λ cs. HaveRows (archetypes_of c.args.tables.now.items c.args.places.now.items) cs (archetypes_of T' P')) (sym (taken_next rows n m l is))
           (rows_next (archetypes_of c.args.tables.now.items c.args.places.now.items) (archetypes_of T P) (archetypes_of T' P') (take n (map change_of rows)) (change_of m) (earlier_apart rows n m l is c.requires.apart) i.left c.move_row.ensures.left);
       planned = planned_all_rest T T' P P' m c.move_row.ensures.shapes c.move_row.ensures.as_many c.move_row.ensures.others (drop (n + 1) rows) later (planned_here rows n m l is T P i.planned).1;
+      gone = gone_rest T T' P P' m c.move_row.ensures.shapes c.move_row.ensures.as_many c.move_row.ensures.others (drop (n + 1) rows) later (gone_here rows n m l is P i.gone).1;
       room = room_rest T T' P P' m c.move_row.ensures.shapes c.move_row.ensures.as_many c.move_row.ensures.others (drop (n + 1) rows) later c.move_row.ensures.rooms (room_here rows n m l is T P i.room);
     }
 
@@ -56,6 +60,7 @@ loop-row-init c = record {
   shapes = refl;
   left = record { rows = λ i. refl; holders = λ i. refl };
   planned = c.requires.planned;
+  gone = c.requires.gone;
   room = c.requires.room;
 }
 

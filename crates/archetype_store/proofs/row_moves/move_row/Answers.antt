@@ -3,14 +3,14 @@ use Rattle.std.proofs.lemmas.List.{get_or_read}
 use Rattle.model.specs.Lists.{is_there}
 use Rattle.column_store.specs.Cells.{stamped_number}
 use Rattle.archetype_store.specs.Row.{component_of}
-use Rattle.archetype_store.specs.RowMoves.{arrives_in, is_table}
+use Rattle.archetype_store.specs.RowMoves.{arrives_in, stays_there, is_table}
 use Rattle.archetype_store.specs.RowNumbers.{number_of_row}
 use Rattle.archetype_store.specs.Tables.{entity_in_row, kinds_at, IsHeldNow}
-use Rattle.archetype_store.specs.Storage.{archetypes_of, place_of, holder_in, IsHolder, HasRow}
+use Rattle.archetype_store.specs.Storage.{archetypes_of, place_of, row_in, holder_in, IsHolder, HasRow}
 use Rattle.archetype_store.proofs.Known.{row_there, number_within, known_kept, one_kept}
 use Rattle.archetype_store.proofs.Laid.{kinds_kept, with_at_same}
-use Rattle.archetype_store.proofs.Moves.{has_row_twice}
-use Rattle.archetype_store.proofs.Moving.{arrives_here, arrives_there, some_there, others_kept, rooms_same, rooms_once, rooms_joined}
+use Rattle.archetype_store.proofs.Moves.{has_row_kept}
+use Rattle.archetype_store.proofs.Moving.{arrives_here, arrives_there, arrives_moves, some_there, others_kept, rooms_same, rooms_once, rooms_joined}
 use Rattle.archetype_store.proofs.RowMoves.{as_many_tables}
 use Rattle.archetype_store.proofs.Standings.{owned_kept}
 use Rattle.archetype_store.proofs.Steps.{renewed}
@@ -102,100 +102,56 @@ returns-in-None-clause-left c =
     (renewed T P e p c.requires.whole c.requires.planned.holder at c.renew_at.new.tables.items ss some kinds now).1
 
 pub join_in-requires-clause-there : goal.join_in-requires-clause-there
-join_in-requires-clause-there c =
-    let T = c.args.tables.now.items in
-    let P = c.args.places.now.items in
-    let N = c.args.numbers.now.items in
-    let m = c.args.row.now in
-    let e = m.change.now.entity in
-    let l = (c.requires.planned.to c.in-Some.to c.in-Some.is).within in
-    let n = as_many_tables T c.clear_in-2.new.tables.items c.clear_in-2.ensures.shapes in
-    omega arith
+join_in-requires-clause-there c = (c.requires.planned.to c.in-Some.to c.in-Some.is).within
 
 pub join_in-requires-clause-kinds : goal.join_in-requires-clause-kinds
-join_in-requires-clause-kinds c =
-    let T = c.args.tables.now.items in
-    let P = c.args.places.now.items in
-    let N = c.args.numbers.now.items in
-    let m = c.args.row.now in
-    let e = m.change.now.entity in
-    kinds_kept T c.clear_in-2.new.tables.items c.clear_in-2.ensures.shapes c.in-Some.to ∙ (c.requires.planned.to c.in-Some.to c.in-Some.is).kinds ∙ ap (map stamped_number) (sym c.components-2.ensures)
+join_in-requires-clause-kinds c = (c.requires.planned.to c.in-Some.to c.in-Some.is).kinds ∙ ap (map stamped_number) (sym c.components-2.ensures)
 
 pub join_in-requires-clause-some : goal.join_in-requires-clause-some
 join_in-requires-clause-some c = some_there c.components-2.result.now (ap is_there c.components-2.ensures ∙ (c.requires.planned.to c.in-Some.to c.in-Some.is).there)
 
 pub returns-clause-left : goal.returns-clause-left
 returns-clause-left c =
-    let T = c.args.tables.now.items in
-    let P = c.args.places.now.items in
-    let N = c.args.numbers.now.items in
-    let m = c.args.row.now in
-    let e = m.change.now.entity in
-    let A = archetypes_of T P in
-    let B = archetypes_of c.clear_in-2.new.tables.items c.clear_in-2.new.places.items in
-    let C = archetypes_of c.join_in.new.tables.items c.join_in.new.places.items in
-    subst (λ row. HasRow A e row C) (ap (map component_of) c.components-2.ensures) (has_row_twice A B C e [] (map component_of c.components-2.result.now) c.clear_in-2.ensures.cleared c.join_in.ensures.joined)
+    subst (λ row. HasRow (archetypes_of c.args.tables.now.items c.args.places.now.items) c.args.row.now.change.now.entity row (archetypes_of c.join_in.new.tables.items c.join_in.new.places.items)) (ap (map component_of) c.components-2.ensures)
+    c.join_in.ensures.joined
 
 pub returns-clause-others : goal.returns-clause-others
-returns-clause-others c =
-    let T = c.args.tables.now.items in
-    let P = c.args.places.now.items in
-    let N = c.args.numbers.now.items in
-    let m = c.args.row.now in
-    let e = m.change.now.entity in
-    λ i apart. others_kept c.clear_in-2.new.places.items c.join_in.new.places.items e.index _ c.join_in.ensures.places i apart ∙ others_kept P c.clear_in-2.new.places.items e.index None c.clear_in-2.ensures.places i apart
+returns-clause-others c = λ i apart. others_kept c.args.places.now.items c.join_in.new.places.items c.args.row.now.change.now.entity.index _ c.join_in.ensures.places i apart
 
 pub returns-clause-as_many : goal.returns-clause-as_many
-returns-clause-as_many c = c.join_in.ensures.as_many ∙ c.clear_in-2.ensures.as_many
-
-pub clear_in-requires-clause-whole : goal.clear_in-requires-clause-whole
-clear_in-requires-clause-whole c = c.requires.whole
-
-pub clear_in-requires-clause-known : goal.clear_in-requires-clause-known
-clear_in-requires-clause-known c = c.requires.known
-
-pub clear_in-requires-clause-owned : goal.clear_in-requires-clause-owned
-clear_in-requires-clause-owned c = c.requires.owned
-
-pub clear_in-requires-clause-holder : goal.clear_in-requires-clause-holder
-clear_in-requires-clause-holder c = c.requires.planned.holder
-
-pub clear_in-requires-2-clause-whole : goal.clear_in-requires-2-clause-whole
-clear_in-requires-2-clause-whole c = c.requires.whole
-
-pub clear_in-requires-2-clause-known : goal.clear_in-requires-2-clause-known
-clear_in-requires-2-clause-known c = c.requires.known
-
-pub clear_in-requires-2-clause-owned : goal.clear_in-requires-2-clause-owned
-clear_in-requires-2-clause-owned c = c.requires.owned
-
-pub clear_in-requires-2-clause-holder : goal.clear_in-requires-2-clause-holder
-clear_in-requires-2-clause-holder c = c.requires.planned.holder
+returns-clause-as_many c = c.join_in.ensures.as_many
 
 pub returns-in_default-clause-whole : goal.returns-in_default-clause-whole
-returns-in_default-clause-whole c = c.clear_in.ensures.whole
+returns-in_default-clause-whole c = c.requires.whole
 
 pub returns-in_default-clause-known : goal.returns-in_default-clause-known
-returns-in_default-clause-known c = c.clear_in.ensures.known
+returns-in_default-clause-known c = c.requires.known
 
 pub returns-in_default-clause-owned : goal.returns-in_default-clause-owned
-returns-in_default-clause-owned c = c.clear_in.ensures.owned
+returns-in_default-clause-owned c = c.requires.owned
 
 pub returns-in_default-clause-shapes : goal.returns-in_default-clause-shapes
-returns-in_default-clause-shapes c = c.clear_in.ensures.shapes
+returns-in_default-clause-shapes c = refl
 
 pub returns-in_default-clause-as_many : goal.returns-in_default-clause-as_many
-returns-in_default-clause-as_many c = c.clear_in.ensures.as_many
+returns-in_default-clause-as_many c = refl
 
 pub returns-in_default-clause-left : goal.returns-in_default-clause-left
 returns-in_default-clause-left c =
-    subst (λ row. HasRow (archetypes_of c.args.tables.now.items c.args.places.now.items) c.args.row.now.change.now.entity row (archetypes_of c.clear_in.new.tables.items c.clear_in.new.places.items)) (sym (ap (map component_of) (c.requires.planned.none c.in_default.is))) c.clear_in.ensures.cleared
+    let T = c.args.tables.now.items in
+    let P = c.args.places.now.items in
+    let e = c.args.row.now.change.now.entity in
+    let none : place_of P e.index ≡ None = c.requires.gone (ap (stays_there (place_of P e.index)) c.in_default.is) in
+    subst (λ row. HasRow (archetypes_of T P) e row (archetypes_of T P)) (ap (row_in T e.index) none ∙ sym (ap (map component_of) (c.requires.planned.none c.in_default.is)))
+    (has_row_kept T P e c.requires.whole c.requires.planned.holder)
 
 pub returns-in_default-clause-others : goal.returns-in_default-clause-others
-returns-in_default-clause-others c = λ i apart. others_kept c.args.places.now.items c.clear_in.new.places.items c.args.row.now.change.now.entity.index None c.clear_in.ensures.places i apart
+returns-in_default-clause-others c = λ i apart. refl
 
 pub returns-in_default-clause-rooms : goal.returns-in_default-clause-rooms
-returns-in_default-clause-rooms c = rooms_same c.args.tables.now.items c.clear_in.new.tables.items (is_table (arrives_in c.args.places.now.items c.args.row.now)) c.clear_in.ensures.rooms
+returns-in_default-clause-rooms c =
+    let T = c.args.tables.now.items in
+    rooms_same T T (is_table (arrives_in c.args.places.now.items c.args.row.now)) (λ t. refl)
 
 pub renew_at-requires-clause-there : goal.renew_at-requires-clause-there
 renew_at-requires-clause-there c =
@@ -240,29 +196,26 @@ returns-in-None-clause-rooms c =
     rooms_same T T' (is_table (arrives_in c.args.places.now.items c.args.row.now)) (rooms_once T T' c.in-Some.to c.renew_at.ensures.room c.renew_at.ensures.entities.other_rooms)
 
 pub join_in-requires-clause-whole : goal.join_in-requires-clause-whole
-join_in-requires-clause-whole c = c.clear_in-2.ensures.whole
+join_in-requires-clause-whole c = c.requires.whole
 
 pub join_in-requires-clause-known : goal.join_in-requires-clause-known
-join_in-requires-clause-known c = c.clear_in-2.ensures.known
+join_in-requires-clause-known c = c.requires.known
 
 pub join_in-requires-clause-owned : goal.join_in-requires-clause-owned
-join_in-requires-clause-owned c = c.clear_in-2.ensures.owned
+join_in-requires-clause-owned c = c.requires.owned
 
 pub join_in-requires-clause-within : goal.join_in-requires-clause-within
-join_in-requires-clause-within c = let a = c.clear_in-2.ensures.as_many in let b = c.requires.planned.within in omega arith
+join_in-requires-clause-within c = c.requires.planned.within
 
 pub join_in-requires-clause-none : goal.join_in-requires-clause-none
 join_in-requires-clause-none c =
-    let e = c.args.row.now.change.now.entity in
-    c.clear_in-2.ensures.places e.index ∙ with_at_same e.index None (place_of c.args.places.now.items)
+    let at = rw c.deref.ensures.value at (sym c.arrives_in.ensures ∙ c.in_default-arrives_in.is) in
+    c.requires.gone (arrives_moves c.args.places.now.items c.args.row.now c.in-Some.to c.in_default-arrives_in.field-0 c.in-Some.is at)
 
 pub join_in-requires-clause-room : goal.join_in-requires-clause-room
 join_in-requires-clause-room c =
-    let to = c.in-Some.to in
     let at = rw c.deref.ensures.value at (sym c.arrives_in.ensures ∙ c.in_default-arrives_in.is) in
-    let a = c.requires.room to (arrives_there c.args.places.now.items c.args.row.now to c.in_default-arrives_in.field-0 c.in-Some.is at) in
-    let b = c.clear_in-2.ensures.rooms to in
-    omega arith
+    c.requires.room c.in-Some.to (arrives_there c.args.places.now.items c.args.row.now c.in-Some.to c.in_default-arrives_in.field-0 c.in-Some.is at)
 
 pub returns-clause-whole : goal.returns-clause-whole
 returns-clause-whole c = c.join_in.ensures.whole
@@ -274,12 +227,13 @@ pub returns-clause-owned : goal.returns-clause-owned
 returns-clause-owned c = c.join_in.ensures.owned
 
 pub returns-clause-shapes : goal.returns-clause-shapes
-returns-clause-shapes c = c.join_in.ensures.shapes ∙ c.clear_in-2.ensures.shapes
+returns-clause-shapes c = c.join_in.ensures.shapes
 
 pub returns-clause-rooms : goal.returns-clause-rooms
 returns-clause-rooms c =
     let to = c.in-Some.to in
     let m = c.args.row.now in
+    let T = c.args.tables.now.items in
     let P = c.args.places.now.items in
     let at = rw c.deref.ensures.value at (sym c.arrives_in.ensures ∙ c.in_default-arrives_in.is) in
-    rooms_joined c.args.tables.now.items c.clear_in-2.new.tables.items c.join_in.new.tables.items P m to (arrives_there P m to c.in_default-arrives_in.field-0 c.in-Some.is at) c.clear_in-2.ensures.rooms c.join_in.ensures.rooms
+    rooms_joined T T c.join_in.new.tables.items P m to (arrives_there P m to c.in_default-arrives_in.field-0 c.in-Some.is at) (λ t. refl) c.join_in.ensures.rooms

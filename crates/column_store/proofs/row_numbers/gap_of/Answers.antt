@@ -1,4 +1,4 @@
-use Rattle.std.proofs.Common.{◌≡◌, ◌<◌, true, false, get_or, sym, ap, ◌∙◌, arith}
+use Rattle.std.proofs.Common.{◌≡◌, true, false, get_or, sym, ap, ◌∙◌, arith}
 use Rattle.column_store.proofs.Numbers.{row_before, rows_below, rows_above, gap_from_rows}
 use Rattle.column_store.proofs.row_numbers.gap_of.Goals as goal
 

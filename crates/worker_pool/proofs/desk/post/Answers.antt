@@ -3,8 +3,8 @@ use Rattle.job_board.specs.declared.view.View.{View}
 use Rattle.job_board.specs.Ends.{lead_view}
 use Rattle.job_board.specs.Views.{after_post}
 use Rattle.worker_pool.specs.declared.desk.Ticket.{Ticket}
-use Rattle.worker_pool.specs.AreOut.{AreOut}
-use Rattle.worker_pool.proofs.Tickets.{more_out}
+use Rattle.worker_pool.specs.AreOut.{AreOut, HasAllOut}
+use Rattle.worker_pool.proofs.Tickets.{more_out, all_more}
 use Rattle.worker_pool.proofs.desk.post.Goals as goal
 
 pub returns-in-Ok-post-clause-ok : goal.returns-in-Ok-post-clause-ok
@@ -18,3 +18,20 @@ returns-in-Ok-post-clause-out g c =
     subst (λ (w : View g.row.T-Job.Denot g.row.T-Outcome.Denot). AreOut c.push_reserved.new.self.items w) (sym posted.1)
     (subst (λ (l : List (Ticket g.row.T-Job.Denot)). AreOut l (after_post v c.in-Ok-post.number c.args.job)) (sym items)
     (more_out c.args.tickets.now.items v c.requires.out c.in-Ok-post.number c.args.job _ c.prove_law.ensures.numbers posted.0 refl c.of-posted.ensures))
+
+pub returns-in-Ok-post-clause-all : goal.returns-in-Ok-post-clause-all
+returns-in-Ok-post-clause-all g c = λ all.
+    let v = lead_view c.args.lead.now in
+    let posted = c.in-Ok-post.ensures.posted in
+    let items = c.push_reserved.ensures.items ∙ ap (λ (l : List (Ticket g.row.T-Job.Denot)). l ++ record { number = c.in-Ok-post.number; job = c.of-posted.result } ∷ []) c.reserve.ensures.items in
+    subst (λ (w : View g.row.T-Job.Denot g.row.T-Outcome.Denot). HasAllOut c.push_reserved.new.self.items w) (sym posted.1)
+    (subst (λ (l : List (Ticket g.row.T-Job.Denot)). HasAllOut l (after_post v c.in-Ok-post.number c.args.job)) (sym items)
+    (all_more c.args.tickets.now.items v all c.in-Ok-post.number c.args.job _ refl))
+
+pub returns-in_default-clause-all : goal.returns-in_default-clause-all
+returns-in_default-clause-all g c = λ all. subst (λ (l : List (Ticket g.row.T-Job.Denot)). HasAllOut l (lead_view c.args.lead.now)) (sym c.reserve.ensures.items) all
+
+pub returns-in-Err-clause-all : goal.returns-in-Err-clause-all
+returns-in-Err-clause-all g c = λ all.
+    subst (λ (w : View g.row.T-Job.Denot g.row.T-Outcome.Denot). HasAllOut c.reserve.new.self.items w) (sym c.in-Err.ensures.posted.1)
+    (subst (λ (l : List (Ticket g.row.T-Job.Denot)). HasAllOut l (lead_view c.args.lead.now)) (sym c.reserve.ensures.items) all)

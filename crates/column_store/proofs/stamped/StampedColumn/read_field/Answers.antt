@@ -1,4 +1,4 @@
-use Rattle.std.proofs.Common.{List, ℤ, ◌+◌, slice_get, option_map, sym, ap, ◌∙◌}
+use Rattle.std.proofs.Common.{◌+◌, slice_get, option_map, sym, ap, ◌∙◌}
 use Rattle.kinds.specs.Components.{word_at}
 use Rattle.model.specs.state.State.{Cell}
 use Rattle.column_store.specs.Column.{ColumnCells}

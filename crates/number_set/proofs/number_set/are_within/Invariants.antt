@@ -1,6 +1,0 @@
-use Rattle.std.proofs.Common.{ℕ, ◌<◌, ◌/◌, true, ◌≡◌}
-use Rattle.number_set.specs.Members.{contains}
-use Rattle.number_set.proofs.number_set.are_within.Given as goal
-
-abbrev pub invariant-loop-index : goal.invariant-loop-index
-invariant-loop-index l = (n : ℕ) → n / 64 < l.index → contains l.first n ≡ true → contains l.second n ≡ true
