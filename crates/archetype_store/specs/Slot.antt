@@ -2,9 +2,17 @@
 use Rattle.std.specs.Prelude.{ℕ, cond, not, ◌&&◌, List, map, Option, Some, None}
 use Rattle.model.specs.Lists.{is_there}
 use Rattle.model.specs.declared.entities.Entity.{Entity}
-use Rattle.model.specs.state.State.{Cell, Slot, is_living}
+use Rattle.model.specs.state.State.{Cell, Slot, Status, is_living}
 use Rattle.model.specs.state.Rows.{cell_at, row_at}
 use Rattle.model.specs.state.Commands.{is_alive}
+
+-- an index without its row
+pub record SlotValue : Type 0 where
+  pub generation : ℕ
+  pub status : Status
+
+abbrev pub value_of_slot : Slot → SlotValue
+value_of_slot slot = record { generation = slot.generation; status = slot.status }
 
 -- the cell of a kind of an entity that lives
 abbrev pub cell_of : List Slot → Entity → ℕ → Option Cell

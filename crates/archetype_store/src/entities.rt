@@ -11,7 +11,7 @@ ghost use Rattle.entity_table.specs.Ids.{slot_at, lives_at, living_count, IsGran
 ghost use Rattle.archetype_store.specs.Row.{component_of};
 ghost use Rattle.std.specs.Arc.{arc_value};
 ghost use Rattle.kinds.specs.Kind.{kind_number};
-ghost use Rattle.archetype_store.specs.Slot.{cell_of, column_cells, bare_of};
+ghost use Rattle.archetype_store.specs.Slot.{value_of_slot, cell_of, column_cells, bare_of};
 ghost use Rattle.archetype_store.specs.Changes.{changed, components_left, AreOfOtherIndices, IsHeldBy};
 ghost use Rattle.archetype_store.specs.Store.{slots_with};
 ghost use Rattle.archetype_store.specs.Storage.{row_of};
@@ -26,10 +26,10 @@ ghost use Rattle.archetype_store.specs.View.{kinds_seen, entities_seen};
 mod spawn;
 
 use crate::change::EntityChange;
-use crate::entity_ref::EntityRef;
 use crate::locations::RowPlace;
 use crate::settling::settle_all;
 use crate::shapes::Shape;
+use crate::slot_state::SlotState;
 use crate::storage::Storage;
 use crate::tables::ArchetypeView;
 use column_store::{Components, StampedColumn, StampedValue};
@@ -87,20 +87,14 @@ impl Entities {
         self.book.len()
     }
 
-    /// The slot of an index, none past the end.
-    pub fn get(&self, index: u32) -> Option<EntityRef<'_>>
-        requires { AreAllHome self.now.layout }
-        ensures { MatchOption result (length self.now.slots ≤ index) (λ slot. slot ≡ slot_at self.now.slots index) }
+    /// The generation and the status of an index, none past the end.
+    pub fn get(&self, index: u32) -> Option<SlotState>
+        ensures { MatchOption result (length self.now.slots ≤ index) (λ slot. slot ≡ value_of_slot (slot_at self.now.slots index)) }
     {
         if index >= self.book.len() {
             return None;
         }
-        Some(EntityRef::of(
-            self.book.generation(index),
-            self.book.status(index),
-            &self.archetypes,
-            index,
-        ))
+        Some(SlotState::of(self.book.generation(index), self.book.status(index)))
     }
 
     /// Whether an entity lives.

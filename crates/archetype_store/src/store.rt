@@ -17,7 +17,7 @@ ghost use Rattle.archetype_store.specs.Row.{component_of};
 ghost use Rattle.entity_table.specs.Ids.{slot_at, lives_at, IsGranted, AreApart, settled};
 ghost use Rattle.std.specs.Arc.{arc_value};
 ghost use Rattle.std.specs.List.{AllByRecursion};
-ghost use Rattle.archetype_store.specs.Slot.{cell_of, column_cells, bare_of};
+ghost use Rattle.archetype_store.specs.Slot.{value_of_slot, cell_of, column_cells, bare_of};
 ghost use Rattle.archetype_store.specs.Layout.{archetype_at, column_home, with_home, IsLayoutOf, AreAllHome};
 ghost use Rattle.archetype_store.specs.Places.{IsRowPlace};
 ghost use Rattle.archetype_store.specs.Lending.{CanTake, CanShare, CanComeHome, AreTaken, AreShared, all_away, all_home};
@@ -35,12 +35,12 @@ use crate::change::{EntityChange, Fate};
 pub use crate::columns::{ColumnAt, SharedColumn, TakenColumn};
 use crate::components::{put_component, take_component};
 use crate::entities::Entities;
-use crate::entity_ref::EntityRef;
 use crate::fault::{GrantFault, StoreFault};
 use crate::kind_sets::{entities_in, sets_of};
 pub use crate::locations::RowPlace;
 use crate::resources::Resources;
 use crate::shapes::Shape;
+use crate::slot_state::SlotState;
 pub use crate::tables::ArchetypeView;
 use change_ticks::{Clock, ClockSpent, Stamp, Tick};
 use column_store::{Components, StampedColumn};
@@ -623,11 +623,10 @@ impl World {
         self.slots.len()
     }
 
-    /// The slot of an index.
-    pub fn slot_at(&self, index: u32) -> EntityRef<'_>
-        requires within { index < length self.now.state.slots }
-        requires home { AreAllHome self.now.layout }
-        ensures { result ≡ slot_at self.now.state.slots index }
+    /// The generation and the status of an index.
+    pub fn slot_at(&self, index: u32) -> SlotState
+        requires { index < length self.now.state.slots }
+        ensures { result ≡ value_of_slot (slot_at self.now.state.slots index) }
     {
         match self.slots.get(index) {
             Some(slot) => slot,

@@ -1,7 +1,6 @@
-use Rattle.std.proofs.Common.{◌≡◌, ◌<◌, length, ap, sym, ◌∙◌, arith}
-use Rattle.model.specs.state.Rows.{row_at}
+use Rattle.std.proofs.Common.{◌≡◌, length, ap, sym, ◌∙◌, arith}
 use Rattle.entity_table.specs.Ids.{slot_at}
-use Rattle.entity_table.proofs.WithRows.{length-with_rows, status-with_rows, generation-with_rows, row_at-with_rows}
+use Rattle.entity_table.proofs.WithRows.{length-with_rows, status-with_rows, generation-with_rows}
 use Rattle.archetype_store.specs.Storage.{row_of}
 use Rattle.archetype_store.specs.Entities.{EntitiesValue}
 use Rattle.archetype_store.proofs.entities.Entities.get.Goals as goal
@@ -18,6 +17,4 @@ returns c =
     let generation : c.generation.result ≡ (slot_at c.args.self.now.slots c.args.index).generation =
     c.generation.ensures ∙ sym (generation-with_rows rows book c.args.index) ∙ ap (λ slots. (slot_at slots c.args.index).generation) (ap (λ (v : EntitiesValue). v.slots) c.self.view_is) in
     let status = c.status.ensures ∙ sym (status-with_rows rows book c.args.index) ∙ ap (λ slots. (slot_at slots c.args.index).status) (ap (λ (v : EntitiesValue). v.slots) c.self.view_is) in
-    let within : c.args.index < length book = (let seen = ap length (ap (λ (v : EntitiesValue). v.slots) c.self.view_is) in omega (arith, seen, length-with_rows rows book, c.len.ensures.value)) in
-    let row = sym (row_at-with_rows rows book c.args.index within) ∙ ap (λ slots. row_at slots c.args.index) (ap (λ (v : EntitiesValue). v.slots) c.self.view_is) in
-    c.of.ensures ∙ (λ i. record { generation = generation i; status = status i; row = row i })
+    c.of.ensures ∙ (λ i. record { generation = generation i; status = status i })
