@@ -256,13 +256,6 @@ impl View {
         self.sent.push(kind, value)
     }
 
-    /// How many ids were granted at the start.
-    pub fn granted_count(&self) -> usize
-        ensures { result ≡ length self.now.shown.granted }
-    {
-        self.issued.len()
-    }
-
     /// The id of a slot, granted at the start.
     pub fn granted(&self, slot: usize) -> Entity
         requires { slot < length self.now.shown.granted }

@@ -69,13 +69,6 @@ impl ViewCommands {
         let _spawns = self.spawns;
     }
 
-    // How many ids were granted.
-    pub(crate) fn len(&self) -> usize
-        ensures { result ≡ length self.now.granted }
-    {
-        self.granted.len()
-    }
-
     // The id of a slot.
     pub(crate) fn granted(&self, slot: usize) -> Entity
         requires { slot < length self.now.granted }
