@@ -58,8 +58,8 @@ finish-requires g c = λ lifetimes.
     let next = subst (λ (t : Turn). IsTurn (recording s sets) h (length out) width (Some t)) c.in-Collect.is known.following in
     (c.type_bounds.send-B, (c.type_bounds.send-M-Signals, (c.type_bounds.send-M-Gate, (c.type_bounds.sync-M-Gate, ((refl, tt), (next.0, ((bodies, known.between.placed), known.between.hand.suits)))))))
 
-pub returns-in_err-start-in-Start-clause-stopped : goal.returns-in_err-start-in-Start-clause-stopped
-returns-in_err-start-in-Start-clause-stopped g c =
+pub returns-in_err-start-in-Take-clause-stopped : goal.returns-in_err-start-in-Take-clause-stopped
+returns-in_err-start-in-Take-clause-stopped g c =
     let meaning = g.B.Body.meaning in
     let fits = g.B.Body.fits in
     let there = g.M.SpawnThreads.has_scope c.args.mode.now in
@@ -69,11 +69,11 @@ returns-in_err-start-in-Start-clause-stopped g c =
     let deferred = c.args.run.now.deferred in
     let out = c.args.jobs.now.pool in
     let w = c.args.run.now.state in
-    let told = c.in_err-start-in-Start.field-0.0 in
-    handed_on (StopsNext meaning fits there width s slots deferred out w c.args.turn) c.from_residual-in_err-start-in-Start.result told c.from_residual-in_err-start-in-Start.ensures.1
+    let told = c.in_err-start-in-Take.field-0.0 in
+    handed_on (StopsNext meaning fits there width s slots deferred out w c.args.turn) c.from_residual-in_err-start-in-Take.result told c.from_residual-in_err-start-in-Take.ensures.1
     (λ sets bodies start h known.
     let next = subst (λ (r : Ready). IsTake (recording s sets) h (length out) width r) c.in-Start.is (subst (λ (t : Turn). IsTurn (recording s sets) h (length out) width (Some t)) c.in-Take.is known.following) in
-    stops_up there (λ met. (bodies : List BodyMeaning) → interleaved_cause_of s bodies (Begin c.in-Start.system) (woven w.state deferred out) ≡ Some met) (WideStops width s bodies start) told (λ met e. stops_plain width s sets bodies start met (stops_start width (recording s sets) bodies start h w.state deferred out known.between.stage c.in-Start.system met next (e bodies))) c.in_err-start-in-Start.ensures.stopped)
+    stops_up there (λ met. (bodies : List BodyMeaning) → interleaved_cause_of s bodies (Begin c.in-Start.system) (woven w.state deferred out) ≡ Some met) (WideStops width s bodies start) told (λ met e. stops_plain width s sets bodies start met (stops_start width (recording s sets) bodies start h w.state deferred out known.between.stage c.in-Start.system met next (e bodies))) c.in_err-start-in-Take.ensures.stopped)
 
 pub returns-in_err-system-in-Collect-clause-stopped : goal.returns-in_err-system-in-Collect-clause-stopped
 returns-in_err-system-in-Collect-clause-stopped g c =
@@ -94,8 +94,8 @@ returns-in_err-system-in-Collect-clause-stopped g c =
     (λ met e. stops_plain width s sets bodies start met (stops_finish width (recording s sets) bodies start h w.state deferred out known.between.stage e.0.system met next.1
     (running_there width (recording s sets) bodies start h w.state deferred out known.between.stage e.0 e.1) (interleaved_cause-recording s sets bodies (Finish e.0.system) (woven w.state deferred out) ∙ e.2))) (c.in_err-system-in-Collect.ensures.stopped bodies known.between.placed))
 
-pub returns-in_err-start-in-Start-clause-kept : goal.returns-in_err-start-in-Start-clause-kept
-returns-in_err-start-in-Start-clause-kept g c =
+pub returns-in_err-start-in-Take-clause-kept : goal.returns-in_err-start-in-Take-clause-kept
+returns-in_err-start-in-Take-clause-kept g c =
     let meaning = g.B.Body.meaning in
     let fits = g.B.Body.fits in
     let there = g.M.SpawnThreads.has_scope c.args.mode.now in
@@ -105,10 +105,10 @@ returns-in_err-start-in-Start-clause-kept g c =
     let deferred = c.args.run.now.deferred in
     let out = c.args.jobs.now.pool in
     let w = c.args.run.now.state in
-    let told = c.in_err-start-in-Start.field-0.0 in
-    handed_on (KeepsNext meaning fits there (g.M.Mode.stands c.args.mode.now) width s slots deferred out w c.args.turn c.start.new.jobs.bodies c.start.new.jobs.pool) c.from_residual-in_err-start-in-Start.result told c.from_residual-in_err-start-in-Start.ensures.1
+    let told = c.in_err-start-in-Take.field-0.0 in
+    handed_on (KeepsNext meaning fits there (g.M.Mode.stands c.args.mode.now) width s slots deferred out w c.args.turn c.start.new.jobs.bodies c.start.new.jobs.pool) c.from_residual-in_err-start-in-Take.result told c.from_residual-in_err-start-in-Take.ensures.1
     (λ lost sets bodies start h known.
-    (let same = c.in_err-start-in-Start.ensures.kept lost in
+    (let same = c.in_err-start-in-Take.ensures.kept lost in
     subst (λ xs. AreKept meaning fits there s bodies xs c.start.new.jobs.pool) (sym same.0) (subst (λ xs. AreKept meaning fits there s bodies slots xs) (sym same.1) (placed_kept meaning fits there s bodies slots out w known.between.placed))))
 
 pub returns-in_err-system-in-Collect-clause-kept : goal.returns-in_err-system-in-Collect-clause-kept
@@ -126,15 +126,15 @@ returns-in_err-system-in-Collect-clause-kept g c =
     handed_on (KeepsNext meaning fits there (g.M.Mode.stands c.args.mode.now) width s slots deferred out w c.args.turn c.finish.new.jobs.bodies c.finish.new.jobs.pool) c.from_residual.result told c.from_residual.ensures.1
     (λ lost sets bodies start h known. c.in_err-system-in-Collect.ensures.kept bodies known.between.placed)
 
-pub returns-in_ok-start-in-Start-clause-taken : goal.returns-in_ok-start-in-Start-clause-taken
-returns-in_ok-start-in-Start-clause-taken g c = rw c.plain-in-Start.ensures (λ sets bodies start h known.
+pub returns-in-Start-clause-taken : goal.returns-in-Start-clause-taken
+returns-in-Start-clause-taken g c = rw c.plain-in-Start.ensures (λ sets bodies start h known.
     let width = g.M.Mode.width c.args.mode.now in
     let s = c.args.built.now in
     let deferred = c.args.run.now.deferred in
     let out = c.args.jobs.now.pool in
     let w = c.args.run.now.state in
     let next = subst (λ (r : Ready). IsTake (recording s sets) h (length out) width r) c.in-Start.is (subst (λ (t : Turn). IsTurn (recording s sets) h (length out) width (Some t)) c.in-Take.is known.following) in
-    let started = c.in_ok-start-in-Start.ensures in
+    let started = c.in_ok-start-in-Take.ensures in
     record {
       may = next.allowed false;
       between = record {
@@ -172,7 +172,7 @@ returns-in_ok-system-in-Collect-clause-taken g c = rw c.plain.ensures (λ sets b
 -- ---- what starts no system
 
 pub do_plain-requires-clause-next : goal.do_plain-requires-clause-next
-do_plain-requires-clause-next g c =
+do_plain-requires-clause-next g c κs within =
     let meaning = g.B.Body.meaning in
     let fits = g.B.Body.fits in
     let there = g.M.SpawnThreads.has_scope c.args.mode.now in
@@ -189,8 +189,8 @@ do_plain-requires-clause-next g c =
     let known = c.requires.next.4 in
     (there, width, sets, bodies, start, h, slots, out, record { between = known.between; take = subst (λ (t : Turn). IsTurn (recording s sets) h (length out) width (Some t)) c.in-Take.is known.following })
 
-pub returns-in_err-done-clause-stopped : goal.returns-in_err-done-clause-stopped
-returns-in_err-done-clause-stopped g c =
+pub returns-in_err-done-in-Take-clause-stopped : goal.returns-in_err-done-in-Take-clause-stopped
+returns-in_err-done-in-Take-clause-stopped g c =
     let meaning = g.B.Body.meaning in
     let fits = g.B.Body.fits in
     let there = g.M.SpawnThreads.has_scope c.args.mode.now in
@@ -200,11 +200,11 @@ returns-in_err-done-clause-stopped g c =
     let deferred = c.args.run.now.deferred in
     let out = c.args.jobs.now.pool in
     let w = c.args.run.now.state in
-    handed_on (StopsNext meaning fits there width s slots deferred out w c.args.turn) c.from_residual-in_err-done.result c.in_err-done.field-0.0 c.from_residual-in_err-done.ensures.1
-    (λ sets bodies start h known. c.in_err-done.ensures.stopped there width sets bodies start h slots out (record { between = known.between; take = subst (λ (t : Turn). IsTurn (recording s sets) h (length out) width (Some t)) c.in-Take.is known.following }))
+    handed_on (StopsNext meaning fits there width s slots deferred out w c.args.turn) c.from_residual-in_err-done-in-Take.result c.in_err-done-in-Take.field-0.0 c.from_residual-in_err-done-in-Take.ensures.1
+    (λ sets bodies start h known. c.in_err-done-in-Take.ensures.stopped there width sets bodies start h slots out (record { between = known.between; take = subst (λ (t : Turn). IsTurn (recording s sets) h (length out) width (Some t)) c.in-Take.is known.following }))
 
-pub returns-in_err-done-clause-kept : goal.returns-in_err-done-clause-kept
-returns-in_err-done-clause-kept g c =
+pub returns-in_err-done-in-Take-clause-kept : goal.returns-in_err-done-in-Take-clause-kept
+returns-in_err-done-in-Take-clause-kept g c =
     let meaning = g.B.Body.meaning in
     let fits = g.B.Body.fits in
     let there = g.M.SpawnThreads.has_scope c.args.mode.now in
@@ -214,11 +214,11 @@ returns-in_err-done-clause-kept g c =
     let deferred = c.args.run.now.deferred in
     let out = c.args.jobs.now.pool in
     let w = c.args.run.now.state in
-    handed_on (KeepsNext meaning fits there (g.M.Mode.stands c.args.mode.now) width s slots deferred out w c.args.turn slots out) c.from_residual-in_err-done.result c.in_err-done.field-0.0 c.from_residual-in_err-done.ensures.1
+    handed_on (KeepsNext meaning fits there (g.M.Mode.stands c.args.mode.now) width s slots deferred out w c.args.turn slots out) c.from_residual-in_err-done-in-Take.result c.in_err-done-in-Take.field-0.0 c.from_residual-in_err-done-in-Take.ensures.1
     (λ lost sets bodies start h known. placed_kept meaning fits there s bodies slots out w known.between.placed)
 
-pub returns-in_ok-done-clause-taken : goal.returns-in_ok-done-clause-taken
-returns-in_ok-done-clause-taken g c = λ sets bodies start h known.
+pub returns-in_ok-done-in-Take-clause-taken : goal.returns-in_ok-done-in-Take-clause-taken
+returns-in_ok-done-in-Take-clause-taken g c = λ sets bodies start h known.
     let meaning = g.B.Body.meaning in
     let fits = g.B.Body.fits in
     let there = g.M.SpawnThreads.has_scope c.args.mode.now in
@@ -228,10 +228,10 @@ returns-in_ok-done-clause-taken g c = λ sets bodies start h known.
     let deferred = c.args.run.now.deferred in
     let out = c.args.jobs.now.pool in
     let w = c.args.run.now.state in
-    c.in_ok-done.ensures.taken there width sets bodies start h slots out (record { between = known.between; take = subst (λ (t : Turn). IsTurn (recording s sets) h (length out) width (Some t)) c.in-Take.is known.following })
+    c.in_ok-done-in-Take.ensures.taken there width sets bodies start h slots out (record { between = known.between; take = subst (λ (t : Turn). IsTurn (recording s sets) h (length out) width (Some t)) c.in-Take.is known.following })
 
-pub returns-in_ok-start-in-Start-clause-quiet : goal.returns-in_ok-start-in-Start-clause-quiet
-returns-in_ok-start-in-Start-clause-quiet g c = rw c.plain-in-Start.ensures (λ k is none. absurd (let clash = is in cc))
+pub returns-in-Start-clause-quiet : goal.returns-in-Start-clause-quiet
+returns-in-Start-clause-quiet g c = rw c.plain-in-Start.ensures (λ k is none. absurd (let clash = is in cc))
 
 pub returns-in_ok-system-in-Collect-clause-quiet : goal.returns-in_ok-system-in-Collect-clause-quiet
 returns-in_ok-system-in-Collect-clause-quiet g c = rw c.plain.ensures (λ k is none. absurd (let clash = is in cc))
